@@ -2,8 +2,11 @@
 //! PM_ARCHIVES_<target> names, with `_` for `-`; for x86-64 Linux else in that of PM_ARCHIVES, or those that `rt lib`
 //! left in crates/pm_host_c/out and crates/pm_device_c/out. Installed they are libpmhost.a and libpmpart.a, and those of the folder that
 //! the crate is installed in are taken for the machine itself.
+//!
+//! For the tests of the repository it builds the part of trials/field, where there is a C compiler.
 
 use std::path::{Path, PathBuf};
+use std::process::Command;
 use std::{env, fs, process};
 
 /// One line that says what to do, and no more.
@@ -53,12 +56,37 @@ fn archive(target: &str, library: &str) -> PathBuf {
     Path::new(&home).join(format!("../crates/{library}/out/lib{library}.a"))
 }
 
+/// Builds the part that tests/calls/field_rows.rs drives, which is C, and links the tests with it. `cfg(field)` says that it is there.
+fn build_field(home: &Path, folder: &Path, device: &Path) {
+    println!("cargo:rustc-check-cfg=cfg(field)");
+    let from = home.join("../trials/field");
+    if !from.is_dir() || env::var_os("HOST") != env::var_os("TARGET") {
+        return;
+    }
+    println!("cargo:rerun-if-changed={}", from.display());
+    println!("cargo:rerun-if-env-changed=CC");
+    let compiler = env::var_os("CC").unwrap_or_else(|| "cc".into());
+    for name in ["field", "frames"] {
+        let object = folder.join(format!("{name}.o"));
+        let mut call = Command::new(&compiler);
+        call.args(["-std=c11", "-O1", "-fPIC", "-Wall", "-Wextra", "-Werror", "-c"])
+            .arg("-I")
+            .arg(home.join("../crates/pm_device_c/include"));
+        if !call.arg(from.join(format!("{name}.c"))).arg("-o").arg(&object).status().is_ok_and(|ended| ended.success()) {
+            return;
+        }
+        println!("cargo:rustc-link-arg-tests={}", object.display());
+    }
+    println!("cargo:rustc-link-arg-tests={}", device.display());
+    println!("cargo:rustc-cfg=field");
+}
+
 fn main() {
     let target = env::var("TARGET").expect("cargo sets it");
     let folder = PathBuf::from(env::var_os("OUT_DIR").expect("cargo sets it"));
     println!("cargo:rustc-link-search=native={}", folder.display());
-    let home = env::var_os("CARGO_MANIFEST_DIR").expect("cargo sets it");
-    if target.contains("linux") && Path::new(&home).join("tests").is_dir() {
+    let home = env::var_os("CARGO_MANIFEST_DIR");
+    if target.contains("linux") && home.as_ref().is_some_and(|home| Path::new(home).join("tests").is_dir()) {
         // Tests only: tests/calls/other_library.rs answers these calls as another library's would.
         println!(
             "cargo:rustc-link-arg-tests=-Wl,--wrap=pm_version,--wrap=pm_host_version,--wrap=pm_host_size,--wrap=pm_part_size,--wrap=pm_course_version,--wrap=pm_course_size"
@@ -77,4 +105,5 @@ fn main() {
         fs::copy(&from, folder.join(format!("lib{library}.a"))).expect("the archive can be copied");
         println!("cargo:rustc-link-lib=static={library}");
     }
+    build_field(Path::new(&home.expect("cargo sets it")), &folder, &folder.join("libpm_device_c.a"));
 }

@@ -42,10 +42,8 @@ def library():
 
 
 class Field:
-    """A part. `set` and `get` take a register or a field of trials/field/field.h by its name. Each transfer takes a tenth of a
-    millisecond of the tests' clock."""
-
-    seconds = 0.0001
+    """A part. `set` and `get` take a register or a field of trials/field/field.h by its name. Each transfer takes `transfer_us` of
+    the tests' clock."""
 
     def __init__(self, address=ADDRESS, outputs=2):
         self.address, self.outputs, self.lines, self.refusal = address, outputs, [], errno.EREMOTEIO
@@ -81,11 +79,11 @@ class Field:
 
     def hear(self, frame, ending):
         """The bytes of an answer, or None where the part doesn't acknowledge the frame."""
-        runs.CLOCK.now += self.seconds
         self.now()
         self.lines.append(" ".join(f"{byte:02X}" for byte in frame) + (" /" if ending == "restart" else ""))
         answer, length = ctypes.create_string_buffer(ANSWER), ctypes.c_uint64()
         ended = library().field_hear(self._memory, bytes(frame), len(frame), ending == "restart", answer, ctypes.byref(length))
+        runs.CLOCK.now += self.get("transfer_us") / 1e6
         self.refusal = ENDS.get(ended, errno.EREMOTEIO)
         return None if ended else list(answer.raw[:length.value])
 

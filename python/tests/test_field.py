@@ -1,25 +1,21 @@
 """Parts as they are in the field (trials/field): what pmhost says of them, each case by its name; what Python's API raises; and random
 boards, of which no rail that is dead ends well."""
 import asyncio
-import json
-import os
 import pickle
 import random
-import re
 import threading
 import unittest
 
-from pmhost import Course, Device, Looks, ModelPart, ModelPartBus, NotDelivered, Output, PlanRefused
+from pmhost import Device, LimitRefused, Looks, ModelPart, ModelPartBus, NotDelivered, Output, PlanRefused, Unknown
 
-from . import field_boards
+from . import field_boards, field_calls
 from .field import ADDRESS, Field, FieldBus
 from .kernel import FakeKernel
-from .running import ROOT, stored
 from .runs import blocks, called
 from .test_runs import Blocks
 
 BOARDS = 60
-ROWS = os.path.join(ROOT, "trials", "field", "rows.txt")
+CALLS = 12
 
 
 class Rows(Blocks):
@@ -103,55 +99,31 @@ class Api(unittest.TestCase):
         with self.assertRaisesRegex(NotDelivered, "commanded off, and the part says that it is on"):
             device.turn_off(0)
 
+    def test_no_line_alone_loses_a_refusal(self):
+        """Each call raises what the part, the bus or the limits refuse, with the bus's own error as its cause."""
+        calls = {"apply": lambda it: it.apply(0, {"VOUT_COMMAND": 0x10CD}), "set": lambda it: it.set_voltage(0, "1.05V"),
+                 "on": lambda it: it.turn_on(0), "order": lambda it: (it.learn(0), it.order(0, "VOUT_COMMAND", 0x10CD))}
+        for name, call in {**calls, "survey": lambda it: it.survey(0)}.items():
+            with self.subTest(name), self.assertRaises(Unknown) as it:
+                call(Device(FieldBus(Field(ADDRESS + 1)), ADDRESS, 2))
+            self.assertIsInstance(it.exception.__cause__, OSError)
+            self.assertIn("3 transfers failed", str(it.exception))
+        for name in ("apply", "set"):
+            with self.subTest(name), self.assertRaisesRegex(PlanRefused, "VOUT_COMMAND: P7 Protected"):
+                calls[name](self.device(("WRITE_PROTECT", 0x80))[1])
+        with self.assertRaisesRegex(LimitRefused, "L4 AboveLimit"):
+            self.device()[1].apply(0, {"VOUT_COMMAND": 0x2000})
+
+    def test_an_order_says_what_the_output_commands(self):
+        part, device = self.device(("VOUT_MAX", 0x1100))
+        device.survey(0)
+        state = device.order_voltage(0, "1.2V")
+        self.assertEqual((str(state.band.least), str(state.band.greatest), part.volts()), ("1.0625V", "1.0625V", 1062500))
+
     def test_what_looks_may_be(self):
         for words in ({"fault_limits": "never"}, {"within": 1001}, {"settle": -1}, {"power_good": "maybe"}):
             with self.assertRaises(ValueError):
                 Looks(**words)
-
-
-@unittest.skipUnless(os.path.exists(ROWS), "the package stands alone")
-class RowsOfC(unittest.TestCase):
-    """The rows of trials/field/rows.c, by a Device and by the command."""
-
-    def rows(self):
-        for block in re.sub(r"(?m)^#.*\n", "", stored(ROWS)).strip().split("\n\n"):
-            pairs = [line.split(": ", 1) for line in block.splitlines()]
-            part = Field()
-            for key, text in pairs:
-                if key == "part":
-                    part.set(text.split()[0], int(text.split()[1], 16))
-            yield dict(pairs), part
-
-    def test_by_a_device(self):
-        counted = 0
-        for row, part in self.rows():
-            device = Device(FieldBus(part), ADDRESS, 2, limits={0: ("0.8V", "1.3V")}, looks=Looks(row.get("limits", "refuse")))
-            kind, _, word = row["call"].partition(" ")
-            course = Course.survey(0) if kind == "survey" else Course.voltage(0, f"{word}uV") if kind == "set" else Course.power(0, int(word, 16))
-            try:
-                device.complete(course)
-                found = device.delivered.verdict.kind
-            except NotDelivered as fault:
-                found = fault.kind
-            except PlanRefused as fault:
-                found = fault.letter
-            with self.subTest(row["name"]):
-                self.assertEqual(f"{found.replace(' to be', '').replace(' ', '-')} {part.volts()}", row["is"])
-            counted += 1
-        self.assertGreaterEqual(counted, 19)
-
-    def test_by_the_command(self):
-        for row, part in self.rows():
-            kind, _, word = row["call"].partition(" ")
-            words = {"set": f"set 0 {word}uV", "power": f"word 0 OPERATION {word}", "survey": "survey 0"}[kind]
-            over = FakeKernel(part)
-            status, out, _ = called(["-b", "7", "-a", "58", "--outputs", "2", "--limit", "0:0.8V:1.3V", "--json", "--fault-limits",
-                                     row.get("limits", "refuse"), *words.split()], over)
-            found = json.loads(out)
-            ended = "P8" if (found["refusal"] or "").startswith("P8 ") else found["delivery"].replace(" to be", "").replace(" ", "-")
-            with self.subTest(row["name"]):
-                self.assertEqual(f"{ended} {part.volts()}", row["is"])
-                self.assertEqual(status == 0, ended in ("delivers", "commanded-off", "went-off"))
 
 
 class Threads(unittest.TestCase):
@@ -188,6 +160,45 @@ class Boards(unittest.TestCase):
         self.assertEqual(wrong, [])
         self.assertGreater(well, BOARDS // 10)
         self.assertLess(unsure, BOARDS // 4)
+
+
+class Calls(unittest.TestCase):
+    def test_no_call_ends_well_over_a_dead_rail(self):
+        """trials/field/calls.py has thousands. Nor does an off end well while the rail is on."""
+        seed = random.randrange(2**32)
+        well, wrong = field_calls.counts(random.Random(seed), CALLS)
+        self.assertEqual(wrong, [], f"seed {seed}")
+        self.assertGreater(sum(well.values()), CALLS, f"seed {seed}")
+
+
+class Transfers(unittest.TestCase):
+    """How many transfers a set takes where the part answers all, and nothing has to be asked again: 14 of them are the course's own."""
+
+    def counted(self, *words, **fields):
+        part = Field()
+        for name, value in fields.items():
+            part.set(name, value)
+        before = part.get("transfers")
+        status, out, err = called(["-b", "7", "-a", "58", "--outputs", "2", "--limit=0:0.8V:1.3V", *words, "set", "0", "1.05V"], FakeKernel(part))
+        self.assertEqual((status, err), (0, ""), out)
+        return part.get("transfers") - before
+
+    def test_a_good_set_takes_seven_more_and_three_without_fault_limits(self):
+        alone = Field()
+        device = Device(FieldBus(alone), ADDRESS, 2, limits={0: ("0.8V", "1.3V")}, looks=None)
+        device.set_voltage(0, "1.05V")
+        own = alone.get("transfers")
+        self.assertEqual(own, 14)
+        self.assertEqual((self.counted(), self.counted("--fault-limits=skip")), (own + 7, own + 3))
+
+    def test_two_of_them_come_after_the_order(self):
+        part = Field()
+        device = Device(FieldBus(part), ADDRESS, 2, limits={0: ("0.8V", "1.3V")})
+        device.set_voltage(0, "1.05V")
+        ordered = next(at for at, line in enumerate(part.lines) if line.startswith("B0 05"))
+        self.assertEqual([line[-4:-2] for line in part.lines[ordered + 1:] if line[-4:-2] in ("79", "8B")], ["79", "8B"])
+        self.assertEqual([line[-4:-2] for line in part.lines[:ordered] if line[-4:-2] in ("79", "40", "42", "43", "44")],
+                         ["79", "40", "42", "43", "44"])
 
 
 if __name__ == "__main__":

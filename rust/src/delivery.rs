@@ -1,14 +1,16 @@
 //! What an output does, beside what its registers hold.
 
-use core::{error, fmt};
+use core::fmt;
 
 use crate::bus::{Bus, Operation};
-use crate::course::{AnswerFault, Course, NotReached};
+use crate::course::{AnswerFault, Course};
+use crate::delivered::{BeyondFaultLimit, Delivered, Goal, NotDelivered, GOALS};
 use crate::ffi;
 use crate::host::{Cell, Host, Register, Sending};
 use crate::jobs::Job;
 use crate::loops::{Failures, Frames};
 use crate::refusal::{accepted, Refusal};
+use crate::verdict::Verdict;
 
 /// How far READ_VOUT may be from what the output commands, in thousandths of that, where a caller has no number of his own: 5 %.
 pub const DELIVERS_WITHIN: u16 = 50;
@@ -22,10 +24,20 @@ pub enum FaultLimits {
     /// Nothing is ordered (P8).
     #[default]
     Refuse,
-    /// It is ordered; [`Delivery::judge`] tells.
+    /// It is ordered, and [`Delivered`] tells.
     Tell,
     /// They aren't read.
     Skip,
+}
+
+/// What is made of an output whose READ_VOUT is right, and whose power good is missing.
+#[derive(Clone, Copy, Debug, Default, PartialEq, Eq)]
+pub enum PowerGood {
+    /// It doesn't deliver.
+    #[default]
+    Judge,
+    /// It does, and [`Delivered`] tells.
+    Tell,
 }
 
 /// What is asked of an output, and how often.
@@ -33,7 +45,10 @@ pub enum FaultLimits {
 pub struct DeliveryOptions {
     /// What is done about fault limits.
     pub fault_limits: FaultLimits,
-    /// Whether READ_VOUT is one of the part's registers: the data sheet says it.
+    /// What is made of power good that alone is missing.
+    pub power_good: PowerGood,
+    /// Whether READ_VOUT is one of the part's registers: the data sheet says it. One that gives no answer at all in two rounds counts as
+    /// missing.
     pub has_read_vout: bool,
     /// How far READ_VOUT may be from what the output commands, in thousandths of that, 1000 at most.
     pub within: u16,
@@ -43,7 +58,13 @@ pub struct DeliveryOptions {
 
 impl Default for DeliveryOptions {
     fn default() -> DeliveryOptions {
-        DeliveryOptions { fault_limits: FaultLimits::Refuse, has_read_vout: true, within: DELIVERS_WITHIN, rounds: DELIVERY_ROUNDS }
+        DeliveryOptions {
+            fault_limits: FaultLimits::Refuse,
+            power_good: PowerGood::Judge,
+            has_read_vout: true,
+            within: DELIVERS_WITHIN,
+            rounds: DELIVERY_ROUNDS,
+        }
     }
 }
 
@@ -56,12 +77,6 @@ pub struct Limit {
     pub word: u16,
 }
 
-impl fmt::Display for Limit {
-    fn fmt(&self, to: &mut fmt::Formatter<'_>) -> fmt::Result {
-        write!(to, "{} {:04X}", name_of(self.code), self.word)
-    }
-}
-
 /// Which limits a word is at or beyond, of those that gave a good answer.
 #[derive(Clone, Copy, Debug, Default, PartialEq, Eq)]
 pub struct Judgement {
@@ -71,303 +86,16 @@ pub struct Judgement {
     pub warning: Option<Limit>,
 }
 
-/// What an output does. A good end is `Delivers`, `WentOff` after an order that turned it off, and `CommandedOff` or `NotKnownOn`
-/// where the output isn't asked.
-#[derive(Clone, Copy, Debug, PartialEq, Eq)]
-#[must_use = "a rail that is off, or that tripped, is told by this alone"]
-pub enum Verdict {
-    /// Something is left to ask, or nothing was looked at.
-    NotYet,
-    /// OFF and POWER_GOOD# are 0, no fault is new, and READ_VOUT is within the limits and near what the output commands.
-    Delivers {
-        /// READ_VOUT in microvolts, rounded down; `None` of a part without it, and beyond 10^15.
-        microvolts: Option<i64>,
-    },
-    /// Nothing was asked: the output is commanded off.
-    CommandedOff,
-    /// Nothing was asked: it isn't known whether the output is commanded on.
-    NotKnownOn,
-    /// OFF is 1, though the output is commanded on.
-    IsOff {
-        /// STATUS_WORD.
-        status: u16,
-    },
-    /// A bit says a fault that wasn't known to stand before the first order.
-    NewFault {
-        /// The command code of the register: STATUS_WORD or a status register.
-        code: u8,
-        /// What it holds.
-        word: u16,
-        /// The number of the bit, from 0.
-        bit: u8,
-    },
-    /// READ_VOUT lies outside the output's limits.
-    OutsideLimits {
-        /// READ_VOUT in microvolts, rounded down.
-        microvolts: Option<i64>,
-    },
-    /// READ_VOUT is farther from what the output commands than it may be.
-    Beyond {
-        /// READ_VOUT in microvolts, rounded down.
-        microvolts: Option<i64>,
-    },
-    /// READ_VOUT is right, and POWER_GOOD# is 1.
-    PowerGoodAlone {
-        /// READ_VOUT in microvolts, rounded down.
-        microvolts: Option<i64>,
-    },
-    /// POWER_GOOD# is 1, of a part without READ_VOUT.
-    NoPowerGood,
-    /// A register gave no good answer.
-    NotKnown {
-        /// Its command code.
-        code: u8,
-        /// What was wrong with the last answer; `None` of READ_VOUT where that was good, and what the output commands isn't known.
-        fault: Option<AnswerFault>,
-    },
-    /// OFF is 1 after an order that turned the output off.
-    WentOff,
-    /// OFF is 0 after an order that turned the output off.
-    StillOn,
-}
-
-impl Verdict {
-    /// Whether the output does what it is to, or isn't asked since it isn't commanded on.
-    #[must_use]
-    pub fn is_good(&self) -> bool {
-        matches!(self, Verdict::Delivers { .. } | Verdict::WentOff | Verdict::CommandedOff | Verdict::NotKnownOn)
-    }
-
-    fn of(found: &ffi::DeliveredImage) -> Verdict {
-        let (code, word) = (found.code, found.word);
-        let microvolts = (found.has_microvolts == 1).then_some(found.microvolts);
-        match found.kind {
-            1 => Verdict::Delivers { microvolts },
-            2 => Verdict::CommandedOff,
-            3 => Verdict::NotKnownOn,
-            4 => Verdict::IsOff { status: word },
-            5 => Verdict::NewFault { code, word, bit: found.bit },
-            6 => Verdict::OutsideLimits { microvolts },
-            7 => Verdict::Beyond { microvolts },
-            8 => Verdict::PowerGoodAlone { microvolts },
-            9 => Verdict::NoPowerGood,
-            10 => Verdict::NotKnown { code, fault: AnswerFault::of(found.fault) },
-            11 => Verdict::WentOff,
-            12 => Verdict::StillOn,
-            _ => Verdict::NotYet,
-        }
-    }
-}
-
-impl fmt::Display for Verdict {
-    fn fmt(&self, to: &mut fmt::Formatter<'_>) -> fmt::Result {
-        match *self {
-            Verdict::NotYet => to.write_str("delivery not asked to its end"),
-            Verdict::Delivers { microvolts: None } => to.write_str("delivers"),
-            Verdict::Delivers { microvolts } => write!(to, "delivers {}", Volts(microvolts)),
-            Verdict::CommandedOff => to.write_str("commanded off"),
-            Verdict::NotKnownOn => to.write_str("not known to be on"),
-            Verdict::IsOff { status } => write!(to, "{}: the rail is off", Status(0x79, status)),
-            Verdict::NewFault { code, word, bit } => {
-                write!(to, "{}: {} came with this call", Status(code, word), BitName(code, bit))
-            }
-            Verdict::OutsideLimits { microvolts } => write!(to, "READ_VOUT {}, OUTSIDE its limits", Volts(microvolts)),
-            Verdict::Beyond { microvolts } => write!(to, "READ_VOUT {}, too far from what the output commands", Volts(microvolts)),
-            Verdict::PowerGoodAlone { microvolts } => write!(to, "READ_VOUT {}, and power good is missing", Volts(microvolts)),
-            Verdict::NoPowerGood => to.write_str("power good is missing"),
-            Verdict::NotKnown { code, fault: Some(fault) } => {
-                write!(to, "delivery not known: {} gave no good answer: {fault}", name_of(code))
-            }
-            Verdict::NotKnown { fault: None, .. } => to.write_str("delivery not known: what the output commands isn't known"),
-            Verdict::WentOff => to.write_str("off"),
-            Verdict::StillOn => to.write_str("commanded off, and the part says that it is on"),
-        }
-    }
-}
-
-/// A voltage in volts, without zeros at its end.
-struct Volts(Option<i64>);
-
-impl fmt::Display for Volts {
-    fn fmt(&self, to: &mut fmt::Formatter<'_>) -> fmt::Result {
-        let Some(microvolts) = self.0 else { return to.write_str("beyond 10^15 microvolts") };
-        let size = microvolts.unsigned_abs();
-        let (whole, mut rest, mut digits) = (size / 1_000_000, size % 1_000_000, 6);
-        while digits > 0 && rest % 10 == 0 {
-            rest /= 10;
-            digits -= 1;
-        }
-        to.write_str(if microvolts < 0 { "-" } else { "" })?;
-        match digits {
-            0 => write!(to, "{whole}V"),
-            digits => write!(to, "{whole}.{rest:0digits$}V"),
-        }
-    }
-}
-
-/// The names of bits, that of bit 0 first; "" of one that has none.
-static STATUS_WORD: [&str; 16] = [
-    "NONE_OF_THE_ABOVE",
-    "CML",
-    "TEMPERATURE",
-    "VIN_UV_FAULT",
-    "IOUT_OC_FAULT",
-    "VOUT_OV_FAULT",
-    "OFF",
-    "BUSY",
-    "UNKNOWN",
-    "OTHER",
-    "FANS",
-    "POWER_GOOD#",
-    "MFR_SPECIFIC",
-    "INPUT",
-    "IOUT_POUT",
-    "VOUT",
-];
-static STATUS_VOUT: [&str; 8] = [
-    "TRACKING",
-    "TOFF_MAX_WARNING",
-    "TON_MAX_FAULT",
-    "VOUT_MAX_MIN",
-    "VOUT_UV_FAULT",
-    "VOUT_UV_WARNING",
-    "VOUT_OV_WARNING",
-    "VOUT_OV_FAULT",
-];
-static STATUS_IOUT: [&str; 8] = [
-    "POUT_OP_WARNING",
-    "POUT_OP_FAULT",
-    "POWER_LIMITING",
-    "CURRENT_SHARE_FAULT",
-    "IOUT_UC_FAULT",
-    "IOUT_OC_WARNING",
-    "IOUT_OC_LV_FAULT",
-    "IOUT_OC_FAULT",
-];
-static STATUS_INPUT: [&str; 8] = [
-    "PIN_OP_WARNING",
-    "IIN_OC_WARNING",
-    "IIN_OC_FAULT",
-    "UNIT_OFF_LOW_VIN",
-    "VIN_UV_FAULT",
-    "VIN_UV_WARNING",
-    "VIN_OV_WARNING",
-    "VIN_OV_FAULT",
-];
-static STATUS_TEMPERATURE: [&str; 8] = ["", "", "", "", "UT_FAULT", "UT_WARNING", "OT_WARNING", "OT_FAULT"];
-
-/// The names of a status register's bits.
-fn bits_of(code: u8) -> &'static [&'static str] {
-    match code {
-        0x79 => &STATUS_WORD,
-        0x7A => &STATUS_VOUT,
-        0x7B => &STATUS_IOUT,
-        0x7C => &STATUS_INPUT,
-        0x7D => &STATUS_TEMPERATURE,
-        _ => &[],
-    }
-}
-
-/// The standard's name of a register that is asked.
-fn name_of(code: u8) -> &'static str {
-    match code {
-        0x40 => "VOUT_OV_FAULT_LIMIT",
-        0x42 => "VOUT_OV_WARN_LIMIT",
-        0x43 => "VOUT_UV_WARN_LIMIT",
-        0x44 => "VOUT_UV_FAULT_LIMIT",
-        0x5E => "POWER_GOOD_ON",
-        0x5F => "POWER_GOOD_OFF",
-        0x79 => "STATUS_WORD",
-        0x7A => "STATUS_VOUT",
-        0x7B => "STATUS_IOUT",
-        0x7C => "STATUS_INPUT",
-        0x7D => "STATUS_TEMPERATURE",
-        0x8B => "READ_VOUT",
-        _ => "another register",
-    }
-}
-
-/// The name of a bit of a status register, or its number.
-struct BitName(u8, u8);
-
-impl fmt::Display for BitName {
-    fn fmt(&self, to: &mut fmt::Formatter<'_>) -> fmt::Result {
-        match bits_of(self.0).get(usize::from(self.1)) {
-            Some(name) if !name.is_empty() => to.write_str(name),
-            _ => write!(to, "bit {}", self.1),
-        }
-    }
-}
-
-/// A status register with its word and the names of its bits, the high one first.
-struct Status(u8, u16);
-
-impl fmt::Display for Status {
-    fn fmt(&self, to: &mut fmt::Formatter<'_>) -> fmt::Result {
-        let Status(code, word) = *self;
-        let digits = if code == 0x79 { 4 } else { 2 };
-        write!(to, "{} {word:0digits$X}", name_of(code))?;
-        let mut between = " ";
-        for bit in (0..16).rev().filter(|bit| word >> bit & 1 == 1) {
-            write!(to, "{between}{}", BitName(code, bit))?;
-            between = ", ";
-        }
-        Ok(())
-    }
-}
-
-/// Why an output doesn't do what is wanted. `E` is the error of the bus.
-#[derive(Clone, Copy, Debug, PartialEq, Eq)]
-pub enum NotDelivered<E> {
-    /// The course didn't reach what is wanted.
-    NotReached(NotReached<E>),
-    /// P8: what is wanted is at or beyond this fault limit, and nothing was ordered.
-    BeyondFaultLimit(Limit),
-    /// The course reached it, and the output does something else.
-    Does(Verdict),
-    /// A call is refused.
-    Refused(Refusal),
-}
-
-impl<E> fmt::Display for NotDelivered<E> {
-    fn fmt(&self, to: &mut fmt::Formatter<'_>) -> fmt::Result {
-        match self {
-            NotDelivered::NotReached(why) => write!(to, "{why}"),
-            NotDelivered::BeyondFaultLimit(limit) => {
-                write!(to, "refused: {}: at or beyond {limit}, which would trip the rail", Refusal::P8BeyondFaultLimit)
-            }
-            NotDelivered::Does(verdict) => write!(to, "{verdict}"),
-            NotDelivered::Refused(refusal) => write!(to, "refused: {refusal}"),
-        }
-    }
-}
-
-impl<E: error::Error + 'static> error::Error for NotDelivered<E> {
-    fn source(&self) -> Option<&(dyn error::Error + 'static)> {
-        match self {
-            NotDelivered::NotReached(why) => why.source(),
-            _ => None,
-        }
-    }
-}
-
-impl<E> From<NotReached<E>> for NotDelivered<E> {
-    fn from(why: NotReached<E>) -> NotDelivered<E> {
-        NotDelivered::NotReached(why)
-    }
-}
-
-impl<E> From<Refusal> for NotDelivered<E> {
-    fn from(refusal: Refusal) -> NotDelivered<E> {
-        NotDelivered::Refused(refusal)
-    }
-}
-
 /// What an output does, by reads of PAGE_PLUS beside the host's jobs: it writes nothing, and no job is told of what it hears. One for an
 /// output and a call, or a chain of calls: which faults stood before the first order is asked once. [`Host::deliver`] is the loop.
 #[derive(Clone)]
+#[must_use = "a delivery asks nothing until it is carried out"]
 pub struct Delivery {
     image: ffi::DeliveryImage,
+    goals: [Option<Goal>; 3],
+    tells_power_good: bool,
+    has_told_limits: bool,
+    has_told_absent: bool,
 }
 
 impl fmt::Debug for Delivery {
@@ -393,7 +121,8 @@ impl Delivery {
         };
         let has = u8::from(options.has_read_vout);
         accepted(unsafe { ffi::pm_delivery_new(&mut image, output, limits, has, options.within, options.rounds) })?;
-        Ok(Delivery { image })
+        let tells_power_good = options.power_good == PowerGood::Tell;
+        Ok(Delivery { image, goals: [None; 3], tells_power_good, has_told_limits: false, has_told_absent: false })
     }
 
     /// Begins to look at what stands before the first order of a call: STATUS_WORD, and the fault limits unless they are skipped. Ask for
@@ -468,17 +197,56 @@ impl Delivery {
     }
 
     /// What a course wants that is at or beyond a fault limit, by which nothing is ordered; `None` where that is told alone.
-    fn refuses(&self, course: &Course, host: &Host) -> Result<Option<Limit>, Refusal> {
-        for register in [Register::VoutCommand, Register::VoutMarginHigh, Register::VoutMarginLow] {
-            let judged = match course.goal(host, register) {
-                Some(word) => self.judge(host, word)?,
-                None => continue,
-            };
-            if judged.fault.is_some() && self.image.fault_limits != 1 {
-                return Ok(judged.fault);
+    fn refuses(&mut self, course: &Course, host: &Host) -> Result<Option<BeyondFaultLimit>, Refusal> {
+        self.goals = [None; 3];
+        for (at, register) in GOALS.into_iter().enumerate() {
+            let Some(word) = course.goal(host, register) else { continue };
+            let judged = self.judge(host, word)?;
+            self.goals[at] = Some(Goal { word, fault: code_of(judged.fault), warning: code_of(judged.warning) });
+            if let Some(limit) = judged.fault.filter(|_| self.image.fault_limits != 1) {
+                return Ok(Some(BeyondFaultLimit { register, word, limit, format: host.format(self.image.output)? }));
             }
         }
         Ok(None)
+    }
+
+    /// Whether the part has no STATUS_WORD: it gave no answer at all, before an order and in two rounds after one.
+    fn is_absent(&self, verdict: &Verdict) -> bool {
+        let is_silent = matches!(verdict, Verdict::NotKnown { code: 0x79, fault: Some(AnswerFault::NoAnswer) });
+        is_silent && self.status_before().is_none() && (self.image.round > 0 || self.image.before.fault == NO_ANSWER)
+    }
+
+    /// What the output does, with all that is told of it; nothing that was told once is told again.
+    pub fn delivered(&mut self, host: &Host) -> Result<Delivered, Refusal> {
+        let mut verdict = self.verdict(host)?;
+        if self.image.round > 0 && verdict == (Verdict::NotKnown { code: 0x8B, fault: Some(AnswerFault::NoAnswer) }) {
+            self.image.has_read_vout = 0;
+            verdict = self.verdict(host)?;
+        }
+        let is_absent = self.is_absent(&verdict);
+        let limits = [self.image.ov_fault_limit, self.image.ov_warn_limit, self.image.uv_warn_limit, self.image.uv_fault_limit];
+        let image = &self.image;
+        let found = Delivered {
+            verdict,
+            limits: host.limits(image.output)?,
+            status: self.status(),
+            before: self.status_before(),
+            power_good_on: self.power_good_on(),
+            registers: [image.status_vout, image.status_iout, image.status_input, image.status_temperature]
+                .map(|heard| word_of(heard).map(|word| word.to_le_bytes()[0])),
+            format: host.format(image.output)?,
+            within: image.within,
+            goals: self.goals,
+            limit_words: limits.map(|heard| heard.word),
+            silent: limits.map(|heard| !self.has_told_limits && heard.asked != 0 && heard.fault != 0),
+            is_absent,
+            is_told: self.has_told_absent,
+            tells_power_good: self.tells_power_good,
+        };
+        self.has_told_absent |= is_absent;
+        self.has_told_limits |= found.silent != [false; 4];
+        self.goals = [None; 3];
+        Ok(found)
     }
 
     /// Asks all that there is to ask over a bus.
@@ -502,6 +270,13 @@ impl Delivery {
 /// P8, by which a judgement is told too.
 const P8: u8 = Refusal::P8BeyondFaultLimit.number();
 
+/// The number of an answer that didn't come.
+const NO_ANSWER: u8 = 1;
+
+fn code_of(limit: Option<Limit>) -> u8 {
+    limit.map_or(0, |limit| limit.code)
+}
+
 fn limit_of(code: u8, word: u16) -> Option<Limit> {
     (code != 0).then_some(Limit { code, word })
 }
@@ -521,18 +296,19 @@ impl Host {
     /// called before all is asked again of an output that doesn't do yet what it is to.
     ///
     /// ```
-    /// use pmhost::{Course, Delivery, DeliveryOptions, Host, NotDelivered, Output, Part, Reading, Register, Verdict, COURSE_TRIES};
+    /// use pmhost::{Course, Delivery, DeliveryOptions, FaultLimits, Host, NotDelivered, Output, Part, Reading, Register, COURSE_TRIES};
     ///
     /// let mut bus = Part::new(0x58, &[Output::default()], (1, 0, 3))?;
     /// let mut host = Host::new(0x58, 1, 3)?;
     /// let mut course = Course::voltage(0, Register::VoutCommand, 1_100_000, COURSE_TRIES)?;
-    /// let mut delivery = Delivery::new(0, &DeliveryOptions { rounds: 2, ..DeliveryOptions::default() })?;
+    /// let options = DeliveryOptions { fault_limits: FaultLimits::Skip, rounds: 2, ..DeliveryOptions::default() };
+    /// let mut delivery = Delivery::new(0, &options)?;
     /// bus.set_reading(Reading::Vout(0), 0x0000)?;
     /// let dead = host.deliver(&mut course, &mut delivery, &mut bus, || ());
-    /// assert_eq!(dead, Err(NotDelivered::Does(Verdict::Beyond { microvolts: Some(0) })));
+    /// let Err(NotDelivered::Does(dead)) = dead else { panic!("it isn't dead") };
+    /// assert_eq!(dead.to_string(), "READ_VOUT 0V is more than 5% away from what is commanded");
     /// bus.set_reading(Reading::Vout(0), 0x1199)?;
     /// let alive = host.deliver(&mut course, &mut delivery, &mut bus, || ())?;
-    /// assert_eq!(alive, Verdict::Delivers { microvolts: Some(1_099_853) });
     /// assert_eq!(alive.to_string(), "delivers 1.099853V");
     /// # Ok::<(), Box<dyn core::error::Error>>(())
     /// ```
@@ -542,25 +318,28 @@ impl Host {
         delivery: &mut Delivery,
         bus: &mut B,
         mut pause: impl FnMut(),
-    ) -> Result<Verdict, NotDelivered<B::Error>> {
+    ) -> Result<Delivered, NotDelivered<B::Error>> {
         let turns_off = is_off(course.next(self)) || is_off(course.job());
         let mut failures = Failures::default();
-        let _step = Frames::of_course(self, course).carry_out_until(bus, &mut failures, |course, host| is_order(course.next(host)))?;
+        let _step =
+            Frames::of_course(self, course).carry_out_until(bus, &mut failures, |course, host| is_order(course.next(host)))?;
         if !turns_off && is_order(course.next(self)) {
             if delivery.image.before.asked == 0 {
                 delivery.look_before()?;
                 delivery.ask(self, bus, &mut pause)?;
             }
-            if let Some(limit) = delivery.refuses(course, self)? {
-                return Err(NotDelivered::BeyondFaultLimit(limit));
+            if let Some(beyond) = delivery.refuses(course, self)? {
+                return Err(NotDelivered::BeyondFaultLimit(beyond));
             }
         }
         self.run_course(course, bus)?;
         delivery.look_after(turns_off)?;
         delivery.ask(self, bus, &mut pause)?;
-        match delivery.verdict(self)? {
-            verdict if verdict.is_good() => Ok(verdict),
-            verdict => Err(NotDelivered::Does(verdict)),
+        let found = delivery.delivered(self)?;
+        if found.is_good() {
+            Ok(found)
+        } else {
+            Err(NotDelivered::Does(found))
         }
     }
 }

@@ -360,15 +360,7 @@ extern "C" {
     pub fn pm_read_block(address: u8, code: u8, bytes: *const u8, count: u64, block: &mut BlockImage) -> u8;
     pub fn pm_read_plain(address: u8, code: u8, size: u8, bytes: *const u8, count: u64, block: &mut BlockImage) -> u8;
     pub fn pm_paged_request(address: u8, page: u8, code: u8, size: u8, frame: &mut SendingImage) -> u8;
-    pub fn pm_read_paged(
-        address: u8,
-        page: u8,
-        code: u8,
-        size: u8,
-        bytes: *const u8,
-        count: u64,
-        block: &mut BlockImage,
-    ) -> u8;
+    pub fn pm_read_paged(address: u8, page: u8, code: u8, size: u8, bytes: *const u8, count: u64, block: &mut BlockImage) -> u8;
     pub fn pm_part_size() -> u64;
     pub fn pm_part_new(part: &mut PartImage, config: &ConfigImage) -> u8;
     pub fn pm_part_hear(part: &mut PartImage, bytes: *const u8, count: u64, is_request: u8, reply: &mut ReplyImage) -> u8;

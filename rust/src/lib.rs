@@ -4,6 +4,7 @@
 
 mod bus;
 mod course;
+mod delivered;
 mod delivery;
 mod done;
 mod ffi;
@@ -24,12 +25,13 @@ mod rail;
 mod refusal;
 #[cfg(feature = "linux")]
 mod reserved;
+mod status;
+mod verdict;
 
 pub use bus::{Bus, Operation};
 pub use course::{AnswerFault, Course, NotReached, COURSE_TRIES};
-pub use delivery::{
-    Delivery, DeliveryOptions, FaultLimits, Judgement, Limit, NotDelivered, Verdict, DELIVERS_WITHIN, DELIVERY_ROUNDS,
-};
+pub use delivered::{BeyondFaultLimit, Delivered, NotDelivered};
+pub use delivery::{Delivery, DeliveryOptions, FaultLimits, Judgement, Limit, PowerGood, DELIVERS_WITHIN, DELIVERY_ROUNDS};
 pub use done::{Done, NotDone};
 pub use host::{Band, Cell, Host, Known, Limits, LimitsState, Possible, Register, Sending, Step};
 pub use jobs::Job;
@@ -45,3 +47,4 @@ pub use rail::{Power, Rail, Selected, Wanted};
 pub use refusal::Refusal;
 #[cfg(feature = "linux")]
 pub use reserved::Reserved;
+pub use verdict::Verdict;

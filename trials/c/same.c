@@ -42,7 +42,7 @@ uint32_t wide_word(const pm_format *format, int64_t microvolts, uint16_t *word) 
 #define wide_word pm_nearest_word
 #endif
 
-enum { HOSTS = 4, HALVES = PM_HOST_SIZE / 2, GUARD = 4, ROOM = 320, EXPORTS = 64 };
+enum { HOSTS = 4, HALVES = PM_HOST_SIZE / 2, GUARD = 4, ROOM = 320, EXPORTS = 76 };
 
 /* Hosts at addresses that eight divides, with guards around them: the last is damaged. */
 static uint64_t memory[HOSTS][(GUARD + HALVES + GUARD) / 4];
@@ -54,18 +54,22 @@ static struct {
     uint8_t a[3]; pm_sending sending; uint8_t b; pm_part_reply reply; uint16_t c; pm_words words; uint16_t d; pm_standing standing;
     uint16_t e; pm_format format; uint16_t f; pm_packet packet; uint16_t g; uint16_t word; uint16_t h[4]; int64_t microvolts;
     uint16_t i[4]; pm_limits limits; uint16_t j[4]; pm_band band; uint16_t k[4]; pm_name name; pm_payload payload; uint16_t l[4];
-    pm_rail rail; uint16_t m[4]; pm_course_end end; uint16_t n[2]; pm_course_job job; uint16_t o[2];
+    pm_rail rail; uint16_t m[4]; pm_course_end end; uint16_t n[2]; pm_course_job job; uint16_t o[4]; pm_delivered delivered; uint16_t p[2];
+    pm_judgement judgement; uint8_t q[3]; pm_block block; uint8_t r[3];
 } out;
 
 /* A course, with guards around it. */
 static struct { uint16_t before[4]; pm_course course; uint16_t after[4]; } asked;
+
+/* A delivery, with guards around it. */
+static struct { uint16_t before[3]; pm_delivery delivery; uint16_t after[3]; } looked;
 
 /* What is known of all cells, which is large: with guards of its own. */
 static struct { uint16_t before[3]; pm_known known; uint16_t after[3]; } cells;
 
 static uint64_t seed;
 static uint32_t sum, turned, calls, taken, ends, narrow;
-static uint64_t called;
+static uint64_t called[2];
 
 static uint32_t draw(uint32_t below) {
     seed ^= seed << 13;
@@ -104,7 +108,7 @@ static pm_host *host_at(unsigned number) {
 static uint32_t heard(unsigned which, uint32_t answer, uint32_t most) {
     calls++;
     taken += answer == 0;
-    called |= (uint64_t)1 << which;
+    called[which / 64] |= (uint64_t)1 << which % 64;
     narrow += answer > most;
     add(which << 24 ^ answer);
     return answer & most;
@@ -361,6 +365,73 @@ static void rails(pm_host *host) {
     add_halves((const uint16_t *)&asked, sizeof asked / 2);
 }
 
+/* The request of a delivery goes to the converter, and what comes back to it. */
+static void look(const pm_host *host) {
+    unsigned fate = draw(12);
+    memset(&out.sending, (int)draw(256), sizeof out.sending);
+    heard(71, pm_delivery_frame(&looked.delivery, host, &out.sending), 255);
+    wrote(&out.sending, sizeof out.sending);
+    unsigned count = out.sending.length % (sizeof out.sending.bytes + 1);
+    out.reply.length = 0;
+    if (fate != 0)
+        hear(out.sending.bytes, count, 1);
+    uint8_t *at = room + draw(4);
+    count = out.reply.length % (sizeof out.reply.bytes + 1);
+    memcpy(at, out.reply.bytes, count);
+    if (fate == 1 && count)
+        damage(at, count);
+    if (fate == 2)
+        count = draw(ROOM - 4);
+    heard(72, pm_delivery_read_ended(&looked.delivery, host, at, count), 255);
+}
+
+/* Reads by PAGE_PLUS of any code: a request, and an answer that is right most times. */
+static void paged(void) {
+    uint8_t address = (uint8_t)(draw(16) ? 0x58 : draw(256)), output = draw_output(), code = draw_code();
+    uint8_t size = (uint8_t)(draw(16) ? draw(4) : draw(256)), came[40], whole[64];
+    unsigned refused = heard(75, pm_paged_request(address, output, code, size, &out.sending), 255), count = out.sending.length % 17;
+    for (unsigned i = 0; i < sizeof came; i++)
+        came[i] = (uint8_t)draw(256);
+    unsigned length = draw(4) ? size % 33 + 3u : draw(sizeof came + 1);
+    came[0] = (uint8_t)(address << 1 | 1), came[1] = (uint8_t)(draw(8) ? length - 3 : draw(256));
+    if (!refused && length > 2 && draw(4)) {
+        memcpy(whole, out.sending.bytes, count);
+        memcpy(whole + count, came, length - 1);
+        came[length - 1] = (uint8_t)wide_pec(whole, count + length - 1);
+    }
+    heard(74, pm_read_paged(address, output, code, size, came, length, &out.block), 255);
+}
+
+/* What an output does, and which limits a word is at or beyond. */
+static void deliveries(const pm_host *host) {
+    uint8_t output = draw_output(), code = draw_code(), limits = (uint8_t)draw(5), has = (uint8_t)draw(3), is_off = (uint8_t)draw(3);
+    uint16_t word = draw_word(), within = (uint16_t)(draw(4) ? draw(100) : draw(65536)), rounds = (uint16_t)(draw(8) ? draw(4) : draw(65536));
+    pm_delivery *delivery = &looked.delivery;
+    memset(&out, (int)draw(256), sizeof out);
+    switch (draw(12)) {
+    case 0: heard(64, pm_delivery_new(delivery, output, limits, has, within, rounds), 255); break;
+    case 1: heard(65, pm_delivery_before(delivery), 255); break;
+    case 2: heard(66, pm_delivery_after(delivery, is_off), 255); break;
+    case 3: heard(67, pm_delivery_verdict(delivery, host, &out.delivered), 255); break;
+    case 4: heard(68, pm_delivery_judge(delivery, host, word, &out.judgement), 255); break;
+    case 5: heard(69, pm_course_goal(&asked.course, host, code, &out.word), 255); break;
+    case 6: heard(70, (uint32_t)pm_delivery_size() ^ (uint32_t)(pm_delivery_size() >> 32), UINT32_MAX);
+        heard(73, pm_delivery_version(), 65535); break;
+    case 7: paged(); break;
+    case 8:
+        if (draw(8) == 0)
+            damage((uint8_t *)delivery, sizeof *delivery);
+        break;
+    default: /* request after request: it mostly ends */
+        heard(65 + is_off % 2u, is_off % 2 ? pm_delivery_after(delivery, 0) : pm_delivery_before(delivery), 255);
+        for (unsigned frames = draw(30); frames; frames--)
+            look(host);
+        heard(67, pm_delivery_verdict(delivery, host, &out.delivered), 255); break;
+    }
+    add_bytes(&out, sizeof out);
+    add_halves((const uint16_t *)&looked, sizeof looked / 2);
+}
+
 static void numbers(void) {
     pm_format format = draw_format();
     uint16_t word = draw_word();
@@ -468,8 +539,10 @@ static void step(void) {
         begin(host);
     else if (kind < 56)
         exchange(host, 0);
-    else if (kind < 64)
+    else if (kind < 61)
         rails(host);
+    else if (kind < 64)
+        deliveries(host);
     else if (kind < 70)
         ask(host);
     else if (kind < 78 && draw(8))
@@ -489,20 +562,22 @@ static void step(void) {
 static int life(unsigned number, uint32_t steps) {
     seed = 0x9E3779B97F4A7C15u ^ number;
     sum = 0x811C9DC5u;
-    turned = calls = taken = ends = narrow = called = 0;
+    turned = calls = taken = ends = narrow = 0;
+    called[0] = called[1] = 0;
     for (unsigned i = 0; i < 16; i++)
         draw(2);
     for (unsigned i = 0; i < ROOM; i++)
         room[i] = (uint8_t)draw(256);
     memset(memory, 0, sizeof memory);
     memset(&kept, 0, sizeof kept);
+    memset(&looked, 0, sizeof looked);
     memset(&out, 0, sizeof out);
     new_part();
     for (uint32_t i = 0; i < steps; i++)
         step();
     unsigned exports = 0;
     for (unsigned i = 0; i < EXPORTS; i++)
-        exports += (unsigned)(called >> i & 1);
+        exports += (unsigned)(called[i / 64] >> i % 64 & 1);
     printf("seed %u: %u calls of %u exports, %u taken, %u ends, %08X %08X, %u not widened\n", number, (unsigned)calls, exports,
            (unsigned)taken, (unsigned)ends, (unsigned)sum, (unsigned)turned, (unsigned)narrow);
     return exports != EXPORTS || narrow != 0 || ends == 0;

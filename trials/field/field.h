@@ -1,7 +1,7 @@
 /* A part as parts are in the field: the proved model part of pmpart.h below, and in front of it what data sheets say beside the
  * registers of a host: fault limits that trip a rail, a RUN pin and ON_OFF_CONFIG, what the rail does (STATUS_WORD, READ_VOUT,
  * power good, ramps), busy times, a packet error code that may be left out, words that are rounded or clamped, registers that are
- * missing, pins over the user store, and RESTORE as a reset. ULINEAR16 alone.
+ * missing, no PAGE_PLUS, pins over the user store, RESTORE as a reset, restarts, and a bus that goes away. ULINEAR16 alone.
  *
  * It is for tests: nothing here is proved, and nothing of it is a particular part. One layer for C, Rust, Python and pmhost: it is linked
  * with libpm_device_c, or loaded beside a library that has it. */
@@ -46,11 +46,17 @@ typedef struct {
     uint64_t now;           /* the time in microseconds, which the caller puts on */
     uint64_t ready;         /* until when it is busy */
     uint32_t transfers, writes, stores, questions;   /* how many came, and how many while it was busy */
+    uint32_t frames;        /* how many were sent to it, whether it heard them or not */
+    uint32_t restart_at;    /* it restarts before the frame behind so many; 0 for never */
+    uint32_t away_at_write, away_for, away_until; /* the bus goes away as this write comes, 0 for never, for so many frames */
     uint16_t busy_ms, store_ms, restore_ms, busy_kind;
     uint16_t config_all;    /* MFR_CONFIG_ALL: bit 2 has the packet error code required */
     uint16_t step;          /* voltages are rounded down to a multiple of it; 1 for none */
     uint16_t clamps;        /* 1 where VOUT_COMMAND and the margins are clamped to VOUT_MIN and VOUT_MAX as they are written */
     uint16_t transfer_us;   /* how long a transfer takes, for callers that have no clock */
+    uint16_t gone_code, gone_at_write; /* it has this code no more once it heard so many writes; 0 for none */
+    uint16_t no_page_plus;  /* 1 where it acknowledges no PAGE_PLUS packet, 2 where it does and answers ones */
+    uint16_t no_pec;        /* 1 where ones stand in the place of an answer's packet error code */
     uint16_t was_busy, cml;
     uint8_t address, outputs, mode, unused;
     uint32_t lacks[8];      /* a bit for each code that isn't acknowledged */

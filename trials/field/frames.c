@@ -26,7 +26,8 @@ static packet packet_of(const uint8_t *bytes, uint64_t count, int is_request) {
 }
 
 static int lacks(const field_part *part, uint8_t code) {
-    return (part->lacks[code >> 5] >> (code & 31) & 1) != 0;
+    int is_gone = part->gone_at_write && part->gone_code == code && part->writes >= part->gone_at_write;
+    return is_gone || (part->lacks[code >> 5] >> (code & 31) & 1) != 0;
 }
 
 /* ---- Answers ---- */
@@ -236,14 +237,41 @@ static uint8_t hear_busy(field_part *part, const uint8_t *bytes, uint64_t count,
     return FIELD_ACKED;
 }
 
+/* A request, of a part that may lack PAGE_PLUS or the packet error codes of its answers. */
+static uint8_t hear_request(field_part *part, const uint8_t *bytes, uint64_t count, uint8_t *answer, uint64_t *length) {
+    packet asked = packet_of(bytes, count, 1);
+    if (asked.is_paged && part->no_page_plus) {
+        part->cml |= CML_COMMAND;
+        memset(answer, 0xFF, FIELD_ANSWER);
+        *length = part->no_page_plus == 2 ? FIELD_ANSWER : 0;
+        return part->no_page_plus == 2 ? FIELD_ACKED : FIELD_REFUSED;
+    }
+    uint8_t ended = answer_request(part, bytes, count, asked, answer, length);
+    if (part->no_pec && *length > 0) answer[*length - 1] = 0xFF;
+    return ended;
+}
+
+/* A frame that is sent to it: 0 where the bus is away. */
+static int is_there(field_part *part, uint8_t is_request) {
+    uint32_t sent = part->frames++;
+    if (part->restart_at && sent == part->restart_at) field_restart(part);
+    if (!is_request && part->away_at_write && part->writes + 1 == part->away_at_write && !part->away_until)
+        part->away_until = sent + part->away_for;
+    return sent >= part->away_until;
+}
+
 uint8_t field_hear(field_part *part, const uint8_t *bytes, uint64_t count, uint8_t is_request, uint8_t *answer, uint64_t *length) {
     *length = 0;
-    if (count == 0 || bytes[0] != part->address << 1) return FIELD_UNHEARD;
+    if (!is_there(part, is_request) || count == 0 || bytes[0] != part->address << 1) return FIELD_UNHEARD;
     part->transfers++;
     if (part->now < part->ready) return hear_busy(part, bytes, count, is_request, answer, length);
     field_settle(part);
-    if (is_request) return answer_request(part, bytes, count, packet_of(bytes, count, 1), answer, length);
+    if (is_request) return hear_request(part, bytes, count, answer, length);
     part->writes++;
+    if (part->no_page_plus && count > 1 && bytes[1] == PAGE_PLUS_WRITE) {
+        part->cml |= CML_COMMAND;
+        return part->no_page_plus == 2 ? FIELD_ACKED : FIELD_REFUSED;
+    }
     take(part, bytes, count);
     field_settle(part);
     return FIELD_ACKED;

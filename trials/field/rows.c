@@ -1,5 +1,5 @@
-/* The loop of pmhost.h over the part in the field, beside the rows of rows.txt, which this program reads: what the rail does after each
- * call, and at which voltage it is. It prints each row that differs, and a count.
+/* The loop of pmhost.h over the part in the field, beside the rows of rows.txt, whose head says what they are, and which this program
+ * reads: what the rail does behind each call, in words, and at which voltage it is. It prints each row that differs, and a count.
  *
  *   gcc -I crates/pm_host_c/include -I crates/pm_device_c/include trials/field/rows.c trials/field/field.c trials/field/frames.c \
  *       libpm_host_c.a libpm_device_c.a -o rows && ./rows trials/field/rows.txt */
@@ -8,22 +8,43 @@
 #include <stdlib.h>
 #include <string.h>
 
+#include "../../examples/c/delivered.h"
 #include "field.h"
-#include "pmhost.h"
 
-enum { ADDRESS = 0x58, TRIES = 40, PASSES = 3, WITHIN = 50, ROUNDS = 7 };
+enum { ADDRESS = 0x58, TRIES = 40, PASSES = 3, LINES = 24, CALLS = 4, ROOM = 400 };
 /* By pm_delivered's kind. */
 static const char *const KINDS[] = {"not-yet", "delivers", "commanded-off", "not-known-on", "off", "fault", "outside", "beyond",
                                     "power-good-alone", "no-power-good", "not-known", "went-off", "still-on", "P8"};
 
-typedef struct { char name[128], call[32], limits[16], is[32]; char parts[4][64]; int count; } row;
+/* A row: its lines before the first call, and its calls, each with what has to come of it. */
+typedef struct { char call[64], is[64], end[64], says[ROOM], status[8]; } call_row;
+typedef struct { char name[ROOM], again[ROOM], lines[LINES][64]; call_row calls[CALLS]; int line_count, call_count; } row;
 
-static int waits;
+/* What a chain has ordered: the register, and the word that it had behind its call. */
+typedef struct { uint8_t output, code; uint16_t word; } ordered;
+
+typedef struct {
+    field_part part;
+    pm_host host;
+    pm_delivery deliveries[2];
+    delivered_told told;
+    ordered all[CALLS];
+    int count, waits;
+} chain;
 
 /* Each wait is twice as long as the one before. */
 static void pause_for_ramp(void *context) {
-    ((field_part *)context)->now += (uint64_t)10000 << waits++;
+    chain *it = context;
+    it->part.now += (uint64_t)10000 << it->waits++;
 }
+
+static uint8_t put(void *context, const uint8_t *bytes, uint64_t count) { return field_write(&((chain *)context)->part, bytes, count); }
+
+static uint64_t ask(void *context, const uint8_t *request, uint64_t count, uint8_t *answer, uint64_t room) {
+    return field_read(&((chain *)context)->part, request, count, answer, room);
+}
+
+/* ---- Rows ---- */
 
 /* The text behind a key of a line, or NULL. */
 static const char *behind(const char *line, const char *key) {
@@ -39,56 +60,168 @@ static void keep(char *place, size_t room, const char *text) {
 }
 
 static void take_line(row *it, const char *line) {
+    call_row *call = it->call_count ? &it->calls[it->call_count - 1] : NULL;
     const char *text;
     if ((text = behind(line, "name"))) keep(it->name, sizeof it->name, text);
-    else if ((text = behind(line, "call"))) keep(it->call, sizeof it->call, text);
-    else if ((text = behind(line, "limits"))) keep(it->limits, sizeof it->limits, text);
-    else if ((text = behind(line, "is"))) keep(it->is, sizeof it->is, text);
-    else if ((text = behind(line, "part")) && it->count < 4) keep(it->parts[it->count++], sizeof it->parts[0], text);
+    else if ((text = behind(line, "again"))) keep(it->again, sizeof it->again, text);
+    else if ((text = behind(line, "call")) && it->call_count < CALLS) keep(it->calls[it->call_count++].call, 64, text);
+    else if (call && (text = behind(line, "is"))) keep(call->is, sizeof call->is, text);
+    else if (call && (text = behind(line, "end"))) keep(call->end, sizeof call->end, text);
+    else if (call && (text = behind(line, "says"))) keep(call->says, sizeof call->says, text);
+    else if (call && (text = behind(line, "status"))) keep(call->status, sizeof call->status, text);
+    else if (!call && it->line_count < LINES) keep(it->lines[it->line_count++], sizeof it->lines[0], line);
 }
 
-static int make_course(pm_course *course, const char *call) {
-    if (!strcmp(call, "survey")) return pm_course_survey(course, 0, TRIES);
-    if (!strncmp(call, "set ", 4)) return pm_course_microvolts(course, 0, PM_VOUT_COMMAND, strtoll(call + 4, NULL, 10), TRIES);
-    return pm_course_power(course, 0, (uint8_t)strtoul(call + 6, NULL, 16), TRIES);
+/* The text of a line before the first call, or another one. */
+static const char *said(const row *it, const char *key, const char *otherwise) {
+    for (int at = 0; at < it->line_count; at++)
+        if (behind(it->lines[at], key)) return behind(it->lines[at], key);
+    return otherwise;
 }
+
+/* ---- A chain of calls ---- */
 
 /* Whether the part has what the row says at first. */
-static int set_up(field_part *part, const row *it) {
-    if (field_new(part, ADDRESS, 2)) return 0;
-    for (int at = 0; at < it->count; at++) {
+static int set_up_part(chain *it, const row *from) {
+    if (field_new(&it->part, ADDRESS, 2)) return 0;
+    for (int at = 0; at < from->line_count; at++) {
+        const char *text = behind(from->lines[at], "part");
         char name[64];
-        unsigned value;
-        if (sscanf(it->parts[at], "%63s %x", name, &value) != 2 || field_set(part, 0, name, (int64_t)value)) return 0;
+        unsigned value, output = 0;
+        if (!text) continue;
+        if (sscanf(text, "%63s %x %u", name, &value, &output) < 2) return 0;
+        if (field_set(&it->part, (uint8_t)output, name, !strcmp(name, "error") ? (int16_t)value : (int64_t)value)) return 0;
     }
     return 1;
 }
 
-static int is_right(const row *it) {
-    static field_part part;
-    pm_host host;
+static int set_up(chain *it, const row *from) {
+    const char *limits = said(from, "limits", "refuse"), *lacks = said(from, "lacks", NULL);
+    uint8_t kind = !strcmp(limits, "tell") ? PM_FAULT_LIMITS_TELL : !strcmp(limits, "skip") ? PM_FAULT_LIMITS_SKIP : PM_FAULT_LIMITS_REFUSE;
+    uint16_t within = (uint16_t)atoi(said(from, "within", "50")), rounds = (uint16_t)atoi(said(from, "rounds", "7"));
+    pm_registers has = {1, 1, 1, !lacks};
+    int64_t least = 0, most = 0;
+    memset(it, 0, sizeof *it);
+    if (sscanf(said(from, "band", "800000 1300000"), "%" SCNd64 " %" SCNd64, &least, &most) != 2) return 0;
+    return set_up_part(it, from) && !pm_host_new_with(&it->host, ADDRESS, 2, PASSES, &has) && !pm_host_set_limits(&it->host, 0, least, most)
+        && !pm_host_set_limits(&it->host, 1, 800000, 1300000) && !pm_delivery_new(&it->deliveries[0], 0, kind, 1, within, rounds)
+        && !pm_delivery_new(&it->deliveries[1], 1, kind, 1, within, rounds);
+}
+
+/* The course of a call, and its register; 0 of a survey. */
+static int make_course(pm_course *course, const char *call, uint8_t *output, uint8_t *code) {
+    char kind[16] = "", first[16] = "", second[16] = "";
+    unsigned number = 0;
+    sscanf(call, "%15s %u %15s %15s", kind, &number, first, second);
+    *output = (uint8_t)number, *code = 0;
+    if (!strcmp(kind, "survey")) return pm_course_survey(course, *output, TRIES);
+    if (!strcmp(kind, "power")) return *code = PM_OPERATION, pm_course_power(course, *output, (uint8_t)strtoul(first, NULL, 16), TRIES);
+    *code = (uint8_t)strtoul(!strcmp(kind, "word") ? first : second[0] ? second : "21", NULL, 16);
+    if (!strcmp(kind, "set")) return pm_course_microvolts(course, *output, *code, strtoll(first, NULL, 10), TRIES);
+    pm_wanted wanted = {{1, (uint16_t)strtoul(second, NULL, 16)}, {0, 0}, {0, 0}, {0, 0}, {0, 0}};
+    return pm_course_words(course, *output, &wanted, TRIES);
+}
+
+static const char *cell_name(uint8_t code) {
+    static const struct { uint8_t code; const char *name; } names[] = {{0x01, "OPERATION"}, {0x10, "WRITE_PROTECT"}, {0x20, "VOUT_MODE"},
+        {0x21, "VOUT_COMMAND"}, {0x24, "VOUT_MAX"}, {0x25, "VOUT_MARGIN_HIGH"}, {0x26, "VOUT_MARGIN_LOW"}, {0x2B, "VOUT_MIN"}};
+    for (unsigned at = 0; at < sizeof names / sizeof *names; at++)
+        if (names[at].code == code) return names[at].name;
+    return "no register";
+}
+
+static const char *refusal(uint8_t number, pm_name *name) {
+    memset(name, 0, sizeof *name);
+    return number == PM_NO_ANSWER ? "no answer" : pm_refusal_name(number, name) == PM_OK ? name->text : "?";
+}
+
+/* A course's end that isn't reached, as a row has it. */
+static void tell_end(char *text, const pm_course_end *end) {
+    pm_name name;
+    if (end->kind == PM_REACHED)
+        snprintf(text, ROOM, "reached");
+    else if (end->kind == PM_REFUSED)
+        snprintf(text, ROOM, "refused %.2s %s", refusal(end->number, &name), cell_name(end->code));
+    else if (end->kind == PM_STILL_DIFFERS)
+        snprintf(text, ROOM, "differs %s %0*X", cell_name(end->code), end->code == PM_OPERATION ? 2 : 4, (unsigned)end->word);
+    else
+        snprintf(text, ROOM, "spent %s %s", cell_name(end->code), refusal((uint8_t)end->fault, &name));
+}
+
+/* The register that a call orders is to be read once more. */
+static void note(chain *it, uint8_t output, uint8_t code) {
+    pm_standing standing = {0, 0};
+    int at = 0;
+    while (at < it->count && (it->all[at].output != output || it->all[at].code != code)) at++;
+    if (code && pm_host_confirmed_word(&it->host, output, code, &standing) == PM_OK) {
+        it->all[at] = (ordered){output, code, standing.word};
+        it->count += at == it->count;
+    }
+}
+
+static int differs(const char *name, const char *what, const char *found, const char *wanted) {
+    if (!strcmp(found, wanted)) return 0;
+    printf("%s: %s: it is '%s', and not '%s'\n", name, what, found, wanted);
+    return 1;
+}
+
+/* One call: whether it is as its row says. */
+static int is_call_right(chain *it, const row *from, const call_row *wanted) {
     pm_course course;
-    pm_delivery delivery;
     pm_delivered delivered = {0, 0, 0, 0, 0, 0, 0, 0};
+    char is[ROOM], ended[ROOM], says[ROOM];
+    uint8_t output, code;
     int64_t microvolts = 0;
-    char is[48];
-    uint8_t limits = !strcmp(it->limits, "tell") ? 1 : !strcmp(it->limits, "skip") ? 2 : 0;
-    if (!set_up(&part, it) || pm_host_new(&host, ADDRESS, 2, PASSES) || pm_host_set_limits(&host, 0, 800000, 1300000) ||
-        make_course(&course, it->call) || pm_delivery_new(&delivery, 0, limits, 1, WITHIN, ROUNDS))
-        return 0;
-    waits = 0;
-    pm_course_end end = pm_host_deliver(&host, &course, &delivery, field_write, field_read, pause_for_ramp, &part, &delivered);
-    (void)end;
-    (void)field_get(&part, 0, "microvolts", &microvolts);
-    snprintf(is, sizeof is, "%s %" PRId64, delivered.kind < 14 ? KINDS[delivered.kind] : "?", microvolts);
-    if (strcmp(is, it->is)) printf("%s: it is %s, and not %s\n", it->name, is, it->is);
-    return !strcmp(is, it->is);
+    if (make_course(&course, wanted->call, &output, &code)) return 0;
+    pm_delivery *delivery = &it->deliveries[output];
+    uint32_t writes = it->part.writes;
+    it->waits = 0;
+    pm_course_end end = pm_host_deliver(&it->host, &course, delivery, put, ask, pause_for_ramp, it, &delivered);
+    int is_p8 = delivered.kind == PM_BEYOND_FAULT_LIMIT, is_reached = end.kind == PM_REACHED || is_p8;
+    int is_alone = delivered.kind == PM_POWER_GOOD_ALONE && !strcmp(said(from, "power-good", "judge"), "tell");
+    int is_well = end.kind == PM_REACHED && (pm_is_delivered(delivery, &delivered) || is_alone);
+    (void)field_get(&it->part, output, "microvolts", &microvolts);
+    snprintf(is, sizeof is, "%s %" PRId64, !is_reached ? "ended" : KINDS[delivered.kind], microvolts);
+    if (is_p8) snprintf(ended, sizeof ended, "reached");
+    else tell_end(ended, &end);
+    ended[strlen(wanted->end[0] ? wanted->end : "reached")] = 0;
+    delivered_words(says, sizeof says, delivery, &it->host, &course, &delivered, it->part.writes != writes, &it->told);
+    note(it, output, code);
+    return !(differs(from->name, "is", is, wanted->is) | differs(from->name, "end", ended, wanted->end[0] ? wanted->end : "reached")
+             | differs(from->name, "status", is_well ? "0" : "1", wanted->status) | (is_reached && differs(from->name, "says", says, wanted->says)));
+}
+
+/* Looks again at what a chain ordered: what is gone, in words. */
+static void look_again(chain *it, char *text) {
+    text[0] = 0;
+    for (int at = 0; at < it->count && !text[0]; at++) {
+        ordered *one = &it->all[at];
+        pm_standing held = {0, 0};
+        if (pm_host_check(&it->host, one->output, one->code) == PM_OK && pm_host_run(&it->host, put, ask, it).kind == PM_DONE
+            && pm_host_confirmed_word(&it->host, one->output, one->code, &held) == PM_OK && held.word != one->word)
+            snprintf(text, ROOM, "%s of output %d is %04X, and was %04X", cell_name(one->code), one->output, held.word, one->word);
+    }
+}
+
+static int is_right(const row *from) {
+    static chain it;
+    char again[ROOM] = "";
+    int is_well = 1;
+    if (!set_up(&it, from)) return printf("%s: it isn't set up\n", from->name), 0;
+    for (int at = 0; at < from->call_count; at++) {
+        const call_row *wanted = &from->calls[at];
+        if (is_well != (wanted->is[0] != 0)) return printf("%s: %s begins, or doesn't\n", from->name, wanted->call), 0;
+        if (is_well && !is_call_right(&it, from, wanted)) return 0;
+        is_well = is_well && !strcmp(wanted->status, "0");
+    }
+    if (from->call_count > 1 && is_well) look_again(&it, again);
+    return !differs(from->name, "again", again, from->again);
 }
 
 int main(int count, char **words) {
     FILE *file = fopen(count > 1 ? words[1] : "trials/field/rows.txt", "r");
-    char line[256];
-    row it = {0};
+    static char line[ROOM];
+    static row it;
     int passed = 0, failed = 0;
     if (!file) return puts("give trials/field/rows.txt"), 2;
     for (int is_open = 1; is_open;) {

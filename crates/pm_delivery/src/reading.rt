@@ -1,6 +1,7 @@
 //! How READ_VOUT stands beside what an output commands.
 
-ghost use Rattle.std.specs.Prelude.{◌≡◌, ◌≤◌, ◌<◌, ◌^◌, unsigned_abs, None};
+ghost use Rattle.std.specs.Prelude.{◌≡◌, ◌≤◌, ◌<◌, ◌^◌, unsigned_abs, true, None};
+ghost use Rattle.pm_delivery.specs.Heard.{is_good as spec_is_good};
 ghost use Rattle.pm_host.specs.Image.{held};
 ghost use Rattle.pm_delivery.specs.Reading.{is_below as spec_is_below, is_beyond as spec_is_beyond, is_more as spec_is_more, over as spec_over, reading_in, reading_of as spec_reading_of, share as spec_share};
 
@@ -29,7 +30,8 @@ impl Delivery {
     /// How READ_VOUT stands, by what the host holds beside its open job. The output's number is below 8.
     pub fn reading(&self, state: &State, part: PartRegisters, limits: Option<Limits>) -> Reading
         requires { self.now.output < 8 }
-        ensures { result ≡ reading_in part limits (held None state.now) self.now }
+        ensures value { result ≡ reading_in part limits (held None state.now) self.now }
+        ensures good { result ≡ Reading.Right → spec_is_good self.now.read_vout ≡ true }
     {
         if !self.read_vout.is_good() {
             return Reading::NotKnown;

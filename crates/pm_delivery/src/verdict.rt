@@ -1,6 +1,9 @@
 //! What a rail does.
 
-ghost use Rattle.std.specs.Prelude.{◌≡◌};
+ghost use Rattle.std.specs.Prelude.{◌≡◌, true, false, None};
+ghost use Rattle.pm_delivery.specs.Deliveries.{has as spec_has, has_vout as spec_has_vout, is_off as spec_is_off, lacks_power_good as spec_lacks_power_good};
+ghost use Rattle.pm_delivery.specs.Heard.{is_good as spec_is_good};
+ghost use Rattle.pm_delivery.specs.StatusBits.{off, power_good_not};
 ghost use Rattle.pm_delivery.specs.Ended.{once_over, verdict_at as spec_verdict_at, verdict_of};
 ghost use Rattle.pm_delivery.specs.Verdict.{is_unanswered as spec_is_unanswered, not_known as spec_not_known, unanswered as spec_unanswered, verdict_by as spec_verdict_by, verdict_off as spec_verdict_off, verdict_on as spec_verdict_on, verdict_sound as spec_verdict_sound, verdict_with as spec_verdict_with};
 ghost use Rattle.pm_delivery.specs.Deliveries.{new_fault};
@@ -49,7 +52,14 @@ impl Delivery {
     /// What the rail does, where each question is asked at most so often until a good answer comes, of an output with this power
     /// whose last reading of READ_VOUT stands so.
     pub fn verdict(&self, passes: u8, power: Power, reading: Reading) -> Verdict
-        ensures { result ≡ verdict_of self.now passes power reading }
+        ensures value { result ≡ verdict_of self.now passes power reading }
+        ensures on { result ≡ Verdict.Delivers → power ≡ Power.On }
+        ensures word { result ≡ Verdict.Delivers → spec_is_good self.now.status_word ≡ true }
+        ensures is_not_off { result ≡ Verdict.Delivers → spec_has self.now off ≡ false }
+        ensures good { result ≡ Verdict.Delivers → spec_has self.now power_good_not ≡ false }
+        ensures sound { result ≡ Verdict.Delivers → new_fault self.now ≡ None }
+        ensures right { result ≡ Verdict.Delivers → spec_has_vout self.now ≡ true → reading ≡ Reading.Right }
+        ensures gone { result ≡ Verdict.WentOff → spec_has self.now off ≡ true }
     {
         let due = self.due(passes, power, reading);
         match self.look {
@@ -61,7 +71,9 @@ impl Delivery {
 
     // What a rail does that was turned off.
     fn verdict_off(&self) -> Verdict
-        ensures { result ≡ spec_verdict_off self.now }
+        ensures value { result ≡ spec_verdict_off self.now }
+        ensures on { result ≡ Verdict.Delivers → true ≡ false }
+        ensures gone { result ≡ Verdict.WentOff → spec_is_off self.now ≡ true }
     {
         if !self.status_word.is_good() {
             self.not_known(Question::StatusWord)
@@ -74,7 +86,13 @@ impl Delivery {
 
     /// What a rail does that is commanded on, by the answers of this round.
     pub(crate) fn verdict_on(&self, reading: Reading) -> Verdict
-        ensures { result ≡ spec_verdict_on self.now reading }
+        ensures value { result ≡ spec_verdict_on self.now reading }
+        ensures word { result ≡ Verdict.Delivers → spec_is_good self.now.status_word ≡ true }
+        ensures is_not_off { result ≡ Verdict.Delivers → spec_is_off self.now ≡ false }
+        ensures good { result ≡ Verdict.Delivers → spec_lacks_power_good self.now ≡ false }
+        ensures sound { result ≡ Verdict.Delivers → new_fault self.now ≡ None }
+        ensures right { result ≡ Verdict.Delivers → spec_has_vout self.now ≡ true → reading ≡ Reading.Right }
+        ensures gone { result ≡ Verdict.WentOff → true ≡ false }
     {
         if !self.status_word.is_good() {
             self.not_known(Question::StatusWord)
@@ -87,7 +105,11 @@ impl Delivery {
 
     // What a rail does that is commanded on, and that STATUS_WORD doesn't call off.
     fn verdict_sound(&self, reading: Reading) -> Verdict
-        ensures { result ≡ spec_verdict_sound self.now reading (new_fault self.now) }
+        ensures value { result ≡ spec_verdict_sound self.now reading (new_fault self.now) }
+        ensures good { result ≡ Verdict.Delivers → spec_lacks_power_good self.now ≡ false }
+        ensures sound { result ≡ Verdict.Delivers → new_fault self.now ≡ None }
+        ensures right { result ≡ Verdict.Delivers → spec_has_vout self.now ≡ true → reading ≡ Reading.Right }
+        ensures gone { result ≡ Verdict.WentOff → true ≡ false }
     {
         if let Some(fault) = self.new_fault() {
             return Verdict::NewFault(fault.register, fault.place);
@@ -100,7 +122,10 @@ impl Delivery {
 
     // What a rail does by its reading and power good, where nothing else speaks against it.
     fn verdict_by(&self, reading: Reading) -> Verdict
-        ensures { result ≡ spec_verdict_by self.now reading }
+        ensures value { result ≡ spec_verdict_by self.now reading }
+        ensures good { result ≡ Verdict.Delivers → spec_lacks_power_good self.now ≡ false }
+        ensures right { result ≡ Verdict.Delivers → spec_has_vout self.now ≡ true → reading ≡ Reading.Right }
+        ensures gone { result ≡ Verdict.WentOff → true ≡ false }
     {
         if self.has_vout() {
             self.verdict_with(reading)
@@ -113,7 +138,10 @@ impl Delivery {
 
     // What a rail does by READ_VOUT and power good, of a part that has READ_VOUT.
     fn verdict_with(&self, reading: Reading) -> Verdict
-        ensures { result ≡ spec_verdict_with self.now reading }
+        ensures value { result ≡ spec_verdict_with self.now reading }
+        ensures good { result ≡ Verdict.Delivers → spec_lacks_power_good self.now ≡ false }
+        ensures right { result ≡ Verdict.Delivers → reading ≡ Reading.Right }
+        ensures gone { result ≡ Verdict.WentOff → true ≡ false }
     {
         match reading {
             Reading::NotKnown => self.not_known(Question::ReadVout),
@@ -164,7 +192,10 @@ impl Delivery {
 
 // A verdict of an output with this power.
 fn verdict_at(power: Power, due: Due, verdict: Verdict) -> Verdict
-    ensures { result ≡ spec_verdict_at power due verdict }
+    ensures value { result ≡ spec_verdict_at power due verdict }
+    ensures on { result ≡ Verdict.Delivers → power ≡ Power.On }
+    ensures delivers { result ≡ Verdict.Delivers → verdict ≡ Verdict.Delivers }
+    ensures gone { result ≡ Verdict.WentOff → verdict ≡ Verdict.WentOff }
 {
     match power {
         Power::Off => Verdict::CommandedOff,
@@ -175,7 +206,9 @@ fn verdict_at(power: Power, due: Due, verdict: Verdict) -> Verdict
 
 // A verdict, where nothing is due.
 fn ended(due: Due, verdict: Verdict) -> Verdict
-    ensures { result ≡ once_over due verdict }
+    ensures value { result ≡ once_over due verdict }
+    ensures delivers { result ≡ Verdict.Delivers → verdict ≡ Verdict.Delivers }
+    ensures gone { result ≡ Verdict.WentOff → verdict ≡ Verdict.WentOff }
 {
     match due {
         Due::Nothing => verdict,

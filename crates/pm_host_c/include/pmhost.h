@@ -10,8 +10,9 @@
  *     0 the pointer to bytes may be any that isn't null;
  *   - what a call writes overlaps nothing else that it is given;
  *   - counts are in elements, uint64_t on every processor, and tell the truth;
- *   - one call at a time works on a host, and each call has PM_STACK bytes of stack, pm_refusal_name
- *     PM_NAME_STACK.
+ *   - one call at a time works on a host, a course or a delivery: no call waits for another one or refuses it, so threads that share
+ *     a host hold a lock of yours over each whole job or course;
+ *   - each call has PM_STACK bytes of stack, pm_refusal_name PM_NAME_STACK.
  *
  * The library takes no memory, keeps nothing between calls, calls nothing and never blocks.
  *
@@ -501,6 +502,7 @@ uint8_t pm_course_job_now(const pm_course *course, pm_course_job *job);
 /* The word that a course asks for of VOUT_COMMAND, VOUT_MARGIN_HIGH or VOUT_MARGIN_LOW, by the format that the host knows now; of a course
  * to a byte that leaves the output on, the word that the register is known to hold that the byte selects. PM_NO_GOAL if it has none
  * of this register. PM_NO_HOST, PM_NO_COURSE, H4, PM_NO_CELL; then nothing is written. */
+PM_MUST_USE
 uint8_t pm_course_goal(const pm_course *course, const pm_host *host, uint8_t code, uint16_t *word);
 
 /* ---- Delivery: what an output does ---- */
@@ -535,6 +537,7 @@ uint8_t pm_delivery_frame(pm_delivery *delivery, const pm_host *host, pm_sending
 
 /* That request was sent, and these bytes came back, the read address first; 0 bytes if none came. An answer of nothing but FFh is
  * one that nobody gave: hand over 0 bytes. PM_NO_HOST, PM_NO_DELIVERY, H4, PM_OTHER_FRAME if no request is to be sent. */
+PM_MUST_USE
 uint8_t pm_delivery_read_ended(pm_delivery *delivery, const pm_host *host, const uint8_t *bytes, uint64_t count);
 
 /* What the output does: kind PM_NOT_YET until pm_delivery_frame has answered PM_ENDED. PM_NO_HOST, PM_NO_DELIVERY, H4; then nothing is
@@ -803,8 +806,14 @@ static inline pm_course_end pm_host_run_course(pm_host *host, pm_course *course,
     return pm_course_end_of(course, step.kind);
 }
 
-/* The same with a delivery of the course's output. A course that ended well has done what is wanted if `delivered` is PM_DELIVERS, or
- * PM_WENT_OFF of one that turned the output off; an output that is commanded off isn't asked. PM_REFUSED with P8, and
+/* Whether it isn't known what an output does since this register gave no answer at all. */
+static inline int pm_is_silent(const pm_delivered *delivered, uint8_t code) {
+    return delivered->kind == PM_DELIVERY_NOT_KNOWN && delivered->code == code && delivered->fault == PM_NO_ANSWER;
+}
+
+/* The same with a delivery of the course's output. A course that ended well has done what is wanted if pm_is_delivered: `delivered` is
+ * PM_DELIVERS, or PM_WENT_OFF of one that turned the output off; an output that is commanded off isn't asked. A part whose READ_VOUT
+ * gives no answer at all in two rounds is judged as one without. PM_REFUSED with P8, and
  * PM_BEYOND_FAULT_LIMIT, if nothing was ordered since what is wanted is at or beyond a fault limit; the course itself goes on, once
  * that was moved and the delivery made anew. After a bad end `delivered` is PM_NOT_YET. Each call of one chain hands over the same
  * delivery of an output, so that it knows which faults stood before the chain. */
@@ -830,11 +839,25 @@ static inline pm_course_end pm_host_deliver(pm_host *host, pm_course *course, pm
         number = pm_delivery_ask(delivery, host, read, pause, context);
     if (number == PM_OK)
         number = pm_delivery_verdict(delivery, host, delivered);
+    if (number == PM_OK && delivery->round != 0 && pm_is_silent(delivered, 0x8B)) {
+        delivery->has_read_vout = 0;
+        number = pm_delivery_verdict(delivery, host, delivered);
+    }
     if (number != PM_OK) {
         end.kind = PM_REFUSED;
         end.number = number;
     }
     return end;
+}
+
+/* Whether an output does what it is to by this verdict, isn't asked since it isn't commanded on, or can't be judged, since its part has no
+ * STATUS_WORD: it gave no answer at all, before an order and in two rounds after one. PM_POWER_GOOD_ALONE is for the caller to judge. */
+PM_MUST_USE
+static inline int pm_is_delivered(const pm_delivery *delivery, const pm_delivered *delivered) {
+    int is_absent = pm_is_silent(delivered, 0x79) && (delivery->before.asked == 0 || delivery->before.fault != 0)
+        && (delivery->round != 0 || delivery->before.fault == PM_NO_ANSWER);
+    return is_absent || delivered->kind == PM_DELIVERS || delivered->kind == PM_WENT_OFF || delivered->kind == PM_COMMANDED_OFF
+        || delivered->kind == PM_NOT_KNOWN_ON;
 }
 #endif
 

@@ -92,10 +92,12 @@ class Delivered:
 
     @property
     def status_words(self) -> str:
-        """The status registers with the names of their bits."""
-        held = {} if self.status is None else {"STATUS_WORD": self.status}
-        return ", ".join(f"{name} {word:0{4 if name == 'STATUS_WORD' else 2}X}{' ' * bool(word)}{', '.join(names_of(name, word))}"
-                         for name, word in {**held, **self.registers}.items())
+        """The status registers with the names of their bits, and which faults stood before the first order."""
+        status, before = self.status or 0, self.before or 0
+        old = [name for name in names_of("STATUS_WORD", status & before) if name in FAULTS]
+        of_all = f"{', '.join(old)} " if status & ~before else ""
+        held = [register_words("STATUS_WORD", status) + f" ({of_all}set before this call)" * bool(old)]
+        return " and ".join([*held, *(register_words(*each) for each in self.registers.items())])
 
     @property
     def why(self) -> str:
@@ -111,37 +113,58 @@ class Delivered:
         return f"{said}: `why` tells more"
 
     @property
+    def said(self) -> str:
+        """What it does, in words that stand alone; nothing where the same was told before."""
+        words = "" if self.is_absent and self.is_told else self._verdict_words()
+        return "; ".join([*[words] * bool(words), *self.notes])
+
+    @property
     def words(self) -> str:
-        """What it does, for the end of a line that says what is commanded."""
-        return "".join([self._verdict_words(), *(f"; {note}" for note in self.notes)])
+        """The same for the end of a line that says what is commanded."""
+        has_none = self.verdict.kind in ("commanded off", "not known to be on")
+        said = "; ".join(self.notes) if has_none else self.said
+        return f"{', ' if self.verdict.kind == 'delivers' else '; '}{said}" if said else ""
 
     def _verdict_words(self) -> str:
         found, kind = self.verdict, self.verdict.kind
         read = "" if found.microvolts is None else f"READ_VOUT {voltages.shown(found.microvolts)}"
-        if kind in ("commanded off", "not known to be on", "went off") or self.is_absent and self.is_told:
-            return ""
         if kind == "delivers":
-            return f", delivers {voltages.shown(found.microvolts)}{self._rest()}" if read else f", delivers by STATUS_WORD{self._rest()}"
+            return f"delivers {voltages.shown(found.microvolts) if read else 'by STATUS_WORD'}{self._rest()}"
         if kind == "outside" and self.limits is not None:
-            return f"; {read} is OUTSIDE {voltages.shown(self.limits[0])} to {voltages.shown(self.limits[1])}{self._rest()}"
+            return f"{read} is OUTSIDE {voltages.shown(self.limits[0])} to {voltages.shown(self.limits[1])}{self._rest()}"
         if kind == "not known":
-            return f"; delivery not known: {found.register} gave no good answer{': ' * bool(found.fault)}{found.fault}"
-        begins, there = self.power_good_on, found.microvolts
-        missing = "power good is missing"
-        if begins is not None:
-            is_below = there is None or there < begins
-            missing = f"power good {'' if is_below else 'is missing, and '}begins at {voltages.shown(begins)}"
-        return {"off": f"; {self.status_words}: the rail is off",
-                "fault": f"; {self.status_words}: {name_of_bit(found)} came with this call",
-                "beyond": f"; {read} is more than {self.how.within / 10:g}% away from that{self._rest()}",
-                "power good alone": f"; {read}; {self.status_words}: {missing}",
-                "no power good": f"; {self.status_words}: power good is missing",
-                "still on": f"; commanded off, and the part says that it is on: {self.status_words}"}.get(kind, f"; {kind}")
+            return f"delivery not known: {self._unknown()}"
+        return {"off": f"{self.status_words}: the rail is off",
+                "fault": f"{self.status_words}: {name_of_bit(found)} came with this call",
+                "beyond": f"{read} is more than {self.how.within / 10:g}% away from what is commanded{self._rest()}",
+                "power good alone": f"{read}; {self.status_words}: {self._missing()}",
+                "no power good": f"{self.status_words}: power good is missing",
+                "went off": "the part says that it is off",
+                "still on": f"commanded off, and the part says that it is on: {self.status_words}"}.get(kind, kind)
+
+    def _unknown(self) -> str:
+        """What isn't known, so that nobody knows whether it delivers."""
+        found = self.verdict
+        if found.register == "READ_VOUT" and not found.fault:
+            return "what the output commands isn't known"
+        return f"{found.register} gave no good answer{': ' * bool(found.fault)}{found.fault}"
+
+    def _missing(self) -> str:
+        """Power good is missing, and where it begins."""
+        begins, there = self.power_good_on, self.verdict.microvolts
+        if begins is None:
+            return "power good is missing"
+        is_below = there is None or there < begins
+        return f"power good {'' if is_below else 'is missing, and '}begins at {voltages.shown(begins)}"
 
     def _rest(self) -> str:
-        """The bits of STATUS_WORD that decide nothing."""
-        old = [name for name in names_of("STATUS_WORD", (self.status or 0) & (self.before or 0)) if name in FAULTS]
-        return f"; {self.status_words}{', set before this call' * bool(old)}" if self.status else ""
+        """The status registers behind words that they don't decide."""
+        return f"; {self.status_words}" if self.status else ""
+
+
+def register_words(name: str, word: int) -> str:
+    """A status register with the names of its bits."""
+    return f"{name} {word:0{4 if name == 'STATUS_WORD' else 2}X}{' ' * bool(word)}{', '.join(names_of(name, word))}"
 
 
 def name_of_bit(found: Verdict) -> str:

@@ -102,7 +102,7 @@ def fault(seen: Findings) -> str:
     if bad := [name for name in vin if name.endswith("FAULT") or name == "UNIT_OFF_LOW_VIN"]:
         return f"its input isn't as it needs it ({', '.join(bad)}): {seen.value('READ_VIN')}: look at the supply, {again}"
     if bad := [name for name in seen.bits("STATUS_TEMPERATURE") if name.endswith("FAULT")]:
-        return f"its temperature ({', '.join(bad)}): let it cool, or look at OT_FAULT_LIMIT, {again}"
+        return f"it tripped on its temperature ({', '.join(bad)}): let it cool, or look at OT_FAULT_LIMIT, {again}"
     return ""
 
 

@@ -5,7 +5,8 @@ use pmhost::*;
 /// The model part behind a layer that has fault limits, STATUS_WORD and READ_VOUT of its own. `wrong` has what is wrong with it:
 /// `t` it trips at 1.3 V and above, `r` its RUN pin is low, `n` it stays on, `l` READ_VOUT is 90 %, `s` STATUS_WORD gives no answer,
 /// `v` READ_VOUT gives none, `f` the fault limits give none, `g` power good is missing, `u` a fault of VOUT_UV comes with an order,
-/// `o` VOUT_OV_FAULT stands from the beginning.
+/// `o` VOUT_OV_FAULT stands from the beginning, `c` CML comes with an order, `q` STATUS_WORD gives no answer after one, `p` READ_VOUT comes
+/// with another PEC, `i` a fault of IOUT comes with an order and STATUS_IOUT gives no answer.
 struct Rail {
     part: Part,
     wrong: &'static str,
@@ -38,6 +39,8 @@ impl Rail {
             | u16::from(trips || self.is('o')) * 0x8020
             | u16::from(self.is('g')) * 0x0800
             | u16::from(self.is('u') && self.has_ordered) * 0x8000
+            | u16::from(self.is('c') && self.has_ordered) * 0x0002
+            | u16::from(self.is('i') && self.has_ordered) * 0x4000
     }
 
     /// The bytes of a register of the layer; `None` of another one, or where it gives no answer.
@@ -51,7 +54,8 @@ impl Rail {
             0x44 => (!self.is('f')).then_some((0x0A66, 2)),
             0x5E => Some((0x1333, 2)),
             0x5F => Some((0x1266, 2)),
-            0x79 => (!self.is('s')).then_some((self.status(), 2)),
+            0x79 => (!self.is('s') && !(self.is('q') && self.has_ordered)).then_some((self.status(), 2)),
+            0x7B => None,
             0x7A => Some((if self.is('u') { 0x10 } else { 0x80 }, 1)),
             0x8B => (!self.is('v')).then_some((read, 2)),
             _ => return None,
@@ -69,7 +73,7 @@ impl Bus for Rail {
                     let (word, size) = held.ok_or(NoAnswer)?;
                     let mut whole = vec![address << 1, 0x06, 0x02, page, code, address << 1 | 1, size as u8];
                     whole.extend_from_slice(&word.to_le_bytes()[..size]);
-                    whole.push(pec(&whole));
+                    whole.push(pec(&whole) ^ u8::from(code == 0x8B && self.is('p')));
                     answer.copy_from_slice(&whole[6..]);
                     return Ok(());
                 }
@@ -106,28 +110,49 @@ fn delivered(wrong: &'static str, what: &str, fault_limits: FaultLimits) -> (Str
 #[test]
 fn an_end_says_what_the_rail_does() {
     use FaultLimits::{Refuse, Skip, Tell};
-    let tripped = "STATUS_WORD 8860 VOUT, POWER_GOOD#, OFF, VOUT_OV_FAULT: the rail is off";
-    let refused = "refused: P8 BeyondFaultLimit: at or beyond VOUT_OV_FAULT_LIMIT 14CD, which would trip the rail";
+    let tripped = "STATUS_WORD 8860 VOUT, POWER_GOOD#, OFF, VOUT_OV_FAULT and STATUS_VOUT 80 VOUT_OV_FAULT: the rail is off";
+    let off = "STATUS_WORD 0840 POWER_GOOD#, OFF: the rail is off";
+    let silent = "; VOUT_OV_FAULT_LIMIT, VOUT_OV_WARN_LIMIT, VOUT_UV_WARN_LIMIT, VOUT_UV_FAULT_LIMIT gave no good answer, and aren't judged";
+    let at = "VOUT_COMMAND 1.300048V is at or beyond VOUT_OV_FAULT_LIMIT";
+    let warned = "; VOUT_COMMAND 1.300048V is at or beyond VOUT_OV_WARN_LIMIT 1.199951V";
+    let refused = |words: &str| format!("refused: P8 BeyondFaultLimit: {words}: move the limit first");
     for (wrong, what, limits, said, writes) in [
         ("", "1100000", Refuse, "well: delivers 1.100097V", 1),
-        ("t", "1300000", Refuse, refused, 0),
-        ("t", "1300000", Tell, tripped, 1),
+        ("t", "1300000", Refuse, &refused(&format!("{at}, which is 1.300048V")), 0),
+        ("t", "1300000", Tell, &format!("{tripped}; {at} 1.300048V{warned}"), 1),
         ("t", "1300000", Skip, tripped, 1),
-        ("tf", "1300000", Refuse, tripped, 1),
-        ("t", "1299000", Refuse, "well: delivers 1.299072V", 1),
-        ("", "650000", Refuse, "refused: P8 BeyondFaultLimit: at or beyond VOUT_UV_FAULT_LIMIT 0A66, which would trip the rail", 0),
-        ("r", "1100000", Refuse, "STATUS_WORD 0840 POWER_GOOD#, OFF: the rail is off", 1),
-        ("r", "survey", Refuse, "STATUS_WORD 0840 POWER_GOOD#, OFF: the rail is off", 0),
-        ("r", "on", Refuse, "STATUS_WORD 0840 POWER_GOOD#, OFF: the rail is off", 1),
-        ("u", "1100000", Refuse, "STATUS_VOUT 10 VOUT_UV_FAULT: VOUT_UV_FAULT came with this call", 1),
-        ("o", "1100000", Refuse, "well: delivers 1.100097V", 1),
-        ("o", "survey", Refuse, "well: delivers 1V", 0),
-        ("g", "1100000", Refuse, "READ_VOUT 1.100097V, and power good is missing", 1),
-        ("l", "1100000", Refuse, "READ_VOUT 0.98999V, too far from what the output commands", 1),
-        ("s", "1100000", Refuse, "delivery not known: STATUS_WORD gave no good answer: no answer", 1),
-        ("v", "1100000", Refuse, "delivery not known: READ_VOUT gave no good answer: no answer", 1),
-        ("", "off", Refuse, "well: off", 1),
-        ("n", "off", Refuse, "commanded off, and the part says that it is on", 1),
+        ("tf", "1300000", Refuse, &format!("{tripped}{silent}"), 1),
+        (
+            "t",
+            "1299000",
+            Refuse,
+            "well: delivers 1.299072V; VOUT_COMMAND 1.299072V is at or beyond VOUT_OV_WARN_LIMIT 1.199951V",
+            1,
+        ),
+        ("", "650000", Refuse, &refused("VOUT_COMMAND 0.649902V is at or beyond VOUT_UV_FAULT_LIMIT, which is 0.649902V"), 0),
+        ("r", "1100000", Refuse, off, 1),
+        ("r", "survey", Refuse, off, 0),
+        ("r", "on", Refuse, off, 1),
+        ("u", "1100000", Refuse, "STATUS_WORD 8000 VOUT and STATUS_VOUT 10 VOUT_UV_FAULT: VOUT_UV_FAULT came with this call", 1),
+        ("o", "1100000", Refuse, "well: delivers 1.100097V; STATUS_WORD 8020 VOUT, VOUT_OV_FAULT (set before this call)", 1),
+        (
+            "oc",
+            "1100000",
+            Refuse,
+            "well: delivers 1.100097V; STATUS_WORD 8022 VOUT, VOUT_OV_FAULT, CML (VOUT, VOUT_OV_FAULT set before this call)",
+            1,
+        ),
+        ("o", "survey", Refuse, "well: delivers 1V; STATUS_WORD 8020 VOUT, VOUT_OV_FAULT", 0),
+        ("g", "1100000", Refuse, "READ_VOUT 1.100097V; STATUS_WORD 0800 POWER_GOOD#: power good begins at 1.199951V", 1),
+        ("l", "1100000", Refuse, "READ_VOUT 0.98999V is more than 5% away from what is commanded", 1),
+        ("s", "1100000", Refuse, "well: delivery not known: STATUS_WORD gave no good answer", 1),
+        ("q", "1100000", Refuse, "delivery not known: STATUS_WORD gave no good answer: no answer", 1),
+        ("v", "1100000", Refuse, "well: delivers by STATUS_WORD", 1),
+        ("vg", "1100000", Refuse, "STATUS_WORD 0800 POWER_GOOD#: power good is missing", 1),
+        ("p", "1100000", Refuse, "delivery not known: READ_VOUT gave no good answer: F5 WrongPec", 1),
+        ("i", "1100000", Refuse, "delivery not known: STATUS_IOUT gave no good answer: no answer", 1),
+        ("", "off", Refuse, "well: the part says that it is off", 1),
+        ("n", "off", Refuse, "commanded off, and the part says that it is on: STATUS_WORD 0000", 1),
         ("", "on", Refuse, "well: delivers 1V", 1),
     ] {
         assert_eq!(delivered(wrong, what, limits), (said.to_string(), writes), "{wrong:?} {what}");

@@ -3,6 +3,8 @@
 mod course_rows;
 mod delivery;
 mod ends;
+#[cfg(field)]
+mod field_rows;
 mod formats;
 #[cfg(target_os = "linux")]
 mod other_library;

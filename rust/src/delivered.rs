@@ -1,0 +1,270 @@
+//! What an output does, with all that is told of it, and why it doesn't do what is wanted.
+
+use core::{error, fmt};
+
+use crate::course::{AnswerFault, NotReached};
+use crate::delivery::Limit;
+use crate::host::{Limits, Register};
+use crate::number::Format;
+use crate::refusal::Refusal;
+use crate::status::{name_of, BitName, Status, Volts};
+use crate::verdict::Verdict;
+
+/// The bits of STATUS_WORD that say a fault or point to one.
+const FAULTS: u16 = 0xE03C;
+
+/// The command codes of fault limits and of those of warnings.
+pub(crate) const LIMIT_CODES: [u8; 4] = [0x40, 0x42, 0x43, 0x44];
+
+/// The voltages that a course may want.
+pub(crate) const GOALS: [Register; 3] = [Register::VoutCommand, Register::VoutMarginHigh, Register::VoutMarginLow];
+
+/// A word that a course wants, and the codes of the fault limit and of the limit of a warning that it is at or beyond, or 0.
+#[derive(Clone, Copy, Debug, PartialEq, Eq)]
+pub(crate) struct Goal {
+    pub(crate) word: u16,
+    pub(crate) fault: u8,
+    pub(crate) warning: u8,
+}
+
+/// What an output does, by its last answers. Its words are those that stand on a line of `pmhost`.
+#[derive(Clone, Copy, Debug, PartialEq, Eq)]
+#[must_use = "a rail that is off, or that tripped, is told by this alone"]
+pub struct Delivered {
+    /// What it does.
+    pub verdict: Verdict,
+    /// Its limits, if it has any.
+    pub limits: Option<Limits>,
+    /// STATUS_WORD, if a good answer came.
+    pub status: Option<u16>,
+    /// STATUS_WORD before the first order, if it was asked and a good answer came.
+    pub before: Option<u16>,
+    /// POWER_GOOD_ON, asked where POWER_GOOD# alone speaks against it.
+    pub power_good_on: Option<u16>,
+    pub(crate) registers: [Option<u8>; 4],
+    pub(crate) format: Option<Format>,
+    pub(crate) within: u16,
+    pub(crate) goals: [Option<Goal>; 3],
+    pub(crate) limit_words: [u16; 4],
+    pub(crate) silent: [bool; 4],
+    pub(crate) is_absent: bool,
+    pub(crate) is_told: bool,
+    pub(crate) tells_power_good: bool,
+}
+
+impl Delivered {
+    /// Whether the output does what it is to, isn't asked since it isn't commanded on, or has no STATUS_WORD to judge it by.
+    #[must_use]
+    pub fn is_good(&self) -> bool {
+        let is_told_alone = self.tells_power_good && matches!(self.verdict, Verdict::PowerGoodAlone { .. });
+        self.verdict.is_good() || self.is_absent || is_told_alone
+    }
+
+    fn volts(&self, word: u16) -> Volts {
+        Volts(self.format.and_then(|format| format.microvolts(word).ok()))
+    }
+
+    /// STATUS_WORD and the status registers that were read, with the names of their bits.
+    fn tell_status(&self, to: &mut fmt::Formatter<'_>) -> fmt::Result {
+        let status = self.status.unwrap_or(0);
+        write!(to, "{}", Status(0x79, status))?;
+        let before = self.before.unwrap_or(0);
+        let (old, has_new) = (status & before & FAULTS, status & !before != 0);
+        if old != 0 {
+            to.write_str(" (")?;
+            let mut between = "";
+            for bit in (0..16).rev().filter(|bit| has_new && old >> bit & 1 == 1) {
+                write!(to, "{between}{}", BitName(0x79, bit))?;
+                between = ", ";
+            }
+            write!(to, "{}set before this call)", if has_new { " " } else { "" })?;
+        }
+        for (code, word) in (0x7A..).zip(self.registers) {
+            if let Some(word) = word {
+                write!(to, " and {}", Status(code, word.into()))?;
+            }
+        }
+        Ok(())
+    }
+
+    /// The status registers behind words that they don't decide.
+    fn tell_rest(&self, to: &mut fmt::Formatter<'_>) -> fmt::Result {
+        if self.status.unwrap_or(0) == 0 {
+            return Ok(());
+        }
+        to.write_str("; ")?;
+        self.tell_status(to)
+    }
+
+    fn tell_power_good(&self, to: &mut fmt::Formatter<'_>) -> fmt::Result {
+        let begins = self.power_good_on.map(|word| self.volts(word));
+        match begins {
+            None => to.write_str("power good is missing"),
+            Some(begins) if self.verdict.microvolts() < begins.0 => write!(to, "power good begins at {begins}"),
+            Some(begins) => write!(to, "power good is missing, and begins at {begins}"),
+        }
+    }
+
+    fn tell_verdict(&self, to: &mut fmt::Formatter<'_>) -> fmt::Result {
+        match self.verdict {
+            Verdict::NotYet => to.write_str("delivery not asked to its end"),
+            Verdict::Delivers { microvolts: None } => to.write_str("delivers by STATUS_WORD"),
+            Verdict::Delivers { microvolts } => write!(to, "delivers {}", Volts(microvolts)),
+            Verdict::CommandedOff => to.write_str("commanded off"),
+            Verdict::NotKnownOn => to.write_str("not known to be on"),
+            Verdict::IsOff { .. } => {
+                self.tell_status(to)?;
+                to.write_str(": the rail is off")
+            }
+            Verdict::NewFault { code, bit, .. } => {
+                self.tell_status(to)?;
+                write!(to, ": {} came with this call", BitName(code, bit))
+            }
+            Verdict::OutsideLimits { microvolts } => {
+                write!(to, "READ_VOUT {} is OUTSIDE ", Volts(microvolts))?;
+                match self.limits {
+                    Some(limits) => write!(to, "{} to {}", Volts(Some(limits.least)), Volts(Some(limits.most))),
+                    None => to.write_str("the limits"),
+                }
+            }
+            Verdict::Beyond { microvolts } => {
+                write!(to, "READ_VOUT {} is more than {}", Volts(microvolts), self.within / 10)?;
+                match self.within % 10 {
+                    0 => to.write_str("% away from what is commanded"),
+                    tenths => write!(to, ".{tenths}% away from what is commanded"),
+                }
+            }
+            Verdict::PowerGoodAlone { microvolts } => {
+                write!(to, "READ_VOUT {}; ", Volts(microvolts))?;
+                self.tell_status(to)?;
+                to.write_str(": ")?;
+                self.tell_power_good(to)
+            }
+            Verdict::NoPowerGood => {
+                self.tell_status(to)?;
+                to.write_str(": power good is missing")
+            }
+            Verdict::NotKnown { code, .. } if self.is_absent => {
+                write!(to, "delivery not known: {} gave no good answer", name_of(code))
+            }
+            Verdict::NotKnown { code, fault } => tell_unknown(code, fault, to),
+            Verdict::WentOff => to.write_str("the part says that it is off"),
+            Verdict::StillOn => {
+                to.write_str("commanded off, and the part says that it is on: ")?;
+                self.tell_status(to)
+            }
+        }
+    }
+
+    /// What is said of limits, behind these signs.
+    fn tell_limits(&self, mut between: &str, to: &mut fmt::Formatter<'_>) -> fmt::Result {
+        let silent = self.silent.iter().filter(|it| **it).count();
+        for (code, _) in LIMIT_CODES.iter().zip(self.silent).filter(|it| it.1) {
+            write!(to, "{between}{}", name_of(*code))?;
+            between = ", ";
+        }
+        if silent != 0 {
+            write!(to, " gave no good answer, and {}n't judged", if silent == 1 { "is" } else { "are" })?;
+            between = "; ";
+        }
+        for (register, goal) in GOALS.iter().zip(self.goals).filter_map(|(register, goal)| Some((register, goal?))) {
+            for code in [goal.fault, goal.warning] {
+                if let Some(at) = LIMIT_CODES.iter().position(|it| *it == code) {
+                    let (name, wanted, limit) =
+                        (name_of(register.code()), self.volts(goal.word), self.volts(self.limit_words[at]));
+                    write!(to, "{between}{name} {wanted} is at or beyond {} {limit}", name_of(code))?;
+                    between = "; ";
+                }
+            }
+        }
+        Ok(())
+    }
+}
+
+fn tell_unknown(code: u8, fault: Option<AnswerFault>, to: &mut fmt::Formatter<'_>) -> fmt::Result {
+    match fault {
+        Some(fault) => write!(to, "delivery not known: {} gave no good answer: {fault}", name_of(code)),
+        None => to.write_str("delivery not known: what the output commands isn't known"),
+    }
+}
+
+impl fmt::Display for Delivered {
+    /// One line; nothing where a part without STATUS_WORD was told before.
+    fn fmt(&self, to: &mut fmt::Formatter<'_>) -> fmt::Result {
+        if self.is_absent && self.is_told {
+            return self.tell_limits("", to);
+        }
+        self.tell_verdict(to)?;
+        if matches!(self.verdict, Verdict::Delivers { .. } | Verdict::OutsideLimits { .. } | Verdict::Beyond { .. }) {
+            self.tell_rest(to)?;
+        }
+        self.tell_limits("; ", to)
+    }
+}
+
+/// What is wanted of a register, and the fault limit that it is at or beyond.
+#[derive(Clone, Copy, Debug, PartialEq, Eq)]
+pub struct BeyondFaultLimit {
+    /// VOUT_COMMAND, or the margin.
+    pub register: Register,
+    /// The word that is wanted of it.
+    pub word: u16,
+    /// The limit.
+    pub limit: Limit,
+    pub(crate) format: Option<Format>,
+}
+
+impl fmt::Display for BeyondFaultLimit {
+    fn fmt(&self, to: &mut fmt::Formatter<'_>) -> fmt::Result {
+        let volts = |word| Volts(self.format.and_then(|format| format.microvolts(word).ok()));
+        let (register, limit) = (name_of(self.register.code()), name_of(self.limit.code));
+        write!(to, "{register} {} is at or beyond {limit}, which is {}", volts(self.word), volts(self.limit.word))
+    }
+}
+
+/// Why an output doesn't do what is wanted. `E` is the error of the bus.
+#[derive(Clone, Copy, Debug, PartialEq, Eq)]
+pub enum NotDelivered<E> {
+    /// The course didn't reach what is wanted.
+    NotReached(NotReached<E>),
+    /// P8: what is wanted is at or beyond a fault limit, and nothing was ordered.
+    BeyondFaultLimit(BeyondFaultLimit),
+    /// The course reached it, and the output does something else.
+    Does(Delivered),
+    /// A call is refused.
+    Refused(Refusal),
+}
+
+impl<E> fmt::Display for NotDelivered<E> {
+    fn fmt(&self, to: &mut fmt::Formatter<'_>) -> fmt::Result {
+        match self {
+            NotDelivered::NotReached(why) => write!(to, "{why}"),
+            NotDelivered::BeyondFaultLimit(beyond) => {
+                write!(to, "refused: {}: {beyond}: move the limit first", Refusal::P8BeyondFaultLimit)
+            }
+            NotDelivered::Does(delivered) => write!(to, "{delivered}"),
+            NotDelivered::Refused(refusal) => write!(to, "refused: {refusal}"),
+        }
+    }
+}
+
+impl<E: error::Error + 'static> error::Error for NotDelivered<E> {
+    fn source(&self) -> Option<&(dyn error::Error + 'static)> {
+        match self {
+            NotDelivered::NotReached(why) => why.source(),
+            _ => None,
+        }
+    }
+}
+
+impl<E> From<NotReached<E>> for NotDelivered<E> {
+    fn from(why: NotReached<E>) -> NotDelivered<E> {
+        NotDelivered::NotReached(why)
+    }
+}
+
+impl<E> From<Refusal> for NotDelivered<E> {
+    fn from(refusal: Refusal) -> NotDelivered<E> {
+        NotDelivered::Refused(refusal)
+    }
+}
