@@ -4,8 +4,8 @@
     trials/torture/run.py [--python PYTHON]
 
 It wants i2c-tools, a Python that has smbus2 (/usr/bin/python3 with Debian's python3-smbus2, or PYTHON), gcc, and the package's library
-(PMHOST_LIBRARY). Each host has a line of figures, which must be those of its row in docs/tried.md, with no run that didn't end and no strange
-word. The last line is `N passed, M failed`.
+(PMHOST_LIBRARY). Of pmhost, which reads much, 100 runs are drawn; the others have each fault at each transfer. Each host has a line of figures,
+which must be those of its row in docs/tried.md, with no run that didn't end and no strange word. The last line is `N passed, M failed`.
 """
 import argparse
 import json
@@ -30,10 +30,10 @@ def stored():
     return {name: dict(zip(FIGURES, map(int, figures))) for name, *figures in rows}
 
 
-def bench(words):
+def bench(options, words):
     """The object that the bench prints."""
     around = os.environ | {"PYTHONPATH": os.path.join(paths.ROOT, "python", "src"), "PATH": os.environ["PATH"] + ":/usr/sbin"}
-    ran = subprocess.run([sys.executable, "-m", "pmhost", "torture", "--json", "--seconds", "60", "--", *words], capture_output=True, text=True, env=around)
+    ran = subprocess.run([sys.executable, "-m", "pmhost", "torture", "--json", "--seconds", "60", *options, "--", *words], capture_output=True, text=True, env=around)
     if ran.returncode == 2:
         sys.exit(f"{' '.join(words)}: {ran.stderr.strip()}")
     return json.loads(ran.stdout)
@@ -45,9 +45,10 @@ def main():
     given = parser.parse_args()
     order = "-b 1 -a 58 --outputs 2 --no-limit set 0 1.3V + set 1 0.9V".split()
     tally, page = Tally(), stored()
-    for name, words in (("i2c-tools", ["bash", os.path.join(HERE, "rails.sh")]), ("smbus2", [given.python, os.path.join(HERE, "rails.py")]),
-                        ("pmhost", [sys.executable, "-m", "pmhost", *order])):
-        found = bench(words)
+    for name, options, words in (("i2c-tools", [], ["bash", os.path.join(HERE, "rails.sh")]),
+                                 ("smbus2", [], [given.python, os.path.join(HERE, "rails.py")]),
+                                 ("pmhost", ["--runs", "100"], [sys.executable, "-m", "pmhost", *order])):
+        found = bench(options, words)
         print(f"{name}: {found['runs']} runs, {found['well']} ended well, {found['wrong']} wrong, {found['false']} false, "
               f"{found['not_ended']} not ended, {found['strange']} strange", flush=True)
         is_good = {it: found[it] for it in FIGURES} == page.get(name) and found["not_ended"] == found["strange"] == 0
