@@ -14,11 +14,25 @@ FILE = '[parts.u]\nbus = 7\naddress = "58"\noutputs = 2\n' + "".join(
     f'[rails.r{output}]\npart = "u"\noutput = {output}\nvolts = "{{{output}}}uV"\nlimits = ["0.8V", "1.3V"]\n' for output in (0, 1))
 
 
+class Seen(Field):
+    """A part that notes how each rail stood as it was last asked what it does."""
+
+    def __init__(self):
+        super().__init__()
+        self.seen = {}
+
+    def hear(self, frame, ending):
+        answer = super().hear(frame, ending)
+        if answer is not None and ending == "restart" and list(frame[1:3]) == [0x06, 2] and frame[4] in (0x79, 0x8B):
+            self.seen[frame[3]] = self.get("has_tripped", frame[3]), self.get("microvolts", frame[3])
+        return answer
+
+
 @dataclass
 class Call:
     """A part, and a call of pmhost on it."""
 
-    part: Field
+    part: Seen
     command: str
     words: list
     text: str = ""
@@ -31,7 +45,7 @@ class Call:
 
 def draw_part(draw):
     """A part whose rails may be dead, or may die."""
-    part = Field()
+    part = Seen()
     for output in (0, 1):
         def give(name, value, odds):
             if draw.random() < odds:
@@ -82,14 +96,16 @@ def carry_out(call, mishaps):
 
 
 def is_dead(part, output):
-    """Whether a rail is at 0 V, has tripped, or is outside its limits."""
-    return part.get("has_tripped", output) or not LEAST <= part.volts(output) <= MOST
+    """Whether a rail had tripped or was outside its limits, which 0 V is, as it was last asked what it does; now, where it wasn't."""
+    has_tripped, microvolts = part.seen.get(output) or (part.get("has_tripped", output), part.volts(output))
+    return has_tripped or not LEAST <= microvolts <= MOST
 
 
 def wrong_with(call, status, said):
     """What isn't as it has to be of an end with status 0."""
     part = call.part
-    if status != 0:
+    if status != 0 or "delivery not known" in said:
+        # (a part without STATUS_WORD isn't judged; one whose answers are lost each time can't be told from it)
         return ""
     for output in call.outputs:
         if call.command == "off":
@@ -101,13 +117,15 @@ def wrong_with(call, status, said):
 
 
 def counts(draw, calls):
-    """Over so many calls of each command, every other one with faults of the bus: how many ended well by command, and what was wrong."""
-    well, wrong = dict.fromkeys(COMMANDS, 0), []
+    """Over so many calls of each command, every other one with faults of the bus: how many ended well by command, how many well though it isn't
+    known what the rail does, and what was wrong."""
+    well, wrong = dict.fromkeys((*COMMANDS, "not known"), 0), []
     for command in COMMANDS:
         for number in range(calls):
             call = draw_call(draw, command)
             status, said = carry_out(call, [draw.choice(FATES) for _ in range(300)] if number % 2 else [])
             well[command] += status == 0
+            well["not known"] += status == 0 and "delivery not known" in said
             if fault := wrong_with(call, status, said):
                 wrong.append(f"{command} {number}: {fault}")
     return well, wrong

@@ -94,8 +94,32 @@ pub struct Delivery {
     image: ffi::DeliveryImage,
     goals: [Option<Goal>; 3],
     tells_power_good: bool,
+    is_absent: bool,
     has_told_limits: bool,
     has_told_absent: bool,
+}
+
+/// A register that is asked in each round: whether any answer came, and in how many rounds none did.
+#[derive(Default)]
+struct Silence {
+    has_answered: bool,
+    is_silent: bool,
+    rounds: u8,
+}
+
+impl Silence {
+    /// What came of it once more.
+    fn hear(&mut self, heard: ffi::HeardImage) {
+        self.is_silent = heard.asked != 0 && heard.fault == NO_ANSWER;
+        self.has_answered |= heard.asked != 0 && heard.fault != NO_ANSWER;
+    }
+
+    /// A round has ended. Whether the part lacks the register: no answer at all came in two.
+    fn lasts(&mut self) -> bool {
+        self.rounds = self.rounds.saturating_add(u8::from(self.is_silent));
+        self.is_silent = false;
+        self.rounds >= 2 && !self.has_answered
+    }
 }
 
 impl fmt::Debug for Delivery {
@@ -122,7 +146,7 @@ impl Delivery {
         let has = u8::from(options.has_read_vout);
         accepted(unsafe { ffi::pm_delivery_new(&mut image, output, limits, has, options.within, options.rounds) })?;
         let tells_power_good = options.power_good == PowerGood::Tell;
-        Ok(Delivery { image, goals: [None; 3], tells_power_good, has_told_limits: false, has_told_absent: false })
+        Ok(Delivery { image, goals: [None; 3], tells_power_good, is_absent: false, has_told_limits: false, has_told_absent: false })
     }
 
     /// Begins to look at what stands before the first order of a call: STATUS_WORD, and the fault limits unless they are skipped. Ask for
@@ -210,20 +234,13 @@ impl Delivery {
         Ok(None)
     }
 
-    /// Whether the part has no STATUS_WORD: it gave no answer at all, before an order and in two rounds after one.
-    fn is_absent(&self, verdict: &Verdict) -> bool {
-        let is_silent = matches!(verdict, Verdict::NotKnown { code: 0x79, fault: Some(AnswerFault::NoAnswer) });
-        is_silent && self.status_before().is_none() && (self.image.round > 0 || self.image.before.fault == NO_ANSWER)
-    }
-
     /// What the output does, with all that is told of it; nothing that was told once is told again.
     pub fn delivered(&mut self, host: &Host) -> Result<Delivered, Refusal> {
-        let mut verdict = self.verdict(host)?;
-        if self.image.round > 0 && verdict == (Verdict::NotKnown { code: 0x8B, fault: Some(AnswerFault::NoAnswer) }) {
-            self.image.has_read_vout = 0;
-            verdict = self.verdict(host)?;
-        }
-        let is_absent = self.is_absent(&verdict);
+        let verdict = match self.is_absent {
+            true => Verdict::NotKnown { code: STATUS_WORD, fault: Some(AnswerFault::NoAnswer) },
+            false => self.verdict(host)?,
+        };
+        let is_absent = self.is_absent;
         let limits = [self.image.ov_fault_limit, self.image.ov_warn_limit, self.image.uv_warn_limit, self.image.uv_fault_limit];
         let image = &self.image;
         let found = Delivered {
@@ -249,9 +266,22 @@ impl Delivery {
         Ok(found)
     }
 
-    /// Asks all that there is to ask over a bus.
+    /// Asks all that there is to ask over a bus. A part that gives no answer at all for READ_VOUT in two rounds is asked no more for that,
+    /// and one that gives none for STATUS_WORD, with the look before an order as a round, nothing more.
     fn ask<B: Bus>(&mut self, host: &Host, bus: &mut B, pause: &mut impl FnMut()) -> Result<(), Refusal> {
-        while let Sending::Request { frame, answer } = self.frame(host) {
+        let (mut status_word, mut read_vout) = (Silence::default(), Silence::default());
+        status_word.hear(self.image.before);
+        status_word.lasts();
+        while !self.is_absent {
+            let sending = self.frame(host);
+            if sending == Sending::Nothing || self.is_again() {
+                self.is_absent = status_word.lasts();
+                self.image.has_read_vout &= u8::from(!read_vout.lasts());
+            }
+            let Sending::Request { frame, answer } = sending else { return Ok(()) };
+            if self.is_absent {
+                return Ok(());
+            }
             if self.is_again() {
                 pause();
             }
@@ -262,6 +292,8 @@ impl Delivery {
             came[0] = frame[0] | 1;
             let is_heard = is_answered && came[1..].iter().any(|byte| *byte != 0xFF);
             self.read_ended(host, if is_heard { came } else { &[] })?;
+            status_word.hear(self.image.status_word);
+            read_vout.hear(self.image.read_vout);
         }
         Ok(())
     }
@@ -269,6 +301,8 @@ impl Delivery {
 
 /// P8, by which a judgement is told too.
 const P8: u8 = Refusal::P8BeyondFaultLimit.number();
+
+const STATUS_WORD: u8 = 0x79;
 
 /// The number of an answer that didn't come.
 const NO_ANSWER: u8 = 1;

@@ -55,7 +55,7 @@ static const row rows[] = {
     {"READ_VOUT at 104 %", 's', "h", REFUSE, 1, 3, 1, 0, 1, 0, 0, 0, 0, 1144042, 20, 1, 0},
     {"a ramp", 's', "m", REFUSE, 1, 5, 1, 0, 1, 0, 0, 0, 0, 1100097, 26, 1, 3},
     {"a ramp that is longer than the rounds", 's', "m", REFUSE, 1, 2, 1, 0, 6, 0x8B, 0, 0, 0x0119, 68603, 22, 1, 1},
-    {"STATUS_WORD that gives no answer", 's', "s", REFUSE, 1, 2, 1, 0, 10, 0x79, 0, 1, 0, NONE, 23, 1, 1},
+    {"STATUS_WORD that gives no answer", 's', "s", REFUSE, 1, 2, 1, 0, 10, 0x79, 0, 1, 0, NONE, 21, 1, 0},
     {"READ_VOUT that gives no answer in two rounds", 's', "v", REFUSE, 1, 2, 1, 0, 1, 0, 0, 0, 0, NONE, 24, 1, 1},
     {"READ_VOUT that gives no answer, and power good is missing", 's', "vg", REFUSE, 1, 2, 1, 0, 9, 0x79, 0, 0, 0x0800, NONE, 24, 1, 1},
     {"READ_VOUT that gives no answer in one round", 's', "v", REFUSE, 1, 1, 1, 0, 10, 0x8B, 0, 1, 0, NONE, 21, 1, 0},

@@ -26,7 +26,7 @@ def main():
     well, wrong = field_calls.counts(random.Random(given.seed), given.calls)
     print(f"{given.calls} calls each, ended well: " + ", ".join(f"{command} {count}" for command, count in well.items()))
     tally = Tally()
-    tally.passed = given.calls * len(well) - len(wrong)
+    tally.passed = given.calls * len(field_calls.COMMANDS) - len(wrong)
     for each in wrong:
         tally.tell(each[:40], [each])
     return tally.end()

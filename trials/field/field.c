@@ -169,7 +169,7 @@ static const place PARTS[] = {
     OF_PART("MFR_CONFIG_ALL", config_all), OF_PART("step", step), OF_PART("clamps", clamps), OF_PART("transfer_us", transfer_us),
     OF_PART("restart_at", restart_at), OF_PART("away_at_write", away_at_write), OF_PART("away_for", away_for),
     OF_PART("gone_code", gone_code),
-    OF_PART("gone_at_write", gone_at_write), OF_PART("no_page_plus", no_page_plus), OF_PART("no_pec", no_pec), OF_PART("transfers", transfers), OF_PART("writes", writes), OF_PART("stores", stores), OF_PART("questions", questions),
+    OF_PART("gone_at_write", gone_at_write), OF_PART("gone_at_frame", gone_at_frame), OF_PART("no_page_plus", no_page_plus), OF_PART("no_pec", no_pec), OF_PART("transfers", transfers), OF_PART("writes", writes), OF_PART("stores", stores), OF_PART("questions", questions),
     OF_PART("now", now)};
 static const struct { const char *name; uint8_t code; } CELLS[] = {
     {"OPERATION", OPERATION}, {"VOUT_COMMAND", VOUT_COMMAND}, {"VOUT_MAX", 0x24}, {"VOUT_MARGIN_HIGH", 0x25}, {"VOUT_MARGIN_LOW", 0x26},

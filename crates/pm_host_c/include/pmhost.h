@@ -670,19 +670,54 @@ static inline uint64_t pm_answer(const pm_sending *frame, uint8_t *answer, pm_re
     return came == 0 || came > room ? 0 : came + 1;
 }
 
-/* Asks all that a delivery has to ask. `pause` may be NULL. 0, or why a call was refused. */
+/* A register that is asked in each round: whether any answer came, and in how many rounds none did. */
+typedef struct {
+    int has_answered, is_silent, silent_rounds;
+} pm_silence;
+
+/* What came of it once more. */
+static inline void pm_silence_hear(pm_silence *silence, const pm_heard *heard) {
+    silence->is_silent = heard->asked != 0 && heard->fault == PM_NO_ANSWER;
+    silence->has_answered |= heard->asked != 0 && heard->fault != PM_NO_ANSWER;
+}
+
+/* A round has ended. Whether the part lacks the register: no answer at all came in two. */
+static inline int pm_silence_lasts(pm_silence *silence) {
+    silence->silent_rounds += silence->is_silent;
+    silence->is_silent = 0;
+    return silence->silent_rounds >= 2 && !silence->has_answered;
+}
+
+/* Asks all that a delivery has to ask. `pause` may be NULL. A part that gives no answer at all for READ_VOUT in two rounds is asked no more
+ * for that; one that gives none for STATUS_WORD, with the look before an order as a round, is asked nothing more, and the verdict stays
+ * PM_NOT_YET. 0, or why a call was refused. */
 PM_MUST_USE
 static inline uint8_t pm_delivery_ask(pm_delivery *delivery, const pm_host *host, pm_read read, pm_pause pause, void *context) {
+    pm_silence status_word = {0, 0, 0}, read_vout = {0, 0, 0};
     pm_sending frame;
     uint8_t answer[8];
     uint8_t number;
+    pm_silence_hear(&status_word, &delivery->before);
+    (void)pm_silence_lasts(&status_word);
     while ((number = pm_delivery_frame(delivery, host, &frame)) == PM_OK) {
-        if (pause && delivery->round != 0 && delivery->status_word.asked == 0)
-            pause(context);
+        if (delivery->round != 0 && delivery->status_word.asked == 0) {
+            if (pm_silence_lasts(&status_word))
+                return PM_OK;
+            if (pm_silence_lasts(&read_vout))
+                delivery->has_read_vout = 0;
+            if (pause)
+                pause(context);
+        }
         number = pm_delivery_read_ended(delivery, host, answer, pm_answer(&frame, answer, read, context));
         if (number != PM_OK)
             return number;
+        pm_silence_hear(&status_word, &delivery->status_word);
+        pm_silence_hear(&read_vout, &delivery->read_vout);
     }
+    if (pm_silence_lasts(&status_word))
+        delivery->status_word.asked = 0;
+    if (pm_silence_lasts(&read_vout))
+        delivery->has_read_vout = 0;
     return number == PM_ENDED ? (uint8_t)PM_OK : number;
 }
 
@@ -806,11 +841,6 @@ static inline pm_course_end pm_host_run_course(pm_host *host, pm_course *course,
     return pm_course_end_of(course, step.kind);
 }
 
-/* Whether it isn't known what an output does since this register gave no answer at all. */
-static inline int pm_is_silent(const pm_delivered *delivered, uint8_t code) {
-    return delivered->kind == PM_DELIVERY_NOT_KNOWN && delivered->code == code && delivered->fault == PM_NO_ANSWER;
-}
-
 /* The same with a delivery of the course's output. A course that ended well has done what is wanted if pm_is_delivered: `delivered` is
  * PM_DELIVERS, or PM_WENT_OFF of one that turned the output off; an output that is commanded off isn't asked. A part whose READ_VOUT
  * gives no answer at all in two rounds is judged as one without. PM_REFUSED with P8, and
@@ -839,9 +869,10 @@ static inline pm_course_end pm_host_deliver(pm_host *host, pm_course *course, pm
         number = pm_delivery_ask(delivery, host, read, pause, context);
     if (number == PM_OK)
         number = pm_delivery_verdict(delivery, host, delivered);
-    if (number == PM_OK && delivery->round != 0 && pm_is_silent(delivered, 0x8B)) {
-        delivery->has_read_vout = 0;
-        number = pm_delivery_verdict(delivery, host, delivered);
+    if (number == PM_OK && delivered->kind == PM_NOT_YET) {
+        delivered->kind = PM_DELIVERY_NOT_KNOWN;
+        delivered->code = 0x79;
+        delivered->fault = PM_NO_ANSWER;
     }
     if (number != PM_OK) {
         end.kind = PM_REFUSED;
@@ -851,11 +882,10 @@ static inline pm_course_end pm_host_deliver(pm_host *host, pm_course *course, pm
 }
 
 /* Whether an output does what it is to by this verdict, isn't asked since it isn't commanded on, or can't be judged, since its part has no
- * STATUS_WORD: it gave no answer at all, before an order and in two rounds after one. PM_POWER_GOOD_ALONE is for the caller to judge. */
+ * STATUS_WORD: pm_delivery_ask left it unasked. PM_POWER_GOOD_ALONE is for the caller to judge. */
 PM_MUST_USE
 static inline int pm_is_delivered(const pm_delivery *delivery, const pm_delivered *delivered) {
-    int is_absent = pm_is_silent(delivered, 0x79) && (delivery->before.asked == 0 || delivery->before.fault != 0)
-        && (delivery->round != 0 || delivery->before.fault == PM_NO_ANSWER);
+    int is_absent = delivered->kind == PM_DELIVERY_NOT_KNOWN && delivered->code == 0x79 && delivery->status_word.asked == 0;
     return is_absent || delivered->kind == PM_DELIVERS || delivered->kind == PM_WENT_OFF || delivered->kind == PM_COMMANDED_OFF
         || delivered->kind == PM_NOT_KNOWN_ON;
 }

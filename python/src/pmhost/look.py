@@ -179,6 +179,8 @@ class Look:
         self.part, self.output, self.how = part, output, how
         self.delivery = Delivery(output, how.fault_limits, "READ_VOUT" not in part.absent, how.within, how.rounds)
         self.has_looked_before, self.notes = False, list[str]()
+        # The registers that gave any answer, and the rounds in which one gave none at all.
+        self.answered, self.silent = set[str](), set[tuple[str, int]]()
 
     def before(self, course: Course, order: Job) -> None:
         """Reads what stands before the first order, unless that turns the output off. P8 where the course's goal is at or beyond a fault
@@ -244,10 +246,20 @@ class Look:
                 self.delivery.without_read_vout()
 
     def _is_silent(self, question: str) -> bool:
-        """Whether a register that is asked behind an order gave no answer in two rounds, nor before the order."""
-        heard, passes, before = self.delivery.heard(question), self.part.host.passes, self.delivery.heard("before")
-        was_silent = self.delivery.round > 0 or question == "status_word" and before.is_silence
-        return heard.is_silence and heard.asked >= passes and was_silent and not (question == "status_word" and before.word is not None)
+        """Whether a register that is asked behind an order gave no answer at all in two rounds, that before the order among them."""
+        heard, rounds = self.delivery.heard(question), [(question, self.delivery.round)]
+        if question == "status_word":
+            self._hear("before", [(question, -1)])
+        self._hear(question, rounds)
+        return question not in self.answered and heard.is_silence and sum(each == question for each, _ in self.silent) > 1
+
+    def _hear(self, question: str, rounds: list[tuple[str, int]]) -> None:
+        """What came of a question, in a round."""
+        heard = self.delivery.heard(question)
+        if heard.is_silence and heard.asked >= self.part.host.passes:
+            self.silent.update(rounds)
+        elif heard.asked and not heard.is_silence:
+            self.answered.update(name for name, _ in rounds)
 
     def _read(self, sending: Sending) -> bytes:
         """What came back, the read address first; nothing where nobody answered."""

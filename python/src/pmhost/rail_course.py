@@ -90,6 +90,7 @@ class RailCourse:
             try:
                 look.before(self.course, order)
             except PlanRefused as fault:
+                self.board.surveys[self.rail.name] = behind(self.part, self.course)
                 raise Stopped(f"{self.rail.name}: {fault.said}: {fault.letter} {fault.name}") from None
         if not self.may_order:
             raise Due
