@@ -60,7 +60,7 @@ extern "C" {
 #define PM_COURSE_SIZE 104
 #define PM_DELIVERY_VERSION 1
 #define PM_DELIVERY_SIZE 66
-#define PM_STACK 2048
+#define PM_STACK 3072
 #define PM_NAME_STACK 4096
 
 /* What a call answers: 0, or why it is refused. A refused call changes nothing, but for these: pm_host_frame, pm_course_frame and

@@ -35,12 +35,12 @@ impl Rail {
     fn status(&self) -> u16 {
         let trips = self.is('t') && self.is_on() && self.commanded() >= 0x14CD;
         let is_off = trips || self.is('r') || !(self.is_on() || self.is('n'));
-        u16::from(is_off) * 0x0840
-            | u16::from(trips || self.is('o')) * 0x8020
-            | u16::from(self.is('g')) * 0x0800
-            | u16::from(self.is('u') && self.has_ordered) * 0x8000
-            | u16::from(self.is('c') && self.has_ordered) * 0x0002
-            | u16::from(self.is('i') && self.has_ordered) * 0x4000
+        (u16::from(is_off) * 0x0840)
+            | (u16::from(trips || self.is('o')) * 0x8020)
+            | (u16::from(self.is('g')) * 0x0800)
+            | (u16::from(self.is('u') && self.has_ordered) * 0x8000)
+            | (u16::from(self.is('c') && self.has_ordered) * 0x0002)
+            | (u16::from(self.is('i') && self.has_ordered) * 0x4000)
     }
 
     /// The bytes of a register of the layer; `None` of another one, or where it gives no answer.
