@@ -146,7 +146,14 @@ impl Delivery {
         let has = u8::from(options.has_read_vout);
         accepted(unsafe { ffi::pm_delivery_new(&mut image, output, limits, has, options.within, options.rounds) })?;
         let tells_power_good = options.power_good == PowerGood::Tell;
-        Ok(Delivery { image, goals: [None; 3], tells_power_good, is_absent: false, has_told_limits: false, has_told_absent: false })
+        Ok(Delivery {
+            image,
+            goals: [None; 3],
+            tells_power_good,
+            is_absent: false,
+            has_told_limits: false,
+            has_told_absent: false,
+        })
     }
 
     /// Begins to look at what stands before the first order of a call: STATUS_WORD, and the fault limits unless they are skipped. Ask for
