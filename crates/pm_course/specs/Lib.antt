@@ -6,3 +6,4 @@ pub mod FrameCourse
 pub mod Surprise
 pub mod Heard
 pub mod Frames
+pub mod Accept

@@ -13,6 +13,7 @@
 //! Tests: crates/pm_host_tests
 #![tactic(auto)]
 
+mod accept;
 mod answer_fault;
 mod course_end;
 mod frame_course;
