@@ -1,5 +1,5 @@
 -- When a course takes the word that a register holds in the place of what is wanted of it. This project's own choice.
-use Rattle.std.specs.Prelude.{◌≡◌, ℕ, ◌^◌, ℤ, pos, ◌+ℤ◌, ◌-ℤ◌, Bool, false, not, ◌&&◌, ◌||◌, ◌==◌, nat_lt, unsigned_abs, if◌then◌else◌, Option}
+use Rattle.std.specs.Prelude.{◌≡◌, ℕ, ◌^◌, ℤ, pos, ◌+ℤ◌, ◌-ℤ◌, Bool, true, false, not, ◌&&◌, ◌||◌, ◌==◌, nat_lt, unsigned_abs, if◌then◌else◌, Option}
 use Rattle.std.specs.Prelude.{Some, None, is_some, option_map, option_and_then, unwrap_or, find, [], ◌∷◌, Result, Ok, Err, IfOk}
 use Rattle.std.specs.Result.{result_err}
 use Rattle.pm_num.specs.declared.fault.NumFault.{NumFault}
@@ -19,18 +19,20 @@ use Rattle.pm_rail.specs.Course.{course_of}
 use Rattle.pm_rail.specs.Known.{sole}
 use Rattle.pm_rail.specs.Orders.{voltages}
 use Rattle.pm_rail.specs.Registers.{wants_of, with_word}
+use Rattle.pm_course.specs.declared.accept_fault.AcceptFault.TheVariants.{NotNear}
 use Rattle.pm_course.specs.declared.course_end.CourseEnd.{CourseEnd}
 use Rattle.pm_course.specs.declared.course_end.CourseEnd.TheVariants.{Reached, Refused, Differs, NoFormat, OtherSource, Spent}
 use Rattle.pm_course.specs.declared.course_end.Refusal.{Refusal}
 use Rattle.pm_course.specs.declared.frame_course.FrameCourse.{FrameCourse}
 use Rattle.pm_course.specs.declared.voltages.Voltages.{Voltages}
+use Rattle.pm_course.specs.AcceptFault.{accept_fault_number}
 use Rattle.pm_course.specs.Ends.{refusal_of_plan}
 use Rattle.pm_course.specs.FrameCourse.{going_on}
 use Rattle.pm_course.specs.Wishes.{IsWordFor, no_word_number, refused_at, voltage_of, with_voltage}
 
 -- P9: the word isn't near enough, or nothing is wanted
 abbrev pub not_near : ℕ
-not_near = 0x69
+not_near = accept_fault_number NotNear
 
 -- The register whose word is taken: the one of which an order differed, or else the first of which something is wanted.
 abbrev pub is_wished : Wanted → Voltages → Reg → Bool
@@ -49,21 +51,20 @@ taken_of words v None = find (is_wished words v) voltages
 abbrev pub IsFloor : Ratio → Result ℤ NumFault → Type 0
 IsFloor value floor = (result_err floor ≡ far_fault value) × IfOk floor (IsMicroFloor value)
 
--- The microvolts that are wanted of a register: the voltage, or else the word's, rounded down. None where nothing is wanted, or
--- beyond 10^15.
+-- The microvolts that are wanted of a register: the voltage, or else the word's, rounded down. None where nothing is wanted.
 abbrev pub IsAim : Shape → Option ℤ → Option ℕ → Result ℤ NumFault → Type 0
-IsAim shape (Some x) word aim = aim ≡ (if nat_lt (10 ^ 15) (unsigned_abs x) then Err TooLarge else Ok x)
+IsAim shape (Some x) word aim = aim ≡ Ok x
 IsAim shape None (Some word) aim = IsFloor (shape_value shape word) aim
 IsAim shape None None aim = aim ≡ Err TooLarge
 
--- a value lies within a tolerance of so many microvolts, both ends counted
+-- a value lies within a tolerance of so many microvolts, both ends counted; none does of microvolts beyond 10^15
 abbrev pub is_near : ℤ → ℕ → Ratio → Bool
 is_near x tolerance value =
     not (is_above (micros (x -ℤ pos tolerance)) value) && not (is_above value (micros (x +ℤ pos tolerance)))
 
 abbrev pub is_near_aim : Result ℤ NumFault → ℕ → Ratio → Bool
 is_near_aim (Err fault) tolerance value = false
-is_near_aim (Ok x) tolerance value = is_near x tolerance value
+is_near_aim (Ok x) tolerance value = not (nat_lt (10 ^ 15) (unsigned_abs x)) && is_near x tolerance value
 
 -- why a word isn't taken: P9 where it isn't near, then L3 or L4 by the limits
 abbrev pub limits_refuse : Option Bounds → Ratio → Reg → Option Refusal
@@ -77,10 +78,12 @@ near_refusal limits value register aim tolerance = first (
     [])
 
 -- the word of a voltage, or the number of why it has none
-abbrev pub IsFormed : Shape → Reg → ℤ → Result ℕ ℕ → Type 0
-IsFormed shape register x formed = (result_err formed ≡ no_word_number shape register x) × IfOk formed (IsWordFor shape register x)
+pub record IsFormed (shape : Shape) (register : Reg) (x : ℤ) (formed : Result ℕ ℕ) : Type 0 where
+  pub fault : result_err formed ≡ no_word_number shape register x
+  pub word : IfOk formed (IsWordFor shape register x)
 
--- Whole microvolts of which just this word is formed: those of its value, rounded down, or one more. None where neither is such.
+-- Whole microvolts of which just this word is formed: those of its value, rounded down, or one more. None where neither is such, or
+-- beyond 10^15.
 abbrev pub is_formed : Result ℕ ℕ → ℕ → Bool
 is_formed (Ok formed) word = formed == word
 is_formed (Err number) word = false
@@ -90,8 +93,10 @@ meaning_by x below above word = if is_formed below word then Some x else rule (i
 
 pub data IsMeaning (shape : Shape) (register : Reg) (word : ℕ) : Option ℤ → Type 0 where
   far : (fault : NumFault) → far_fault (shape_value shape word) ≡ Some fault → IsMeaning shape register word None
-  means : (x : ℤ) (below above : Result ℕ ℕ) → IsMicroFloor (shape_value shape word) x → IsFormed shape register x below
-      → IsFormed shape register (x +ℤ pos 1) above → IsMeaning shape register word (meaning_by x below above word)
+  beyond : (x : ℤ) → IsMicroFloor (shape_value shape word) x → nat_lt (10 ^ 15) (unsigned_abs x) ≡ true → IsMeaning shape register word None
+  means : (x : ℤ) (below above : Result ℕ ℕ) (meaning : Option ℤ) → IsMicroFloor (shape_value shape word) x
+      → IsFormed shape register x below → IsFormed shape register (x +ℤ pos 1) above → meaning ≡ meaning_by x below above word
+      → IsMeaning shape register word meaning
 
 -- A course that begins anew, by the tries that are left, and that wants the word: as a word where one was wanted, as a voltage
 -- that means it where one was. P9 where no whole microvolts mean it.
@@ -114,7 +119,7 @@ word_at s c register = sole (possible_at s (Out c.course.survey.output register)
 -- What becomes of a course that is to take a held word: H3 while a job is open, P9 where nothing is wanted, P1 without a format, P4
 -- where the word isn't known; otherwise it is judged.
 pub data Takes (limits : Option Bounds) (s : Summary) (c : FrameCourse) (tolerance : ℕ) : Result FrameCourse Refusal → Type 0 where
-  open : is_busy s ≡ true → Takes limits s c tolerance (Err (refusal_of_plan plan.Busy))
+  job_open : is_busy s ≡ true → Takes limits s c tolerance (Err (refusal_of_plan plan.Busy))
   no_plan : is_busy s ≡ false → c.course.survey.plan ≡ None
       → Takes limits s c tolerance (Err (record { number = not_near; register = None }))
   no_wish : (words : Wanted) → is_busy s ≡ false → c.course.survey.plan ≡ Some words → taken_of words c.voltages c.end ≡ None
@@ -127,11 +132,12 @@ pub data Takes (limits : Option Bounds) (s : Summary) (c : FrameCourse) (toleran
       → word_at s c register ≡ None
       → Takes limits s c tolerance (Err (refusal_of_plan (plan.NotKnown (Out c.course.survey.output register))))
   judged : (words : Wanted) (register : Reg) (shape : Shape) (word : ℕ) (aim : Result ℤ NumFault) (meaning : Option ℤ)
+      (taken : Result FrameCourse Refusal)
       → is_busy s ≡ false → c.course.survey.plan ≡ Some words → taken_of words c.voltages c.end ≡ Some register
       → format_at s c.course.survey.output ≡ Some shape → word_at s c register ≡ Some word
       → IsAim shape (voltage_of c.voltages register) (wants_of words register) aim → IsMeaning shape register word meaning
-      → Takes limits s c tolerance (taken_unless (near_refusal limits (shape_value shape word) register aim tolerance)
-      (taking c words register word (voltage_of c.voltages register) meaning))
+      → taken ≡ taken_unless (near_refusal limits (shape_value shape word) register aim tolerance)
+      (taking c words register word (voltage_of c.voltages register) meaning) → Takes limits s c tolerance taken
 
 -- the answer, and the course after it: as it was where the word is refused
 abbrev pub taken_answer : Result FrameCourse Refusal → Result (Unit {0}) Refusal

@@ -7,9 +7,10 @@ ghost use Rattle.pm_host.specs.Image.{held};
 ghost use Rattle.pm_limits.specs.Bounds.{outside_fault};
 ghost use Rattle.pm_limits.specs.Guard.{limits_at};
 ghost use Rattle.pm_rail.specs.Registers.{wants_of};
-ghost use Rattle.pm_course.specs.Accept.{anew as spec_anew, is_near as spec_is_near, is_near_aim, is_wished as spec_is_wished, limits_refuse, near_refusal, not_near as spec_not_near, taken_of as spec_taken_of, taking as spec_taking, Accepts, IsAim, IsFormed, IsMeaning, Takes};
+ghost use Rattle.pm_course.specs.Accept.{anew as spec_anew, is_near as spec_is_near, is_near_aim, is_wished as spec_is_wished, limits_refuse, near_refusal, not_near as spec_not_near, taken_of as spec_taken_of, taking as spec_taking, Accepts, IsAim, IsFormed, IsMeaning, Takes, is_formed as spec_is_formed, meaning_by};
 ghost use Rattle.pm_course.specs.Wishes.{refused_at, voltage_of};
 
+use crate::accept_fault::AcceptFault;
 use crate::course_end::{CourseEnd, Refusal};
 use crate::frame_course::{FrameCourse, sole_at};
 use crate::voltages::Voltages;
@@ -21,9 +22,6 @@ use pm_num::{AnyFormat, Frac, NumFault, NumFormat, micro};
 use pm_rail::{PlanFault, Wanted};
 use pm_table::{Cell, Reg};
 use std::cmp::Ordering;
-
-// The number of P9.
-const NOT_NEAR: u8 = 0x69;
 
 // Millionths in one.
 const MILLION: i128 = 1_000_000;
@@ -145,7 +143,6 @@ impl FrameCourse {
         ensures { IsAim (shape_of format.now) (voltage_of self.now.voltages register) (wants_of words.now register) result }
     {
         match (self.voltages.of(register), words.word(register)) {
-            (Some(microvolts), _) if FAR < microvolts.unsigned_abs() => Err(NumFault::TooLarge),
             (Some(microvolts), _) => Ok(microvolts),
             (None, Some(word)) => format.value_of(word).floor_microvolts(),
             (None, None) => Err(NumFault::TooLarge),
@@ -188,7 +185,7 @@ fn nothing_near() -> Refusal
     ensures { result ≡ record { number = spec_not_near; register = None } }
 {
     Refusal {
-        number: NOT_NEAR,
+        number: AcceptFault::NotNear.number(),
         register: None,
     }
 }
@@ -198,7 +195,7 @@ fn not_near(register: Reg) -> Refusal
     ensures { result ≡ refused_at spec_not_near register }
 {
     Refusal {
-        number: NOT_NEAR,
+        number: AcceptFault::NotNear.number(),
         register: Some(register.code()),
     }
 }
@@ -211,10 +208,10 @@ fn near_fault(
     aim: Result<i64, NumFault>,
     tolerance: u32,
 ) -> Option<Refusal>
-    requires { IfOk aim (λ x. unsigned_abs x ≤ 10 ^ 15) }
     ensures { result ≡ near_refusal limits.now value.now register aim tolerance }
 {
     match aim {
+        Ok(microvolts) if FAR < microvolts.unsigned_abs() => Some(not_near(register)),
         Ok(microvolts) if is_near(microvolts, tolerance, value) => {
             outside(limits, value, register)
         }
@@ -227,9 +224,25 @@ fn is_near(microvolts: i64, tolerance: u32, value: &Frac) -> bool
     requires { unsigned_abs microvolts ≤ 10 ^ 15 }
     ensures { result ≡ spec_is_near microvolts tolerance value.now }
 {
-    let (middle, tolerance) = (i128::from(microvolts), i128::from(tolerance));
-    let (least, most) = (volts(middle - tolerance), volts(middle + tolerance));
-    !is_above(&least, value) && !is_above(value, &most)
+    let below = is_above(&least(microvolts, tolerance), value);
+    let above = is_above(value, &most(microvolts, tolerance));
+    !below && !above
+}
+
+// The least value within a tolerance.
+fn least(microvolts: i64, tolerance: u32) -> Frac
+    requires { unsigned_abs microvolts ≤ 10 ^ 15 }
+    ensures { result ≡ micros (microvolts -ℤ pos tolerance) }
+{
+    volts(i128::from(microvolts) - i128::from(tolerance))
+}
+
+// The most.
+fn most(microvolts: i64, tolerance: u32) -> Frac
+    requires { unsigned_abs microvolts ≤ 10 ^ 15 }
+    ensures { result ≡ micros (microvolts +ℤ pos tolerance) }
+{
+    volts(i128::from(microvolts) + i128::from(tolerance))
 }
 
 // So many microvolts as a fraction.
@@ -283,15 +296,40 @@ fn meaning(format: &AnyFormat, register: Reg, word: u16) -> Option<i64>
 {
     match format.value_of(word).floor_microvolts() {
         Err(_) => None,
+        Ok(below) if FAR < below.unsigned_abs() => None,
         Ok(below) => {
-            let above = below + 1;
-            if word_for(format, register, below) == Ok(word) {
-                Some(below)
-            } else if word_for(format, register, above) == Ok(word) {
-                Some(above)
-            } else {
-                None
-            }
+            let first = word_for(format, register, below);
+            let second = word_for(format, register, below + 1);
+            chosen(below, first, second, word)
         }
+    }
+}
+
+// The microvolts of which a word is formed: these, or one more.
+fn chosen(
+    below: i64,
+    first: Result<u16, u8>,
+    second: Result<u16, u8>,
+    word: u16,
+) -> Option<i64>
+    requires { unsigned_abs below ≤ 10 ^ 15 }
+    ensures { result ≡ meaning_by below first second word }
+{
+    if is_formed(first, word) {
+        Some(below)
+    } else if is_formed(second, word) {
+        Some(below + 1)
+    } else {
+        None
+    }
+}
+
+// Whether a word is formed.
+fn is_formed(formed: Result<u16, u8>, word: u16) -> bool
+    ensures { result ≡ spec_is_formed formed word }
+{
+    match formed {
+        Ok(found) => found == word,
+        Err(_) => false,
     }
 }

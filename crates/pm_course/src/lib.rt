@@ -14,6 +14,7 @@
 #![tactic(auto)]
 
 mod accept;
+mod accept_fault;
 mod answer_fault;
 mod course_end;
 mod frame_course;
@@ -24,6 +25,7 @@ mod voltages;
 mod wish;
 mod words;
 
+pub use accept_fault::AcceptFault;
 pub use answer_fault::AnswerFault;
 pub use course_end::{CourseEnd, CourseNext, Refusal};
 pub use frame_course::FrameCourse;

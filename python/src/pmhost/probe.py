@@ -25,6 +25,7 @@ REGISTERS = tuple(name for name in CODES if name != "WRITE_PROTECT")
 SPOKEN = "this host speaks ULINEAR16 and DIRECT"
 BLIND = "the part doesn't look at the page"
 UNFIT = "this host can't drive the part"
+WITHOUT_PEC_TAKEN = "a write without a PEC is taken"
 
 
 @dataclass
@@ -44,7 +45,8 @@ class FoundOutput:
 class Found:
     """What a part has. `verdict` is why the host can't drive a part whose outputs couldn't be looked at; `page` says whether
     the part looks at the page, `faults` has every other reason why the host can't drive it, `doubt` why that can't be told,
-    `writes` what became of the two writes with a fault, `late` and `high` are those of `Reads`."""
+    `writes` what became of the two writes with a fault, `is_pec_optional` says that the part takes one without its packet error code and none
+    with a wrong one, `late` and `high` are those of `Reads`."""
 
     verdict: str = ""
     revision: int | None = None
@@ -53,6 +55,7 @@ class Found:
     protect: Read = Read(None)
     page: str = ""
     writes: dict[str, str] = field(default_factory=dict)
+    is_pec_optional: bool = False
     faults: list[str] = field(default_factory=list)
     doubt: str = ""
     late: int = 0
@@ -117,11 +120,13 @@ class Probe:
     def write(self) -> Found:
         """Sends CLEAR_FAULTS without its packet error code, and then with a wrong one, twice each. It is sent with the right one
         before each, so that STATUS_CML is 00h then, and at the end, which takes their notes away."""
-        found, frame = self.found, CLEAR.frame(self.address)
+        found, frame, faults = self.found, CLEAR.frame(self.address), list[str]()
         for name, faulty in ("without a PEC", frame[:-1]), ("with a wrong PEC", frame[:-1] + bytes([frame[-1] ^ 0xFF])):
             is_refused, found.writes[name] = self._became_of(faulty)
             if not is_refused:
-                found.faults.append(f"a write {name} {'is taken' if found.writes[name].startswith('taken') else 'may be taken'}")
+                faults.append(f"a write {name} {'is taken' if found.writes[name].startswith('taken') else 'may be taken'}")
+        found.is_pec_optional = faults == [WITHOUT_PEC_TAKEN]
+        found.faults += [] if found.is_pec_optional else faults
         self._send(frame)
         return found
 

@@ -21,6 +21,7 @@ from .again import Ordered
 from .answer import Answer, coloured
 from .parser import BEHIND, OPTIONS, BadCall
 from .place import Options, Place
+from .protection import Protection
 
 MODEL_ADDRESS, MODEL_OUTPUTS, PASSES = 0x58, 2, 3
 NOTHING = "nothing was written"
@@ -88,6 +89,8 @@ class Call:
         # The parts that have answered, and the rail that the command under way names, which a file has.
         self.has_answered, self.identified, self.ordered = set[str](), set[str](), Ordered()
         self.named: Rail | None = None
+        self.protection = Protection(self)
+        self.protect: int | None = None
         self.bus: str | None = self._one("bus")
         self.address: int | None = self._one("address")
         self.outputs: int | None = self._one("outputs")
@@ -167,6 +170,7 @@ class Call:
                                   "call of its own")
         else:
             self.outputs, self.limits, self.lacks = found.parts[ONLY].outputs, found.limits(ONLY), found.parts[ONLY].lacks
+            self.protect = found.parts[ONLY].protect
         self._rails = found
 
     def judge_write(self, arguments: argparse.Namespace, more: str = "") -> None:
@@ -204,7 +208,7 @@ class Call:
                 self._places = {part.name: Place(part, limits, options, BusTrace(self._trace, part.bus))
                                 for part, limits in self._rails.made_for()}
             else:
-                only = BoardPart(ONLY, self.bus or "", self.address or MODEL_ADDRESS, self.counted(), "", self.lacks, self._one("ready"))
+                only = BoardPart(ONLY, self.bus or "", self.address or MODEL_ADDRESS, self.counted(), "", self.lacks, self._one("ready"), self.protect)
                 self._places = {ONLY: Place(only, self.limits, options, self._trace, self.outputs or max(MODEL_OUTPUTS, self.counted()))}
         return self._places
 
