@@ -142,7 +142,7 @@ class Busy(unittest.TestCase):
         with mock.patch("pmhost.reads.clock.wait") as slept:
             found = Probe(ModelPartBus(ModelPart(ADDRESS, [Output()])), ADDRESS, 1).run()
         # Two waits for each of MFR_ID, MFR_MODEL, MFR_REVISION and ON_OFF_CONFIG.
-        self.assertEqual((found.late, slept.call_count), (0, 8))
+        self.assertEqual((found.late, slept.call_count), (0, 12))
 
 
 class Revisions(unittest.TestCase):

@@ -17,6 +17,8 @@ MOST_OUTPUTS = 8
 NO_PAGE = 0x1F
 VOUT_MODE, COEFFICIENTS, DIRECT = 0x20, 0x30, 0x40
 ON_OFF_CONFIG, MFR_BLOCKS = 0x02, {"MFR_ID": 0x99, "MFR_MODEL": 0x9A, "MFR_REVISION": 0x9B}
+# Blocks that say which unit a part is, where it has them.
+UNIT_BLOCKS = {"MFR_SERIAL": 0x9E, "IC_DEVICE_ID": 0xAD}
 REVISION, PROTECT, STATUS_CML = Packet("read", 0x98), Packet("read", CODES["WRITE_PROTECT"]), Packet("read", 0x7E)
 CLEAR = Packet("send byte", 0x03)
 # The bits of STATUS_CML of a wrong packet error code, and of another fault of the bus, as a byte too few.
@@ -43,7 +45,7 @@ class FoundOutput:
 
 @dataclass
 class Found:
-    """What a part has. `verdict` is why the host can't drive a part whose outputs couldn't be looked at; `page` says whether
+    """What a part has. `unit` has the blocks that say which unit it is, of those that it has. `verdict` is why the host can't drive a part whose outputs couldn't be looked at; `page` says whether
     the part looks at the page, `faults` has every other reason why the host can't drive it, `doubt` why that can't be told,
     `writes` what became of the two writes with a fault, `is_pec_optional` says that the part takes one without its packet error code and none
     with a wrong one, `late` and `high` are those of `Reads`."""
@@ -51,6 +53,7 @@ class Found:
     verdict: str = ""
     revision: int | None = None
     identity: dict[str, Read] = field(default_factory=dict)
+    unit: dict[str, bytes] = field(default_factory=dict)
     outputs: list[FoundOutput] = field(default_factory=list)
     protect: Read = Read(None)
     page: str = ""
@@ -99,6 +102,9 @@ class Probe:
         elif no_page.has_answer:
             found.verdict = unfit_words(reads, revision, Transfers())
         found.late, found.high = reads.late, reads.high
+        if found.outputs:
+            blocks = {name: reads.block(code) for name, code in UNIT_BLOCKS.items()}
+            found.unit = {name: read.payload for name, read in blocks.items() if read.payload is not None}
         return found
 
     def _no_page(self) -> Read:

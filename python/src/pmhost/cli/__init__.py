@@ -10,6 +10,7 @@ from __future__ import annotations
 import argparse
 import functools
 import re
+import shlex
 import sys
 from types import ModuleType
 
@@ -200,6 +201,7 @@ def run(given: list[str], kernel: Calls | None, calls: list[Call]) -> int:
         if given == ["--completion"]:
             return completion()
         call = judged(given, kernel)
+        call.words = shlex.join(given)
         calls.append(call)
         if not call.has_bus:
             return run_commands(call)

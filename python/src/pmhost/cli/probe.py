@@ -123,7 +123,8 @@ def lines_of(found: Found, wants_writes: bool) -> list[str]:
         lines.append(f"PEC yes, PAGE_PLUS yes, {counted}: {', '.join(f'{each.number} {each.format}' for each in found.outputs)}")
         lines.append(found.page)
     if found.identity:
-        lines.append(", ".join([revision_words(found.revision), *(text_words(*each) for each in found.identity.items())]))
+        lines.append(", ".join([revision_words(found.revision), *(text_words(*each) for each in found.identity.items()),
+                                *(f"{name} {block_words(block)}" for name, block in found.unit.items())]))
         lines.append(protect_words(found.protect))
     for each in found.outputs:
         lines += [f"output {each.number}: {registers_words(each)}", f"output {each.number}: {on_off_words(each.on_off)}"]
@@ -211,6 +212,7 @@ def device_row(found: Found, lines: list[str], give: str | None) -> dict[str, ob
     """The same of the device, with what is said of it and the command line for it."""
     texts = {name.lower(): None if read.payload is None else text_of(read.payload) or spaced(read.payload)
              for name, read in found.identity.items()}
+    texts.update({name.lower(): text_of(block) or spaced(block) for name, block in found.unit.items()})
     protect = found.protect.payload
     return {"output": None, "pmbus_revision": None if found.revision is None else f"{found.revision:02X}", **texts,
             "write_protect": None if protect is None else f"{protect[0]:02X}", "writes": found.writes,

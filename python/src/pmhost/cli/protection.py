@@ -6,6 +6,7 @@ import contextlib
 from typing import TYPE_CHECKING
 
 from ..errors import Refused
+from ..states import Step
 from ..survey import holds_zeros, only_word
 from ..zeros import NotBelieved, guard
 from . import streams
@@ -74,7 +75,7 @@ class Protection:
         place = self.call.places()[name]
         part = place.pmbus()
 
-        def order() -> object:
+        def order() -> Step:
             part.host.order(0, PROTECT, byte)
             return part.run()
 

@@ -21,12 +21,13 @@ returns-in-Ok c =
 
 pub returns-in-Ok-2 : goal.returns-in-Ok-2
 returns-in-Ok-2 c =
-    let x = c.in-Ok-2.below in
+    let x = to_z w64 (of_z w64 c.in-Ok.below) in
     let shape = shape_of c.args.format.now in
+    let read : x ≡ c.in-Ok.below = search rules in
+    let more : to_z w64 (of_z w64 (x +ℤ pos 1)) ≡ x +ℤ pos 1 = search rules in
     let floor : IsMicroFloor (shape_value shape c.args.word) x =
-    subst (λ (v : Ratio). IsMicroFloor v x) c.value_of.ensures c.in-Ok-2.ensures.floor in
-    let read : to_z w64 (of_z w64 x) ≡ x = search rules in
-    let more : to_z w64 (of_z w64 (to_z w64 (of_z w64 x) +ℤ pos 1)) ≡ x +ℤ pos 1 = search rules in
+    subst (λ (k : ℤ). IsMicroFloor (shape_value shape c.args.word) k) (sym read)
+    (subst (λ (v : Ratio). IsMicroFloor v c.in-Ok.below) c.value_of.ensures c.in-Ok.ensures.floor) in
     let below : IsFormed shape c.args.register x c.word_for-first.result =
     record { fault = c.word_for-first.ensures.fault; word = c.word_for-first.ensures.word } in
     let above : IsFormed shape c.args.register (x +ℤ pos 1) c.word_for-second.result =
