@@ -300,6 +300,7 @@ pm_course_words(&course, 0, &wanted, 8)
 pm_course_microvolts(&course, 0, PM_VOUT_COMMAND, 3300000, 8)
 pm_course_power(&course, 0, 0x80, 8)
 pm_course_want(&course, PM_VOUT_MAX, 3500000)
+pm_course_accept(&course, &host, 3000)
 pm_course_frame(&course, &host, &sending)
 pm_host_run_course(&host, &course, 0, 0, 0).kind
 pm_host_deliver(&host, &course, &delivery, 0, 0, 0, 0, &delivered).kind

@@ -46,7 +46,7 @@ impl FrameCourse {
         self.accept_in(host.state(), host.stage(), &limits, tolerance)
     }
 
-    /// The same by the state beside the open job, by these limits. The output's number is below 8.
+    /// Takes the held word, or refuses it, by the state beside the open job and by these limits. The output's number is below 8.
     pub fn accept_in(
         &mut self,
         host: &State,
@@ -245,7 +245,7 @@ fn most(microvolts: i64, tolerance: u32) -> Frac
     volts(i128::from(microvolts) + i128::from(tolerance))
 }
 
-// So many microvolts as a fraction.
+// A number of microvolts as a fraction.
 fn volts(microvolts: i128) -> Frac
     requires { InBounds microvolts (pos (10 ^ 6)) }
     ensures { result ≡ micros microvolts }
