@@ -306,12 +306,7 @@ fn meaning(format: &AnyFormat, register: Reg, word: u16) -> Option<i64>
 }
 
 // The microvolts of which a word is formed: these, or one more.
-fn chosen(
-    below: i64,
-    first: Result<u16, u8>,
-    second: Result<u16, u8>,
-    word: u16,
-) -> Option<i64>
+fn chosen(below: i64, first: Result<u16, u8>, second: Result<u16, u8>, word: u16) -> Option<i64>
     requires { unsigned_abs below ≤ 10 ^ 15 }
     ensures { result ≡ meaning_by below first second word }
 {

@@ -435,7 +435,12 @@ fn a_held_word_is_taken_by_its_value(rt: HostRuntime) {
     let _ = carried(FrameCourse::survey(0, 20), &mut guard, &mut part, 400);
     for (microvolts, tolerance, number) in &HELD {
         let mut course = volts(Reg::VoutCommand, *microvolts);
-        equal(&rt, &taken(&mut course, &guard, *tolerance), number, &(microvolts, tolerance));
+        equal(
+            &rt,
+            &taken(&mut course, &guard, *tolerance),
+            number,
+            &(microvolts, tolerance),
+        );
     }
     let mut margin = volts(Reg::MarginHigh, 1_062_500);
     equal(&rt, &taken(&mut margin, &guard, 3000), &0x64, &2);
@@ -443,7 +448,12 @@ fn a_held_word_is_taken_by_its_value(rt: HostRuntime) {
     equal(&rt, &taken(&mut survey, &guard, 3000), &0x69, &3);
     equal(&rt, &taken(&mut course, &guard, 3000), &0, &4);
     let run = carried(course, &mut guard, &mut part, 400);
-    equal(&rt, &(run.end, run.writes), &(Some(CourseEnd::Reached), 0), &5);
+    equal(
+        &rt,
+        &(run.end, run.writes),
+        &(Some(CourseEnd::Reached), 0),
+        &5,
+    );
     let _ = guard.narrow(0, 1_000_001, 2_000_000);
     let mut course = volts(Reg::VoutCommand, 1_003_000);
     equal(&rt, &taken(&mut course, &guard, 3000), &0x23, &6);
