@@ -145,20 +145,22 @@ class Api(unittest.TestCase):
             device.set_voltage(0, "1.05V")
 
     def test_no_word_is_taken_twice(self):
-        """A part whose word changes while it is read: what is near to the word that was taken isn't near to what is wanted."""
-        part, heard = Field(), None
+        """A part whose word falls by six at each of the first eight reads: what is near to the word that was taken isn't near to what is
+        wanted."""
+        part, left = Field(), [8]
         heard = part.hear
 
         def falling(frame, ending):
-            if frame[1] == 0x06 and frame[4] == 0x21 and part.get("VOUT_COMMAND") > 0x1000:
+            if frame[1] == 0x06 and frame[4] == 0x21 and part.get("VOUT_COMMAND") > 0x1000 and left[0]:
+                left[0] -= 1
                 part.set("VOUT_COMMAND", part.get("VOUT_COMMAND") - 6)
             return heard(frame, ending)
 
-        part.set("VOUT_COMMAND", 0x1000)
         part.hear = falling
         over = BoardKernel({7: {ADDRESS: part}}, [])
-        status, out, _ = called([*ONE, "--outputs", "2", "--no-limit", "set", "0", "1.05V", "--accept", "3mV"], over)
-        self.assertEqual((status, "VOUT_COMMAND 10" in out), (1, True), out)
+        status, out, _ = called([*ONE, "--outputs", "2", "--no-limit", "set", "0", "1.05V", "--accept", "2mV"], over)
+        self.assertEqual((status, part.get("VOUT_COMMAND"), left), (0, 0x10C7, [0]), out)
+        self.assertIn("set 0: VOUT_COMMAND accepted 10C7 1.048583V", out)
 
     def test_several_words(self):
         part, device = self.device()
