@@ -1,6 +1,7 @@
 """Supply voltages over a bus: jobs that are carried out, and voltages with their unit."""
 from __future__ import annotations
 
+import contextlib
 import functools
 import threading
 from typing import Callable, Iterable, Mapping, ParamSpec, TypeVar
@@ -221,13 +222,22 @@ class Device:
     def _accept(self, course: Course, accept: GivenVoltage | None, *hooks: Callable[..., None] | None) -> None:
         """Takes held words of orders that differed, each register's once, and carries the course on."""
         taken = set[str | None]()
-        while accept is not None and (end := course.ended) is not None and end.kind == "differs" and end.register not in taken:
-            taken.add(end.register)
-            try:
-                course.accept(self.host, accept)
-            except Refused:
-                return
+        while accept is not None and self._takes(course, accept, taken):
             self.host.run_course(course, self.bus, self.transfers, *hooks)
+
+    def _takes(self, course: Course, accept: GivenVoltage, taken: set[str | None]) -> bool:
+        """Whether a course that ended since an order differed begins anew with the held word, of a register that isn't among those taken."""
+        try:
+            course.end()
+        except Differs as fault:
+            if fault.register not in taken:
+                taken.add(fault.register)
+                with contextlib.suppress(Refused):
+                    course.accept(self.host, accept)
+                    return True
+        except (NotDone, Refused):
+            pass
+        return False
 
     def survey(self, output: int, tries: int = SURVEY_TRIES) -> RailState:
         """Reads all that decides what the output commands, and says it."""
