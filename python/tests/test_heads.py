@@ -65,6 +65,11 @@ class Heads(unittest.TestCase):
             told = subprocess.run([pmb, "decode", "--times"], input="\n".join(lines) + "\n", capture_output=True, text=True, check=False)
             self.assertEqual((told.returncode, "PAGE_PLUS_WRITE" in told.stdout), (0, True), told.stdout + told.stderr)
 
+    def test_transfers_of_a_board_have_theirs(self):
+        lines = self.traced("--trace-times", "verify", self.board)
+        self.assertEqual(lines[1], "# bus 7")
+        self.assertTrue(all(re.match(r"\d{16} B0 ", line) for line in lines[2:]), lines)
+
     def test_times_are_those_of_a_trace(self):
         self.assertEqual(called([*ONE, "--trace-times", "survey", "0"], self.over), (2, "", "pmhost: --trace-times: give --trace FILE, too\n"))
 
