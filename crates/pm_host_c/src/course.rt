@@ -1,6 +1,6 @@
 //! A course of an output: it is made, hands out frames, and is told what became of them.
 
-ghost use Rattle.std.specs.Prelude.{◌≡◌, ◌≢◌, ◌<◌, not, ◌==◌};
+ghost use Rattle.std.specs.Prelude.{◌≡◌, ◌≢◌, ◌<◌, not, ◌==◌, nat_lt};
 ghost use Rattle.pm_host.specs.Transcript.{Finished, Got};
 ghost use Rattle.pm_host.specs.Told.{entry_told};
 ghost use Rattle.pm_course.specs.FrameCourse.{to_byte, to_survey};
@@ -187,11 +187,10 @@ pub extern "C" fn pm_course_accept(
     let Some(mut asked) = course.course() else {
         return NO_COURSE;
     };
-    let output = asked.course.survey.output;
-    if host.host.state.outputs <= output {
+    if !has_output(host, asked.course.survey.output) {
         return HostFault::UnknownOutput.number();
     }
-    let limits = host.limits(output);
+    let limits = host.limits(asked.course.survey.output);
     match asked.accept_in(&host.host.state, stage, &limits, microvolts) {
         Ok(()) => {
             *course = CourseImage::of(&asked);
@@ -199,6 +198,13 @@ pub extern "C" fn pm_course_accept(
         }
         Err(refusal) => refusal.number,
     }
+}
+
+// Whether a host has an output.
+fn has_output(host: &GuardImage, output: u8) -> bool
+    ensures { result ≡ nat_lt output host.now.host.state.outputs }
+{
+    output < host.host.state.outputs
 }
 
 /// What a course would begin now: 0 and the job, 95h where it would end. It changes nothing. E0h, E9h.

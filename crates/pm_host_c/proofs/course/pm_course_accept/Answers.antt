@@ -1,5 +1,5 @@
-use Rattle.std.proofs.Common.{◌≡◌, ◌∙◌, Option, Some, None, false, true, refl, rules, subst, sym}
-use Rattle.std.specs.Prelude.{ℕ, nat_lt}
+use Rattle.std.proofs.Common.{◌≡◌, ◌∙◌, Option, Some, None, false, true, refl, subst, sym}
+use Rattle.std.specs.Prelude.{nat_lt}
 use Rattle.pm_limits.specs.Bounds.{Bounds}
 use Rattle.pm_limits.specs.Guard.{limits_at}
 use Rattle.pm_course.specs.Accept.{Accepts}
@@ -18,11 +18,12 @@ returns-in_default-course c =
     let found : guard_of c.args.host.now ≡ Some (guard_at c.args.host.now c.in-Ok.stage) = rw (c.in-Ok.ensures.found) refl in
     no_course_to (guard_at c.args.host.now c.in-Ok.stage) found (sym c.course.ensures ∙ c.in_default-course.is)
 
-pub returns-then-host-output : goal.returns-then-host-output
-returns-then-host-output c =
+pub returns-then-not-has_output : goal.returns-then-not-has_output
+returns-then-not-has_output c =
     let g = guard_at c.args.host.now c.in-Ok.stage in
     let found : guard_of c.args.host.now ≡ Some g = rw (c.in-Ok.ensures.found) refl in
-    let none : nat_lt c.in-Some.asked.course.survey.output c.args.host.now.host.state.outputs ≡ false = search rules in
+    let none : nat_lt c.in-Some.asked.course.survey.output c.args.host.now.host.state.outputs ≡ false =
+    sym c.has_output.ensures ∙ c.if-not-has_output.true in
     rw (c.number.ensures.number) (no_output g c.in-Some.asked found (sym c.course.ensures ∙ c.in-Some.is) none)
 
 pub returns-in-Ok-accept_in : goal.returns-in-Ok-accept_in
@@ -30,7 +31,8 @@ returns-in-Ok-accept_in c =
     let g = guard_at c.args.host.now c.in-Ok.stage in
     let was = c.in-Some.asked in
     let found : guard_of c.args.host.now ≡ Some g = rw (c.in-Ok.ensures.found) refl in
-    let there : nat_lt was.course.survey.output c.args.host.now.host.state.outputs ≡ true = search rules in
+    let there : nat_lt was.course.survey.output c.args.host.now.host.state.outputs ≡ true =
+    sym c.has_output.ensures ∙ c.if-not-has_output.false in
     let accepts : Accepts (limits_at g was.course.survey.output) g.host was c.args.microvolts c.accept_in.result c.accept_in.new.self =
     subst (λ (l : Option Bounds). Accepts l g.host was c.args.microvolts c.accept_in.result c.accept_in.new.self)
     c.limits-limits.ensures c.accept_in.ensures in
@@ -44,7 +46,8 @@ returns-in-Err c =
     let g = guard_at c.args.host.now c.in-Ok.stage in
     let was = c.in-Some.asked in
     let found : guard_of c.args.host.now ≡ Some g = rw (c.in-Ok.ensures.found) refl in
-    let there : nat_lt was.course.survey.output c.args.host.now.host.state.outputs ≡ true = search rules in
+    let there : nat_lt was.course.survey.output c.args.host.now.host.state.outputs ≡ true =
+    sym c.has_output.ensures ∙ c.if-not-has_output.false in
     let accepts : Accepts (limits_at g was.course.survey.output) g.host was c.args.microvolts c.accept_in.result c.accept_in.new.self =
     subst (λ (l : Option Bounds). Accepts l g.host was c.args.microvolts c.accept_in.result c.accept_in.new.self)
     c.limits-limits.ensures c.accept_in.ensures in
