@@ -37,7 +37,8 @@ STRUCTS = {
 COUNTS = {"PM_CELLS": "49", "CELLS": "49", "Cell::PLACES": "49", "ROOM": "32", "Reg::COUNT": "6"}
 FAULTS = {"HostFault": "pm_host/src/fault.rt", "NumFault": "pm_num/src/fault.rt", "LimitFault": "pm_limits/src/fault.rt",
           "FrameFault": "pm_frame/src/fault.rt", "DeviceFault": "pm_device/src/fault.rt", "ConfigFault": "pm_device/src/config_fault.rt",
-          "PlanFault": "pm_rail/src/fault.rt", "DeliveryFault": "pm_delivery/src/fault.rt"}
+          "PlanFault": "pm_rail/src/fault.rt", "DeliveryFault": "pm_delivery/src/fault.rt",
+          "AcceptFault": "pm_course/src/accept_fault.rt"}
 # The words of an output, which C and Python name and Rattle and Rust count.
 REGISTERS = ["operation", "command", "max", "high", "low", "min"]
 

@@ -26,6 +26,7 @@ import errno
 import importlib
 import io
 import os
+import re
 import shlex
 import sys
 from dataclasses import dataclass, field
@@ -56,6 +57,9 @@ CLOCK = Clock()
 clock.until = CLOCK.until
 TIMEOUT, LONG_TIMEOUT, STORE_TIMEOUT = patient.TIMEOUT, patient.LONG_TIMEOUT, patient.STORE_TIMEOUT
 patient.TIMEOUT = patient.LONG_TIMEOUT = patient.STORE_TIMEOUT = 0
+# What differs from run to run: when something was, and of which part. Tests of their own look at that.
+WHEN_AND_WHERE = re.compile(r', "time": "[^"]*", "bus": [^,]*, "address": [^,]*, "part": [^,}]*(?=}$)', re.MULTILINE)
+HEAD = re.compile(r"# \d{4}-\d\d-\d\dT[0-9:.]*Z pmhost ")
 DATA = os.path.join(os.path.dirname(os.path.abspath(__file__)), "data")
 
 
@@ -213,4 +217,6 @@ def ran(run, folder):
     if os.path.exists(path):
         with open(path, encoding="ascii") as file:
             trace = file.read()
+    out = WHEN_AND_WHERE.sub("", out)
+    trace = "".join(line for line in trace.splitlines(True) if not HEAD.match(line))
     return Ran(status, out.replace(rails, "FILE"), err.replace(rails, "FILE"), found[0], found, over, trace)

@@ -7,7 +7,6 @@ import pmhost
 from pmhost import Band, Course, CourseEnd, Differs, Host, Job, PlanRefused, RailState, Spent, Step, Unknown, Voltage
 
 from pmhost.cuts import cuts
-from pmhost.rounded import meaning
 
 from .fixtures import Faulty, Recorded, rails
 
@@ -448,13 +447,25 @@ class Bounds(unittest.TestCase):
         self.assertEqual([it.to for it in cuts(form, {"VOUT_MARGIN_HIGH": 3}, 1, 2)], [form.told(2)])
 
     def test_a_word_that_is_taken_is_meant_by_its_microvolts(self):
-        """A course makes just this word of them, of a bound too."""
-        for form in (pmhost.Format("ULINEAR16", -12), pmhost.Format("ULINEAR16", -9), pmhost.Format("DIRECT", 3, -1000, 7)):
+        """A course makes just this word of them, of a bound too, so that it orders nothing."""
+        for mode, coefficients in ((0x14, (1, 0, 3)), (0x17, (1, 0, 3)), (0x40, (-1000, 7, 3))):
             for word in (0x0001, 0x0D9A, 0x34C8, 0x7FFF):
-                for register, made in (("VOUT_COMMAND", form.nearest), ("VOUT_MAX", form.at_most), ("VOUT_MIN", form.at_least)):
-                    with self.subTest(form=form, word=word, register=register):
-                        self.assertEqual(made(meaning(form, register, word)), word)
-        self.assertIsNone(meaning(pmhost.Format("ULINEAR16", 15), "VOUT_COMMAND", 0xFFFF))
+                for register in ("VOUT_COMMAND", "VOUT_MAX", "VOUT_MIN"):
+                    with self.subTest(mode=mode, word=word, register=register):
+                        self.assertEqual(self.taken(mode, coefficients, word, register), ("reached", word))
+
+    def taken(self, mode, coefficients, word, register):
+        """How a course ends that took a word, and what its register holds then."""
+        part = pmhost.ModelPart(0x58, [pmhost.Output(mode, 0x80, word, word, word, word, word)], coefficients)
+        host, bus = Host(0x58), pmhost.ModelPartBus(part)
+        host.learn(0)
+        host.run(bus)
+        host.check(0, register)
+        host.run(bus)
+        course = Course.voltage(0, Voltage(f"{host.format(0).told(word)}uV"), register)
+        course.accept(host, "1uV")
+        host.run_course(course, bus, None, lambda order: self.fail(f"{order} is sent"))
+        return course.ended.kind, part.word(0, register)
 
     def test_numbers_are_of_64_bits(self):
         form = pmhost.Format("ULINEAR16", -12)

@@ -227,6 +227,16 @@ impl Course {
         accepted(unsafe { ffi::pm_course_want(&mut self.image, register.code(), microvolts) })
     }
 
+    /// For parts that round: the word that a register holds is wanted in the place of what was, and the course begins anew, by the tries
+    /// that are left. The register is the one of which an order differed, or else the first of which something is wanted.
+    ///
+    /// Nothing changes with H3 while a job is open, H4, P1, P4 if the word isn't known, P9 if its value is more than so many microvolts
+    /// away from what was wanted, or if nothing is, L3 or L4 by the limits. Of a rounded word it is tested, and not proved, what the
+    /// rail commands.
+    pub fn accept(&mut self, host: &Host, microvolts: u32) -> Result<(), Refusal> {
+        accepted(unsafe { ffi::pm_course_accept(&mut self.image, &host.image, microvolts) })
+    }
+
     /// The output that it is of.
     #[must_use]
     pub fn output(&self) -> u8 {

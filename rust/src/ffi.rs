@@ -316,6 +316,7 @@ extern "C" {
     pub fn pm_course_words(course: &mut CourseImage, output: u8, wanted: &WantedImage, tries: u16) -> u8;
     pub fn pm_course_microvolts(course: &mut CourseImage, output: u8, code: u8, microvolts: i64, tries: u16) -> u8;
     pub fn pm_course_power(course: &mut CourseImage, output: u8, byte: u8, tries: u16) -> u8;
+    pub fn pm_course_accept(course: &mut CourseImage, host: &HostImage, microvolts: u32) -> u8;
     pub fn pm_course_want(course: &mut CourseImage, code: u8, microvolts: i64) -> u8;
     pub fn pm_course_frame(course: &mut CourseImage, host: &mut HostImage, sending: &mut SendingImage) -> u8;
     pub fn pm_course_write_ended(course: &mut CourseImage, host: &mut HostImage, acked: u8) -> StepImage;

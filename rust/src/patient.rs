@@ -3,14 +3,16 @@
 use core::{error, fmt};
 
 use crate::bus::{Bus, Operation};
+use crate::packet::Block;
 
 const CAPABILITY: u8 = 0x19;
 pub(crate) const STORE_USER_ALL: u8 = 0x15;
 const RESTORE_USER_ALL: u8 = 0x16;
-/// Milliseconds between two questions; of patience after a write; after a store and a restore.
-const STEP: u32 = 5;
+/// Milliseconds before the first question; of patience after a write, after a restore, after a store.
+const FIRST_WAIT: u32 = 10;
 const PATIENCE: u32 = 200;
 const LONG_PATIENCE: u32 = 1000;
+const STORE_PATIENCE: u32 = 5000;
 
 /// The error of a bus that knows whether anybody heard a write.
 pub trait Unheard {
@@ -61,30 +63,48 @@ impl<E: error::Error + 'static> error::Error for NotHeard<E> {
 /// A bus over another one, for parts that are busy after a write: they don't acknowledge their address, or answer nothing but
 /// FFh, for milliseconds, and for some hundred after a store.
 ///
-/// Each write is followed by a question, a plain read of CAPABILITY each 5 ms, until an answer came that isn't of ones, or the
-/// patience is spent. So the next frame meets a part that is ready. A write whose address nobody acknowledged is sent again
-/// within the patience, but for a store, which wears the memory. A read is sent once. An answer of nothing but FFh is an error:
-/// a bus that nobody drives is high, and no true answer of the host's jobs is of nothing but ones.
+/// Each write is followed by a question, a plain read of CAPABILITY after 10 ms and then after twice the wait each time, until an
+/// answer came that isn't of ones, or the patience is spent. So the next frame meets a part that is ready. A part may note each
+/// question as a BUSY fault and pull SMBALERT#: by [`Patient::with_ready`] it is asked for a byte of its own. A write whose
+/// address nobody acknowledged is sent again after such waits, but for a store, which wears the memory. A read is sent once. An
+/// answer of nothing but FFh is an error: a bus that nobody drives is high, and no true answer of the host's jobs is of nothing
+/// but ones.
 #[derive(Debug)]
 pub struct Patient<B, C> {
     bus: B,
     clock: C,
     patience: Option<u32>,
+    ready: Option<(u8, u8)>,
+}
+
+/// Waits from a moment on: how long the patience is, and the next wait.
+#[derive(Clone, Copy)]
+struct Waits {
+    begun: u32,
+    patience: u32,
+    next: u32,
 }
 
 impl<B: Bus, C: Clock> Patient<B, C>
 where
     B::Error: Unheard,
 {
-    /// Over a bus, with 200 ms of patience after a write, and 1,000 ms after a store and a restore.
+    /// Over a bus, with 200 ms of patience after a write, 1,000 ms after a restore and 5,000 ms after a store.
     pub fn new(bus: B, clock: C) -> Patient<B, C> {
-        Patient { bus, clock, patience: None }
+        Patient { bus, clock, patience: None, ready: None }
     }
 
     /// With so many milliseconds of patience after every write; with 0 nothing is asked, and nothing sent again.
     #[must_use]
     pub fn with_patience(self, milliseconds: u32) -> Patient<B, C> {
         Patient { patience: Some(milliseconds), ..self }
+    }
+
+    /// The part is ready if its byte of this command code has all bits of the mask, by a plain read with a right packet error code. It
+    /// is asked for that in the place of CAPABILITY.
+    #[must_use]
+    pub fn with_ready(self, code: u8, mask: u8) -> Patient<B, C> {
+        Patient { ready: Some((code, mask)), ..self }
     }
 
     /// The bus below.
@@ -102,33 +122,44 @@ where
         self.bus
     }
 
-    /// Waits for a further try. Whether that begins within the patience.
-    fn has_waited(&mut self, begun: u32, patience: u32) -> bool {
-        if self.clock.now().wrapping_sub(begun).saturating_add(STEP) >= patience {
+    /// Waits twice as long as the last time, to the end of the patience at most. False at once where that is over.
+    fn has_waited(&mut self, waits: &mut Waits) -> bool {
+        let passed = self.clock.now().wrapping_sub(waits.begun);
+        if passed >= waits.patience {
             return false;
         }
-        self.clock.wait(STEP);
-        self.clock.now().wrapping_sub(begun) < patience
+        self.clock.wait(waits.next.min(waits.patience - passed));
+        waits.next = waits.next.saturating_mul(2);
+        true
     }
 
     fn is_ready(&mut self, address: u8) -> bool {
+        let (code, mask) = self.ready.unwrap_or((CAPABILITY, 0));
         let mut answer = [0; 2];
-        let mut operations = [Operation::Write(&[CAPABILITY]), Operation::Read(&mut answer)];
-        self.bus.transaction(address, &mut operations).is_ok() && !is_ones(&answer)
+        let mut operations = [Operation::Write(&[code]), Operation::Read(&mut answer)];
+        if self.bus.transaction(address, &mut operations).is_err() || is_ones(&answer) {
+            return false;
+        }
+        let came = [address << 1 | 1, answer[0], answer[1]];
+        self.ready.is_none() || Block::read_plain(address, code, 1, &came).is_ok_and(|byte| byte[0] & mask == mask)
     }
 
     fn written(&mut self, address: u8, operations: &mut [Operation<'_>], command: Option<u8>) -> Result<(), B::Error> {
-        let is_long = matches!(command, Some(STORE_USER_ALL | RESTORE_USER_ALL));
-        let patience = self.patience.unwrap_or(if is_long { LONG_PATIENCE } else { PATIENCE });
-        let begun = self.clock.now();
+        let patience = self.patience.unwrap_or(match command {
+            Some(STORE_USER_ALL) => STORE_PATIENCE,
+            Some(RESTORE_USER_ALL) => LONG_PATIENCE,
+            _ => PATIENCE,
+        });
+        let mut again = Waits { begun: self.clock.now(), patience, next: FIRST_WAIT };
+        let mut asked = again;
         let mut ended = self.bus.transaction(address, operations);
         while ended.as_ref().is_err_and(Unheard::is_unheard)
             && command != Some(STORE_USER_ALL)
-            && self.has_waited(begun, patience)
+            && self.has_waited(&mut again)
         {
             ended = self.bus.transaction(address, operations);
         }
-        while patience != 0 && !self.is_ready(address) && self.has_waited(begun, patience) {}
+        while self.has_waited(&mut asked) && !self.is_ready(address) {}
         ended
     }
 }

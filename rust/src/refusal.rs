@@ -121,6 +121,8 @@ refusals! {
     P7Protected = 0x67,
     /// P8: a word is at or beyond VOUT_OV_FAULT_LIMIT or VOUT_UV_FAULT_LIMIT.
     P8BeyondFaultLimit = 0x68,
+    /// P9: the word that a register holds isn't near enough to what is wanted.
+    P9NotNear = 0x69,
     /// V1: a part has 1 to 8 outputs.
     V1OutputCount = 0x51,
     /// V2: OPERATION or WRITE_PROTECT doesn't accept its start word.

@@ -300,6 +300,7 @@ pm_course_words(&course, 0, &wanted, 8)
 pm_course_microvolts(&course, 0, PM_VOUT_COMMAND, 3300000, 8)
 pm_course_power(&course, 0, 0x80, 8)
 pm_course_want(&course, PM_VOUT_MAX, 3500000)
+pm_course_accept(&course, &host, 3000)
 pm_course_frame(&course, &host, &sending)
 pm_course_goal(&course, &host, PM_VOUT_COMMAND, &delivered.word)
 pm_host_run_course(&host, &course, 0, 0, 0).kind
@@ -407,7 +408,7 @@ for each in $compilers; do
         program "$name maker" examples/c/maker.expected "$compiler $strict" examples/c/maker.c $rest --
         program "$name pm_target" trials/c/rows/target_rows.expected "$compiler $strict" trials/c/rows/target_rows.c $rest --
         program "$name pm_host_run" trials/c/rows/run_rows.expected "$compiler $strict" trials/c/rows/run_rows.c $rest --
-        program "$name courses" trials/course/rows.expected "$compiler $strict" trials/course/rows.c $rest -- trials/course/rows.txt
+        program "$name courses" trials/course/rows.expected "$compiler $strict" trials/course/rows.c $rest -- trials/course/rows.txt trials/course/accept.txt
         program "$name deliveries" trials/delivery/rows.expected "$compiler $strict" trials/delivery/rows.c $rest --
         program "$name pm_patient_run" trials/c/rows/patient_rows.expected "$compiler $strict" trials/c/rows/patient_rows.c $rest --
         program "$name both ends" examples/c/faults.expected "$compiler $strict" examples/c/faults.c $rest --

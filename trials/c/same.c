@@ -346,7 +346,12 @@ static void rails(pm_host *host) {
     case 2: heard(50, pm_course_words(course, output, &wanted, tries), 255); break;
     case 3: heard(51, pm_course_microvolts(course, output, code, microvolts, tries), 255); break;
     case 4: heard(52, pm_course_power(course, output, byte, tries), 255); break;
-    case 5: heard(53, pm_course_want(course, code, microvolts), 255); break;
+    case 5:
+        if (draw(2))
+            heard(53, pm_course_want(course, code, microvolts), 255);
+        else
+            heard(53, pm_course_accept(course, host, draw(1 << 20)), 255);
+        break;
     case 6: heard(54, pm_course_next(course, host, &out.job), 255); break;
     case 7: heard(55, (uint32_t)pm_course_size() ^ (uint32_t)(pm_course_size() >> 32), UINT32_MAX);
         heard(56, pm_course_version(), 65535); break;

@@ -1,7 +1,7 @@
-/* Runs the rows of rows.txt, whose head says what they are, by pm_host_run_course over a bus that has each row's answers, and four of
- * courses that can't be carried out. It prints what differs of a row, and a count.
+/* Runs the rows of rows.txt and of accept.txt, whose heads say what they are, by pm_host_run_course over a bus that has each row's answers,
+ * and four of courses that can't be carried out. It prints what differs of a row, and a count.
  *
- *     rows FILE
+ *     rows FILE ..
  */
 #include "pmhost.h"
 #include <stdio.h>
@@ -12,7 +12,7 @@ enum { ADDRESS = 0x58, TOKENS = 120 };
 
 /* A row, as its lines say it. */
 typedef struct {
-    char row[120], host[200], before[400], course[200], bus[2000], end[80];
+    char row[120], host[200], before[400], course[200], bus[2000], end[80], accept[80], then[2000], ends[80];
 } row;
 
 /* A bus: the frames that are to come, and what differed from them first. */
@@ -245,28 +245,49 @@ static void say_end(pm_course_end end, char *to, size_t room) {
     }
 }
 
+/* Carries a course out over these frames: whether it ends so. */
+static int is_carried_out(const char *name, pm_host *host, pm_course *course, bus *on, char *frames, const char *end) {
+    char ended[80] = "not begun";
+    split(frames, on);
+    on->course = course;
+    say_end(pm_host_run_course(host, course, put, ask, on), ended, sizeof ended);
+    if (!*on->wrong && on->at < on->count)
+        snprintf(on->wrong, sizeof on->wrong, "frame %d is to be %s and doesn't come", on->at + 1, on->tokens[on->at]);
+    if (!*on->wrong && strcmp(ended, end) == 0)
+        return 1;
+    printf("%s: ended %s, is to be %s; %s\n", name, ended, end, on->wrong);
+    return 0;
+}
+
+/* Whether the word that is held is taken or refused as a row says, and how the course ends then. */
+static int is_accepted(row *of, pm_host *host, pm_course *course, bus *on) {
+    char *said_of = of->accept, said[80] = "taken";
+    pm_course was = *course;
+    pm_name name;
+    uint8_t number = pm_course_accept(course, host, (uint32_t)strtoul(said_of, &said_of, 10));
+    if (number != PM_OK && pm_refusal_name(number, &name) == PM_OK)
+        snprintf(said, sizeof said, "refused %s", name.text);
+    if (strcmp(said, said_of + 1) != 0 || (number != PM_OK && memcmp(&was, course, sizeof was) != 0)) {
+        printf("%s: %s, is to be%s\n", of->row, said, said_of);
+        return 0;
+    }
+    return !*of->ends || is_carried_out(of->row, host, course, on, of->then, of->ends);
+}
+
 /* Whether a row comes as it must: what differs is printed. */
 static int is_right(row *of) {
     static pm_host host;
     pm_course course;
     bus on;
-    char ended[80] = "not begun";
     memset(&on, 0, sizeof on);
     split(of->before, &on);
     if (!make_host(of->host, &host) || !prepare(&host, &on) || !make_course(of->course, &course, &on.page)) {
         printf("%s: its host, what is before it or its course can't be made; %s\n", of->row, on.wrong);
         return 0;
     }
-    split(of->bus, &on);
-    on.course = &course;
-    say_end(pm_host_run_course(&host, &course, put, ask, &on), ended, sizeof ended);
-    if (!*on.wrong && on.at < on.count)
-        snprintf(on.wrong, sizeof on.wrong, "frame %d is to be %s and doesn't come", on.at + 1, on.tokens[on.at]);
-    if (*on.wrong || strcmp(ended, of->end) != 0) {
-        printf("%s: ended %s, is to be %s; %s\n", of->row, ended, of->end, on.wrong);
+    if (*of->end && !is_carried_out(of->row, &host, &course, &on, of->bus, of->end))
         return 0;
-    }
-    return 1;
+    return !*of->accept || is_accepted(of, &host, &course, &on);
 }
 
 /* Whether a course is refused so. */
@@ -303,21 +324,21 @@ static int refused_courses(void) {
 
 /* Adds a line to its row: where the line's own text goes. */
 static char *place_of(row *to, const char *line, char *last) {
-    static const char *const words[] = {"row", "host", "before", "course", "bus", "end"};
-    char *places[] = {to->row, to->host, to->before, to->course, to->bus, to->end};
-    for (int i = 0; i < 6; i++)
+    static const char *const words[] = {"row", "host", "before", "course", "bus", "end", "accept", "then", "ends"};
+    char *places[] = {to->row, to->host, to->before, to->course, to->bus, to->end, to->accept, to->then, to->ends};
+    for (int i = 0; i < 9; i++)
         if (strncmp(line, words[i], strlen(words[i])) == 0 && (line[strlen(words[i])] == ' ' || line[strlen(words[i])] == 0))
             return places[i];
     return line[0] == ' ' ? last : NULL;
 }
 
-int main(int count, char **words) {
-    FILE *file = count > 1 ? fopen(words[1], "r") : NULL;
+/* Runs the rows of a file. 0 if it can't be read. */
+static int run(const char *path, int *passed, int *failed) {
+    FILE *file = fopen(path, "r");
     char line[400], *last = NULL;
     static row now;
-    int passed = 0, failed = 0;
     if (!file)
-        return 2;
+        return 0;
     for (;;) {
         int is_over = !fgets(line, sizeof line, file);
         line[is_over ? 0 : strcspn(line, "\n")] = 0;
@@ -325,7 +346,7 @@ int main(int count, char **words) {
             continue;
         if (line[0] == 0) { /* a row ends */
             if (*now.row)
-                *(is_right(&now) ? &passed : &failed) += 1;
+                *(is_right(&now) ? passed : failed) += 1;
             memset(&now, 0, sizeof now);
             if (is_over)
                 break;
@@ -333,7 +354,7 @@ int main(int count, char **words) {
         }
         last = place_of(&now, line, last);
         if (!last)
-            return 2;
+            return 0;
         const char *text = line + (line[0] == ' ' ? 0 : strcspn(line, " "));
         text += strspn(text, " ");
         if (*last)
@@ -341,6 +362,14 @@ int main(int count, char **words) {
         strcat(last, text);
     }
     fclose(file);
+    return 1;
+}
+
+int main(int count, char **words) {
+    int passed = 0, failed = 0;
+    for (int at = 1; at < count; at++)
+        if (!run(words[at], &passed, &failed))
+            return 2;
     int refused = refused_courses();
     passed += refused;
     failed += 4 - refused;

@@ -6,3 +6,5 @@ pub mod FrameCourse
 pub mod Surprise
 pub mod Heard
 pub mod Frames
+pub mod AcceptFault
+pub mod Accept

@@ -310,8 +310,8 @@ impl FrameCourse {
     }
 }
 
-// The only word that a cell may hold.
-fn sole_at(host: &State, cell: Cell) -> Option<u16>
+/// The only word that a cell may hold.
+pub(crate) fn sole_at(host: &State, cell: Cell) -> Option<u16>
     requires { IsCell 8 cell }
     ensures { result ≡ sole (possible_at (held None host.now) cell) }
 {

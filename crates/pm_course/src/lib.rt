@@ -13,6 +13,8 @@
 //! Tests: crates/pm_host_tests
 #![tactic(auto)]
 
+mod accept;
+mod accept_fault;
 mod answer_fault;
 mod course_end;
 mod frame_course;
@@ -23,6 +25,7 @@ mod voltages;
 mod wish;
 mod words;
 
+pub use accept_fault::AcceptFault;
 pub use answer_fault::AnswerFault;
 pub use course_end::{CourseEnd, CourseNext, Refusal};
 pub use frame_course::FrameCourse;

@@ -124,8 +124,8 @@ fn missing_at(register: Reg) -> Refusal
     }
 }
 
-// The word of a voltage in a format, or the number of why it has none.
-fn word_for(format: &AnyFormat, register: Reg, microvolts: i64) -> Result<u16, u8>
+/// The word of a voltage in a format, or the number of why it has none.
+pub(crate) fn word_for(format: &AnyFormat, register: Reg, microvolts: i64) -> Result<u16, u8>
     ensures fault { result_err result ≡ no_word_number (shape_of format.now) register microvolts }
     ensures word { IfOk result (IsWordFor (shape_of format.now) register microvolts) }
 {

@@ -94,6 +94,7 @@ enum {
     PM_P6_ABOVE_MAX = 0x66,       /* a word will be above VOUT_MAX as that will be */
     PM_P7_PROTECTED = 0x67,       /* WRITE_PROTECT doesn't allow each order that is still to come */
     PM_P8_BEYOND_FAULT_LIMIT = 0x68, /* a word is at or beyond VOUT_OV_FAULT_LIMIT or VOUT_UV_FAULT_LIMIT: pm_delivery_judge */
+    PM_P9_NOT_NEAR = 0x69,        /* the word that a register holds isn't near enough to what is wanted: pm_course_accept */
     PM_NO_HOST = 0xE0,            /* the memory holds no host of this version */
     PM_NO_CELL = 0xE1,            /* the command code is no cell's */
     PM_OTHER_FRAME = 0xE2,        /* no frame of this kind is being sent */
@@ -475,6 +476,15 @@ uint8_t pm_course_power(pm_course *course, uint8_t output, uint8_t byte, uint16_
  * a course to a byte or to nothing, H5 of a code that is no voltage's. */
 PM_MUST_USE
 uint8_t pm_course_want(pm_course *course, uint8_t code, int64_t microvolts);
+
+/* For parts that round. The word that a register holds is wanted in the place of what was, and the course begins anew, by the tries that
+ * are left: carry it out again. The register is the one of which an order differed, or else the first of which something is wanted. What
+ * was wanted as a voltage stays one, of whole microvolts that mean just this word; of a word its value counts, rounded down. PM_NO_HOST,
+ * PM_NO_COURSE, H4; H3 while a job is open, P1, P4 if the word isn't known, P9 if nothing is wanted, if its value is more than so many
+ * microvolts away from what was, or if no whole microvolts mean it, L3 or L4 by the limits; then nothing changes. Of a rounded word it is
+ * tested, and not proved, what the rail commands. */
+PM_MUST_USE
+uint8_t pm_course_accept(pm_course *course, const pm_host *host, uint32_t microvolts);
 
 /* What is to be sent now: the frame of the course's job, which stays the same until it hears what became of it; if none is
  * open, the course begins its next job first. 0, or PM_ENDED, and then PM_NOTHING, if it has ended: pm_course_ended says how. It

@@ -1,9 +1,11 @@
 /* A bus over a bus of yours that waits for a busy part. Some parts are busy for milliseconds after a write, and for some
  * hundred after a store: they don't acknowledge their address, or answer nothing but FFh. Here each write is followed by a
- * question, a plain read of CAPABILITY each 5 ms, until an answer came that isn't of ones, or the patience is spent. So the
- * next frame meets a part that is ready. A write whose address nobody acknowledged (PM_UNHEARD) is sent again within the
- * patience; a store isn't, since it wears the memory. A read is sent once. An answer of nothing but FFh is handed over as
- * none: a bus that nobody drives is high, and no true answer of the host's jobs is of nothing but ones.
+ * question, a plain read of CAPABILITY after 10 ms and then after twice the wait each time, until an answer came that isn't of
+ * ones, or the patience is spent. So the next frame meets a part that is ready. A part may note each question as a BUSY fault and
+ * pull SMBALERT#: a `ready_code` has it asked for a byte of its own instead. A write whose address nobody acknowledged
+ * (PM_UNHEARD) is sent again after such waits; a store isn't, since it wears the memory. A read is sent once. An answer of
+ * nothing but FFh is handed over as none: a bus that nobody drives is high, and no true answer of the host's jobs is of nothing but
+ * ones.
  *
  * This is C of a header, tried beside rows (trials/c/rows/patient_rows.c), and not proved. It keeps what pm_write and pm_read
  * of pmhost.h ask for: a question is a request that a repeated start ends, which changes no setting. */
@@ -16,8 +18,8 @@
 extern "C" {
 #endif
 
-/* Milliseconds: between two questions; of patience after a write; after a store and a restore. */
-enum { PM_STEP = 5, PM_PATIENCE = 200, PM_LONG_PATIENCE = 1000 };
+/* Milliseconds: before the first question; of patience after a write, after a restore, after a store. */
+enum { PM_FIRST_WAIT = 10, PM_PATIENCE = 200, PM_LONG_PATIENCE = 1000, PM_STORE_PATIENCE = 5000 };
 /* No patience: nothing is asked after a write. */
 enum { PM_NO_PATIENCE = -1 };
 
@@ -28,10 +30,17 @@ typedef struct {
     void *context; /* what each of the four calls is handed */
     uint32_t (*now)(void *context);                   /* milliseconds of a clock that nobody sets; it may wrap round */
     void (*wait)(void *context, uint32_t milliseconds);
-    int32_t patience;   /* milliseconds after each write; 0 for PM_PATIENCE, and PM_LONG_PATIENCE after a store and a restore;
-                         * PM_NO_PATIENCE, or another number below 0, to ask nothing */
+    int32_t patience;   /* milliseconds after each write; 0 for PM_PATIENCE, PM_LONG_PATIENCE after a restore and PM_STORE_PATIENCE
+                         * after a store; PM_NO_PATIENCE, or another number below 0, to ask nothing */
     uint8_t has_stored; /* of pm_patient_run: a store was sent in this job */
+    uint8_t ready_code; /* 0 to ask for CAPABILITY; otherwise the part is ready if a plain read of this code's byte, by a right PEC, */
+    uint8_t ready_mask; /* has all of these bits */
 } pm_patient;
+
+/* Waits from a moment on: how long the patience is, and the next wait. */
+typedef struct {
+    uint32_t begun, patience, next;
+} pm_waits;
 
 /* Whether all that came is FFh, and something did. */
 static inline int pm_is_ones(const uint8_t *bytes, uint64_t count) {
@@ -43,42 +52,52 @@ static inline int pm_is_ones(const uint8_t *bytes, uint64_t count) {
 
 /* The milliseconds of patience after a packet. */
 static inline uint32_t pm_patience(const pm_patient *bus, const uint8_t *bytes, uint64_t count) {
-    int is_long = count == 3 && (bytes[1] == 0x15 || bytes[1] == 0x16); /* STORE_USER_ALL, RESTORE_USER_ALL */
-    if (bus->patience < 0)
-        return 0;
-    return bus->patience > 0 ? (uint32_t)bus->patience : (uint32_t)(is_long ? PM_LONG_PATIENCE : PM_PATIENCE);
+    uint8_t command = count == 3 ? bytes[1] : 0;
+    if (bus->patience != 0)
+        return bus->patience < 0 ? 0 : (uint32_t)bus->patience;
+    return (uint32_t)(command == 0x15 ? PM_STORE_PATIENCE : command == 0x16 ? PM_LONG_PATIENCE : PM_PATIENCE);
 }
 
-/* Waits for a further try. Whether that begins within the patience. */
-static inline int pm_waited(const pm_patient *bus, uint32_t begun, uint32_t patience) {
-    if (bus->now(bus->context) - begun + PM_STEP >= patience)
+/* Waits twice as long as the last time, to the end of the patience at most. 0 at once if that is over. */
+static inline int pm_waited(const pm_patient *bus, pm_waits *waits) {
+    uint32_t passed = bus->now(bus->context) - waits->begun;
+    if (passed >= waits->patience)
         return 0;
-    bus->wait(bus->context, PM_STEP);
-    return bus->now(bus->context) - begun < patience;
+    uint32_t left = waits->patience - passed;
+    bus->wait(bus->context, waits->next < left ? waits->next : left);
+    waits->next *= 2;
+    return 1;
 }
 
-/* Asks for CAPABILITY once: whether an answer came that isn't of ones. */
+/* Asks once whether the part is ready. */
 static inline int pm_is_ready(const pm_patient *bus, uint8_t address_byte) {
-    uint8_t request[2], answer[2] = {0, 0};
+    uint8_t request[2], answer[3] = {0, 0, 0};
+    pm_block byte;
     request[0] = address_byte;
-    request[1] = 0x19;
-    uint64_t came = bus->read(bus->context, request, 2, answer, 2);
-    return came != 0 && came <= 2 && !pm_is_ones(answer, came);
+    request[1] = bus->ready_code != 0 ? bus->ready_code : 0x19;
+    uint64_t came = bus->read(bus->context, request, 2, answer + 1, 2);
+    if (came == 0 || came > 2 || pm_is_ones(answer + 1, came))
+        return 0;
+    if (bus->ready_code == 0)
+        return 1;
+    answer[0] = (uint8_t)(address_byte | 1);
+    return pm_read_plain((uint8_t)(address_byte >> 1), bus->ready_code, 1, answer, came + 1, &byte) == PM_OK &&
+           (byte.bytes[0] & bus->ready_mask) == bus->ready_mask;
 }
 
 /* A pm_write; the context is a pm_patient. It answers what the last try did. It sends one store only until has_stored is 0
  * again, which pm_patient_run sees to: carry a store out by that. */
 static inline uint8_t pm_patient_write(void *context, const uint8_t *bytes, uint64_t count) {
     pm_patient *bus = (pm_patient *)context;
-    uint32_t begun = bus->now(bus->context), patience = pm_patience(bus, bytes, count);
+    pm_waits again = {bus->now(bus->context), pm_patience(bus, bytes, count), PM_FIRST_WAIT}, asked = again;
     int is_store = count == 3 && bytes[1] == 0x15;
     if (is_store && bus->has_stored)
         return PM_NOT_ACKED; /* a later pass of a store, which isn't sent */
     bus->has_stored = (uint8_t)(bus->has_stored || is_store);
     uint8_t ended = bus->write(bus->context, bytes, count);
-    while (ended == PM_UNHEARD && !is_store && pm_waited(bus, begun, patience))
+    while (ended == PM_UNHEARD && !is_store && pm_waited(bus, &again))
         ended = bus->write(bus->context, bytes, count);
-    while (patience != 0 && !pm_is_ready(bus, bytes[0]) && pm_waited(bus, begun, patience)) {
+    while (pm_waited(bus, &asked) && !pm_is_ready(bus, bytes[0])) {
     }
     return ended;
 }

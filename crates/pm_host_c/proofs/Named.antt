@@ -21,6 +21,9 @@ use Rattle.pm_limits.specs.declared.fault.LimitFault.TheVariants.{MissingRegiste
 use Rattle.pm_limits.specs.declared.fault.LimitFault.TheVariants.{Host}
 use Rattle.pm_limits.specs.declared.fault.LimitFault.TheVariants as limits
 use Rattle.pm_limits.specs.FaultWords.{limit_fault_number, limit_fault_words}
+use Rattle.pm_course.specs.declared.accept_fault.AcceptFault.{AcceptFault}
+use Rattle.pm_course.specs.declared.accept_fault.AcceptFault.TheVariants.{NotNear}
+use Rattle.pm_course.specs.AcceptFault.{accept_fault_number, accept_fault_words}
 use Rattle.pm_delivery.specs.declared.fault.DeliveryFault.{DeliveryFault}
 use Rattle.pm_delivery.specs.declared.fault.DeliveryFault.TheVariants.{BeyondFaultLimit}
 use Rattle.pm_delivery.specs.FaultWords.{delivery_fault_number, delivery_fault_words}
@@ -76,6 +79,10 @@ converter device.ReadOnly = refl
 -- under its number each refusal of a delivery, for whatever limit, has its own words
 pub delivery : (fault : DeliveryFault) → refusal_words (delivery_fault_number fault) ≡ Some (delivery_fault_words fault)
 delivery (BeyondFaultLimit register word) = refl
+
+-- under its number the refusal of a held word has its own words
+pub accept : (fault : AcceptFault) → refusal_words (accept_fault_number fault) ≡ Some (accept_fault_words fault)
+accept NotNear = refl
 
 -- under its number each fault of a configuration has its own words
 pub config : (fault : ConfigFault) → refusal_words (config_fault_number fault) ≡ Some (config_fault_words fault)

@@ -1,5 +1,6 @@
 -- What the calls of a course answer and write, by the definitions of pm_course. This project's own choice.
 use Rattle.std.specs.Prelude.{◌≡◌, ◌≢◌, ℕ, Bool, true, false, nat_lt, if◌then◌else◌, Option, Some, None, is_some, option_map, option_and_then}
+use Rattle.std.specs.Prelude.{Result, Ok, Err}
 use Rattle.std.specs.Option.{option_map_or}
 use Rattle.pm_table.specs.declared.reg.Reg.{Reg}
 use Rattle.pm_table.specs.Cell.{is_voltage, register_of}
@@ -19,6 +20,8 @@ use Rattle.pm_course.specs.declared.course_end.CourseEnd.TheVariants.{Refused}
 use Rattle.pm_course.specs.declared.course_end.CourseNext.{CourseNext}
 use Rattle.pm_course.specs.declared.course_end.CourseNext.TheVariants.{Job, Ended}
 use Rattle.pm_course.specs.declared.frame_course.FrameCourse.{FrameCourse}
+use Rattle.pm_course.specs.declared.course_end.Refusal.{Refusal}
+use Rattle.pm_course.specs.Accept.{Accepts}
 use Rattle.pm_course.specs.FrameCourse.{SaysNext, going_on, refused_by, wanting}
 use Rattle.pm_course.specs.Heard.{heard_by, is_job_of}
 use Rattle.pm_course.specs.Surprise.{surprises}
@@ -110,6 +113,26 @@ pub data WouldBegin (guard : Option Guarded) (course : Option FrameCourse) (was 
   no_course_for : (g : Guarded) → guard ≡ Some g → course ≡ None → WouldBegin guard course was no_course was
   said : (g : Guarded) (c is : FrameCourse) (result : CourseNext) → guard ≡ Some g → course ≡ Some c → SaysIn g c result is
       → WouldBegin guard course was (next_number result) (next_image result)
+
+-- A held word is taken, or why it isn't.
+abbrev pub accept_number : Result (Unit {0}) Refusal → ℕ
+accept_number (Ok done) = accepted
+accept_number (Err refusal) = refusal.number
+
+abbrev pub accept_image : CourseImage → Result (Unit {0}) Refusal → FrameCourse → CourseImage
+accept_image was (Ok done) is = course_image is
+accept_image was (Err refusal) is = was
+
+pub data AcceptsIn (guard : Option Guarded) (was : CourseImage) (tolerance : ℕ) : ℕ → CourseImage → Type 0 where
+  no_host_to : guard ≡ None → AcceptsIn guard was tolerance no_host was
+  no_course_to : (g : Guarded) → guard ≡ Some g → course_in was ≡ None → AcceptsIn guard was tolerance no_course was
+  no_output : (g : Guarded) (c : FrameCourse) → guard ≡ Some g → course_in was ≡ Some c
+      → nat_lt c.course.survey.output g.host.setup.outputs ≡ false
+      → AcceptsIn guard was tolerance (host_fault_number UnknownOutput) was
+  judged : (g : Guarded) (c is : FrameCourse) (answer : Result (Unit {0}) Refusal) (number : ℕ) (new : CourseImage) → guard ≡ Some g
+      → course_in was ≡ Some c → nat_lt c.course.survey.output g.host.setup.outputs ≡ true
+      → Accepts (limits_at g c.course.survey.output) g.host c tolerance answer is → number ≡ accept_number answer
+      → new ≡ accept_image was answer is → AcceptsIn guard was tolerance number new
 
 -- the host after a call: a job has begun, or it is as it was
 pub record BeginsIn (old : GuardImage) (job : Asked) (new : GuardImage) : Type 0 where

@@ -24,6 +24,9 @@ use Rattle.pm_rail.specs.declared.fault.PlanFault.{PlanFault}
 use Rattle.pm_rail.specs.declared.fault.PlanFault.TheVariants as plan
 use Rattle.pm_rail.specs.FaultWords.{plan_fault_number, plan_fault_words}
 use Rattle.pm_device.specs.FaultWords.{config_fault_number, config_fault_words, device_fault_number, device_fault_words}
+use Rattle.pm_course.specs.declared.accept_fault.AcceptFault.{AcceptFault}
+use Rattle.pm_course.specs.declared.accept_fault.AcceptFault.TheVariants.{NotNear}
+use Rattle.pm_course.specs.AcceptFault.{accept_fault_number, accept_fault_words}
 use Rattle.pm_delivery.specs.declared.fault.DeliveryFault.{DeliveryFault}
 use Rattle.pm_delivery.specs.declared.fault.DeliveryFault.TheVariants.{BeyondFaultLimit}
 use Rattle.pm_delivery.specs.declared.question.Question.TheVariants.{OvFaultLimit}
@@ -71,6 +74,10 @@ plan_faults =
 abbrev pub delivery_faults : List DeliveryFault
 delivery_faults = BeyondFaultLimit OvFaultLimit 0 ∷ []
 
+-- every refusal of a held word of its own
+abbrev pub accept_faults : List AcceptFault
+accept_faults = NotNear ∷ []
+
 -- the words of the fault that has a number
 abbrev pub limit_words : ℕ → Option (List ℕ)
 limit_words n = option_map limit_fault_words (find (λ fault. limit_fault_number fault == n) limit_faults)
@@ -86,6 +93,9 @@ config_words n = option_map config_fault_words (find (λ fault. config_fault_num
 
 abbrev pub plan_words : ℕ → Option (List ℕ)
 plan_words n = option_map plan_fault_words (find (λ fault. plan_fault_number fault == n) plan_faults)
+
+abbrev pub accept_words : ℕ → Option (List ℕ)
+accept_words n = option_map accept_fault_words (find (λ fault. accept_fault_number fault == n) accept_faults)
 
 abbrev pub delivery_words : ℕ → Option (List ℕ)
 delivery_words n = option_map delivery_fault_words (find (λ fault. delivery_fault_number fault == n) delivery_faults)
@@ -116,7 +126,7 @@ refusal_words n =
     else (if n / 16 == 3 then frame_words n
     else (if n / 16 == 4 then device_words n
     else (if n / 16 == 5 then config_words n
-    else (if n / 16 == 6 then option_or (plan_words n) (delivery_words n)
+    else (if n / 16 == 6 then option_or (option_or (plan_words n) (delivery_words n)) (accept_words n)
     else (if n / 16 == 14 then own_words n else None)))))))
 
 -- how a job stands, in the words of its lines
@@ -150,4 +160,5 @@ pub record RefusalsAreNamed : Type 0 where
   pub config : (fault : ConfigFault) → refusal_words (config_fault_number fault) ≡ Some (config_fault_words fault)
   pub plan : (fault : PlanFault) → refusal_words (plan_fault_number fault) ≡ Some (plan_fault_words fault)
   pub delivery : (fault : DeliveryFault) → refusal_words (delivery_fault_number fault) ≡ Some (delivery_fault_words fault)
+  pub accept : (fault : AcceptFault) → refusal_words (accept_fault_number fault) ≡ Some (accept_fault_words fault)
   pub step : (step : Step) → end_words (step_kind step) ≡ Some (step_words step)

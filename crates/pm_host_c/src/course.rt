@@ -1,10 +1,10 @@
 //! A course of an output: it is made, hands out frames, and is told what became of them.
 
-ghost use Rattle.std.specs.Prelude.{◌≡◌, ◌≢◌, ◌<◌, not, ◌==◌};
+ghost use Rattle.std.specs.Prelude.{◌≡◌, ◌≢◌, ◌<◌, not, ◌==◌, nat_lt};
 ghost use Rattle.pm_host.specs.Transcript.{Finished, Got};
 ghost use Rattle.pm_host.specs.Told.{entry_told};
 ghost use Rattle.pm_course.specs.FrameCourse.{to_byte, to_survey};
-ghost use Rattle.pm_host_c.specs.Course.{begun_number, guard_at, job_answer, kept_number, refused_in, voltage_begun, voltage_number, voltage_register, want_number, wanted_more, words_course, HandsOut, SaysIn, TellsCourse, WouldBegin};
+ghost use Rattle.pm_host_c.specs.Course.{begun_number, guard_at, job_answer, kept_number, refused_in, voltage_begun, voltage_number, voltage_register, want_number, wanted_more, words_course, AcceptsIn, HandsOut, SaysIn, TellsCourse, WouldBegin};
 ghost use Rattle.pm_host_c.specs.CourseEnd.{end_answer};
 ghost use Rattle.pm_host_c.specs.Guard.{guard_of};
 ghost use Rattle.pm_host_c.specs.CourseImage.{course_image, course_in, course_version, job_image};
@@ -167,6 +167,44 @@ fn voltage_of(code: u8) -> Option<Reg>
         Some(Cell::Out(_, register)) if register.is_voltage() => Some(register),
         _ => None,
     }
+}
+
+/// The word that a register is known to hold is wanted in the place of what was: the course begins anew, by the tries that are left. The
+/// register is the one of which an order differed, or else the first of which something is wanted. E0h, E9h, H4; H3 while a job is open,
+/// P1, P4 where the word isn't known, P9 where nothing is wanted, where the word's value isn't within so many microvolts of what was wanted, or
+/// where no whole microvolts mean it, L3 or L4 by the limits. Then nothing changes.
+#[unsafe(no_mangle)]
+pub extern "C" fn pm_course_accept(
+    course: &mut CourseImage,
+    host: &GuardImage,
+    microvolts: u32,
+) -> u8
+    ensures { AcceptsIn (guard_of host.now) course.old microvolts result course.new }
+{
+    let Ok(stage) = host.host.read_stage() else {
+        return NO_HOST;
+    };
+    let Some(mut asked) = course.course() else {
+        return NO_COURSE;
+    };
+    if !has_output(host, asked.course.survey.output) {
+        return HostFault::UnknownOutput.number();
+    }
+    let limits = host.limits(asked.course.survey.output);
+    match asked.accept_in(&host.host.state, stage, &limits, microvolts) {
+        Ok(()) => {
+            *course = CourseImage::of(&asked);
+            ACCEPTED
+        }
+        Err(refusal) => refusal.number,
+    }
+}
+
+// Whether a host has an output.
+fn has_output(host: &GuardImage, output: u8) -> bool
+    ensures { result ≡ nat_lt output host.now.host.state.outputs }
+{
+    output < host.host.state.outputs
 }
 
 /// What a course would begin now: 0 and the job, 95h where it would end. It changes nothing. E0h, E9h.

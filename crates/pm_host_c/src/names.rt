@@ -1,8 +1,9 @@
 //! The names of the numbers that calls answer, each from the type whose number it is.
 ghost use Rattle.std.specs.Prelude.{◌≡◌, ◌≢◌, ◌≤◌, length, option_map, IfSome, IsSomeAnd};
-ghost use Rattle.pm_host_c.specs.Names.{config_words, delivery_words, device_words, end_words, frame_words, limit_words, own_words, plan_words, refusal_words as spec_refusal_words, named_number, HasText};
+ghost use Rattle.pm_host_c.specs.Names.{accept_words, config_words, delivery_words, device_words, end_words, frame_words, limit_words, own_words, plan_words, refusal_words as spec_refusal_words, named_number, HasText};
 
 use crate::numbers::{ACCEPTED, NO_NAME};
+use pm_course::AcceptFault;
 use pm_delivery::{DeliveryFault, Question};
 use pm_device::{ConfigFault, DeviceFault};
 use pm_frame::FrameFault;
@@ -93,7 +94,9 @@ fn refusal_words(number: u8) -> Option<&'static str>
         3 => words_of_frame(number),
         4 => words_of_device(number),
         5 => words_of_config(number),
-        6 => words_of_plan(number).or(words_of_delivery(number)),
+        6 => words_of_plan(number)
+            .or(words_of_delivery(number))
+            .or(words_of_accept(number)),
         14 => words_of_own(number),
         _ => None,
     }
@@ -210,6 +213,18 @@ fn words_of_delivery(number: u8) -> Option<&'static str>
 {
     match number {
         0x68 => Some(DeliveryFault::BeyondFaultLimit(Question::OvFaultLimit, 0).words()),
+        _ => None,
+    }
+}
+
+// The words of why a held word isn't taken.
+#[inline(never)]
+fn words_of_accept(number: u8) -> Option<&'static str>
+    ensures words { option_map (λ words. words.now) result ≡ accept_words number }
+    ensures short { IfSome result (λ words. length words.now ≤ 31) }
+{
+    match number {
+        0x69 => Some(AcceptFault::NotNear.words()),
         _ => None,
     }
 }

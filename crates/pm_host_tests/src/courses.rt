@@ -405,6 +405,60 @@ fn an_order_that_differs_twice_ends(rt: HostRuntime) {
     equal(&rt, &run.writes, &4, &2);
 }
 
+// What is wanted of an output that holds 1000h, 1 V, and how near is near enough; 0 where the held word is taken, or why it isn't.
+static HELD: [(i64, u32, u8); 6] = [
+    (1_003_000, 3000, 0),
+    (1_003_000, 2999, 0x69),
+    (997_000, 3000, 0),
+    (997_000, 2999, 0x69),
+    (1_000_000, 0, 0),
+    (2_000_000_000_000_000, 4_294_967_295, 0x69),
+];
+
+// The number of why a held word isn't taken, 0 where it is; FFh where the guard's host doesn't have the output.
+fn taken(course: &mut FrameCourse, guard: &Guard, tolerance: u32) -> u8 {
+    if guard.host().outputs() <= course.course.survey.output {
+        return 0xFF;
+    }
+    match course.accept(guard, tolerance) {
+        Ok(()) => 0,
+        Err(refusal) => refusal.number,
+    }
+}
+
+#[test]
+fn a_held_word_is_taken_by_its_value(rt: HostRuntime) {
+    let mut guard = guard(&rt);
+    let mut part = whole();
+    let mut course = volts(Reg::VoutCommand, 1_003_000);
+    equal(&rt, &taken(&mut course, &guard, 3000), &0x61, &1);
+    let _ = carried(FrameCourse::survey(0, 20), &mut guard, &mut part, 400);
+    for (microvolts, tolerance, number) in &HELD {
+        let mut course = volts(Reg::VoutCommand, *microvolts);
+        equal(
+            &rt,
+            &taken(&mut course, &guard, *tolerance),
+            number,
+            &(microvolts, tolerance),
+        );
+    }
+    let mut margin = volts(Reg::MarginHigh, 1_062_500);
+    equal(&rt, &taken(&mut margin, &guard, 3000), &0x64, &2);
+    let mut survey = FrameCourse::survey(0, 20);
+    equal(&rt, &taken(&mut survey, &guard, 3000), &0x69, &3);
+    equal(&rt, &taken(&mut course, &guard, 3000), &0, &4);
+    let run = carried(course, &mut guard, &mut part, 400);
+    equal(
+        &rt,
+        &(run.end, run.writes),
+        &(Some(CourseEnd::Reached), 0),
+        &5,
+    );
+    let _ = guard.narrow(0, 1_000_001, 2_000_000);
+    let mut course = volts(Reg::VoutCommand, 1_003_000);
+    equal(&rt, &taken(&mut course, &guard, 3000), &0x23, &6);
+}
+
 #[test]
 fn a_missing_register_is_refused_at_once(rt: HostRuntime) {
     let lacks = PartRegisters {

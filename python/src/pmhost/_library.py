@@ -160,7 +160,7 @@ class ReplyImage(c.Structure):
     _fields_ = [("length", c.c_uint8), ("frame_fault", c.c_uint8), ("bytes", c.c_uint8 * 16)]
 
 
-_u8, _u16, _u64, _i64, _at = c.c_uint8, c.c_uint16, c.c_uint64, c.c_int64, c.POINTER
+_u8, _u16, _u32, _u64, _i64, _at = c.c_uint8, c.c_uint16, c.c_uint32, c.c_uint64, c.c_int64, c.POINTER
 _host, _part, _bytes = _at(HostImage), _at(PartImage), c.c_char_p
 _wanted, _course, _delivery = _at(WantedImage), _at(CourseImage), _at(DeliveryImage)
 
@@ -198,6 +198,7 @@ CALLS = {
     "pm_course_words": (_u8, [_course, _u8, _wanted, _u16]),
     "pm_course_microvolts": (_u8, [_course, _u8, _u8, _i64, _u16]),
     "pm_course_power": (_u8, [_course, _u8, _u8, _u16]),
+    "pm_course_accept": (_u8, [_course, _host, _u32]),
     "pm_course_want": (_u8, [_course, _u8, _i64]),
     "pm_course_next": (_u8, [_course, _host, _at(CourseJobImage)]),
     "pm_course_frame": (_u8, [_course, _host, _at(SendingImage)]),

@@ -31,8 +31,8 @@ AS_WANTED = ("confirmed", "accepted")
 @dataclass
 class Board:
     """The rails of a file, and the parts that have them, by their names. `described` has what a board file says of its parts; why a
-    part doesn't answer is said by `ask_operation`, with nothing where it answers. `accept` is how near a word has to be that a part makes
-    of an ordered one, in microvolts; `before_order` is told of each order before its first frame, `after_order` behind its last
+    part doesn't answer is said by `ask_operation`, with nothing where it answers. `accept` is how near a held word has to be
+    to a wanted voltage, in microvolts, of rails that don't say it themselves; `before_order` is told of each order before its first frame, `after_order` behind its last
     one whether it is confirmed, and `seen` of a rail behind what was read, and behind each order how that ended."""
 
     parts: dict[str, Device]
@@ -42,6 +42,10 @@ class Board:
     accept: int | None = None
     looks: Looks | None = None
     wants_store: bool = False
+    # Whether a part holds just the WRITE_PROTECT of its file, and what lifts that; a dry run lifts nothing.
+    is_in_the_way: Callable[[str], bool] = lambda name: False
+    lift: Callable[[str], bool] = lambda name: False
+    is_dry: bool = False
     before_order: Callable[[Setting], None] = lambda setting: None
     after_order: Callable[[Setting, bool], None] = lambda setting, is_confirmed: None
     seen: Callable[[Rail, Setting | None, Step | None], None] = lambda rail, setting, step: None
@@ -226,15 +230,31 @@ class Board:
         self.may_write = True
         self.read()
         for rail in self.rails:
-            self.judge_refused(rail)
+            if not self.is_protected(rail) or not self.is_in_the_way(rail.part):
+                self.judge_refused(rail)
+        if not self.is_dry:
+            self.unlock()
         if self.wants_store:
             self.judge_store()
+
+    def is_protected(self, rail: Rail) -> bool:
+        """Whether WRITE_PROTECT refuses what a rail's course would order."""
+        end = self.courses[rail.name].course.ended
+        return end is not None and end.kind == "refused" and refusal(end.number).letter == "P7"
+
+    def unlock(self) -> None:
+        """Lifts WRITE_PROTECT of the parts where just that of the file is in the way of an order, and judges their rails anew."""
+        for rail in self.rails:
+            if self.is_protected(rail):
+                self.lift(rail.part)
+                self.look_at(rail)
+                self.judge_refused(rail)
 
     def judge_store(self) -> None:
         """Stops where WRITE_PROTECT of a part isn't known to let it store."""
         for name, part in self.having_rails().items():
             protect = only_word(part, 0, PROTECT)
-            if protect != 0:
+            if protect != 0 and not self.is_in_the_way(name):
                 held = "not known" if protect is None else f"{protect:02X}"
                 raise Stopped(f"{f'{name}: ' * bool(name)}{PROTECT} is {held}: a store wants 00: order it by word - {PROTECT} 00")
 

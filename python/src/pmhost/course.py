@@ -129,6 +129,14 @@ class Course:
         is no voltage."""
         accepted(library.pm_course_want(REFERENCE(self._image), code_of(register), given_microvolts(voltage)))
 
+    def accept(self, host: Host, voltage: GivenVoltage) -> None:
+        """For parts that round: the word that a register holds is wanted in the place of what was, and the course begins anew, by the tries
+        that are left. The register is the one of which an order differed, or else the first of which something is wanted. H3, H4, P1, P4
+        where the word isn't known, P9 where its value isn't this near to what was wanted, or nothing is, L3 and L4 by the limits; then
+        nothing changes."""
+        near = whole(given_microvolts(voltage, "accept"), 0, 0xFFFF_FFFF, "accept", "microvolts")
+        accepted(library.pm_course_accept(REFERENCE(self._image), host.reference, near))
+
     @property
     def reference(self) -> Any:
         """Its memory, for the calls of the library."""

@@ -1,6 +1,7 @@
 """Supply voltages over a bus: jobs that are carried out, and voltages with their unit."""
 from __future__ import annotations
 
+import contextlib
 import functools
 import threading
 from typing import Callable, Iterable, Mapping, ParamSpec, TypeVar
@@ -190,9 +191,10 @@ class Device:
 
     @alone
     def complete(self, course: Course, before_order: Callable[[Job], None] | None = None,
-                 after_order: Callable[[Job, Step], None] | None = None, job: str = "") -> RailState:
+                 after_order: Callable[[Job, Step], None] | None = None, job: str = "", accept: GivenVoltage | None = None) -> RailState:
         """Carries a course out, as `Host.run_course` does, and says what the output commands then. Raises how it ended where it has not
-        reached what is wanted: a Refused, Differs, NoFormat, OtherSource or Spent, behind the words of a job; and NotDelivered."""
+        reached what is wanted: a Refused, Differs, NoFormat, OtherSource or Spent, behind the words of a job; and NotDelivered. Where an
+        order differs and the held word is `accept` near, that is wanted instead, as by `Course.accept`."""
         self.transfers, self.delivered = Transfers(), None
         look = None if self.looks is None else Look(self, course.output, self.looks)
 
@@ -203,6 +205,7 @@ class Device:
                 before_order(order)
 
         self.host.run_course(course, self.bus, self.transfers, before if look or before_order else None, after_order)
+        self._accept(course, accept, before if look or before_order else None, after_order)
         try:
             course.end()
         except NotDone as fault:
@@ -216,20 +219,42 @@ class Device:
                 raise NotDelivered(f"{f'{job}: ' * bool(job)}{self.delivered.why}{self.delivered.words}", self.delivered)
         return self.rail(course.output)
 
+    def _accept(self, course: Course, accept: GivenVoltage | None, *hooks: Callable[..., None] | None) -> None:
+        """Takes held words of orders that differed, each register's once, and carries the course on."""
+        taken = set[str | None]()
+        while accept is not None and self._takes(course, accept, taken):
+            self.host.run_course(course, self.bus, self.transfers, *hooks)
+
+    def _takes(self, course: Course, accept: GivenVoltage, taken: set[str | None]) -> bool:
+        """Whether a course that ended since an order differed begins anew with the held word, of a register that isn't among those taken."""
+        try:
+            course.end()
+        except Differs as fault:
+            if fault.register not in taken:
+                taken.add(fault.register)
+                with contextlib.suppress(Refused):
+                    course.accept(self.host, accept)
+                    return True
+        except (NotDone, Refused):
+            pass
+        return False
+
     def survey(self, output: int, tries: int = SURVEY_TRIES) -> RailState:
         """Reads all that decides what the output commands, and says it."""
         return self.complete(Course.survey(output, tries), job=f"survey {output}")
 
-    def set_voltage(self, output: int, voltage: GivenVoltage, register: str | int = "VOUT_COMMAND", tries: int = TRIES) -> RailState:
+    def set_voltage(self, output: int, voltage: GivenVoltage, register: str | int = "VOUT_COMMAND", tries: int = TRIES,
+                    accept: GivenVoltage | None = None) -> RailState:
         """Brings a register of the output to the word of a voltage: the nearest one, of VOUT_MAX and VOUT_MIN the one that keeps the
-        bound. Says what the output commands then."""
+        bound. Says what the output commands then. With `accept="3mV"` a part may round: where the order differs, a held word whose value is
+        this near is taken."""
         wanted = Voltage(voltage)
-        return self.complete(Course.voltage(output, wanted, register, tries), job=f"set {output} {wanted}")
+        return self.complete(Course.voltage(output, wanted, register, tries), job=f"set {output} {wanted}", accept=accept)
 
     def apply(self, output: int, wanted: Wanted, tries: int = TRIES, before_order: Callable[[Job], None] | None = None,
-              after_order: Callable[[Job, Step], None] | None = None) -> RailState:
-        """Brings the output's registers to the wanted words, and says what it commands then."""
-        return self.complete(Course.words(output, wanted, tries), before_order, after_order, f"apply {output}")
+              after_order: Callable[[Job, Step], None] | None = None, accept: GivenVoltage | None = None) -> RailState:
+        """Brings the output's registers to the wanted words, and says what it commands then. `accept` is that of `set_voltage`."""
+        return self.complete(Course.words(output, wanted, tries), before_order, after_order, f"apply {output}", accept)
 
     def turn_on(self, output: int, tries: int = TRIES) -> RailState:
         """Brings OPERATION to 80h, once what the output will command then is known. L2, L5 by its limits, P7 by WRITE_PROTECT."""

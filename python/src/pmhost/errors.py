@@ -31,6 +31,7 @@ SAYINGS = {
     "P6": "it would be above VOUT_MAX: order VOUT_MAX first",
     "P7": "WRITE_PROTECT doesn't allow an order that is still to come: order WRITE_PROTECT 00 first",
     "P8": "the voltage is at or beyond this fault limit, so that the rail would trip: move the limit first",
+    "P9": "the word that the register holds isn't near enough to what is wanted",
     "F1": "bytes of another device, or none",
     "F2": "too few bytes",
     "F3": "too many bytes",
@@ -87,7 +88,7 @@ class LimitRefused(Refused):
 
 
 class PlanRefused(Refused):
-    """P4 to P8: why a course orders nothing. Of P8 `word` is that of the fault limit."""
+    """P4 to P9: why a course orders nothing, or takes no held word. Of P8 `word` is that of the fault limit."""
 
     word: int = 0
     said: str = ""

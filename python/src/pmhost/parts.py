@@ -7,6 +7,7 @@
     model = "LTC3880"         # MFR_MODEL has to begin with this
     lacks = ["VOUT_MIN"]      # registers that the part doesn't have
     ready = "EF:60"           # the part is ready where its byte EFh has these bits
+    protect = "80"            # WRITE_PROTECT, written last; lifted where the part holds just this
 
 A multiplexer that the kernel drives is part of the adapter: each of its channels is a bus with a number of its own.
 """
@@ -23,8 +24,9 @@ NAME = re.compile(r"[A-Za-z0-9_.+-]{1,32}\Z")
 MODEL_BUS = "model"
 # The registers that a part may lack.
 MISSABLE = ("VOUT_MAX", "VOUT_MARGIN_HIGH", "VOUT_MARGIN_LOW", "VOUT_MIN")
-KEYS = ("bus", "address", "outputs", "model", "lacks", "ready")
+KEYS = ("bus", "address", "outputs", "model", "lacks", "ready", "protect")
 READY = re.compile("([0-9A-Fa-f]{2}):([0-9A-Fa-f]{2})")
+PROTECTIONS = ("80", "40", "20")
 MODEL = re.compile(r"[ -~]{1,32}\Z")
 MOST_BUS, MOST_OUTPUTS = 10**9 - 1, 8
 
@@ -36,8 +38,8 @@ class BadRails(Exception):
 @dataclass(frozen=True)
 class BoardPart:
     """A part: its bus, `model` or the number of one of Linux, and its address, which are empty and 0 where the command line has them;
-    how many outputs it has, what its MFR_MODEL begins with, the registers that it doesn't have, and the byte and its bits by which it is
-    ready."""
+    how many outputs it has, what its MFR_MODEL begins with, the registers that it doesn't have, the byte and its bits by which it is
+    ready, and what WRITE_PROTECT is to be."""
 
     name: str
     bus: str
@@ -46,6 +48,7 @@ class BoardPart:
     model: str = ""
     lacks: tuple[str, ...] = ()
     ready: tuple[int, int] | None = None
+    protect: int | None = None
 
     @property
     def place(self) -> str:
@@ -117,7 +120,15 @@ def part_of(name: str, table: object) -> BoardPart:
         raise BadRails(f"{at}.outputs: give a whole number from 1 to {MOST_OUTPUTS}")
     if "model" in table and (not isinstance(model, str) or not MODEL.match(model)):
         raise BadRails(f'{at}.model: give what MFR_MODEL begins with, as "LTC3880"')
-    return BoardPart(name, str(bus), found, outputs, model, lacks_of(f"{at}.lacks", table.get("lacks", [])), ready_in(at, table))
+    return BoardPart(name, str(bus), found, outputs, model, lacks_of(f"{at}.lacks", table.get("lacks", [])), ready_in(at, table),
+                     protect_of(f"{at}.protect", table.get("protect")))
+
+
+def protect_of(at: str, byte: object) -> int | None:
+    """What WRITE_PROTECT is to be, where a file has it."""
+    if byte is None or isinstance(byte, str) and byte in PROTECTIONS:
+        return None if byte is None else int(str(byte), 16)
+    raise BadRails(f'{at}: {byte}: give "80", "40" or "20", which let WRITE_PROTECT, OPERATION and PAGE, or these and VOUT_COMMAND be written')
 
 
 def ready_in(at: str, table: dict[str, object]) -> tuple[int, int] | None:

@@ -17,6 +17,8 @@ MOST_OUTPUTS = 8
 NO_PAGE = 0x1F
 VOUT_MODE, COEFFICIENTS, DIRECT = 0x20, 0x30, 0x40
 ON_OFF_CONFIG, MFR_BLOCKS = 0x02, {"MFR_ID": 0x99, "MFR_MODEL": 0x9A, "MFR_REVISION": 0x9B}
+# Blocks that say which unit a part is, where it has them.
+UNIT_BLOCKS = {"MFR_SERIAL": 0x9E, "IC_DEVICE_ID": 0xAD}
 REVISION, PROTECT, STATUS_CML = Packet("read", 0x98), Packet("read", CODES["WRITE_PROTECT"]), Packet("read", 0x7E)
 CLEAR = Packet("send byte", 0x03)
 # The bits of STATUS_CML of a wrong packet error code, and of another fault of the bus, as a byte too few.
@@ -25,6 +27,7 @@ REGISTERS = tuple(name for name in CODES if name != "WRITE_PROTECT")
 SPOKEN = "this host speaks ULINEAR16 and DIRECT"
 BLIND = "the part doesn't look at the page"
 UNFIT = "this host can't drive the part"
+WITHOUT_PEC_TAKEN = "a write without a PEC is taken"
 
 
 @dataclass
@@ -42,17 +45,20 @@ class FoundOutput:
 
 @dataclass
 class Found:
-    """What a part has. `verdict` is why the host can't drive a part whose outputs couldn't be looked at; `page` says whether
+    """What a part has. `unit` has the blocks that say which unit it is, of those that it has. `verdict` is why the host can't drive a part whose outputs couldn't be looked at; `page` says whether
     the part looks at the page, `faults` has every other reason why the host can't drive it, `doubt` why that can't be told,
-    `writes` what became of the two writes with a fault, `late` and `high` are those of `Reads`."""
+    `writes` what became of the two writes with a fault, `is_pec_optional` says that the part takes one without its packet error code and none
+    with a wrong one, `late` and `high` are those of `Reads`."""
 
     verdict: str = ""
     revision: int | None = None
     identity: dict[str, Read] = field(default_factory=dict)
+    unit: dict[str, bytes] = field(default_factory=dict)
     outputs: list[FoundOutput] = field(default_factory=list)
     protect: Read = Read(None)
     page: str = ""
     writes: dict[str, str] = field(default_factory=dict)
+    is_pec_optional: bool = False
     faults: list[str] = field(default_factory=list)
     doubt: str = ""
     late: int = 0
@@ -96,6 +102,9 @@ class Probe:
         elif no_page.has_answer:
             found.verdict = unfit_words(reads, revision, Transfers())
         found.late, found.high = reads.late, reads.high
+        if found.outputs:
+            blocks = {name: reads.block(code) for name, code in UNIT_BLOCKS.items()}
+            found.unit = {name: read.payload for name, read in blocks.items() if read.payload is not None}
         return found
 
     def _no_page(self) -> Read:
@@ -117,11 +126,13 @@ class Probe:
     def write(self) -> Found:
         """Sends CLEAR_FAULTS without its packet error code, and then with a wrong one, twice each. It is sent with the right one
         before each, so that STATUS_CML is 00h then, and at the end, which takes their notes away."""
-        found, frame = self.found, CLEAR.frame(self.address)
+        found, frame, faults = self.found, CLEAR.frame(self.address), list[str]()
         for name, faulty in ("without a PEC", frame[:-1]), ("with a wrong PEC", frame[:-1] + bytes([frame[-1] ^ 0xFF])):
             is_refused, found.writes[name] = self._became_of(faulty)
             if not is_refused:
-                found.faults.append(f"a write {name} {'is taken' if found.writes[name].startswith('taken') else 'may be taken'}")
+                faults.append(f"a write {name} {'is taken' if found.writes[name].startswith('taken') else 'may be taken'}")
+        found.is_pec_optional = faults == [WITHOUT_PEC_TAKEN]
+        found.faults += [] if found.is_pec_optional else faults
         self._send(frame)
         return found
 

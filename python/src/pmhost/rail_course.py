@@ -7,15 +7,18 @@ from typing import TYPE_CHECKING
 from .course import Course, Job
 from .errors import PlanRefused
 from .rails import SETTINGS, Rail
-from .rounded import Accepting
+from .rounded import Taken, near_word
 from .states import Step
 from .survey import FORMAT, TRIES, Nobody, behind, commanded, complete, only_word
+from .voltages import of_microvolts
 from .zeros import NotBelieved
 
 if TYPE_CHECKING:
     from .apply import Board
 
 PROTECT = "WRITE_PROTECT"
+# How often a course begins anew since held words were taken.
+ROUNDS = 3 * len(SETTINGS)
 OUTSIDE = "the output commands a voltage outside its limits"
 
 
@@ -33,6 +36,10 @@ class Restarted(Stopped):
 
 class Due(Exception):
     """An order is due, and none is to be sent yet."""
+
+
+class Unjudged(Exception):
+    """An order is due, and whether held words are near enough wasn't looked at: the host has no job open then."""
 
 
 @dataclass(eq=False)
@@ -61,8 +68,16 @@ class RailCourse:
 
     def __init__(self, board: Board, rail: Rail) -> None:
         self.board, self.rail, self.part = board, rail, board.on(rail)
-        self.course = Course.words(rail.output, board.wanted(rail), TRIES)
-        self.accepting, self.may_order = Accepting(self.part, self.course, board.accept), False
+        self.course, self.may_order, self.is_judged = self.begun(), False, self.accept is None
+
+    @property
+    def accept(self) -> int | None:
+        """How near a held word has to be, None where only the very word will do."""
+        return self.board.accept if self.rail.accept is None else self.rail.accept
+
+    def begun(self) -> Course:
+        """A course to the words that are wanted now."""
+        return Course.words(self.rail.output, self.board.wanted(self.rail), TRIES)
 
     def go(self, may_order: bool) -> None:
         """Goes on, to its end or, where nothing may be ordered, up to its first order. Stops where a register gives no good answer, or a
@@ -70,7 +85,18 @@ class RailCourse:
         self.may_order = may_order
         board, rail = self.board, self.rail
         try:
-            complete(self.part, self.course, self.before, self.after)
+            for _ in range(ROUNDS):
+                try:
+                    complete(self.part, self.course, self.before, self.after)
+                    if not self.takes():
+                        break
+                except Unjudged:
+                    self.is_judged = True
+                    if not self.takes():
+                        continue
+                except Taken:
+                    pass
+                self.course, self.is_judged = self.begun(), False
         except Due:
             pass
         except Nobody as nobody:
@@ -85,6 +111,8 @@ class RailCourse:
 
     def before(self, order: Job) -> None:
         """An order is due. Before the first one the rail is looked at: a goal at or beyond a fault limit stops it."""
+        if not self.is_judged:
+            raise Unjudged
         look = self.board.look_of(self.rail) if self.board.may_write else None
         if look is not None:
             try:
@@ -96,7 +124,6 @@ class RailCourse:
             raise Due
         self.board.look(self.rail)
         it = self.board.setting(self.rail, order.register)
-        self.accepting.before(order)
         self.board.before_order(it)
         it.is_ordered, self.board.orders = True, self.board.orders + 1
 
@@ -104,14 +131,31 @@ class RailCourse:
         """An order has ended."""
         board, rail = self.board, self.rail
         it = board.setting(rail, order.register)
+        held = self.near(it) if step.kind == "differs" else None
+        it.wanted = it.wanted if held is None else held
         board.seen(rail, it, step)
-        board.after_order(it, step.kind == "done")
-        if self.accepting.after(order, step, rail.settings[it.key]) and step.word is not None:
+        board.after_order(it, step.kind == "done" or held is not None)
+        if held is not None:
             # What wasn't possible before looks like a restart.
-            it.wanted = step.word
             board.had_restarted.add(rail.part)
-        elif step.word is not None and board.has_restarted(rail):
+            raise Taken
+        if step.word is not None and board.has_restarted(rail):
             raise self.stopped(self.unconfirmed(it, step.word, "it restarted, or rounds: --accept takes a word that is near"))
+
+    def near(self, it: Setting) -> int | None:
+        """The word that a setting's register holds, where it is near enough to what the file has."""
+        if self.accept is None:
+            return None
+        return near_word(self.part, self.rail.output, it.register, of_microvolts(self.rail.settings[it.key]), self.accept)
+
+    def takes(self) -> bool:
+        """Held words that are near enough are wanted in the place of those of the file, and no others: whether that changed anything."""
+        was = self.board.wanted(self.rail)
+        for it in self.board.of(self.rail):
+            if only_word(self.part, self.rail.output, it.register) is not None:
+                held = self.near(it)
+                it.wanted = it.asked if held is None else held
+        return self.board.wanted(self.rail) != was
 
     def deliver(self) -> str:
         """Looks at what the rail does: why it doesn't deliver, nothing where it does."""

@@ -9,9 +9,10 @@
     min = "0.86V"
     max = "0.94V"
     on = true
+    accept = "3mV"
 
 A rail has an output, its volts and its limits; margins, min and max (VOUT_MIN, VOUT_MAX) only where they are to be set. It is on,
-unless `on = false` says that it is off. Voltages are texts with their unit, exactly as they are written, to a whole microvolt.
+unless `on = false` says that it is off. `accept` is for a part that rounds: a held word that is this near is as wanted. Voltages are texts with their unit, exactly as they are written, to a whole microvolt.
 
 A board with several parts has a table for each (`parts`), and `part = "u12"` in each rail. Without them the file is of one part, whose
 place is given on the command line: `lacks = ["VOUT_MIN"]` above the first rail names registers that it doesn't have, and without
@@ -25,7 +26,7 @@ from decimal import Decimal
 from typing import Callable, TypeVar
 
 from . import voltages
-from .parts import MOST_OUTPUTS, NAME, BadRails, BoardPart, is_whole, lacks_of, part_of
+from .parts import MOST_OUTPUTS, NAME, BadRails, BoardPart, is_whole, lacks_of, part_of, protect_of
 
 # The settings of a rail, by their registers.
 SETTINGS = {"volts": "VOUT_COMMAND", "margin_high": "VOUT_MARGIN_HIGH", "margin_low": "VOUT_MARGIN_LOW", "max": "VOUT_MAX",
@@ -33,9 +34,11 @@ SETTINGS = {"volts": "VOUT_COMMAND", "margin_high": "VOUT_MARGIN_HIGH", "margin_
 WORDS = ("volts", "margin_low", "margin_high")
 MARGINS = (SETTINGS["margin_high"], SETTINGS["margin_low"])
 BOUNDS = (SETTINGS["min"], SETTINGS["max"])
-KEYS = ("output", "limits", "on", *SETTINGS)
+KEYS = ("output", "limits", "on", "accept", *SETTINGS)
 MOST_BYTES = 1 << 20
 LIMITS_EXAMPLE = '["0.85V", "0.95V"]'
+# What a file without a table of parts says of its one part.
+OF_ONE_PART = ("outputs", "lacks", "protect")
 # The one part of a file that has no table of parts.
 ONLY = ""
 
@@ -44,7 +47,8 @@ Made = TypeVar("Made")
 
 @dataclass
 class Rail:
-    """A rail: its output of a part, its limits and its settings in whole microvolts, by their names, and whether it is on."""
+    """A rail: its output of a part, its limits and its settings in whole microvolts, by their names, whether it is on, and how near a held
+    word has to be to a setting, in microvolts."""
 
     name: str
     output: int
@@ -52,6 +56,7 @@ class Rail:
     settings: dict[str, int] = field(default_factory=dict)
     is_on: bool = True
     part: str = ONLY
+    accept: int | None = None
 
 
 @dataclass
@@ -103,15 +108,15 @@ def judged(found: dict[str, object]) -> Rails:
     """The rails of a table. A BadRails has what is wrong in all of its parts and rails."""
     faults: list[str] = []
     for key in found:
-        if key not in ("outputs", "lacks", "parts", "rails"):
-            raise BadRails(f"{key}: there are `outputs`, `lacks`, `[parts.NAME]` and `[rails.NAME]`")
+        if key not in (*OF_ONE_PART, "parts", "rails"):
+            raise BadRails(f"{key}: there are `outputs`, `lacks`, `protect`, `[parts.NAME]` and `[rails.NAME]`")
     parts = all_of("parts", found, part_of, "no parts: give a table for each, as [parts.u12]", faults) if "parts" in found else None
     rails = all_of("rails", found, lambda name, table: rail_of(name, table, parts is not None),
                    "no rails: give a table for each, as [rails.core]", faults)
     if parts is None:
         parts = only_part(found, list(rails.values()), faults)
     else:
-        faults += [f"{key}: with `[parts.NAME]` it stands in each part" for key in ("outputs", "lacks") if key in found]
+        faults += [f"{key}: with `[parts.NAME]` it stands in each part" for key in OF_ONE_PART if key in found]
         faults += places_of(list(parts.values()))
     tables = found.get("parts")
     faults += outputs_of(list(rails.values()), parts, set(tables) if isinstance(tables, dict) else set())
@@ -142,7 +147,8 @@ def only_part(found: dict[str, object], rails: list[Rail], faults: list[str]) ->
         faults.append(f"outputs: give a whole number from {least} to {MOST_OUTPUTS}")
         return {}
     try:
-        return {ONLY: BoardPart(ONLY, "", 0, outputs, "", lacks_of("lacks", found.get("lacks", [])))}
+        return {ONLY: BoardPart(ONLY, "", 0, outputs, "", lacks_of("lacks", found.get("lacks", [])), None,
+                                protect_of("protect", found.get("protect")))}
     except BadRails as fault:
         faults.append(str(fault))
         return {}
@@ -199,7 +205,10 @@ def rail_of(name: str, table: object, has_parts: bool) -> Rail:
         raise BadRails(f"{at}.on: give true or false")
     least, most = (microvolts(f"{at}.limits", each) for each in pair)
     settings = {key: microvolts(f"{at}.{key}", table[key]) for key in SETTINGS if key in table}
-    rail = Rail(name, output, (least, most), settings, is_on, part)
+    accept = microvolts(f"{at}.accept", table["accept"]) if "accept" in table else None
+    if accept is not None and accept < 0:
+        raise BadRails(f'{at}.accept: give how near is near enough, as "3mV"')
+    rail = Rail(name, output, (least, most), settings, is_on, part, accept)
     judge(at, rail)
     return rail
 

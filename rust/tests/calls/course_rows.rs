@@ -1,9 +1,10 @@
-//! The rows of trials/course/rows.txt, whose head says what they are: each course over a bus that has the row's answers.
+//! The rows of trials/course/rows.txt and accept.txt, whose heads say what they are: each course over a bus that has the row's answers.
 
 use super::framed;
 use pmhost::*;
 
 const ROWS: &str = include_str!("../../../trials/course/rows.txt");
+const ACCEPT: &str = include_str!("../../../trials/course/accept.txt");
 
 /// A row, as its lines say it.
 #[derive(Default)]
@@ -14,10 +15,13 @@ struct Row {
     course: String,
     bus: String,
     end: String,
+    accept: String,
+    then: String,
+    ends: String,
 }
 
-fn rows() -> Vec<Row> {
-    let lines: Vec<&str> = ROWS.lines().filter(|line| !line.starts_with('#')).collect();
+fn rows_of(text: &'static str) -> Vec<Row> {
+    let lines: Vec<&str> = text.lines().filter(|line| !line.starts_with('#')).collect();
     lines.split(|line| line.is_empty()).filter(|lines| !lines.is_empty()).map(row_of).collect()
 }
 
@@ -33,6 +37,9 @@ fn row_of(lines: &[&str]) -> Row {
             "course" => &mut row.course,
             "bus" => &mut row.bus,
             "end" => &mut row.end,
+            "accept" => &mut row.accept,
+            "then" => &mut row.then,
+            "ends" => &mut row.ends,
             other => panic!("no line begins with {other}"),
         };
         to.push(' ');
@@ -230,7 +237,7 @@ fn end_of(end: Result<(), NotReached<NoAnswer>>) -> String {
 
 #[test]
 fn each_course_sends_the_frames_of_its_row_and_ends_so() {
-    let rows = rows();
+    let rows = rows_of(ROWS);
     assert!(rows.len() >= 60, "{} rows", rows.len());
     for row in &rows {
         let mut host = host_of(&row.host);
@@ -240,5 +247,33 @@ fn each_course_sends_the_frames_of_its_row_and_ends_so() {
         let end = host.run_course(&mut course, &mut bus);
         assert_eq!(end_of(end), row.end.trim(), "{}", row.row);
         assert_eq!(bus.at, bus.tokens.len(), "{}: a frame less", row.row);
+    }
+}
+
+/// Carries a course out over these frames, and says how it ended.
+fn carried_out(host: &mut Host, course: &mut Course, frames: &str, row: &str) -> String {
+    let mut bus = Told::new(frames, course.output(), row);
+    let end = end_of(host.run_course(course, &mut bus));
+    assert_eq!(bus.at, bus.tokens.len(), "{row}: a frame less");
+    end
+}
+
+#[test]
+fn a_held_word_is_taken_or_refused_as_its_row_says() {
+    let rows = rows_of(ACCEPT);
+    assert!(rows.len() >= 30, "{} rows", rows.len());
+    for row in &rows {
+        let mut host = host_of(&row.host);
+        prepare(&mut host, &mut Told::new(&row.before, 0, &row.row));
+        let mut course = course_of(&row.course);
+        if !row.end.is_empty() {
+            assert_eq!(carried_out(&mut host, &mut course, &row.bus, &row.row), row.end.trim(), "{}", row.row);
+        }
+        let (near, wanted) = row.accept.trim().split_once(' ').unwrap();
+        let found = course.accept(&host, near.parse().unwrap());
+        assert_eq!(found.map_or_else(|it| format!("refused {it}"), |()| "taken".into()), wanted, "{}", row.row);
+        if !row.ends.is_empty() {
+            assert_eq!(carried_out(&mut host, &mut course, &row.then, &row.row), row.ends.trim(), "{}", row.row);
+        }
     }
 }

@@ -43,13 +43,23 @@ impl Clock for Time {
 }
 
 /// A bus whose transactions do what the letters say, the last one for ever: `a` is acknowledged or has a good answer, `u` isn't
-/// heard, of `n` a byte isn't acknowledged, and `o` has nothing but FFh. It keeps a letter for each call, `W`, `Q` of
-/// CAPABILITY and `R`, and when the last one came.
+/// heard, of `n` a byte isn't acknowledged, `o` has nothing but FFh, `k` and `l` do as `a` from 440 and from 4,100 ms on and as `u`
+/// before. The byte of readiness EFh is 60h, of `b` 20h, of `x` with a wrong packet error code. It keeps a letter for each call,
+/// `W`, `Q` of a question and `R`, and when the last one came.
 struct Scripted {
     does: &'static [u8],
     time: Time,
     calls: String,
     last: u32,
+}
+
+/// The answer to a question.
+fn said(code: u8, does: u8) -> [u8; 2] {
+    if code == 0x19 {
+        return [0x80, 0xD3];
+    }
+    let byte = if does == b'b' { 0x20 } else { 0x60 };
+    [byte, pec(&[0xB0, code, 0xB1, byte]) ^ u8::from(does == b'x')]
 }
 
 impl Bus for Scripted {
@@ -58,20 +68,28 @@ impl Bus for Scripted {
     fn transaction(&mut self, _: u8, operations: &mut [Operation<'_>]) -> Result<(), Failed> {
         let does = self.does[self.calls.len().min(self.does.len() - 1)];
         self.last = self.time.0.get();
-        let is_question = matches!(operations, [Operation::Write([0x19]), Operation::Read(answer)] if answer.len() == 2);
+        let asked = match operations {
+            [Operation::Write([code @ (0x19 | 0xEF)]), Operation::Read(answer)] if answer.len() == 2 => Some(*code),
+            _ => None,
+        };
         self.calls.push(if operations.len() == 1 {
             'W'
-        } else if is_question {
+        } else if asked.is_some() {
             'Q'
         } else {
             'R'
         });
+        let passed = self.last.wrapping_sub(BEGIN);
         match (does, operations.get_mut(1)) {
             (b'u', _) => return Err(Failed::Address),
+            (b'k', _) if passed < 440 => return Err(Failed::Address),
+            (b'l', _) if passed < 4100 => return Err(Failed::Address),
             (b'n', _) => return Err(Failed::Byte),
             (b'o', Some(Operation::Read(answer))) => answer.fill(0xFF),
-            (_, Some(Operation::Read(answer))) if is_question => answer.copy_from_slice(&[0x80, 0xD3]),
-            (_, Some(Operation::Read(answer))) => answer.copy_from_slice(&[0x02, 0xCD, 0x34, 0xB9]),
+            (_, Some(Operation::Read(answer))) => match asked {
+                Some(code) => answer.copy_from_slice(&said(code, does)),
+                None => answer.copy_from_slice(&[0x02, 0xCD, 0x34, 0xB9]),
+            },
             _ => {}
         }
         Ok(())
@@ -100,7 +118,7 @@ fn a_clock_that_steps_back_ends_the_patience() {
     let below = Scripted { does: b"uuuu", time: Time(Rc::new(Kept::new(0))), calls: String::new(), last: 0 };
     let mut bus = Patient::new(below, Back(50));
     assert!(Host::new(0x58, 1, 1).unwrap().run_job(ORDER, &mut bus).is_err());
-    assert_eq!(bus.into_inner().calls, "WQR");
+    assert_eq!(bus.into_inner().calls, "WR");
 }
 
 #[test]
@@ -118,59 +136,74 @@ fn a_bus_may_be_borrowed_and_is_given_back() {
     assert_eq!(host.run_job(CHECK, &mut any), Ok(Done::Word(0x1000)));
 }
 
+/// What a patient bus is told: for how long it waits, and the byte by which a part is ready.
+type Told = (Option<u32>, Option<(u8, u8)>);
+
 /// How a job ends, the calls that the bus below saw, and how many milliseconds behind the first one the last came.
 fn carried_out(
     job: Job,
     passes: u8,
-    patience: Option<u32>,
+    told: Told,
     does: &'static str,
 ) -> (Result<Done, NotDone<NotHeard<Failed>>>, String, u32) {
     let time = Time(Rc::new(Kept::new(BEGIN)));
     let below = Scripted { does: does.as_bytes(), time: time.clone(), calls: String::new(), last: BEGIN };
     let bus = Patient::new(below, time);
-    let mut bus = if let Some(milliseconds) = patience { bus.with_patience(milliseconds) } else { bus };
+    let bus = if let Some(milliseconds) = told.0 { bus.with_patience(milliseconds) } else { bus };
+    let mut bus = if let Some((code, mask)) = told.1 { bus.with_ready(code, mask) } else { bus };
     let ended = Host::new(0x58, 1, passes).unwrap().run_job(job, &mut bus);
     let below = bus.bus();
     (ended, below.calls.clone(), below.last.wrapping_sub(BEGIN))
 }
 
-/// A name; a job, its passes, the patience, and what the bus does; whether it is done, and the calls and when the last came.
-type Row = (&'static str, Job, u8, Option<u32>, &'static str, bool, String, u32);
+/// A name; a job, its passes, what the bus is told, and what the one below does; whether it is done, and the calls and when the last came.
+type Row = (&'static str, Job, u8, Told, &'static str, bool, &'static str, u32);
+
+const AS_IT_IS: Told = (None, None);
+const WITHOUT: Told = (Some(0), None);
+const SHORT: Told = (Some(30), None);
+const READY: Told = (None, Some((0xEF, 0x60)));
 
 #[test]
 fn a_busy_part_is_waited_for() {
-    let many = |count| "Q".repeat(count);
-    let rows: [Row; 19] = [
-        ("it is ready", ORDER, 3, None, "a", true, "WQR".into(), 0),
-        ("it doesn't acknowledge for a while", ORDER, 1, None, "aunua", true, "WQQQQR".into(), 15),
-        ("it reads as ones for a while", ORDER, 1, None, "aoooa", true, "WQQQQR".into(), 15),
-        ("a write that nobody heard", ORDER, 1, None, "uua", true, "WWWQR".into(), 10),
-        ("a write of which a byte isn't acknowledged", ORDER, 1, None, "na", true, "WQR".into(), 0),
-        ("a write that nobody hears", ORDER, 1, None, "u", false, format!("{}QR", "W".repeat(40)), 195),
-        ("never ready again", ORDER, 1, None, "au", false, format!("W{}R", many(40)), 195),
-        ("the same by ones", ORDER, 1, None, "ao", false, format!("W{}R", many(40)), 195),
-        ("the same of a store", Job::Store, 3, None, "au", true, format!("W{}", many(200)), 995),
-        ("the same of a restore", Job::Restore, 3, None, "au", true, format!("W{}", many(200)), 995),
-        ("the same with 30 ms", ORDER, 1, Some(30), "au", false, format!("W{}R", many(6)), 25),
-        ("a store with 30 ms", Job::Store, 3, Some(30), "au", true, format!("W{}", many(6)), 25),
-        ("without patience", ORDER, 1, Some(0), "a", true, "WR".into(), 0),
-        ("without patience nothing is sent again", ORDER, 1, Some(0), "u", false, "WR".into(), 0),
-        ("a store that nobody heard", Job::Store, 3, None, "ua", false, "WQ".into(), 0),
-        ("a store that isn't acknowledged", Job::Store, 3, None, "na", false, "WQ".into(), 0),
-        ("a restore that nobody heard", Job::Restore, 3, None, "uua", true, "WWWQ".into(), 10),
-        ("a restore that isn't acknowledged", Job::Restore, 3, None, "nanana", false, "WQWQWQ".into(), 0),
-        ("a read is sent once in its pass", CHECK, 3, None, "u", false, "RRR".into(), 0),
+    let rows: [Row; 26] = [
+        ("it is ready", ORDER, 3, AS_IT_IS, "a", true, "WQR", 10),
+        ("it doesn't acknowledge for a while", ORDER, 1, AS_IT_IS, "aunua", true, "WQQQQR", 150),
+        ("it reads as ones for a while", ORDER, 1, AS_IT_IS, "aoooa", true, "WQQQQR", 150),
+        ("a write that nobody heard", ORDER, 1, AS_IT_IS, "uua", true, "WWWQR", 40),
+        ("a write of which a byte isn't acknowledged", ORDER, 1, AS_IT_IS, "na", true, "WQR", 10),
+        ("a write that nobody hears", ORDER, 1, AS_IT_IS, "u", false, "WWWWWWR", 200),
+        ("never ready again", ORDER, 1, AS_IT_IS, "au", false, "WQQQQQR", 200),
+        ("the same by ones", ORDER, 1, AS_IT_IS, "ao", false, "WQQQQQR", 200),
+        ("the same of a store", Job::Store, 3, AS_IT_IS, "au", true, "WQQQQQQQQQ", 5000),
+        ("the same of a restore", Job::Restore, 3, AS_IT_IS, "au", true, "WQQQQQQQ", 1000),
+        ("the same with 30 ms", ORDER, 1, SHORT, "au", false, "WQQR", 30),
+        ("a store with 30 ms", Job::Store, 3, SHORT, "au", true, "WQQ", 30),
+        ("a store of 440 ms", Job::Store, 3, AS_IT_IS, "ak", true, "WQQQQQQ", 630),
+        ("a store of 4.1 s", Job::Store, 3, AS_IT_IS, "al", true, "WQQQQQQQQQ", 5000),
+        ("without patience", ORDER, 1, WITHOUT, "a", true, "WR", 0),
+        ("without patience nothing is sent again", ORDER, 1, WITHOUT, "u", false, "WR", 0),
+        ("a store that nobody heard", Job::Store, 3, AS_IT_IS, "ua", false, "WQ", 10),
+        ("a store that isn't acknowledged", Job::Store, 3, AS_IT_IS, "na", false, "WQ", 10),
+        ("a restore that nobody heard", Job::Restore, 3, AS_IT_IS, "uua", true, "WWWQ", 40),
+        ("a restore that isn't acknowledged", Job::Restore, 3, AS_IT_IS, "nanana", false, "WQWQWQ", 30),
+        ("a read is sent once in its pass", CHECK, 3, AS_IT_IS, "u", false, "RRR", 0),
+        ("a byte of readiness", ORDER, 1, READY, "abba", true, "WQQQR", 70),
+        ("one of which one bit is asked for", ORDER, 1, (None, Some((0xEF, 0x20))), "aba", true, "WQR", 10),
+        ("one that is damaged", ORDER, 1, READY, "axa", true, "WQQR", 30),
+        ("one that is all ones", ORDER, 1, READY, "aoa", true, "WQQR", 30),
+        ("one that never comes", Job::Store, 3, READY, "ab", true, "WQQQQQQQQQ", 5000),
     ];
-    for (name, job, passes, patience, does, is_done, calls, last) in rows {
-        let (ended, found, when) = carried_out(job, passes, patience, does);
-        assert_eq!((ended.is_ok(), found, when), (is_done, calls, last), "{name}: {ended:?}");
+    for (name, job, passes, told, does, is_done, calls, last) in rows {
+        let (ended, found, when) = carried_out(job, passes, told, does);
+        assert_eq!((ended.is_ok(), found.as_str(), when), (is_done, calls, last), "{name}: {ended:?}");
     }
 }
 
 #[test]
 fn ones_are_no_answer() {
     let ones = Err(NotDone::Unknown { error: Some(NotHeard::Ones), fault: None });
-    assert_eq!(carried_out(CHECK, 2, None, "o"), (ones, "RR".into(), 0));
+    assert_eq!(carried_out(CHECK, 2, AS_IT_IS, "o"), (ones, "RR".into(), 0));
     // At 4Ah they have the right packet error code for WRITE_PROTECT.
     let time = Time(Rc::new(Kept::new(0)));
     let below = Scripted { does: b"o", time: time.clone(), calls: String::new(), last: 0 };
@@ -180,7 +213,7 @@ fn ones_are_no_answer() {
 
 #[test]
 fn the_last_error_is_the_source() {
-    let (ended, ..) = carried_out(CHECK, 1, None, "n");
+    let (ended, ..) = carried_out(CHECK, 1, AS_IT_IS, "n");
     let error = ended.unwrap_err();
     assert_eq!(error, NotDone::Unknown { error: Some(NotHeard::Bus(Failed::Byte)), fault: None });
     let heard = error.source().unwrap();

@@ -7,7 +7,8 @@
 /* What the calls of the bus do one after another, the last letter of a row for ever:
  *   a  a write is acknowledged, a read has a good answer    u  nobody acknowledges the address, nothing comes
  *   n  a byte isn't acknowledged, nothing comes             o  a read has nothing but FFh
- *   m  a read says one byte more than its room */
+ *   m  a read says one byte more than its room              k, l  as a from 440 ms and from 4,100 ms on, and as u before
+ *   b  the byte of readiness is 20h                         x  it is 60h, with a wrong packet error code */
 typedef struct {
     const char *name;
     uint8_t address;
@@ -19,40 +20,51 @@ typedef struct {
     uint16_t kind, word;    /* how it ends */
     int writes, questions, reads;
     uint32_t last;          /* milliseconds from the first call to the last one */
+    uint8_t mask;           /* the bits of EFh by which the part is ready; 0 to ask for CAPABILITY */
 } row;
 
 /* The numbers are those that firmware compiles in: they stand here by hand. */
 static const row rows[] = {
-    {"a part that is ready", 0x58, 'o', 3, 0, "a", 1, 0, 1, 1, 1, 0},
-    {"it doesn't acknowledge for a while", 0x58, 'o', 1, 0, "aunua", 1, 0, 1, 4, 1, 15},
-    {"it reads as ones for a while", 0x58, 'o', 1, 0, "aoooa", 1, 0, 1, 4, 1, 15},
-    {"a write that nobody heard", 0x58, 'o', 1, 0, "uua", 1, 0, 3, 1, 1, 10},
-    {"a write of which a byte isn't acknowledged", 0x58, 'o', 1, 0, "na", 1, 0, 1, 1, 1, 0},
-    {"a write that nobody hears", 0x58, 'o', 1, 0, "u", 3, 0, 40, 1, 1, 195},
-    {"a part that is never ready again", 0x58, 'o', 1, 0, "au", 3, 0, 1, 40, 1, 195},
-    {"the same by ones", 0x58, 'o', 1, 0, "ao", 3, 0, 1, 40, 1, 195},
-    {"the same of a store", 0x58, 's', 3, 0, "au", 1, 0, 1, 200, 0, 995},
-    {"the same of a restore", 0x58, 'r', 3, 0, "au", 1, 0, 1, 200, 0, 995},
-    {"the same with 30 ms", 0x58, 'o', 1, 30, "au", 3, 0, 1, 6, 1, 25},
-    {"a store with 30 ms", 0x58, 's', 3, 30, "au", 1, 0, 1, 6, 0, 25},
-    {"without patience", 0x58, 'o', 1, -1, "a", 1, 0, 1, 0, 1, 0},
-    {"without patience nothing is sent again", 0x58, 'o', 1, -1, "u", 3, 0, 1, 0, 1, 0},
-    {"a store that nobody heard is sent once", 0x58, 's', 3, 0, "ua", 3, 0, 1, 1, 0, 0},
-    {"a store that isn't acknowledged is sent once", 0x58, 's', 3, 0, "na", 3, 0, 1, 1, 0, 0},
-    {"two stores are sent once each", 0x58, 't', 3, 0, "nana", 3, 0, 2, 2, 0, 0},
-    {"a restore that nobody heard", 0x58, 'r', 3, 0, "uua", 1, 0, 3, 1, 0, 10},
-    {"a restore that isn't acknowledged", 0x58, 'r', 3, 0, "nanana", 3, 0, 3, 3, 0, 0},
-    {"a read waits for nothing", 0x58, 'v', 1, 0, "a", 1, 0, 0, 0, 1, 0},
-    {"a read isn't repeated within its pass", 0x58, 'v', 3, 0, "u", 3, 0, 0, 0, 3, 0},
-    {"ones are no answer", 0x58, 'v', 3, 0, "o", 3, 0, 0, 0, 3, 0},
-    {"nor where their packet error code is right", 0x4A, 'p', 1, 0, "o", 3, 0, 0, 0, 1, 0},
-    {"more bytes than there is room for", 0x58, 'v', 1, 0, "m", 3, 0, 0, 0, 1, 0},
-    {"more of a question", 0x58, 'o', 1, 0, "amaa", 1, 0, 1, 2, 1, 5},
+    {"a part that is ready", 0x58, 'o', 3, 0, "a", 1, 0, 1, 1, 1, 10, 0},
+    {"it doesn't acknowledge for a while", 0x58, 'o', 1, 0, "aunua", 1, 0, 1, 4, 1, 150, 0},
+    {"it reads as ones for a while", 0x58, 'o', 1, 0, "aoooa", 1, 0, 1, 4, 1, 150, 0},
+    {"a write that nobody heard", 0x58, 'o', 1, 0, "uua", 1, 0, 3, 1, 1, 40, 0},
+    {"a write of which a byte isn't acknowledged", 0x58, 'o', 1, 0, "na", 1, 0, 1, 1, 1, 10, 0},
+    {"a write that nobody hears", 0x58, 'o', 1, 0, "u", 3, 0, 6, 0, 1, 200, 0},
+    {"a part that is never ready again", 0x58, 'o', 1, 0, "au", 3, 0, 1, 5, 1, 200, 0},
+    {"the same by ones", 0x58, 'o', 1, 0, "ao", 3, 0, 1, 5, 1, 200, 0},
+    {"the same of a store", 0x58, 's', 3, 0, "au", 1, 0, 1, 9, 0, 5000, 0},
+    {"the same of a restore", 0x58, 'r', 3, 0, "au", 1, 0, 1, 7, 0, 1000, 0},
+    {"the same with 30 ms", 0x58, 'o', 1, 30, "au", 3, 0, 1, 2, 1, 30, 0},
+    {"a store with 30 ms", 0x58, 's', 3, 30, "au", 1, 0, 1, 2, 0, 30, 0},
+    {"a store of 440 ms", 0x58, 's', 3, 0, "ak", 1, 0, 1, 6, 0, 630, 0},
+    {"a store of 4.1 s", 0x58, 's', 3, 0, "al", 1, 0, 1, 9, 0, 5000, 0},
+    {"without patience", 0x58, 'o', 1, -1, "a", 1, 0, 1, 0, 1, 0, 0},
+    {"without patience nothing is sent again", 0x58, 'o', 1, -1, "u", 3, 0, 1, 0, 1, 0, 0},
+    {"a store that nobody heard is sent once", 0x58, 's', 3, 0, "ua", 3, 0, 1, 1, 0, 10, 0},
+    {"a store that isn't acknowledged is sent once", 0x58, 's', 3, 0, "na", 3, 0, 1, 1, 0, 10, 0},
+    {"two stores are sent once each", 0x58, 't', 3, 0, "nana", 3, 0, 2, 2, 0, 20, 0},
+    {"a restore that nobody heard", 0x58, 'r', 3, 0, "uua", 1, 0, 3, 1, 0, 40, 0},
+    {"a restore that isn't acknowledged", 0x58, 'r', 3, 0, "nanana", 3, 0, 3, 3, 0, 30, 0},
+    {"a read waits for nothing", 0x58, 'v', 1, 0, "a", 1, 0, 0, 0, 1, 0, 0},
+    {"a read isn't repeated within its pass", 0x58, 'v', 3, 0, "u", 3, 0, 0, 0, 3, 0, 0},
+    {"ones are no answer", 0x58, 'v', 3, 0, "o", 3, 0, 0, 0, 3, 0, 0},
+    {"nor where their packet error code is right", 0x4A, 'p', 1, 0, "o", 3, 0, 0, 0, 1, 0, 0},
+    {"more bytes than there is room for", 0x58, 'v', 1, 0, "m", 3, 0, 0, 0, 1, 0, 0},
+    {"more of a question", 0x58, 'o', 1, 0, "amaa", 1, 0, 1, 2, 1, 30, 0},
+    {"a byte of readiness", 0x58, 'o', 1, 0, "abba", 1, 0, 1, 3, 1, 70, 0x60},
+    {"a byte of readiness of which one bit is asked for", 0x58, 'o', 1, 0, "aba", 1, 0, 1, 1, 1, 10, 0x20},
+    {"a byte of readiness that is damaged", 0x58, 'o', 1, 0, "axa", 1, 0, 1, 2, 1, 30, 0x60},
+    {"a byte of readiness that is all ones", 0x58, 'o', 1, 0, "aoa", 1, 0, 1, 2, 1, 30, 0x60},
+    {"a byte of readiness that never comes", 0x58, 's', 3, 0, "ab", 1, 0, 1, 9, 0, 5000, 0x60},
 };
 enum { ROWS = sizeof rows / sizeof rows[0] };
 
 /* Good answers behind the read address, to VOUT_COMMAND of output 0 and to CAPABILITY, both of 58h. */
 static const uint8_t word_answer[] = {0x02, 0xCD, 0x34, 0xB9}, capability[] = {0x80, 0xD3};
+
+/* The clock wraps round 10 ms after the first call. */
+enum { BEGIN = -10 };
 
 typedef struct {
     const row *of;
@@ -75,18 +87,31 @@ static uint8_t put(void *context, const uint8_t *bytes, uint64_t count) {
     return does == 'a' ? PM_ACKED : does == 'u' ? PM_UNHEARD : PM_NOT_ACKED;
 }
 
+/* The answer to a question: CAPABILITY, or the byte of readiness, with its packet error code. */
+static void say(const row *of, const uint8_t *request, char does, uint8_t *answer) {
+    uint8_t frame[4] = {request[0], request[1], (uint8_t)(request[0] | 1), does == 'b' ? 0x20 : 0x60};
+    memcpy(answer, capability, sizeof capability);
+    if (of->mask != 0) {
+        answer[0] = frame[3];
+        answer[1] = (uint8_t)(pm_pec(frame, 4) ^ (does == 'x'));
+    }
+}
+
 static uint64_t ask(void *context, const uint8_t *request, uint64_t count, uint8_t *answer, uint64_t room) {
     bus *to = (bus *)context;
     char does = next(to);
-    int is_question = count == 2 && request[1] == 0x19 && room == 2;
+    int is_question = count == 2 && request[1] == (to->of->mask != 0 ? 0xEF : 0x19) && room == 2;
+    uint32_t passed = to->clock - (uint32_t)BEGIN;
     to->questions += is_question;
     to->reads += !is_question;
-    if (does == 'u' || does == 'n')
+    if (does == 'u' || does == 'n' || (does == 'k' && passed < 440) || (does == 'l' && passed < 4100))
         return 0;
     if (does == 'o')
         memset(answer, 0xFF, (size_t)room);
+    else if (is_question)
+        say(to->of, request, does, answer);
     else
-        memcpy(answer, is_question ? capability : word_answer, (size_t)room);
+        memcpy(answer, word_answer, (size_t)room);
     return does == 'm' ? room + 1 : room;
 }
 
@@ -108,12 +133,11 @@ static uint8_t begin(pm_host *host, char job) {
     }
 }
 
-/* Whether a row came as it must. The clock wraps round 10 ms after the first call. */
+/* Whether a row came as it must. */
 static int is_right(const row *of) {
-    enum { BEGIN = -10 };
     pm_host host;
     bus to = {of, 0, 0, 0, 0, (uint32_t)BEGIN, (uint32_t)BEGIN};
-    pm_patient patient = {put, ask, &to, now, wait, of->patience, 0};
+    pm_patient patient = {put, ask, &to, now, wait, of->patience, 0, of->mask != 0 ? 0xEF : 0, of->mask};
     pm_step step = {0, 0};
     if (pm_host_new(&host, of->address, 1, of->passes) != PM_OK)
         return 0;

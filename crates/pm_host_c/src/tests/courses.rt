@@ -3,9 +3,9 @@
 use super::calls::{NOTHING, host};
 use super::checks::equal;
 use crate::course::{
-    CourseJobImage, pm_course_ended, pm_course_frame, pm_course_job_now, pm_course_microvolts,
-    pm_course_next, pm_course_power, pm_course_read_ended, pm_course_size, pm_course_survey,
-    pm_course_version, pm_course_want, pm_course_words, pm_course_write_ended,
+    CourseJobImage, pm_course_accept, pm_course_ended, pm_course_frame, pm_course_job_now,
+    pm_course_microvolts, pm_course_next, pm_course_power, pm_course_read_ended, pm_course_size,
+    pm_course_survey, pm_course_version, pm_course_want, pm_course_words, pm_course_write_ended,
 };
 use crate::course_end_image::CourseEndImage;
 use crate::course_image::CourseImage;
@@ -127,6 +127,35 @@ fn a_course_is_made_or_refused(rt: HostRuntime) {
     );
     equal(&rt, &pm_course_want(&mut course, 0x01, 1), &0x05, &11);
     equal(&rt, &pm_course_want(&mut course, 0x24, 2_000_000), &0, &12);
+}
+
+#[test]
+fn a_held_word_is_taken_or_refused(rt: HostRuntime) {
+    let mut image = host(1);
+    let mut course = blank();
+    equal(&rt, &pm_course_accept(&mut course, &image, 3000), &0xE9, &1);
+    let _ = pm_course_microvolts(&mut course, 5, 0x21, 1_003_000, 9);
+    equal(&rt, &pm_course_accept(&mut course, &image, 3000), &0x04, &2);
+    let _ = pm_course_microvolts(&mut course, 0, 0x21, 1_003_000, 9);
+    equal(
+        &rt,
+        &pm_course_accept(&mut course, &GuardImage::blank(), 3000),
+        &0xE0,
+        &3,
+    );
+    equal(&rt, &pm_course_accept(&mut course, &image, 3000), &0x61, &4);
+    let _ = crate::host::pm_host_learn(&mut image, 0);
+    equal(&rt, &pm_course_accept(&mut course, &image, 3000), &0x03, &5);
+    let _ = crate::told::pm_host_read_ended(&mut image, &ANSWERS_MODE);
+    equal(&rt, &pm_course_accept(&mut course, &image, 3000), &0x64, &6);
+    let _ = crate::host::pm_host_check(&mut image, 0, 0x21);
+    let _ = crate::told::pm_host_read_ended(&mut image, &[0xB1, 0x02, 0x00, 0x10, 0x41]);
+    equal(&rt, &pm_course_accept(&mut course, &image, 2999), &0x69, &7);
+    equal(&rt, &next(&course, &image), &(0, 1, 0x20, 0), &8);
+    equal(&rt, &pm_course_accept(&mut course, &image, 3000), &0, &9);
+    equal(&rt, &pm_course_accept(&mut course, &image, 0), &0, &10);
+    let _ = crate::limits::pm_host_set_limits(&mut image, 0, 1_000_001, 2_000_000);
+    equal(&rt, &pm_course_accept(&mut course, &image, 0), &0x23, &11);
 }
 
 #[test]

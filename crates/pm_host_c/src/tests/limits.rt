@@ -129,7 +129,7 @@ fn a_band_beyond_its_limits_is_outside(rt: HostRuntime) {
 
 // Each refusal that a caller in C alone gets and one of each other kind, with its name; an empty name for a number
 // that has none.
-static REFUSALS: [(u8, &[u8]); 28] = [
+static REFUSALS: [(u8, &[u8]); 29] = [
     (0x00, b""),
     (0x06, b"H6 TooUncertain\0\0"),
     (0x15, b"N5 TooLarge\0"),
@@ -144,7 +144,8 @@ static REFUSALS: [(u8, &[u8]); 28] = [
     (0x61, b"P1 FormatUnknown\0"),
     (0x67, b"P7 Protected\0"),
     (0x68, b"P8 BeyondFaultLimit\0"),
-    (0x69, b""),
+    (0x69, b"P9 NotNear\0"),
+    (0x6A, b""),
     (0xE0, b"NoHost\0"),
     (0xE1, b"NoCell\0"),
     (0xE2, b"OtherFrame\0"),

@@ -10,6 +10,7 @@ from __future__ import annotations
 import argparse
 import functools
 import re
+import shlex
 import sys
 from types import ModuleType
 
@@ -181,8 +182,18 @@ def fail(words: list[str], why: str, end: str, status: int, call: Call | None = 
 
 
 def main(words: list[str] | None = None, kernel: Calls | None = None) -> int:
-    """The status of the command line, over the calls of a kernel."""
-    given, closed, call = list(sys.argv[1:] if words is None else words), streams.open_missing(), None
+    """The status of the command line, over the calls of a kernel. The last line says what is left unprotected."""
+    calls: list[Call] = []
+    status = run(list(sys.argv[1:] if words is None else words), kernel, calls)
+    for call in calls:
+        if call.protection.left:
+            complain(call.protection.left)
+    return status
+
+
+def run(given: list[str], kernel: Calls | None, calls: list[Call]) -> int:
+    """The same, with the call that is made put into a list."""
+    closed, call = streams.open_missing(), None
     try:
         take_interruptions()
         if 1 in closed:
@@ -190,13 +201,18 @@ def main(words: list[str] | None = None, kernel: Calls | None = None) -> int:
         if given == ["--completion"]:
             return completion()
         call = judged(given, kernel)
+        call.words = shlex.join(given)
+        calls.append(call)
         if not call.has_bus:
             return run_commands(call)
         with interruptible():
+            status = 1
             try:
-                return run_commands(call)
+                status = run_commands(call)
             finally:
+                status = call.protection.lock() or status
                 call.close()
+            return status
     except BadCall as fault:
         return fail(given, str(fault), "bad call", BAD_CALL)
     except Interrupted:

@@ -7,13 +7,17 @@ import re
 import sys
 from dataclasses import dataclass, field
 from decimal import Decimal
+from typing import Mapping
 
 from .. import voltages
+from ..began import now
 from ..readings import KINDS
 from ..look import Delivered
 from ..survey import Commanded
 
 GREEN, RED, PLAIN = "\033[32m", "\033[31m", "\033[0m"
+# The part of an answer that is about none, or about several.
+NOWHERE: dict[str, object] = {"bus": None, "address": None, "part": None}
 # The words that a terminal shows in a colour.
 GOOD = re.compile(r"\b(confirmed|acknowledged|learned|within)\b")
 BAD = re.compile(r"\b(CUT|OUTSIDE|differs|unknown|refused|restart seen: yes)\b")
@@ -46,8 +50,8 @@ class Answer:
         """The output behind the command, - for the device's register."""
         return f" {self.output}" if self.output is not None else " -" if self.register is not None else ""
 
-    def as_json(self) -> str:
-        """The same as one object; each command's has the same keys."""
+    def as_json(self, where: Mapping[str, object] | None = None) -> str:
+        """The same as one object; each command's has the same keys. `where` has the bus, the address and the name of its part."""
         found = self.commanded or Commanded()
         return json.dumps({
             "command": self.command, "end": self.end, "status": self.status, "why": self.why or None,
@@ -58,7 +62,8 @@ class Answer:
             "selected": found.selected, "on": found.is_on,
             "commands": None if found.least is None else [number(found.least), number(found.greatest)],
             "limits": None if found.limits is None else [number(each) for each in found.limits],
-            "within": found.is_within, **delivery_of(self.delivered), "missing": sorted(found.missing), "restart_seen": self.restart_seen, "rows": self.rows})
+            "within": found.is_within, **delivery_of(self.delivered), "missing": sorted(found.missing), "restart_seen": self.restart_seen, "rows": self.rows,
+            "time": now(), **(where or NOWHERE)})
 
 
 def delivery_of(found: Delivered | None) -> dict[str, object]:

@@ -7,6 +7,7 @@ import signal
 import sys
 from typing import Any, Callable, Iterator
 
+from ..began import head_of
 from ..bus import LinuxBus, PatientBus, Trace
 from ..bus.linux import ENDING, BusTrace, Calls
 from ..part import ModelPartBus
@@ -18,9 +19,10 @@ from ..rails import ONLY, Rail, Rails
 from ..reserved import why_reserved
 from . import streams
 from .again import Ordered
-from .answer import Answer, coloured
+from .answer import NOWHERE, Answer, coloured
 from .parser import BEHIND, OPTIONS, BadCall
 from .place import Options, Place
+from .protection import Protection
 
 MODEL_ADDRESS, MODEL_OUTPUTS, PASSES = 0x58, 2, 3
 NOTHING = "nothing was written"
@@ -79,7 +81,7 @@ class Call:
     of the command all the same."""
 
     def __init__(self, commands: list[argparse.Namespace], kernel: Calls | None = None) -> None:
-        self.commands, self.kernel = commands, kernel
+        self.commands, self.kernel, self.words = commands, kernel, ""
         self._places: dict[str, Place] = {}
         self._trace: Trace | None = None
         self._rails: Rails | None = None
@@ -88,6 +90,8 @@ class Call:
         # The parts that have answered, and the rail that the command under way names, which a file has.
         self.has_answered, self.identified, self.ordered = set[str](), set[str](), Ordered()
         self.named: Rail | None = None
+        self.protection = Protection(self)
+        self.protect: int | None = None
         self.bus: str | None = self._one("bus")
         self.address: int | None = self._one("address")
         self.outputs: int | None = self._one("outputs")
@@ -95,6 +99,7 @@ class Call:
         self.lacks: tuple[str, ...] = self._one("lacks") or ()
         self.trace_path: str | None = self._one("trace")
         self.delay: int = self._one("delay") or 0
+        self.is_timed = bool(self._all("trace_times"))
         self.busy_timeout: int | None = self._one("busy_timeout")
         self.is_unlimited, self.is_json, self.is_forced, self.is_shared = (
             bool(self._all(name)) for name in ("no_limit", "json", "force", "share_bus"))
@@ -131,6 +136,8 @@ class Call:
 
     def judge(self) -> None:
         """The options agree with one another. BadCall."""
+        if self.is_timed and self.trace_path is None:
+            raise BadCall("--trace-times: give --trace FILE, too")
         if not self.has_bus or self._rails is not None and self._rails.is_board:
             return
         if self.bus is None:
@@ -167,6 +174,7 @@ class Call:
                                   "call of its own")
         else:
             self.outputs, self.limits, self.lacks = found.parts[ONLY].outputs, found.limits(ONLY), found.parts[ONLY].lacks
+            self.protect = found.parts[ONLY].protect
         self._rails = found
 
     def judge_write(self, arguments: argparse.Namespace, more: str = "") -> None:
@@ -199,12 +207,12 @@ class Call:
         """The parts of the call by their names, none of which was opened before its first use."""
         if not self._places:
             options = Options(self.passes, self.delay, self.busy_timeout, self.is_forced, self.is_shared, self.kernel)
-            self._trace = Trace(self.trace_path)
+            self._trace = Trace(self.trace_path, head_of(self.words), self.is_timed)
             if self._rails is not None and self._rails.is_board:
                 self._places = {part.name: Place(part, limits, options, BusTrace(self._trace, part.bus))
                                 for part, limits in self._rails.made_for()}
             else:
-                only = BoardPart(ONLY, self.bus or "", self.address or MODEL_ADDRESS, self.counted(), "", self.lacks, self._one("ready"))
+                only = BoardPart(ONLY, self.bus or "", self.address or MODEL_ADDRESS, self.counted(), "", self.lacks, self._one("ready"), self.protect)
                 self._places = {ONLY: Place(only, self.limits, options, self._trace, self.outputs or max(MODEL_OUTPUTS, self.counted()))}
         return self._places
 
@@ -281,13 +289,23 @@ class Call:
     def say(self, answer: Answer) -> int:
         """Prints an answer, and on standard error why it is a bad one. Its status."""
         place = answer.place() if self.named is None or answer.output is None else f" {self.named.name}"
-        lines = [answer.as_json()] if self.is_json else [f"{answer.command.split()[0]}{place}: {answer.text}"] if answer.text else []
+        lines = [answer.as_json(self.where())] if self.is_json else [f"{answer.command.split()[0]}{place}: {answer.text}"] if answer.text else []
         self.say_lines(lines)
         if answer.why:
             complain(f"{answer.command}: {answer.why}")
         if self._trace is not None:
             self._trace.raise_fault()
         return answer.status
+
+    def where(self) -> dict[str, object]:
+        """The bus, the address and the name of the part that the command under way is about, None of each where these are several."""
+        if self._rails is not None and self._rails.is_board:
+            if self.named is None:
+                return NOWHERE
+            part = self._rails.parts[self.named.part]
+            return {"bus": part.bus, "address": f"{part.address:02X}", "part": part.name}
+        address = MODEL_ADDRESS if self.address is None and self.bus == MODEL_BUS else self.address
+        return {"bus": self.bus, "address": None if address is None else f"{address:02X}", "part": None}
 
     def say_lines(self, lines: list[str]) -> None:
         for line in lines:

@@ -10,7 +10,7 @@ from .. import probe, voltages
 from ..codes import CODES, code_of
 from ..course import Course, Job
 from ..device import MARGINS, OFF, ON, Device
-from ..errors import PlanRefused, Refused
+from ..errors import PlanRefused, Refused, name_of
 from ..readings import KINDS
 from ..rounded import Accepting
 from ..states import Step
@@ -66,14 +66,14 @@ def voltage_of(word: str) -> int:
 def accept_of(word: str) -> int:
     """Microvolts of how near is near enough."""
     found = voltage_of(word)
-    if found < 0:
+    if not 0 <= found <= voltages.MOST_LIMIT:
         raise argparse.ArgumentTypeError(f"accept {word}: give how near is near enough, as 20mV")
     return found
 
 
 # The option of commands that take a rounded word.
 ACCEPT: dict[str, Any] = {"type": accept_of, "metavar": "VOLTAGE",
-                          "help": "takes a word that the part made of the ordered one and that is this near, as 20mV"}
+                          "help": "takes a word that the part holds and whose value is this near, as 20mV"}
 
 
 def output_of(word: str) -> int | None:
@@ -294,20 +294,41 @@ def carry_out(arguments: argparse.Namespace, register: str, begin: Callable[[], 
     return call.say(confirmed_alone(arguments, part, register))
 
 
-def run_course(arguments: argparse.Namespace, register: str, course: Course, wanted: int | None = None) -> Accepting | int:
-    """Carries a course out that orders a register, near to these microvolts; the status where it came to no end."""
+def accept_in(arguments: argparse.Namespace) -> int | None:
+    """How near a held word has to be: what was given, or else what the file has of the rail; None of a command that orders no voltage."""
+    given, named = getattr(arguments, "accept", None), getattr(arguments, "named", None)
+    return named.accept if given is None and named is not None and hasattr(arguments, "accept") else given
+
+
+def run_course(arguments: argparse.Namespace, register: str, course: Course) -> Accepting | int:
+    """Carries a course out that orders a register; the status where it came to no end. Where just the WRITE_PROTECT of the file is in the
+    way that is lifted, and the course carried out once more."""
+    protection, anew = arguments.call.protection, course.save()
+    protection.touch(arguments.call.part_name)
+    if course.turns_off:
+        protection.read(arguments.call.part_name)
+        protection.lift(arguments.call.part_name)
+    ran = run_once(arguments, register, course)
+    end = course.ended
+    if end is not None and end.kind == "refused" and name_of(end.number).startswith("P7 ") and protection.lift(arguments.call.part_name):
+        course.load(anew)
+        return run_once(arguments, register, course)
+    return ran
+
+
+def run_once(arguments: argparse.Namespace, register: str, course: Course) -> Accepting | int:
+    """The same, as it is."""
     call: Call = arguments.call
-    part, output, accepting = call.part(), arguments.output, Accepting(call.part(), course, getattr(arguments, "accept", None))
+    part, output, accepting = call.part(), arguments.output, Accepting(call.part(), course, accept_in(arguments))
     look = arguments.look = call.look(output)
 
     def before(order: Job) -> None:
         if look is not None:
             look.before(course, order)
-        accepting.before(order)
         call.maybe = f"output {output} {order.register} may hold the old or the ordered word"
 
     def after(order: Job, step: Step) -> None:
-        is_held = accepting.after(order, step, wanted) or step.kind == "done"
+        is_held = accepting.after(order, step) or step.kind == "done"
         if is_held and order.word is not None:
             word = accepting.taken.get(order.register, order.word)
             call.ordered.note(call.part_name, output, order.register, word, said(arguments))
@@ -326,9 +347,9 @@ def run_course(arguments: argparse.Namespace, register: str, course: Course, wan
     return accepting
 
 
-def tell_course(arguments: argparse.Namespace, register: str, course: Course, wanted: int | None = None) -> int:
+def tell_course(arguments: argparse.Namespace, register: str, course: Course) -> int:
     """Carries a course out that orders a register, and says what became of it and what the output then commands."""
-    ran, call = run_course(arguments, register, course, wanted), arguments.call
+    ran, call = run_course(arguments, register, course), arguments.call
     if isinstance(ran, int):
         return ran
     return int(call.say(course_answer(arguments, call.part(), register, course, register in ran.taken)))
@@ -337,7 +358,7 @@ def tell_course(arguments: argparse.Namespace, register: str, course: Course, wa
 def set_voltage(arguments: argparse.Namespace) -> int:
     """Orders a voltage of a register."""
     wanted = voltages.of_microvolts(arguments.microvolts)
-    return tell_course(arguments, arguments.register, Course.voltage(arguments.output, wanted, arguments.register, TRIES), arguments.microvolts)
+    return tell_course(arguments, arguments.register, Course.voltage(arguments.output, wanted, arguments.register, TRIES))
 
 
 def word(arguments: argparse.Namespace) -> int:
@@ -377,6 +398,9 @@ def send_command(arguments: argparse.Namespace) -> int:
     hot = too_hot(part) if arguments.command == "store" and not call.is_forced else ""
     if hot:
         return call.say(answer_of(arguments, part, None, "refused", status=1, text="nothing is stored", why=f"{hot}: --force stores all the same"))
+    call.protection.touch(call.part_name)
+    call.protection.read(call.part_name)
+    call.protection.lift(call.part_name)
     {"clear": lambda: part.host.clear(output), "store": part.host.store, "restore": part.host.restore}[arguments.command]()
     call.maybe = {"clear": f"the faults of output {output} may be cleared or not", "store": STORES,
                   "restore": RESTORES}[arguments.command]

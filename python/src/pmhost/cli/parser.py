@@ -189,6 +189,7 @@ OPTIONS: dict[str, tuple[tuple[str, ...], dict[str, Any]]] = {
     "no_limit": (("--no-limit",), {"const": True, "help": "orders outputs without limits that no --limit names"}),
     "passes": (("--passes",), {"type": whole(1, 15, "passes"), "metavar": "N", "help": "how often a job is tried, 3 if left out"}),
     "trace": (("--trace",), {"type": file_of, "metavar": "FILE", "help": "appends what went over the wire, for pmb decode"}),
+    "trace_times": (("--trace-times",), {"const": True, "help": "with --trace: each transfer has its time in microseconds, for pmb decode --times"}),
     "json": (("--json",), {"const": True, "help": "one object a command"}),
     "delay": (("--delay",), {"type": time_of(10, "delay"), "metavar": "TIME", "help": "how long to wait before each transfer, as 5ms"}),
     "busy_timeout": (("--busy-timeout",), {"type": time_of(60, "busy-timeout"), "metavar": "TIME",

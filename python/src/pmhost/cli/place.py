@@ -85,6 +85,11 @@ class Place:
         return self._pmbus
 
     @property
+    def is_begun(self) -> bool:
+        """Whether its bus was opened for a host."""
+        return self._pmbus is not None
+
+    @property
     def has_written(self) -> bool:
         """Whether a frame of the last job was a write."""
         return self._pmbus is not None and self._pmbus.transfers.has_written

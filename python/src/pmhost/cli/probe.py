@@ -5,7 +5,7 @@ import argparse
 from typing import Any
 
 from ..parts import MISSABLE, MODEL_BUS
-from ..probe import REGISTERS, UNFIT, Found, FoundOutput, Probe, block_words, spaced, text_of
+from ..probe import REGISTERS, UNFIT, WITHOUT_PEC_TAKEN, Found, FoundOutput, Probe, block_words, spaced, text_of
 from ..reads import Read
 from ..scan import LEFT_OUT, Seen, scan
 from .answer import Answer, in_digits
@@ -18,12 +18,15 @@ MAY_BE_TAKEN = "a device that isn't a PMBus part may take the command byte for a
 MAY_BE_CLEARED = "the part's latched faults may be cleared, and no setting was written"
 
 
+FITS, BUT = "the part fits", "for a frame that is both damaged and cut before its last byte, which is not proved"
+
+
 def add(commands: Any) -> None:
     """Adds the subparser."""
     help = "tells by reads alone whether the host can drive the part, its outputs, formats and registers"
     found = commands.add_parser("probe", help=help)
     found.add_argument("--writes", action="store_true", help="sends CLEAR_FAULTS without and with a wrong PEC, too: "
-                       "a part that takes one can't be driven. It clears faults")
+                       "a part that takes a wrong one can't be driven. It clears faults")
     found.add_argument("--all-addresses", action="store_true", help="without an address: sends a command byte to 70 to 77, too, where multiplexers "
                        "sit, which take it for their channels")
     found.set_defaults(run=run, judge=judge, can_scan=True)
@@ -54,10 +57,20 @@ def run(arguments: argparse.Namespace) -> int:
         call.settled = MAY_BE_CLEARED
         probe.write()
     lines, give = lines_of(found, arguments.writes), give_of(call, found) if found.is_fit else None
+    if found.is_fit and found.is_pec_optional:
+        lines.append(next_words(call))
     if not call.is_json:
         call.say_lines([*(f"probe: {line}" for line in lines), *([give] if give else [])])
     told = [*(row_of(each) for each in found.outputs), device_row(found, lines, give)]
-    return call.say(Answer(said(arguments), "fit" if found.is_fit else "unfit", status=0 if found.is_fit else 1, rows=told))
+    end = "unfit" if not found.is_fit else "fit but" if found.is_pec_optional else "fit"
+    return call.say(Answer(said(arguments), end, status=0 if found.is_fit else 1, rows=told))
+
+
+def next_words(call: Call) -> str:
+    """What to do about a part that takes a write without a PEC."""
+    bus = "BUS" if call.bus == MODEL_BUS else call.bus
+    return (f"look into the data sheet for a bit that requires the PEC, as bit 2 of MFR_CONFIG_ALL (D1) of an LTC3887: i2cset -y {bus} "
+            f"0x{call.address or MODEL_ADDRESS:02X} 0xD1 0xNN bp writes that byte with its PEC; then probe --writes again")
 
 
 def look_around(arguments: argparse.Namespace, call: Call) -> int:
@@ -110,7 +123,8 @@ def lines_of(found: Found, wants_writes: bool) -> list[str]:
         lines.append(f"PEC yes, PAGE_PLUS yes, {counted}: {', '.join(f'{each.number} {each.format}' for each in found.outputs)}")
         lines.append(found.page)
     if found.identity:
-        lines.append(", ".join([revision_words(found.revision), *(text_words(*each) for each in found.identity.items())]))
+        lines.append(", ".join([revision_words(found.revision), *(text_words(*each) for each in found.identity.items()),
+                                *(f"{name} {block_words(block)}" for name, block in found.unit.items())]))
         lines.append(protect_words(found.protect))
     for each in found.outputs:
         lines += [f"output {each.number}: {registers_words(each)}", f"output {each.number}: {on_off_words(each.on_off)}"]
@@ -129,6 +143,8 @@ def lines_of(found: Found, wants_writes: bool) -> list[str]:
         lines.append(f"{UNFIT}: {'; '.join(found.faults)}")
     elif found.doubt:
         lines.append(f"whether this host can drive the part isn't known: {found.doubt}")
+    elif found.writes:
+        lines.append(f"{FITS} but {BUT}: {WITHOUT_PEC_TAKEN}" if found.is_pec_optional else FITS)
     return lines
 
 
@@ -196,6 +212,7 @@ def device_row(found: Found, lines: list[str], give: str | None) -> dict[str, ob
     """The same of the device, with what is said of it and the command line for it."""
     texts = {name.lower(): None if read.payload is None else text_of(read.payload) or spaced(read.payload)
              for name, read in found.identity.items()}
+    texts.update({name.lower(): text_of(block) or spaced(block) for name, block in found.unit.items()})
     protect = found.protect.payload
     return {"output": None, "pmbus_revision": None if found.revision is None else f"{found.revision:02X}", **texts,
             "write_protect": None if protect is None else f"{protect[0]:02X}", "writes": found.writes,

@@ -38,8 +38,8 @@ def add(commands: Any) -> None:
                                help="has the parts of which something was ordered store their settings, once all rails are as the file has them")
             found.add_argument(STORE_ALL, action="store_true", dest="stores_all",
                                help="the same of all parts, also where nothing was ordered; --store=always is this, too")
-            found.add_argument("--accept", **ACCEPT)
             way.add(found)
+        found.add_argument("--accept", **ACCEPT)
         bus_options(found)
 
 
@@ -56,7 +56,7 @@ def judge_file(arguments: argparse.Namespace) -> None:
 def apply(arguments: argparse.Namespace) -> int:
     """Applies a file, or says what would be ordered."""
     board = board_of(arguments)
-    board.accept, board.wants_store = arguments.accept, arguments.wants_store or arguments.stores_all
+    board.wants_store = arguments.wants_store or arguments.stores_all
     return run_board(arguments, board, board.prepare if arguments.dry_run else board.apply)
 
 
@@ -85,7 +85,9 @@ def board_of(arguments: argparse.Namespace) -> Board:
         others = [name for name in board.changed() if name != it.name]
         return f"; written before: {', '.join(others)}" if others else ""
 
-    board.before_order, board.after_order, board.looks = before, after, call.looks
+    board.before_order, board.after_order, board.looks, board.accept = before, after, call.looks, arguments.accept
+    board.is_in_the_way, board.lift = call.protection.is_in_the_way, call.protection.lift
+    board.is_dry = arguments.dry_run
     return board
 
 
@@ -93,6 +95,9 @@ def run_board(arguments: argparse.Namespace, board: Board, run: Any) -> int:
     """Carries it out, and says what became of it; the picture that is wanted comes behind that."""
     call: Call = arguments.call
     is_dry: bool = arguments.dry_run
+    if arguments.command == "apply" and not is_dry:
+        for name in board.having_rails():
+            call.protection.touch(name)
     file = WayFile(arguments, board, lambda rail: end_of(board, rail, is_dry))
     try:
         why, status = stop_of(board, run)
@@ -141,6 +146,7 @@ def store(call: Call, board: Board, found: Answer, stores_all: bool) -> None:
             found.end, found.text, found.status = "refused", f"stored {', '.join(stored)} alone" if stored else "nothing is stored", 1
             found.why = why
             return
+        call.protection.lift(name)
         call.maybe = f"{f'{name}: ' * bool(name)}{STORES}{f'; stored before: ' * bool(stored)}{', '.join(stored)}"
         try:
             board.store(name)

@@ -1,0 +1,91 @@
+"""WRITE_PROTECT of the parts of a file that say what it is to be: it is lifted before an order where the part holds just that byte, and written
+last, however the call ends."""
+from __future__ import annotations
+
+import contextlib
+from typing import TYPE_CHECKING
+
+from ..errors import Refused
+from ..states import Step
+from ..survey import holds_zeros, only_word
+from ..zeros import NotBelieved, guard
+from . import streams
+from .answer import Answer
+
+if TYPE_CHECKING:
+    from .call import Call
+
+PROTECT, OFF = "WRITE_PROTECT", 0
+
+
+class Protection:
+    """What a call does about it. `left` says of which parts it is left lifted."""
+
+    def __init__(self, call: Call) -> None:
+        self.call, self.left = call, ""
+        self._lifted, self._touched = set[str](), set[str]()
+
+    def of(self, name: str) -> int | None:
+        """The byte of a part, None where its file has none."""
+        return self.call.places()[name].part.protect
+
+    def touch(self, name: str) -> None:
+        """A command orders something of a part: its byte is written behind the call's last command."""
+        if self.of(name) is not None:
+            self._touched.add(name)
+
+    def is_in_the_way(self, name: str) -> bool:
+        """Whether a part is known to hold just the byte of its file."""
+        return self.of(name) not in (None, OFF) and only_word(self.call.places()[name].pmbus(), 0, PROTECT) == self.of(name)
+
+    def read(self, name: str) -> None:
+        """Reads it, where the file has a byte."""
+        if self.of(name) is not None:
+            part = self.call.places()[name].pmbus()
+            part.host.check(0, PROTECT)
+            part.run()
+
+    def lift(self, name: str) -> bool:
+        """Lifts it where that byte is in the way: whether the part takes orders now. The line says so."""
+        if not self.is_in_the_way(name):
+            return False
+        self._touched.add(name)
+        self._lifted.add(name)
+        if self._order(name, OFF):
+            return False
+        self._say(name, "lifted", f"{PROTECT} {OFF:02X} confirmed, and was {self.of(name):02X}")
+        return True
+
+    def lock(self) -> int:
+        """Writes the byte of each part that was touched, where it holds 00 and answers. The status: 1 where that isn't confirmed."""
+        for name in sorted(each for each in self._touched if self.call.places()[each].is_begun):
+            self.read(name)
+            held = only_word(self.call.places()[name].pmbus(), 0, PROTECT)
+            why = "no good answer" if held is None and name in self._lifted else ""
+            if held == OFF and self.of(name) != OFF:
+                why = self._order(name, self.of(name) or OFF)
+                if not why:
+                    self._say(name, "protected", f"{PROTECT} {self.of(name):02X} confirmed")
+            if why:
+                self.left += f"{'; ' * bool(self.left)}{name}{': ' * bool(name)}{PROTECT} is {OFF:02X}: {why}: order {self.of(name):02X} by word"
+        return int(bool(self.left))
+
+    def _order(self, name: str, byte: int) -> str:
+        """Orders a byte, and reads it back. Why it isn't confirmed, nothing where it is."""
+        place = self.call.places()[name]
+        part = place.pmbus()
+
+        def order() -> Step:
+            part.host.order(0, PROTECT, byte)
+            return part.run()
+
+        try:
+            step = guard(part.host.address, PROTECT, place.ask_operation, order, lambda _: holds_zeros(part))
+        except (Refused, NotBelieved) as fault:
+            return str(fault)
+        return "" if step.kind == "done" else part.transfers.why() or "no good answer"
+
+    def _say(self, name: str, end: str, words: str) -> None:
+        """The line; nobody may be left to read it."""
+        with contextlib.suppress(streams.NoStream):
+            self.call.say(Answer(f"protect {name}".strip(), end, f"{name}{': ' * bool(name)}{words}"))
