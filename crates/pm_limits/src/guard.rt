@@ -25,8 +25,8 @@ ghost use Rattle.pm_limits.specs.Part.{all_registers};
 use crate::band::{Band, band_of};
 use crate::fault::LimitFault;
 use crate::judgement::{
-    judge, judge_word, narrower_limits, ordered_output, output_of, refuse_cell, refuse_ordered,
-    within_limits,
+    NewLimits, judge, judge_word, narrower_limits, ordered_output, output_of, refuse_cell,
+    refuse_ordered, within_limits,
 };
 use crate::limits::Limits;
 use crate::part_registers::PartRegisters;
@@ -248,7 +248,12 @@ impl Guard {
     {
         let old = self.limits(output);
         let (state, stage) = (self.host.state(), self.host.stage());
-        narrower_limits(state, stage, self.registers, old, output, least, most)
+        let new = NewLimits {
+            output,
+            least,
+            most,
+        };
+        narrower_limits(state, stage, self.registers, old, new)
     }
 
     /// Between which voltages an output may be, as [`band_of`] says. The output is there.
