@@ -1,9 +1,8 @@
 -- What a course to a byte that leaves the output on is worth over a life.
-use Rattle.std.proofs.Common.{◌≡◌, inl, inr, ℕ, ◌<◌, Bool, true, false, List, ◌∷◌, ◌++◌}
+use Rattle.std.proofs.Common.{◌≡◌, ℕ, ◌<◌, Bool, true, false, List, ◌∷◌, ◌++◌}
 use Rattle.std.proofs.Common.{Option, Some, None, Result, Ok, Err, refl, ap, sym, subst, ◌∙◌}
 use Rattle.std.specs.Prelude.{◌&&◌, if◌then◌else◌, is_some, option_and_then, IsSomeAnd}
 use Rattle.pm_table.specs.declared.cell.Cell.TheVariants.{Out, Protect}
-use Rattle.pm_table.specs.declared.reg.Reg.{Reg}
 use Rattle.pm_table.specs.declared.reg.Reg.TheVariants.{Operation}
 use Rattle.pm_table.specs.Cell.{register_code}
 use Rattle.pm_table.specs.Operation.{has_on, selected_register}
@@ -11,10 +10,8 @@ use Rattle.pm_table.specs.Protection.{is_allowed}
 use Rattle.pm_device.specs.declared.config.Config.{Config}
 use Rattle.pm_host.specs.declared.job.Job.{Job as Asked}
 use Rattle.pm_host.specs.declared.job.Job.TheVariants.{Order, OrderMicro, Check, Learn, Send}
-use Rattle.pm_host.specs.declared.job.JobEnd.{JobEnd}
 use Rattle.pm_host.specs.Jobs.{accepted_job}
 use Rattle.pm_host.specs.Summary.{Summary}
-use Rattle.pm_host.specs.Transcript as host
 use Rattle.pm_limits.specs.declared.part_registers.PartRegisters.{PartRegisters}
 use Rattle.pm_limits.specs.Bounds.{Bounds}
 use Rattle.pm_limits.specs.Part.{has_register}

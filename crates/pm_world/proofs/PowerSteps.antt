@@ -50,7 +50,6 @@ use Rattle.pm_world.specs.State.{State, asked}
 use Rattle.pm_world.specs.Surveys.{AreRead, MissingUnread}
 use Rattle.pm_world.proofs.CourseEvents.{Given, no-order, no-restore, open-kept, two-registers, unread, unread-kept}
 use Rattle.pm_world.proofs.DoneOrders.{order-done}
-use Rattle.pm_world.proofs.JobSpans.{any-parts}
 use Rattle.pm_world.proofs.Lives.{IsLived, earlier, lived-before}
 use Rattle.pm_world.proofs.Moves.{moves-so}
 use Rattle.pm_world.proofs.PlanSteps.{pending-open}
