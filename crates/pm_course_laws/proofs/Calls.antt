@@ -1,10 +1,20 @@
 -- What the calls of a course do is what its life is made of.
-use Rattle.std.proofs.Common.{◌≡◌, ℕ, Bool, true, false, List, ◌∷◌, ◌++◌, Option, Some, Ok, refl, ap, sym, subst, ◌∙◌}
+use Rattle.std.proofs.Common.{◌≡◌, ℕ, Bool, true, false, List, [], ◌∷◌, ◌++◌, Option, Some, None, Ok, refl, ap, sym, subst, ◌∙◌}
+use Rattle.std.specs.Prelude.{not, option_map}
+use Rattle.pm_table.specs.declared.cell.Cell.TheVariants.{Out, Protect}
+use Rattle.pm_table.specs.Rules.{first, rule}
+use Rattle.pm_host.specs.declared.fault.HostFault.{HostFault}
+use Rattle.pm_host.specs.declared.job.Job.{Job as Asked}
+use Rattle.pm_host.specs.declared.job.Job.TheVariants.{Order, OrderMicro, Check, Learn, Send}
+use Rattle.pm_host.specs.Jobs.{accepted_job}
+use Rattle.pm_host.specs.Refusals.{cell_fault, micro_word}
 use Rattle.pm_device.specs.declared.config.Config.{Config}
 use Rattle.pm_host.specs.Summary.{Summary, step_of}
 use Rattle.pm_host.specs.Transcript as host
 use Rattle.pm_limits.specs.declared.part_registers.PartRegisters.{PartRegisters}
-use Rattle.pm_limits.specs.Guard.{Guarded, limits_at}
+use Rattle.pm_limits.specs.declared.fault.LimitFault.TheVariants.{MissingRegister}
+use Rattle.pm_limits.specs.Guard.{Guarded, LetsBegin, limits_at, of_host}
+use Rattle.pm_limits.specs.Part.{has_register}
 use Rattle.pm_limits.specs.FaultWords.{limit_fault_number}
 use Rattle.pm_course.specs.declared.course_end.CourseNext.{CourseNext}
 use Rattle.pm_course.specs.declared.frame_course.FrameCourse.{FrameCourse}
@@ -17,7 +27,25 @@ use Rattle.pm_world.specs.declared.event.Event.{Event}
 use Rattle.pm_world.specs.Ended.{begins_other}
 use Rattle.pm_world.specs.Life.{now}
 use Rattle.pm_world.specs.State.{share_of}
-use Rattle.pm_course_laws.specs.FrameLives.{Handed, IsFrameCourse, asks, begins_job, goes_on, hears, over, refused, stays}
+use Rattle.pm_course_laws.specs.FrameLives.{Handed, IsFrameCourse, IsHad, asks, begins_job, goes_on, hears, over, refused, stays}
+
+-- a guard begins no check of a register that the part doesn't have
+pub had-so : (g new : Guarded) (job : Asked) (output : ℕ) → LetsBegin g job (Ok tt) new → IsHad g.registers output (accepted_job g.host job)
+had-so g new (Check (Out other register)) output lets = λ same. by (cell_fault g.host (Out other register)) (has_register g.registers register) refl
+    (sym lets.fault) where
+      by : (f : Option HostFault) (has : Bool) → has_register g.registers register ≡ has →
+          first (of_host f ∷ rule (not has) MissingRegister ∷ []) ≡ None → has_register g.registers register ≡ true
+      by f true e h = e
+      by None false e h = cc
+      by (Some fault) false e h = cc
+had-so g new (Check Protect) output lets = tt
+had-so g new (Order cell word) output lets = tt
+had-so g new (OrderMicro cell x) output lets = by (micro_word g.host cell x) where
+  by : (w : Option ℕ) → IsHad g.registers output (option_map (λ word. host.Order cell word) w)
+  by None = tt
+  by (Some word) = tt
+had-so g new (Learn at) output lets = tt
+had-so g new (Send command) output lets = tt
 
 -- what a course says by a guard is what it says by the life's host
 said-so : (part : PartRegisters) (g : Guarded) (s : Summary) (c is : FrameCourse) (next : CourseNext) → g.host ≡ s → g.registers ≡ part →

@@ -2,7 +2,8 @@
 use Rattle.pm_course_laws.specs.FrameLives.{FrameCoursesHoldInLives}
 use Rattle.pm_course_laws.proofs.Names.{Given}
 use Rattle.pm_course_laws.proofs.Off.{keeps-off}
-use Rattle.pm_course_laws.proofs.Calls.{hands-so, hears-so}
+use Rattle.pm_course_laws.proofs.On.{keeps-on}
+use Rattle.pm_course_laws.proofs.Calls.{had-so, hands-so, hears-so}
 use Rattle.pm_course_laws.proofs.Surveys.{surveys-order-nothing, unformed-order-nothing}
 use Rattle.pm_course_laws.proofs.ToWishes.{keeps}
 
@@ -20,4 +21,7 @@ hold-in-lives laws = record {
       hears-so config passes part begun c is later before g new event entry was host alone told heard';
   off = λ config passes part output byte tries c own later before off spelled lived b.
       keeps-off laws config passes part output byte tries before spelled b.here off c own later lived b;
+  on = λ config passes part output byte tries c own later before on spelled lived had b.
+      keeps-on laws config passes part output byte tries before spelled b.here on c own later lived had b;
+  had = λ g new job output lets. had-so g new job output lets;
 }

@@ -10,5 +10,6 @@ mod ToWishes
 mod Off
 mod Unordered
 mod Surveys
+mod On
 mod Calls
 mod Kept

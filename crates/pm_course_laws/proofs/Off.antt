@@ -58,7 +58,7 @@ module _ (laws : Given) (config : Config) (passes : ℕ) (part : PartRegisters) 
       last_end c.end ≡ None → SaysNext part limits (at later) c (Ended Reached) is →
       next_of part limits (at later) c.course ≡ said.Ended way.Reached
   reached limits c is later same on said' =
-      let r = says.reached part limits (at later) c (plain (at later) c same) on is said' in
+      let r = says.reached part limits (at later) c on is said' in
       subst (λ (y : Course). next_of part limits (at later) y ≡ said.Ended way.Reached)
       (ap (λ (p : Option Wanted). with_plan c.course p) (planned c r.formed same) ∙ own-way c same) r.reached
 

@@ -125,10 +125,53 @@ module _ (part : PartRegisters) (limits : Option Bounds) (s : Summary) (c : Fram
           (ap (λ (x : Says). x.next) (sym goes.said) ∙ sym says.next) (says.after ∙ ap (λ (x : Says). x.after) goes.said);
     }
 
+  -- ---- A job in the place of the one that its way names ----
+
+  pub record Turned (job : Asked) (is : FrameCourse) (formed : Wanted) : Type 0 where
+    pub named : Asked
+    pub next : next_of part limits s (way_to formed) ≡ said.Job named
+    pub asked : asked_for s c.course c.course.byte named ≡ Ok job
+    pub course : is.course ≡ asking_for c.course (after_next part limits s (way_to formed)) named job
+    pub voltages : is.voltages ≡ c.voltages
+
+  turned-planned : (job : Asked) (is : FrameCourse) (formed : Wanted) → (saying_planned part limits s c (Ok formed)).next ≡ Job job →
+      is ≡ (saying_planned part limits s c (Ok formed)).after → Turned job is formed
+  turned-planned job is formed said' after = by (next_of part limits s (way_to formed)) refl said' after where
+    aft : Course
+    aft = after_next part limits s (way_to formed)
+
+    by : (n : Next) → next_of part limits s (way_to formed) ≡ n → (saying_next s c aft n).next ≡ Job job → is ≡ (saying_next s c aft n).after →
+        Turned job is formed
+    by (said.Ended end) e h i = cc
+    by (said.Job j) e h i = so (asked_for s c.course c.course.byte j) refl h i where
+      so : (r : Result Asked Refusal) → asked_for s c.course c.course.byte j ≡ r → (saying_for c aft j r).next ≡ Job job →
+          is ≡ (saying_for c aft j r).after → Turned job is formed
+      so (Err refusal) q k l = cc
+      so (Ok other) q k l = let same : other ≡ job = cc in record {
+        named = j;
+        next = e;
+        asked = subst (λ (x : Asked). asked_for s c.course c.course.byte j ≡ Ok x) same q;
+        course = ap (λ (f : FrameCourse). f.course) l ∙ ap (λ (k : Asked). asking_for c.course aft j k) same;
+        voltages = ap (λ (f : FrameCourse). f.voltages) l;
+      }
+
+  pub record TurnedBy (says : Result Wanted Refusal) (job : Asked) (is : FrameCourse) : Type 0 where
+    pub formed : Wanted
+    pub turned : Turned job is formed
+
+  pub turned : (job : Asked) (is : FrameCourse) (says : SaysNext part limits s c (Job job) is) → TurnedBy says.words job is
+  turned job is says = by (goes-job says.words job (sym says.next)) where
+    by : Goes says.words → TurnedBy says.words job is
+    by goes = record {
+      formed = goes.formed;
+      turned = turned-planned job is goes.formed
+          (ap (λ (x : Says). x.next) (sym goes.said) ∙ sym says.next) (says.after ∙ ap (λ (x : Says). x.after) goes.said);
+    }
+
   -- it has reached its end where its way has
-  reached-planned : IsPlain → (formed : Wanted) → (saying_planned part limits s c (Ok formed)).next ≡ Ended Reached →
+  reached-planned : (formed : Wanted) → (saying_planned part limits s c (Ok formed)).next ≡ Ended Reached →
       next_of part limits s (way_to formed) ≡ said.Ended way.Reached
-  reached-planned plain formed h = by (next_of part limits s (way_to formed)) refl h where
+  reached-planned formed h = by (next_of part limits s (way_to formed)) refl h where
     aft : Course
     aft = after_next part limits s (way_to formed)
 
@@ -138,7 +181,10 @@ module _ (part : PartRegisters) (limits : Option Bounds) (s : Summary) (c : Fram
     by (said.Ended (way.Stopped (stop.Refused fault))) e i = cc
     by (said.Ended (way.Stopped (stop.Differs register word))) e i = cc
     by (said.Ended (way.Stopped (stop.Spent job))) e i = cc
-    by (said.Job j) e i = let never = rw (plain j) at i in cc
+    by (said.Job j) e i = so (asked_for s c.course c.course.byte j) i where
+      so : (r : Result Asked Refusal) → (saying_for c aft j r).next ≡ Ended Reached → next_of part limits s (way_to formed) ≡ said.Ended way.Reached
+      so (Err refusal) k = cc
+      so (Ok job) k = cc
 
   pub record ReachedBy (says : Result Wanted Refusal) : Type 0 where
     pub formed : Wanted
@@ -146,15 +192,15 @@ module _ (part : PartRegisters) (limits : Option Bounds) (s : Summary) (c : Fram
     pub idle : is_busy s ≡ false
     pub reached : next_of part limits s (way_to formed) ≡ said.Ended way.Reached
 
-  pub reached : IsPlain → last_end c.end ≡ None → (is : FrameCourse) (says : SaysNext part limits s c (Ended Reached) is) →
+  pub reached : last_end c.end ≡ None → (is : FrameCourse) (says : SaysNext part limits s c (Ended Reached) is) →
       ReachedBy says.words
-  reached plain on is says = by (goes-reached says.words on (sym says.next)) where
+  reached on is says = by (goes-reached says.words on (sym says.next)) where
     by : Goes says.words → ReachedBy says.words
     by goes = record {
       formed = goes.formed;
       words_are = goes.words_are;
       idle = goes.idle;
-      reached = reached-planned plain goes.formed (ap (λ (x : Says). x.next) (sym goes.said) ∙ sym says.next);
+      reached = reached-planned goes.formed (ap (λ (x : Says). x.next) (sym goes.said) ∙ sym says.next);
     }
 
   -- a course that has ended: its way is as it was

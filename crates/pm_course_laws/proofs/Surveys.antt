@@ -35,7 +35,7 @@ abbrev ok : Wanted → Result Wanted Refusal
 ok w = Ok w
 
 -- a job of a way that is no order reads
-way-reads : (part : PartRegisters) (limits : Option Bounds) (s : Summary) (x : Course) (job : Asked) → next_of part limits s x ≡ said.Job job →
+pub way-reads : (part : PartRegisters) (limits : Option Bounds) (s : Summary) (x : Course) (job : Asked) → next_of part limits s x ≡ said.Job job →
     is_order job ≡ false → is_reading job ≡ true
 way-reads part limits s x job is plain = by (named-so (λ (k : Asked). (is_order k ≡ true) ⊎ (is_reading k ≡ true)) part limits s r
     (λ k n. asks-so (λ (y : Asked). (is_order y ≡ true) ⊎ (is_reading y ≡ true)) part r.survey s (inr refl) (λ register has. inr refl) (inr refl) k n)

@@ -63,6 +63,33 @@ module _ (followed : LivesAreFollowed) (lives : EventsAreLived) (config : Config
     pub after : way_of is ≡ after_next part limits (at later) (way_of c)
     pub same : Same is
 
+  -- a job that its way was asked for by an event: how the way stands then, and once it is told how that job ended
+  pub record Opens (job : Asked) (x : Course) (event : Event) (older : List Event) : Type 0 where
+    pub asked' : x.survey.asked ≡ Some job
+    pub went : Way x (event ∷ older)
+    pub told' : (newer : List Event) (end : JobEnd) → list_any begins_other newer ≡ false →
+        (now config passes ((newer ++ event ∷ older) ++ before)).end ≡ Some end → Way (told_of x end) (newer ++ event ∷ older)
+
+  -- a job that it says leads its way on
+  pub record Leads (c is : FrameCourse) (later : List Event) (event : Event) (job : Asked) : Type 0 where
+    pub same : Same is
+    pub opens : Way (way_of c) later → Opens job (way_of is) event later
+
+  asked-named : (limits : Option Bounds) (s : Summary) (was : Course) (job : Asked) → next_of part limits s was ≡ said.Job job →
+      (after_next part limits s was).survey.asked ≡ Some job
+  asked-named limits s was job is = ap (λ (n : Said). (naming (renewed part limits s was) n).survey.asked) is
+
+  pub named-leads : (limits : Option Bounds) (c is : FrameCourse) (later : List Event) (event : Event) (job : Asked) →
+      Names limits c is later job → asked_by event ≡ Some job → Leads c is later event job
+  named-leads limits c is later event job n named = record {
+    same = n.same;
+    opens = λ way. subst (λ (x : Course). Opens job x event later) (sym n.after) (record {
+      asked' = asked-named limits (at later) (way_of c) job n.next;
+      went = course-asks limits (way_of c) later event job way n.next named;
+      told' = λ newer end alone over. tells limits (way_of c) newer later event job end way n.next named alone over;
+    });
+  }
+
   -- the course that named a job, or where the format is to be learned again since
   pub data Forgets (job : Asked) (x : Course) : Course → Type 0 where
     kept : Forgets job x x
@@ -71,9 +98,8 @@ module _ (followed : LivesAreFollowed) (lives : EventsAreLived) (config : Config
   -- how it stands: its way, and the open job, where that is its own
   pub data Tied : Course → Bool → List Event → Type 0 where
     loose : (x : Course) (later : List Event) → Way x later → Tied x false later
-    opened : (limits : Option Bounds) (x was : Course) (newer older : List Event) (event : Event) (job : Asked) → Way was older →
-        next_of part limits (at older) was ≡ said.Job job → asked_by event ≡ Some job → list_any begins_other newer ≡ false →
-        Forgets job (after_next part limits (at older) was) x → Tied x true (newer ++ event ∷ older)
+    opened : (x named : Course) (newer older : List Event) (event : Event) (job : Asked) → Opens job named event older →
+        list_any begins_other newer ≡ false → Forgets job named x → Tied x true (newer ++ event ∷ older)
 
   -- ---- Events that begin no job ----
 
@@ -93,17 +119,17 @@ module _ (followed : LivesAreFollowed) (lives : EventsAreLived) (config : Config
   -- its way, whether its own job is open or not
   pub loosen : (x : Course) (own : Bool) (later : List Event) → Tied x own later → Way x later
   loosen x own later (loose y l way) = way
-  loosen x own later (opened limits y was newer older event job way is named alone forgets') = by forgets' where
-    went : Way (after_next part limits (at older) was) (newer ++ event ∷ older)
-    went = way-over (after_next part limits (at older) was) newer (event ∷ older) alone (course-asks limits was older event job way is named)
+  loosen x own later (opened y named newer older event job opens alone forgets') = by forgets' where
+    went : Way named (newer ++ event ∷ older)
+    went = way-over named newer (event ∷ older) alone opens.went
 
-    by : {z : Course} → Forgets job (after_next part limits (at older) was) z → Way z (newer ++ event ∷ older)
+    by : {z : Course} → Forgets job named z → Way z (newer ++ event ∷ older)
     by kept = went
-    by (forgot free) = forgets (after_next part limits (at older) was) (newer ++ event ∷ older) went
+    by (forgot free) = forgets named (newer ++ event ∷ older) went
 
   further : (x : Course) (later : List Event) (event : Event) → begins_other event ≡ false → Tied x true later → Tied x true (event ∷ later)
-  further x later event alone (opened limits y was newer older first job way is named others forgets') =
-      opened limits y was (event ∷ newer) older first job way is named (rw alone others) forgets'
+  further x later event alone (opened y named newer older first job opens others forgets') =
+      opened y named (event ∷ newer) older first job opens (rw alone others) forgets'
 
   still : (x : Course) (own : Bool) (later : List Event) (event : Event) → Tied x own later →
       IsBeside part begun.course.survey.output (asked (now config passes (later ++ before)) event) →
@@ -120,46 +146,36 @@ module _ (followed : LivesAreFollowed) (lives : EventsAreLived) (config : Config
 
   -- ---- What is told ----
 
-  asked-named : (limits : Option Bounds) (s : Summary) (was : Course) (job : Asked) → next_of part limits s was ≡ said.Job job →
-      (after_next part limits s was).survey.asked ≡ Some job
-  asked-named limits s was job is = ap (λ (n : Said). (naming (renewed part limits s was) n).survey.asked) is
-
   forgotten : (x : Course) (later : List Event) (surprised : Bool) → ((output : ℕ) → x.survey.asked ≡ Some (Learn output) → surprised ≡ false) →
       Tied x true later → Tied (if surprised then forgetting x else x) true later
   forgotten x later false calm tied = tied
-  forgotten x later true calm (opened limits y was newer older event job way is named alone forgets') =
+  forgotten x later true calm (opened y named newer older event job opens alone forgets') =
       by forgets' calm
     where
-      X : Course
-      X = after_next part limits (at older) was
-
-      free : (j : Asked) → job ≡ j → ((output : ℕ) → X.survey.asked ≡ Some (Learn output) → true ≡ false) → is_learn job ≡ false
-      free (Learn output) e c = let never = c output (asked-named limits (at older) was job is ∙ ap (λ (k : Asked). Some k) e) in cc
+      free : (j : Asked) → job ≡ j → ((output : ℕ) → named.survey.asked ≡ Some (Learn output) → true ≡ false) → is_learn job ≡ false
+      free (Learn output) e c = let never = c output (opens.asked' ∙ ap (λ (k : Asked). Some k) e) in cc
       free (Order cell word) e c = rw e refl
       free (OrderMicro cell w) e c = rw e refl
       free (Check cell) e c = rw e refl
       free (Send command) e c = rw e refl
 
-      by : {z : Course} → Forgets job X z → ((output : ℕ) → z.survey.asked ≡ Some (Learn output) → true ≡ false) →
+      by : {z : Course} → Forgets job named z → ((output : ℕ) → z.survey.asked ≡ Some (Learn output) → true ≡ false) →
           Tied (forgetting z) true (newer ++ event ∷ older)
-      by kept c = opened limits (forgetting X) was newer older event job way is named alone (forgot (free job refl c))
-      by (forgot f) c = opened limits (forgetting X) was newer older event job way is named alone (forgot f)
+      by kept c = opened (forgetting named) named newer older event job opens alone (forgot (free job refl c))
+      by (forgot f) c = opened (forgetting named) named newer older event job opens alone (forgot f)
 
   told : (x : Course) (later : List Event) (event : Event) (end : JobEnd) → begins_other event ≡ false →
       (now config passes ((event ∷ later) ++ before)).end ≡ Some end → Tied x true later → Tied (told_of x end) false (event ∷ later)
-  told x later event end alone ended' (opened limits y was newer older first job way is named others forgets') = by forgets' where
-    X : Course
-    X = after_next part limits (at older) was
+  told x later event end alone ended' (opened y named newer older first job opens others forgets') = by forgets' where
+    went : Way (told_of named end) (event ∷ newer ++ first ∷ older)
+    went = opens.told' (event ∷ newer) end (rw alone others) ended'
 
-    went : Way (told_of X end) (event ∷ newer ++ first ∷ older)
-    went = tells limits was (event ∷ newer) older first job end way is named (rw alone others) ended'
-
-    by : {z : Course} → Forgets job X z → Tied (told_of z end) false (event ∷ newer ++ first ∷ older)
-    by kept = loose (told_of X end) (event ∷ newer ++ first ∷ older) went
-    by (forgot free) = loose (told_of (forgetting X) end) (event ∷ newer ++ first ∷ older)
+    by : {z : Course} → Forgets job named z → Tied (told_of z end) false (event ∷ newer ++ first ∷ older)
+    by kept = loose (told_of named end) (event ∷ newer ++ first ∷ older) went
+    by (forgot free) = loose (told_of (forgetting named) end) (event ∷ newer ++ first ∷ older)
         (subst (λ (z : Course). Way z (event ∷ newer ++ first ∷ older))
-        (sym (told-forgets X job end (asked-named limits (at older) was job is) free))
-        (forgets (told_of X end) (event ∷ newer ++ first ∷ older) went))
+        (sym (told-forgets named job end opens.asked' free))
+        (forgets (told_of named end) (event ∷ newer ++ first ∷ older) went))
 
   -- how the job ended, by what the host was told last
   end-told : (later : List Event) (event : Event) (entry : host.Entry) (end : JobEnd) → IsLived config passes (event ∷ later ++ before) →
@@ -265,11 +281,14 @@ module _ (followed : LivesAreFollowed) (lives : EventsAreLived) (config : Config
       by (JobEnded end) e true m surprised u =
           own-ended end e surprised (forgotten (way_of c) later surprised (calm m surprised u) was.tied)
 
-  pub stands-all : ((limits : Option Bounds) (c is : FrameCourse) (later : List Event) (job : Asked) → Same c →
-      IsLived config passes (later ++ before) → SaysNext part limits (at later) c (Job job) is → Names limits c is later job) →
-      (c : FrameCourse) (own : Bool) (later : List Event) → IsLived config passes (later ++ before) →
+  -- it stands so if each job that it says leads its way on, as long as something holds of the events
+  pub stands-by : (May : List Event → Type 0) → ((event : Event) (later : List Event) → May (event ∷ later) → May later) →
+      ((limits : Option Bounds) (c is : FrameCourse) (later : List Event) (event : Event) (job : Asked) → Same c →
+      IsLived config passes (later ++ before) → May (event ∷ later) → SaysNext part limits (at later) c (Job job) is →
+      asked_by event ≡ Some job → Leads c is later event job) →
+      (c : FrameCourse) (own : Bool) (later : List Event) → IsLived config passes (later ++ before) → May later →
       IsFrameCourse config passes part begun before c own later → Stands c own later
-  stands-all names c own later lived is = go is lived where
+  stands-by May rest leads c own later lived may is = go is lived may where
     stays : (f g : FrameCourse) (o : Bool) (l : List Event) → g.course ≡ f.course → g.voltages ≡ f.voltages → Stands f o l → Stands g o l
     stays f g o l course voltages was = record {
       same = record {
@@ -285,30 +304,38 @@ module _ (followed : LivesAreFollowed) (lives : EventsAreLived) (config : Config
     earlier event l lived' = lives.earlier config passes (event ∷ []) (l ++ before) lived'
 
     go : {f : FrameCourse} {o : Bool} {l : List Event} → IsFrameCourse config passes part begun before f o l →
-        IsLived config passes (l ++ before) → Stands f o l
-    go begins lived' = record {
+        IsLived config passes (l ++ before) → May l → Stands f o l
+    go begins lived' may' = record {
       same = record { output = refl; plan' = refl; byte = refl; voltages = refl };
       tied = loose (way_of begun) [] course-begins;
     }
-    go (over limits f g o l end was says') lived' =
+    go (over limits f g o l end was says') lived' may' =
         let left = says.over part limits (at l) f end g says' in
-        stays f g o l left.course left.voltages (go was lived')
-    go (refused limits f g o l job number was says') lived' =
-        let before' = go was lived' in
+        stays f g o l left.course left.voltages (go was lived' may')
+    go (refused limits f g o l job number was says') lived' may' =
+        let before' = go was lived' may' in
         record {
           same = record { output = before'.same.output; plan' = before'.same.plan'; byte = before'.same.byte; voltages = before'.same.voltages };
           tied = before'.tied;
         }
-    go (asks limits f g o l event job was says' named) lived' =
-        let before' = go was (earlier event l lived') in
-        let n = names limits f g l job before'.same (earlier event l lived') says' in
+    go (asks limits f g o l event job was says' named) lived' may' =
+        let before' = go was (earlier event l lived') (rest event l may') in
+        let n = leads limits f g l event job before'.same (earlier event l lived') may' says' named in
         record {
           same = n.same;
-          tied = subst (λ (x : Course). Tied x true (event ∷ l)) (sym n.after)
-              (opened limits (after_next part limits (at l) (way_of f)) (way_of f) [] l event job (loosen (way_of f) o l before'.tied)
-              n.next named refl kept);
+          tied = opened (way_of g) (way_of g) [] l event job (n.opens (loosen (way_of f) o l before'.tied)) refl kept;
         }
-    go (hears f l event stage entry was alone open' told') lived' = heard f l event stage entry (go was (earlier event l lived')) lived' alone told'
-    go (beside f o l event was may) lived' =
-        let before' = go was (earlier event l lived') in
+    go (hears f l event stage entry was alone open' told') lived' may' =
+        heard f l event stage entry (go was (earlier event l lived') (rest event l may')) lived' alone told'
+    go (beside f o l event was may) lived' may' =
+        let before' = go was (earlier event l lived') (rest event l may') in
         record { same = before'.same; tied = still (way_of f) o l event before'.tied may }
+
+  -- it stands so if each job that it says is the one that its way names
+  pub stands-all : ((limits : Option Bounds) (c is : FrameCourse) (later : List Event) (job : Asked) → Same c →
+      IsLived config passes (later ++ before) → SaysNext part limits (at later) c (Job job) is → Names limits c is later job) →
+      (c : FrameCourse) (own : Bool) (later : List Event) → IsLived config passes (later ++ before) →
+      IsFrameCourse config passes part begun before c own later → Stands c own later
+  stands-all names c own later lived is = stands-by (λ es. Unit {0}) (λ event es may. tt)
+      (λ limits f g l event job same lived' may says' named. named-leads limits f g l event job (names limits f g l job same lived' says') named)
+      c own later lived tt is

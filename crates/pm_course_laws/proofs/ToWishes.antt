@@ -111,7 +111,7 @@ module _ (laws : Given) (config : Config) (passes : ℕ) (part : PartRegisters) 
       last_end c.end ≡ None → SaysNext part limits (at later) c (Ended Reached) is →
       next_of part limits (at later) (with_plan c.course (Some wanted)) ≡ said.Ended way.Reached
   reached limits c is later same lived on said' =
-      by (says.reached part limits (at later) c (plain (at later) c same) on is said') where
+      by (says.reached part limits (at later) c on is said') where
         by : says.ReachedBy part limits (at later) c said'.words →
             next_of part limits (at later) (with_plan c.course (Some wanted)) ≡ said.Ended way.Reached
         by r = so (known limits later c r.formed said'.words r.words_are same lived said'.formed) where

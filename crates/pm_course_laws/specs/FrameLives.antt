@@ -1,26 +1,33 @@
 -- A course that hands out frames, over a life: this project's own choice. Lists are newest first.
-use Rattle.std.specs.Prelude.{◌≡◌, ◌⊎◌, ◌<◌, ℕ, Bool, true, false, not, ◌&&◌, List, [], ◌∷◌, ◌++◌, Option, Some, None, Ok}
+use Rattle.std.specs.Prelude.{◌≡◌, ◌⊎◌, ◌<◌, ℕ, Bool, true, false, not, ◌&&◌, List, [], ◌∷◌, ◌++◌, Option, Some, None, Ok, IsSomeAnd}
 use Rattle.std.specs.List.{list_any}
 use Rattle.pm_table.specs.declared.reg.Reg.{Reg}
 use Rattle.pm_table.specs.declared.reg.Reg.TheVariants.{Operation}
-use Rattle.pm_table.specs.Operation.{has_on}
+use Rattle.pm_table.specs.declared.cell.Cell.TheVariants.{Out}
+use Rattle.pm_table.specs.Cell.{register_code}
+use Rattle.pm_table.specs.Operation.{has_on, selected_register}
+use Rattle.pm_table.specs.Protection.{is_allowed}
 use Rattle.pm_device.specs.declared.config.Config.{Config}
 use Rattle.pm_device.specs.Held.{shape_for}
 use Rattle.pm_host.specs.declared.job.Job.{Job as Asked}
+use Rattle.pm_host.specs.declared.job.Job.TheVariants.{Order, Check, Learn}
 use Rattle.pm_host.specs.declared.host.Step.{Step}
 use Rattle.pm_host.specs.declared.host.Step.TheVariants.{Next, Ended as JobEnded}
 use Rattle.pm_host.specs.declared.stage.Stage.{Stage}
+use Rattle.pm_host.specs.Jobs.{accepted_job}
 use Rattle.pm_host.specs.Refusals.{is_busy}
-use Rattle.pm_host.specs.Summary.{step_of}
+use Rattle.pm_host.specs.Summary.{Summary, step_of}
 use Rattle.pm_host.specs.Transcript as host
 use Rattle.pm_limits.specs.declared.part_registers.PartRegisters.{PartRegisters}
 use Rattle.pm_limits.specs.Bounds.{Bounds}
 use Rattle.pm_limits.specs.Guard.{Guarded, LetsBegin, guard_fault, limits_at}
+use Rattle.pm_limits.specs.Part.{has_register}
 use Rattle.pm_rail.specs.declared.next.Next.TheVariants as said
 use Rattle.pm_rail.specs.declared.wanted.Wanted.{Wanted}
 use Rattle.pm_rail.specs.Course.{course_of, next_of, power_course_of}
 use Rattle.pm_rail.specs.Laws.{IsStep}
 use Rattle.pm_rail.specs.Registers.{wants_of}
+use Rattle.pm_rail.specs.Survey.{has_read}
 use Rattle.pm_course.specs.declared.course_end.CourseEnd.{CourseEnd}
 use Rattle.pm_course.specs.declared.course_end.CourseEnd.TheVariants.{Reached}
 use Rattle.pm_course.specs.declared.course_end.CourseNext.TheVariants.{Job, Ended}
@@ -28,7 +35,7 @@ use Rattle.pm_course.specs.declared.course_end.Refusal.{Refusal}
 use Rattle.pm_course.specs.declared.frame_course.FrameCourse.{FrameCourse}
 use Rattle.pm_course.specs.declared.frames.Sending.{Sending}
 use Rattle.pm_course.specs.declared.voltages.Voltages.{Voltages}
-use Rattle.pm_course.specs.FrameCourse.{SaysNext, going_on, last_end, refused_by, to_byte, to_survey, with_plan}
+use Rattle.pm_course.specs.FrameCourse.{SaysNext, going_on, last_end, protect_in, refused_by, to_byte, to_survey, with_plan}
 use Rattle.pm_course.specs.Frames.{HandsOut, Hears}
 use Rattle.pm_course.specs.Heard.{heard_by}
 use Rattle.pm_course.specs.Surprise.{surprises}
@@ -166,9 +173,51 @@ abbrev pub OrdersNothing : Config → ℕ → ℕ → List Event → List Event 
 OrdersNothing config passes output later before = (register : Reg) →
     held_at config passes (later ++ before) output register ≡ held_at config passes before output register
 
+-- what the host is asked for is no check of a register of this output that the part doesn't have, by one event and by each of several
+abbrev pub IsHad : PartRegisters → ℕ → Option host.Job → Type 0
+IsHad part output (Some (host.Check (Out other register))) = other ≡ output → has_register part register ≡ true
+IsHad part output job = Unit {0}
+
+abbrev pub ChecksHad : Config → ℕ → PartRegisters → ℕ → List Event → List Event → Type 0
+ChecksHad config passes part output [] before = Unit {0}
+ChecksHad config passes part output (event ∷ later) before =
+    IsHad part output (asked (now config passes (later ++ before)) event) × ChecksHad config passes part output later before
+
+-- What a course to a byte that leaves the output on may say: a read, or the order of that byte, where WRITE_PROTECT was read since its
+-- survey began and allows OPERATION, and the register that the byte selects was read.
+abbrev pub MaySay : Summary → FrameCourse → ℕ → ℕ → Asked → Type 0
+MaySay s c output byte (Order cell word) = (cell ≡ Out output Operation) × (word ≡ byte)
+    × IsSomeAnd (protect_in s c.course) (λ protect. is_allowed protect (register_code Operation) ≡ true)
+    × (has_read c.course.survey.read (selected_register byte) ≡ true)
+MaySay s c output byte (Check cell) = Unit {0}
+MaySay s c output byte (Learn at) = Unit {0}
+MaySay s c output byte job = ⊥
+
+-- A course to a byte of OPERATION that leaves the output on, and that these events end with. It goes the way of pm_rail to that byte,
+-- but for the reads that come before the order (`way`), and orders nothing but the byte, once WRITE_PROTECT was read and allows it
+-- (`says`). The rest is as where the output is turned off.
+pub record KeepsFrameCoursesOn (config : Config) (passes : ℕ) (part : PartRegisters) (output byte tries : ℕ) (c : FrameCourse)
+    (own : Bool) (later before : List Event) : Type 0 where
+  pub way : IsCourse config passes part (power_course_of output byte tries) before c.course later
+  pub says : (limits : Option Bounds) (is : FrameCourse) (job : Asked) →
+      SaysNext part limits (now config passes (later ++ before)).host c (Job job) is →
+      MaySay (now config passes (later ++ before)).host c output byte job
+  pub words : (register : Reg) (rest newer older : List Event) → later ≡ rest ++ (newer ++ older) →
+      (held_at config passes ((newer ++ older) ++ before) output register ≡ held_at config passes (older ++ before) output register)
+      ⊎ ((register ≡ Operation) × (held_at config passes ((newer ++ older) ++ before) output register ≡ byte))
+  pub held : (rest newer older : List Event) → later ≡ rest ++ (newer ++ older) →
+      IsStep (power_goal_at config passes output byte before)
+      (commands config passes (older ++ before) output) (commands config passes ((newer ++ older) ++ before) output)
+  pub come_true : (limits : Option Bounds) (is : FrameCourse) → last_end c.end ≡ None →
+      SaysNext part limits (now config passes (later ++ before)).host c (Ended Reached) is →
+      held_at config passes (later ++ before) output Operation ≡ byte
+  pub untouched : AsksNoOrder config passes output later before → (register : Reg) →
+      held_at config passes (later ++ before) output register ≡ held_at config passes before output register
+
 -- In each life: a course to wishes that have words in the output's format (`words`), one to wishes of which one has none (`unformed`), one
--- to nothing (`surveys`), and one to a byte that turns the output off (`off`). What the calls of a course do is what its life is made of
--- (`hands`, `hears`).
+-- to nothing (`surveys`), one to a byte that turns the output off (`off`), and one to a byte that leaves it on (`on`), where no check is
+-- asked for of a register that the part doesn't have, as a guard asks for none (`had`). What the calls of a course do is what its life is
+-- made of (`hands`, `hears`).
 pub record FrameCoursesHoldInLives : Type 0 where
   pub words : (config : Config) (passes : ℕ) (part : PartRegisters) (output : ℕ) (words wanted : Wanted) (voltages : Voltages)
       (tries : ℕ) (c : FrameCourse) (own : Bool) (later before : List Event) →
@@ -187,6 +236,12 @@ pub record FrameCoursesHoldInLives : Type 0 where
       (later before : List Event) → has_on byte ≡ false → IsSpelled config → IsLived config passes (later ++ before) →
       BeginsFrames config passes part (to_byte output byte tries) c own later before →
       KeepsFrameCoursesOff config passes part output byte tries c own later before
+  pub on : (config : Config) (passes : ℕ) (part : PartRegisters) (output byte tries : ℕ) (c : FrameCourse) (own : Bool)
+      (later before : List Event) → has_on byte ≡ true → IsSpelled config → IsLived config passes (later ++ before) →
+      ChecksHad config passes part output later before →
+      BeginsFrames config passes part (to_byte output byte tries) c own later before →
+      KeepsFrameCoursesOn config passes part output byte tries c own later before
+  pub had : (g new : Guarded) (job : Asked) (output : ℕ) → LetsBegin g job (Ok tt) new → IsHad g.registers output (accepted_job g.host job)
   pub hands : (config : Config) (passes : ℕ) (part : PartRegisters) (begun c is : FrameCourse) (own : Bool) (later before : List Event)
       (g new : Guarded) (sent : Option Sending) → IsFrameCourse config passes part begun before c own later →
       g.host ≡ (now config passes (later ++ before)).host → g.registers ≡ part → HandsOut g c sent new is →

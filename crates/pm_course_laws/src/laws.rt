@@ -14,11 +14,13 @@ use pm_world::{
 /// [`courses_hold_in_lives`] says of that is true of it: each job that it says is named by that way and refused by nothing, the
 /// output commands at any moment what it did at an earlier one or what is wanted, other registers keep their words, and where it
 /// comes to the end `Reached` the wanted words are held (`words`). One to wishes of which one has no word orders nothing
-/// (`unformed`), nor does a survey (`surveys`). One that turns the output off goes the way to that byte (`off`). The calls of a
-/// course are the steps of such a life (`hands`, `hears`).
+/// (`unformed`), nor does a survey (`surveys`). One that turns the output off goes the way to that byte (`off`). One to a byte that
+/// leaves the output on orders nothing but that byte, once it has read WRITE_PROTECT and that allows it (`on`). It may check the
+/// register that the byte selects, so this asks that nothing is checked that the part doesn't have, as a guard lets no such check
+/// begin (`had`). The calls of a course are the steps of such a life (`hands`, `hears`).
 ///
-/// Nothing is said of a course to a byte that leaves the output on, nor of what the words are after the moment at which a course
-/// says `Reached`. A converter of a life has one format, so that an exchange of the part is a restart, after which nothing is said.
+/// Nothing is said of what the words are after the moment at which a course says `Reached`. A converter of a life has one format, so
+/// that an exchange of the part is a restart, after which nothing is said.
 pub fn frame_courses_hold_in_lives()
     ensures { FrameCoursesHoldInLives }
 {

@@ -20,7 +20,7 @@ use Rattle.pm_world.specs.Retelling.{IsOwnWord}
 use Rattle.pm_world.specs.Setup.{setup_of}
 use Rattle.pm_world.specs.Parts.{AreWordsOf, IsReached, stored_config}
 use Rattle.pm_driver.specs.Driven.{HasLife, HasLifeWithin, HasNoRestartSince, IsAsItIs, MayBegin, PartWithin}
-use Rattle.pm_driver.specs.Laws.{LawsOfLives, LivesLeadOn, NewConvertersMayBegin, PartsAreWithin, PartsHaveNoRestart}
+use Rattle.pm_driver.specs.Laws.{LawsOfLives, LivesLeadOn, NewConvertersMayBegin}
 use Rattle.pm_driver.specs.Lives.{IsLife, modes_of}
 use Rattle.pm_driver.proofs.Latched.{settings-of, shape-made-so, shape-so}
 use Rattle.pm_driver.proofs.BegunJobs.{life-shape}
@@ -123,7 +123,9 @@ leads-on laws was held has places =
       spelled = spelled-alike has.config held.config modes coefficients has.spelled;
     }
 
-pub no-restart : LawsOfLives → PartsHaveNoRestart
+-- a new host beside a part as it is was told of no answer yet
+no-restart : LawsOfLives → (held : Held) (passes : ℕ) (cell : Cell) → IsAsItIs held → IsSetup (setup_of held.config passes) →
+    HasNoRestartSince cell (start (setup_of held.config passes)) held
 unfolding has-life
 no-restart laws held passes cell is made =
     let all = laws.parts held.config passes held.words held.store is.part made in
@@ -132,7 +134,9 @@ no-restart laws held passes cell is made =
       since = laws.lists.since (stored_config held.config held.store) passes cell all.0 all.1.steady;
     }
 
-pub are-within : LawsOfLives → PartsAreWithin
+-- its words lie within limits that allow those that the part holds and has stored
+are-within : LawsOfLives → (held : Held) (passes output : ℕ) (bounds : Bounds) → IsAsItIs held → IsSetup (setup_of held.config passes) →
+    output < held.config.count → PartWithin held output bounds → HasLifeWithin output bounds (start (setup_of held.config passes)) held
 unfolding has-life
 are-within laws held passes output bounds is made there within =
     let all = laws.parts held.config passes held.words held.store is.part made in

@@ -15,10 +15,10 @@ use Rattle.pm_driver.specs.Acts.{Act, AreCalls, Began, Call, Called, Looked, Rea
 use Rattle.pm_driver.specs.Bus.{restarts_in}
 use Rattle.pm_driver.specs.Driven.{Driving, HasLife, HasNoRestartSince, driven}
 use Rattle.pm_driver.specs.Ends.{cell_read}
-use Rattle.pm_driver.specs.Laws.{EndsAreTrue, LawsOfLives, NewConvertersHaveNoRestart, RestartsAreCounted}
+use Rattle.pm_driver.specs.Laws.{EndsAreTrue, RestartsAreCounted}
 use Rattle.pm_driver.specs.Lives.{Driven, Leads}
 use Rattle.pm_driver.specs.Undisturbed.{AreWithoutRestart, JobsRestartNothing, ReadsRestartNothing}
-use Rattle.pm_driver.proofs.BegunJobs.{last-begun, new-lived}
+use Rattle.pm_driver.proofs.BegunJobs.{last-begun}
 use Rattle.pm_driver.proofs.Composed.{tells-append}
 
 -- no restart among events is none of the newest and none of the earlier
@@ -91,24 +91,6 @@ leads-read law gives held restarts job end old new has leads =
         IfSome o (λ cell. HasNoRestartSince cell new.host (held new.bus))
     go all None since = tt
     go all (Some cell) since = record { has = all; since = since }
-
--- no event is no restart
-none-since : (config : Config) (passes : ℕ) (cell : Cell) → restarted_since config passes cell [] ≡ false
-unfolding restarted_since
-none-since config passes cell = refl
-
--- a converter as it was made
-pub new-since : LawsOfLives → NewConvertersHaveNoRestart
-new-since laws config passes cell sound spelled made = record {
-  has = record {
-    config = config;
-    passes = passes;
-    events = [];
-    spelled = spelled;
-    life = new-lived laws config passes sound made;
-  };
-  since = none-since config passes cell;
-}
 
 -- calls that restart nothing, one after another
 calls-none : {B : Type 0} (gives : B → Call → B → Type 0) (restarts : B → ℕ) (is_so : B → Bool) → AreWithoutRestart gives restarts is_so →

@@ -1,5 +1,5 @@
 -- The laws of a driver, over the definitions alone.
-use Rattle.std.specs.Prelude.{◌≡◌, ◌<◌, ℕ, true, false, IfSome, List, ◌++◌, length, Option, Some}
+use Rattle.std.specs.Prelude.{◌≡◌, ℕ, true, false, IfSome, List, ◌++◌, length, Option, Some}
 use Rattle.pm_frame.specs.Laws.{BetrayalIsRefused, DamageIsRefused, RequestsAreExact, WritesAreExact}
 use Rattle.pm_limits.specs.Bounds.{Bounds}
 use Rattle.pm_device.specs.declared.config.Config.{Config}
@@ -23,7 +23,7 @@ use Rattle.pm_world.specs.Limited.{StartsWithin}
 use Rattle.pm_world.specs.LimitLaws.{LivesStayLimited}
 use Rattle.pm_world.specs.Setup.{setup_of}
 use Rattle.pm_driver.specs.Acts.{Act, Call}
-use Rattle.pm_driver.specs.Driven.{HasLife, HasLifeWithin, HasNoRestartSince, IsAsItIs, MayBegin, PartWithin}
+use Rattle.pm_driver.specs.Driven.{HasLife, HasLifeWithin, HasNoRestartSince, IsAsItIs, MayBegin}
 use Rattle.pm_driver.specs.Ends.{EndSays, cell_read}
 use Rattle.pm_driver.specs.Lives.{Driven, Leads, newest_tells}
 
@@ -78,12 +78,6 @@ NewConvertersMayBegin = (config : Config) (passes : ℕ) →
     length config.starts ≡ 8 → IsSound config → IsSpelled config → IsSetup (setup_of config passes) →
     MayBegin (start (setup_of config passes)) (history.start_of config)
 
--- Beside one the converter didn't restart since a cell was read.
-abbrev pub NewConvertersHaveNoRestart : Type 0
-NewConvertersHaveNoRestart = (config : Config) (passes : ℕ) (cell : Cell) →
-    IsSound config → IsSpelled config → IsSetup (setup_of config passes) →
-    HasNoRestartSince cell (start (setup_of config passes)) (history.start_of config)
-
 -- A converter as it was made has all words of an output's voltages within limits, if its start words for them lie there.
 abbrev pub NewConvertersAreWithin : Type 0
 NewConvertersAreWithin = (config : Config) (passes output : ℕ) (bounds : Bounds) →
@@ -93,13 +87,3 @@ NewConvertersAreWithin = (config : Config) (passes output : ℕ) (bounds : Bound
 -- What any life left is a part beside which a new host may begin, whatever the passes of the earlier one were.
 abbrev pub LivesLeadOn : Type 0
 LivesLeadOn = (was : Summary) (held : Held) → HasLife was held → length held.config.starts ≡ 8 → IsAsItIs held
-
--- A new host beside a part as it is was told of no answer yet: the part didn't restart since any cell was read.
-abbrev pub PartsHaveNoRestart : Type 0
-PartsHaveNoRestart = (held : Held) (passes : ℕ) (cell : Cell) → IsAsItIs held → IsSetup (setup_of held.config passes) →
-    HasNoRestartSince cell (start (setup_of held.config passes)) held
-
--- All words of an output lie within limits that allow those of its voltages which the part holds and has stored.
-abbrev pub PartsAreWithin : Type 0
-PartsAreWithin = (held : Held) (passes output : ℕ) (bounds : Bounds) → IsAsItIs held → IsSetup (setup_of held.config passes) →
-    output < held.config.count → PartWithin held output bounds → HasLifeWithin output bounds (start (setup_of held.config passes)) held

@@ -1,7 +1,7 @@
 //! The laws of a driver: each is the contract of a function that does nothing when it runs.
 
-ghost use Rattle.pm_driver.specs.Laws.{EndsAreTrue, LeadsCompose, NewConvertersAreWithin, NewConvertersHaveNoRestart, NewConvertersMayBegin};
-ghost use Rattle.pm_driver.specs.Laws.{LawsOfLives, LivesLeadOn, PartsAreWithin, PartsHaveNoRestart, RestartsAreCounted};
+ghost use Rattle.pm_driver.specs.Laws.{EndsAreTrue, LeadsCompose, NewConvertersAreWithin, NewConvertersMayBegin};
+ghost use Rattle.pm_driver.specs.Laws.{LawsOfLives, LivesLeadOn, RestartsAreCounted};
 ghost use Rattle.pm_driver.specs.Looks.{RequestsAreNoWrites};
 ghost use Rattle.pm_driver.specs.Since.{PartsCommandTheirOwn};
 ghost use Rattle.pm_driver.specs.Surprises.{OneSurpriseAtMost};
@@ -92,13 +92,6 @@ pub fn new_converters_may_begin()
     laws_of_lives();
 }
 
-/// Beside a new host a converter as it was made never restarted, so it didn't since any cell was read.
-pub fn new_converters_have_no_restart()
-    ensures { NewConvertersHaveNoRestart }
-{
-    laws_of_lives();
-}
-
 /// A converter as it was made has all words of an output's voltages within limits, if its start words for them lie
 /// there.
 pub fn new_converters_are_within()
@@ -110,20 +103,6 @@ pub fn new_converters_are_within()
 /// What any life left is a part beside which a new host may begin, whatever the passes of the earlier one were.
 pub fn lives_lead_on()
     ensures { LivesLeadOn }
-{
-    laws_of_lives();
-}
-
-/// A new host beside a part as it is was told of no answer yet: the part didn't restart since any cell was read.
-pub fn parts_have_no_restart()
-    ensures { PartsHaveNoRestart }
-{
-    laws_of_lives();
-}
-
-/// All words of an output lie within limits that allow those of its voltages which a part holds and has stored.
-pub fn parts_are_within()
-    ensures { PartsAreWithin }
 {
     laws_of_lives();
 }

@@ -80,8 +80,7 @@ pub use driver::Driver;
 pub use frames::carry_out;
 pub use laws::{
     ends_are_true, jobs_restart_nothing, leads_compose, lives_lead_on, new_converters_are_within,
-    new_converters_have_no_restart, new_converters_may_begin, one_surprise_at_most,
-    parts_are_within, parts_command_their_own, parts_have_no_restart, reads_restart_nothing,
+    new_converters_may_begin, one_surprise_at_most, parts_command_their_own, reads_restart_nothing,
     requests_are_no_writes, restarts_are_counted, undisturbed_orders_are_done,
     whole_frames_are_legal,
 };

@@ -3,6 +3,7 @@ mod checks;
 mod courses;
 mod deliveries;
 mod example;
+mod law_uses;
 mod limits;
 mod packets;
 mod rails;

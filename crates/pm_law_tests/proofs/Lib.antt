@@ -2,3 +2,4 @@ mod Found
 mod WholeParts
 mod Since
 mod ManyTries
+mod Begins

@@ -1,18 +1,23 @@
 -- A part with every register lacks none.
-use Rattle.std.specs.Prelude.{◌≡◌, ℕ, false, not, List}
-use Rattle.std.proofs.Common.{◌∙◌, ap, subst, sym}
-use Rattle.pm_table.specs.declared.cell.Cell.TheVariants.{Out}
+use Rattle.std.specs.Prelude.{◌≡◌, ℕ, true, false, not, List, [], ◌∷◌, ◌++◌, Option, Some, None}
+use Rattle.std.proofs.Common.{◌∙◌, ap, refl, subst, sym}
+use Rattle.pm_table.specs.declared.cell.Cell.TheVariants.{Out, Protect}
 use Rattle.pm_table.specs.declared.reg.Reg.{Reg}
+use Rattle.pm_table.specs.declared.reg.Reg.TheVariants.{Operation, VoutCommand, VoutMax, MarginHigh, MarginLow, VoutMin}
 use Rattle.pm_table.specs.RuleLemmas.{rule-none}
 use Rattle.pm_model.specs.Settings.{Words}
 use Rattle.pm_device.specs.declared.config.Config.{Config}
+use Rattle.pm_host.specs.Transcript as host
 use Rattle.pm_limits.specs.declared.fault.LimitFault.TheVariants.{MissingRegister}
 use Rattle.pm_limits.specs.declared.part_registers.PartRegisters.{PartRegisters}
 use Rattle.pm_limits.specs.Laws.{WholePartsMissNothing}
 use Rattle.pm_limits.specs.Part.{all_registers, has_register}
+use Rattle.pm_course_laws.specs.FrameLives.{ChecksHad, IsHad}
 use Rattle.pm_world.specs.declared.event.Event.{Event}
 use Rattle.pm_world.specs.Bands.{HoldsMissing}
+use Rattle.pm_world.specs.Life.{now}
 use Rattle.pm_world.specs.Plans.{PlansHoldInLives}
+use Rattle.pm_world.specs.State.{asked}
 use Rattle.pm_world.specs.Surveys.{MissingUnread}
 
 lacks-none : WholePartsMissNothing → (register : Reg) → has_register all_registers register ≡ false → ⊥
@@ -31,3 +36,27 @@ pub whole-holds : PlansHoldInLives → (part : PartRegisters) → part ≡ all_r
     HoldsMissing part config words output
 whole-holds law part whole config words output =
     subst (λ (p : PartRegisters). HoldsMissing p config words output) (sym whole) (law.whole config words output)
+
+-- No check is of a register that such a part lacks.
+has-all : (register : Reg) → has_register all_registers register ≡ true
+has-all Operation = refl
+has-all VoutCommand = refl
+has-all VoutMax = refl
+has-all MarginHigh = refl
+has-all MarginLow = refl
+has-all VoutMin = refl
+
+whole-job : (output : ℕ) (job : Option host.Job) → IsHad all_registers output job
+whole-job output None = tt
+whole-job output (Some (host.Order cell word)) = tt
+whole-job output (Some (host.Check (Out other register))) = λ same. has-all register
+whole-job output (Some (host.Check Protect)) = tt
+whole-job output (Some (host.Learn at)) = tt
+whole-job output (Some (host.Send command)) = tt
+
+pub whole-had : (config : Config) (passes output : ℕ) (later before : List Event) → ChecksHad config passes all_registers output later before
+whole-had config passes output [] before = tt
+whole-had config passes output (event ∷ later) before = (
+  whole-job output (asked (now config passes (later ++ before)) event),
+  whole-had config passes output later before,
+)

@@ -1,9 +1,10 @@
 -- What a course that hands out frames is worth for a caller, of the events of a run that end with those of the course.
-use Rattle.std.specs.Prelude.{◌≡◌, ℕ, Bool, false, List, ◌++◌, Some}
+use Rattle.std.specs.Prelude.{◌≡◌, ℕ, Bool, true, false, List, ◌++◌, Some}
 use Rattle.pm_table.specs.Operation.{has_on}
 use Rattle.pm_device.specs.declared.config.Config.{Config}
 use Rattle.pm_device.specs.Held.{shape_for}
 use Rattle.pm_limits.specs.declared.part_registers.PartRegisters.{PartRegisters}
+use Rattle.pm_limits.specs.Part.{all_registers}
 use Rattle.pm_rail.specs.declared.wanted.Wanted.{Wanted}
 use Rattle.pm_rail.specs.Course.{course_of}
 use Rattle.pm_course.specs.declared.course_end.Refusal.{Refusal}
@@ -11,7 +12,7 @@ use Rattle.pm_course.specs.declared.frame_course.FrameCourse.{FrameCourse}
 use Rattle.pm_course.specs.declared.voltages.Voltages.{Voltages}
 use Rattle.pm_course.specs.FrameCourse.{going_on, to_byte, to_survey}
 use Rattle.pm_course.specs.Wishes.{meant_faults}
-use Rattle.pm_course_laws.specs.FrameLives.{BeginsFrames, KeepsFrameCourses, KeepsFrameCoursesOff, Means, OrdersNothing}
+use Rattle.pm_course_laws.specs.FrameLives.{BeginsFrames, KeepsFrameCourses, KeepsFrameCoursesOff, KeepsFrameCoursesOn, Means, OrdersNothing}
 use Rattle.pm_world.specs.declared.event.Event.{Event}
 
 -- a course to wishes that have words in the output's format
@@ -41,3 +42,10 @@ OffIsKept config passes events = (part : PartRegisters) (output byte tries : ℕ
     (later before : List Event) → events ≡ later ++ before → has_on byte ≡ false →
     BeginsFrames config passes part (to_byte output byte tries) c own later before →
     KeepsFrameCoursesOff config passes part output byte tries c own later before
+
+-- one to a byte that leaves the output on, of a part with every register
+abbrev pub OnIsKept : Config → ℕ → List Event → Type 0
+OnIsKept config passes events = (output byte tries : ℕ) (c : FrameCourse) (own : Bool) (later before : List Event) →
+    events ≡ later ++ before → has_on byte ≡ true →
+    BeginsFrames config passes all_registers (to_byte output byte tries) c own later before →
+    KeepsFrameCoursesOn config passes all_registers output byte tries c own later before

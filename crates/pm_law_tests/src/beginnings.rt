@@ -1,7 +1,7 @@
 //! A host that begins beside a part as it is, whatever was there before: its limits hold over a survey and a plan, and each
 //! output commands a value of its own words.
 
-ghost use Rattle.std.specs.Prelude.{◌≡◌, ◌<◌, IfOk, [], ◌∷◌};
+ghost use Rattle.std.specs.Prelude.{◌≡◌, ◌<◌, IfOk, [], ◌∷◌, length};
 ghost use Rattle.pm_model.specs.Commanded.{commanded};
 ghost use Rattle.pm_device.specs.Held.{value_for};
 ghost use Rattle.pm_host.specs.Transcript.{Order};
@@ -11,8 +11,8 @@ ghost use Rattle.pm_driver.specs.Acts.{Began};
 ghost use Rattle.pm_driver.specs.Driven.{AreAsNarrow, HasLifeWithin, MayBegin, PartWithin};
 ghost use Rattle.pm_driver.specs.Since.{CommandsOwnSince};
 
-use pm_driver::{Bus, Driver, parts_command_their_own};
-use pm_host::JobEnd;
+use pm_driver::{Bus, Driver, lives_lead_on, parts_command_their_own};
+use pm_host::{Host, HostFault, JobEnd};
 use pm_limits::{Guard, LimitFault};
 use pm_rail::{ApplyEnd, Survey, Wanted};
 use pm_table::Cell;
@@ -67,4 +67,22 @@ pub fn a_first_order_since<B: Bus>(
     // law: what an output commands since a driver began
     parts_command_their_own::<B>();
     driver.order(cell, word)
+}
+
+/// A host with other passes, made for the part that a driver leaves, after whatever that did: it may begin beside that part.
+pub fn a_host_that_begins_anew<B: Bus>(
+    driver: &Driver<B>,
+    address: u8,
+    outputs: u8,
+    passes: u8,
+) -> Result<Host, HostFault>
+    requires places { length (B.held driver.now.bus).config.starts ≡ 8 }
+    requires address { address ≡ (B.held driver.now.bus).config.addr }
+    requires outputs { outputs ≡ (B.held driver.now.bus).config.count }
+    ensures { IfOk result (λ host. MayBegin host (B.held driver.now.bus)) }
+{
+    // law: what a life left is a part beside which a host may begin
+    lives_lead_on();
+    driver.laws();
+    Host::new(address, outputs, passes)
 }

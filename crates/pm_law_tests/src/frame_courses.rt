@@ -1,7 +1,7 @@
 //! What a course that hands out frames is worth after a run, whatever the events of the run and those of the course.
 
 ghost use Rattle.std.specs.Prelude.{IfOk, OnSome, reverse};
-ghost use Rattle.pm_law_tests.specs.FrameCourses.{OffIsKept, SurveysOrderNothing, UnformedOrderNothing, WishesAreKept};
+ghost use Rattle.pm_law_tests.specs.FrameCourses.{OffIsKept, OnIsKept, SurveysOrderNothing, UnformedOrderNothing, WishesAreKept};
 
 use crate::further::run_all;
 use pm_course_laws::frame_courses_hold_in_lives;
@@ -40,6 +40,19 @@ pub fn a_course_that_turns_off(
     events: &[Event],
 ) -> Result<Option<World>, SetupFault>
     ensures { IfOk result (λ found. OnSome found (OffIsKept c passes (reverse events.now))) }
+{
+    frame_courses_hold_in_lives();
+    run_all(c, passes, events)
+}
+
+/// After a run each course that turns an output of a part with every register on, or changes what it is on with, ordered nothing but its
+/// byte, where WRITE_PROTECT allowed it, and left each other register as it was.
+pub fn a_course_that_turns_on(
+    c: Config,
+    passes: u8,
+    events: &[Event],
+) -> Result<Option<World>, SetupFault>
+    ensures { IfOk result (λ found. OnSome found (OnIsKept c passes (reverse events.now))) }
 {
     frame_courses_hold_in_lives();
     run_all(c, passes, events)

@@ -1,6 +1,8 @@
-//! What plans and surveys of rails are worth after a run and a step that follows it, and what restart two answers that surprise show.
+//! What plans and surveys of rails are worth after a run and a step that follows it, what a rail does across a restart, and what restart
+//! two answers that surprise show.
 
 ghost use Rattle.std.specs.Prelude.{◌∷◌, IfOk, OnSome, reverse};
+ghost use Rattle.pm_world.specs.Across.{KeepsBetween};
 ghost use Rattle.pm_world.specs.Plans.{KeepsPlans};
 ghost use Rattle.pm_world.specs.Surveys.{FollowsSurveys, KeepsSurveys};
 ghost use Rattle.pm_driver.specs.Surprises.{SurprisesShowRestarts};
@@ -8,7 +10,9 @@ ghost use Rattle.pm_driver.specs.Surprises.{SurprisesShowRestarts};
 use crate::further::run_and_step;
 use pm_device::Config;
 use pm_driver::one_surprise_at_most;
-use pm_world::{Event, SetupFault, World, plans_hold_in_lives, surveys_hold_in_lives};
+use pm_world::{
+    Event, SetupFault, World, plans_hold_in_lives, restarts_keep_between, surveys_hold_in_lives,
+};
 
 /// After a run and a step each plan that its orders followed has kept its rail.
 pub fn plans_after_a_step(
@@ -47,5 +51,19 @@ pub fn surprises_after_a_step(
     ensures { IfOk result (λ found. OnSome found (SurprisesShowRestarts c passes (more.now ∷ reverse events.now))) }
 {
     one_surprise_at_most();
+    run_and_step(c, passes, events, more)
+}
+
+/// After a run and a step each output to which nothing but wanted words was written commands a value between what it starts with and
+/// what is wanted, where the converter restarted and neither is cut.
+pub fn restarts_after_a_step(
+    c: Config,
+    passes: u8,
+    events: &[Event],
+    more: &Event,
+) -> Result<Option<World>, SetupFault>
+    ensures { IfOk result (λ found. OnSome found (KeepsBetween c passes (more.now ∷ reverse events.now))) }
+{
+    restarts_keep_between();
     run_and_step(c, passes, events, more)
 }

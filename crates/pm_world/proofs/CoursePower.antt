@@ -42,6 +42,7 @@ use Rattle.pm_world.proofs.CourseEvents.{Given}
 use Rattle.pm_world.proofs.JobSpans.{any-parts}
 use Rattle.pm_world.proofs.Lives.{IsLived}
 use Rattle.pm_world.proofs.PlanSteps.{one-register, register-itself}
+use Rattle.pm_world.proofs.PowerElse as all
 use Rattle.pm_world.proofs.PowerSteps as steps
 
 -- a word that is known to be a byte is that
@@ -176,18 +177,18 @@ keeps-power laws possible config passes events spelled lived = record {
   words = λ part output byte tries course register rest newer later before is b.
       let l = there ((rest ++ (newer ++ later)) ++ before) is in
       words-kept laws possible config passes part output byte before spelled b.here rest newer later
-      (steps.way-all laws possible config passes part output byte before spelled b.here tries course (rest ++ (newer ++ later)) l b.steady b.idle
+      (all.way-all laws possible config passes part output byte before spelled b.here tries course (rest ++ (newer ++ later)) l b.steady b.idle
       b.untold b.is_course).kept register;
   held = λ part output byte tries course rest newer later before is b.
       let l = there ((rest ++ (newer ++ later)) ++ before) is in
       keeps-rail laws possible config passes part output byte before spelled b.here rest newer later
-      (steps.way-all laws possible config passes part output byte before spelled b.here tries course (rest ++ (newer ++ later)) l b.steady b.idle
+      (all.way-all laws possible config passes part output byte before spelled b.here tries course (rest ++ (newer ++ later)) l b.steady b.idle
       b.untold b.is_course).kept;
   come_true = λ part limits output byte tries course later before is b reached.
       let l = there (later ++ before) is in
       ap (λ (es : List Event). held_at config passes es output Operation) is
       ∙ comes-true laws possible config passes part output byte before spelled b.here limits course later l b.steady
-      (steps.way-all laws possible config passes part output byte before spelled b.here tries course later l b.steady b.idle b.untold b.is_course)
+      (all.way-all laws possible config passes part output byte before spelled b.here tries course later l b.steady b.idle b.untold b.is_course)
       (sym (ap (λ (es : List Event). next_of part limits (now config passes es).host course) is) ∙ reached);
 }
   where

@@ -31,7 +31,7 @@ use Rattle.pm_rail.specs.Lemmas.Says.{Names, asks-so, differing-same, ended-same
 use Rattle.pm_world.specs.declared.event.Event.{Event}
 use Rattle.pm_world.specs.Bands.{HoldsMissing}
 use Rattle.pm_world.specs.Confirmed.{restarts_converter}
-use Rattle.pm_world.specs.Courses.{IsBeside, IsCourse, asks, begins, beside, forgets, says, tells}
+use Rattle.pm_world.specs.Courses.{IsBeside, IsCourse, asks, asks_else, begins, beside, forgets, says, tells, tells_else}
 use Rattle.pm_world.specs.Ended.{begins_other}
 use Rattle.pm_world.specs.Honest.{IsSpelled}
 use Rattle.pm_world.specs.Job.{asked_by}
@@ -327,6 +327,10 @@ module _ (laws : Given) (config : Config) (passes : ℕ) (part : PartRegisters) 
         go None i = refl
         go (Some stage) i = cc
 
+  -- one to words has no byte
+  no-byte : (course : Course) (byte : ℕ) → course.byte ≡ None → course.byte ≡ Some byte → ⊥
+  no-byte course byte none is = let both : None ≡ Some byte = sym none ∙ is in cc
+
   -- all of it
   pub way-all : (tries : ℕ) (course : Course) (es : List Event) → IsLived config passes (es ++ before) →
       list_any restarts_converter es ≡ false →
@@ -349,4 +353,13 @@ module _ (laws : Given) (config : Config) (passes : ℕ) (part : PartRegisters) 
         let below = lived-before config passes newer (event ∷ later ++ before)
         (subst (λ (l : List Event). IsLived config passes l) (append_assoc newer (event ∷ later) before) lived') in
         way-tells limits c newer later event j end (go was (earlier below) second.1) lived' steady' is' named alone over
+    go (asks_else limits c later event byte left ordered j was to' may named) lived' steady' =
+        let parts = or_parts (restarts_converter event) (list_any restarts_converter later) steady' in
+        absurd (no-byte c byte (go was (earlier lived') parts.1).words to')
+    go (tells_else limits c newer later event byte left ordered j end was to' may named alone over) lived' steady' =
+        let first = any-parts restarts_converter newer (event ∷ later) steady' in
+        let second = or_parts (restarts_converter event) (list_any restarts_converter later) first.1 in
+        let below = lived-before config passes newer (event ∷ later ++ before)
+        (subst (λ (l : List Event). IsLived config passes l) (append_assoc newer (event ∷ later) before) lived') in
+        absurd (no-byte c byte (go was (earlier below) second.1).words to')
     go (forgets c later was) lived' steady' = way-forgets c later (go was lived' steady')

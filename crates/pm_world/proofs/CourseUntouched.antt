@@ -24,7 +24,8 @@ use Rattle.pm_rail.specs.Lemmas.Says.{asks-so, named-so, renewed-so, told-own}
 use Rattle.pm_world.specs.Below.{Below}
 use Rattle.pm_world.specs.declared.event.Event.{Event}
 use Rattle.pm_world.specs.Confirmed.{restarts_converter}
-use Rattle.pm_world.specs.Courses.{AsksNoOrder, IsBeside, IsCourse, IsNoOrder, IsUntouched, asks, begins, beside, forgets, says, tells}
+use Rattle.pm_world.specs.Courses.{AsksNoOrder, IsBeside, IsCourse, IsElse, IsNoOrder, IsUntouched, asking_else, asks, asks_else, begins, beside, forgets}
+use Rattle.pm_world.specs.Courses.{protects, says, selects, tells, tells_else, turns}
 use Rattle.pm_world.specs.Ended.{begins_other}
 use Rattle.pm_world.specs.Job.{asked_by}
 use Rattle.pm_world.specs.Life.{now}
@@ -119,6 +120,27 @@ module _ (laws : Below) (config : Config) (passes : ℕ) (part : PartRegisters) 
       by k e so = subst (λ (o : Option Asked). IsBeside part output (option_and_then (accepted_job (at es).host) o)) (sym e)
           (so (subst (λ (o : Option Asked). IsNoOrder output (option_and_then (accepted_job (at es).host) o)) e none))
 
+  -- a job that a course asks for in the place of the one that it names, and that is no order, is such a job too
+  else-may : (course : Course) (byte : ℕ) (es : List Event) (event : Event) (j : Asked) → course.survey.output ≡ output →
+      IsElse part course.survey.output byte j → asked_by event ≡ Some j →
+      IsNoOrder output (asked (at es) event) → IsBeside part output (asked (at es) event)
+  else-may course byte es event j own may named none = by j named (so may) where
+    so : {k : Asked} → IsElse part course.survey.output byte k →
+        IsNoOrder output (accepted_job (at es).host k) → IsBeside part output (accepted_job (at es).host k)
+    so protects m = tt
+    so (selects register has) m = has
+    so turns m = m
+
+    by : (k : Asked) → asked_by event ≡ Some k →
+        (IsNoOrder output (accepted_job (at es).host k) → IsBeside part output (accepted_job (at es).host k)) →
+        IsBeside part output (asked (at es) event)
+    by k e may' = subst (λ (o : Option Asked). IsBeside part output (option_and_then (accepted_job (at es).host) o)) (sym e)
+        (may' (subst (λ (o : Option Asked). IsNoOrder output (option_and_then (accepted_job (at es).host) o)) e none))
+
+  else-output : (limits : Option Bounds) (course : Course) (es : List Event) → course.survey.output ≡ output →
+      (renewed part limits (at es).host course).survey.output ≡ output
+  else-output limits course es own = renewed-so (λ (c : Course). c.survey.output ≡ output) part limits (at es).host course own own
+
   stood-all : (begun course : Course) (es : List Event) → begun.survey.output ≡ output → IsLived config passes (es ++ before) →
       list_any restarts_converter es ≡ false → is_busy (now config passes before).host ≡ false →
       AsksNoOrder config passes output es before → IsCourse config passes part begun before course es → Stood es
@@ -165,6 +187,25 @@ module _ (laws : Below) (config : Config) (passes : ℕ) (part : PartRegisters) 
               ∙ (after-output part limits (now config passes (later ++ before)).host c ∙ before'.0),
           stood-over newer (event ∷ later)
               (stood-more later event before'.1 below second.0 (named-may limits c later event j before'.0 is' named none-first.0))
+              lived' first.0 alone,
+        )
+    go (asks_else limits c later event byte left ordered' j was to' may named) lived' steady' none' =
+        let parts = or_parts (restarts_converter event) (list_any restarts_converter later) steady' in
+        let before' = go was (earlier lived') parts.1 none'.1 in (
+          else-output limits c later before'.0,
+          stood-more later event before'.1 lived' parts.0 (else-may c byte later event j before'.0 may named none'.0),
+        )
+    go (tells_else limits c newer later event byte left ordered' j end was to' may named alone over) lived' steady' none' =
+        let first = any-parts restarts_converter newer (event ∷ later) steady' in
+        let second = or_parts (restarts_converter event) (list_any restarts_converter later) first.1 in
+        let none-first = no-order-below config passes output newer (event ∷ later) before none' in
+        let below = lived-before config passes newer (event ∷ later ++ before)
+        (subst (λ (l : List Event). IsLived config passes l) (append_assoc newer (event ∷ later) before) lived') in
+        let before' = go was (earlier below) second.1 none-first.1 in (
+          told-own (asking_else (renewed part limits (now config passes (later ++ before)).host c) j left ordered') end
+              ∙ else-output limits c later before'.0,
+          stood-over newer (event ∷ later)
+              (stood-more later event before'.1 below second.0 (else-may c byte later event j before'.0 may named none-first.0))
               lived' first.0 alone,
         )
     go (forgets c later was) lived' steady' none' = go was lived' steady' none'

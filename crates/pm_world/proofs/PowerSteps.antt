@@ -37,7 +37,7 @@ use Rattle.pm_rail.specs.Lemmas.Power.{NamesPower, orders, power-job, reads}
 use Rattle.pm_rail.specs.Lemmas.Says.{asks-so, differing-same, ended-same, renewed-so}
 use Rattle.pm_world.specs.declared.event.Event.{Event}
 use Rattle.pm_world.specs.Confirmed.{restarts_converter}
-use Rattle.pm_world.specs.Courses.{IsBeside, IsCourse, asks, begins, beside, forgets, says, tells}
+use Rattle.pm_world.specs.Courses.{IsBeside}
 use Rattle.pm_world.specs.Ended.{begins_other}
 use Rattle.pm_world.specs.Honest.{IsSpelled}
 use Rattle.pm_world.specs.Job.{asked_by}
@@ -50,7 +50,6 @@ use Rattle.pm_world.specs.State.{State, asked}
 use Rattle.pm_world.specs.Surveys.{AreRead, MissingUnread}
 use Rattle.pm_world.proofs.CourseEvents.{Given, no-order, no-restore, open-kept, two-registers, unread, unread-kept}
 use Rattle.pm_world.proofs.DoneOrders.{order-done}
-use Rattle.pm_world.proofs.JobSpans.{any-parts}
 use Rattle.pm_world.proofs.Lives.{IsLived, earlier, lived-before}
 use Rattle.pm_world.proofs.Moves.{moves-so}
 use Rattle.pm_world.proofs.PlanSteps.{pending-open}
@@ -61,7 +60,7 @@ module _ (laws : Given) (possible : PossibleWordsAreHeld) (config : Config) (pas
   at es = (now config passes (es ++ before)).host
 
   -- a job that others may ask for, or the order of OPERATION
-  abbrev IsOwn : Option host.Job → Type 0
+  abbrev pub IsOwn : Option host.Job → Type 0
   IsOwn o = IsBeside part output o ⊎ (o ≡ Some (host.Order (Out output Operation) byte))
 
   -- each register has the word that it had, or OPERATION the byte
@@ -130,7 +129,7 @@ module _ (laws : Given) (possible : PossibleWordsAreHeld) (config : Config) (pas
         | inr m ↦ inr (moved es own r _ m steady)
       ]
 
-  way-more : (course : Course) (es : List Event) (event : Event) → Way course es → IsLived config passes (event ∷ es ++ before) →
+  pub way-more : (course : Course) (es : List Event) (event : Event) → Way course es → IsLived config passes (event ∷ es ++ before) →
       restarts_converter event ≡ false → IsOwn (asked (now config passes (es ++ before)) event) → Way course (event ∷ es)
   way-more course es event was lived steady may = record {
     own = was.own;
@@ -160,7 +159,7 @@ module _ (laws : Given) (possible : PossibleWordsAreHeld) (config : Config) (pas
         go None h = refl
         go (Some j) h = cc
 
-  way-over : (course : Course) (newer es : List Event) → Way course es → IsLived config passes ((newer ++ es) ++ before) →
+  pub way-over : (course : Course) (newer es : List Event) → Way course es → IsLived config passes ((newer ++ es) ++ before) →
       list_any restarts_converter newer ≡ false → list_any begins_other newer ≡ false → Way course (newer ++ es)
   way-over course [] es was lived steady alone = was
   way-over course (event ∷ newer) es was lived steady alone =
@@ -223,7 +222,7 @@ module _ (laws : Given) (possible : PossibleWordsAreHeld) (config : Config) (pas
       (λ course end. refl) (λ r has course end. refl) (λ course end. refl) j is
 
   -- an order that counts as done was read back as it was given: one of before, or this one
-  done-order : (course : Course) (o : ℕ) (word : ℕ) (end : JobEnd) →
+  pub done-order : (course : Course) (o : ℕ) (word : ℕ) (end : JobEnd) →
       (differing course (Some (job.Order (Out o Operation) word)) end).done ≡ true → (course.done ≡ true) ⊎ (end ≡ ends.Done)
   done-order course o word ends.Done d = inr refl
   done-order course o word ends.Learned d = inl d
@@ -238,18 +237,18 @@ module _ (laws : Given) (possible : PossibleWordsAreHeld) (config : Config) (pas
   named-own course es _ event own orders e = inr (ap (λ (o : Option Asked). option_and_then (accepted_job (at es)) o) e
       ∙ ap (λ (o : ℕ). Some (host.Order (Out o Operation) byte)) own)
 
-  named-is : (limits : Option Bounds) (course : Course) (s : Summary) (n : Said) → next_of part limits s course ≡ n →
+  pub named-is : (limits : Option Bounds) (course : Course) (s : Summary) (n : Said) → next_of part limits s course ≡ n →
       after_next part limits s course ≡ naming (renewed part limits s course) n
   named-is limits course s n is = ap (λ (x : Said). naming (renewed part limits s course) x) is
 
-  way-says : (limits : Option Bounds) (course : Course) (es : List Event) → Way course es → IsLived config passes (es ++ before) →
+  pub way-says : (limits : Option Bounds) (course : Course) (es : List Event) → Way course es → IsLived config passes (es ++ before) →
       Way (after_next part limits (at es) course) es
   way-says limits course es was lived = go (next_of part limits (at es) course) where
     go : (n : Said) → Way (naming (renewed part limits (at es) course) n) es
     go (said.Ended end) = way-renewed limits course es was lived
     go (said.Job j) = way-named (renewed part limits (at es) course) es j (way-renewed limits course es was lived)
 
-  way-asks : (limits : Option Bounds) (course : Course) (es : List Event) (event : Event) (j : Asked) → Way course es →
+  pub way-asks : (limits : Option Bounds) (course : Course) (es : List Event) (event : Event) (j : Asked) → Way course es →
       IsLived config passes (event ∷ es ++ before) → restarts_converter event ≡ false →
       next_of part limits (at es) course ≡ said.Job j → asked_by event ≡ Some j →
       Way (naming (renewed part limits (at es) course) (said.Job j)) (event ∷ es)
@@ -263,7 +262,7 @@ module _ (laws : Given) (possible : PossibleWordsAreHeld) (config : Config) (pas
       way : Way r es
       way = way-renewed limits course es was (earlier lived)
 
-  way-tells : (limits : Option Bounds) (course : Course) (newer es : List Event) (event : Event) (j : Asked) (end : JobEnd) →
+  pub way-tells : (limits : Option Bounds) (course : Course) (newer es : List Event) (event : Event) (j : Asked) (end : JobEnd) →
       Way course es → IsLived config passes ((newer ++ event ∷ es) ++ before) →
       list_any restarts_converter newer ≡ false → restarts_converter event ≡ false →
       next_of part limits (at es) course ≡ said.Job j → asked_by event ≡ Some j → list_any begins_other newer ≡ false →
@@ -343,7 +342,7 @@ module _ (laws : Given) (possible : PossibleWordsAreHeld) (config : Config) (pas
       }
 
   -- the format is to be learned again
-  way-forgets : (course : Course) (es : List Event) → Way course es →
+  pub way-forgets : (course : Course) (es : List Event) → Way course es →
       Way (record course { survey = record course.survey { learned = false } }) es
   way-forgets course es way = record {
     own = way.own;
@@ -360,7 +359,7 @@ module _ (laws : Given) (possible : PossibleWordsAreHeld) (config : Config) (pas
   }
 
   -- it begins
-  way-begins : (tries : ℕ) → IsLived config passes before → is_busy (now config passes before).host ≡ false →
+  pub way-begins : (tries : ℕ) → IsLived config passes before → is_busy (now config passes before).host ≡ false →
       MissingUnread config passes part output before → Way (power_course_of output byte tries) []
   way-begins tries lived idle untold = record {
     own = refl;
@@ -381,28 +380,3 @@ module _ (laws : Given) (possible : PossibleWordsAreHeld) (config : Config) (pas
         go : (stage : Option Stage) → is_some stage ≡ false → option_map stage_job stage ≡ None
         go None i = refl
         go (Some stage) i = cc
-
-  -- all of it
-  pub way-all : (tries : ℕ) (course : Course) (es : List Event) → IsLived config passes (es ++ before) →
-      list_any restarts_converter es ≡ false →
-      is_busy (now config passes before).host ≡ false → MissingUnread config passes part output before →
-      IsCourse config passes part (power_course_of output byte tries) before course es → Way course es
-  way-all tries course es lived steady idle untold is = go is lived steady where
-    go : {c : Course} {l : List Event} → IsCourse config passes part (power_course_of output byte tries) before c l →
-        IsLived config passes (l ++ before) → list_any restarts_converter l ≡ false → Way c l
-    go begins lived' steady' = way-begins tries lived' idle untold
-    go (beside c later event was may) lived' steady' =
-        let parts = or_parts (restarts_converter event) (list_any restarts_converter later) steady' in
-        way-more c later event (go was (earlier lived') parts.1) lived' parts.0 (inl may)
-    go (says limits c later was) lived' steady' = way-says limits c later (go was lived' steady') lived'
-    go (asks limits c later event j was is' named) lived' steady' =
-        let parts = or_parts (restarts_converter event) (list_any restarts_converter later) steady' in
-        subst (λ (x : Course). Way x (event ∷ later)) (sym (named-is limits c (at later) (said.Job j) is'))
-        (way-asks limits c later event j (go was (earlier lived') parts.1) lived' parts.0 is' named)
-    go (tells limits c newer later event j end was is' named alone over) lived' steady' =
-        let first = any-parts restarts_converter newer (event ∷ later) steady' in
-        let second = or_parts (restarts_converter event) (list_any restarts_converter later) first.1 in
-        let below = lived-before config passes newer (event ∷ later ++ before)
-        (subst (λ (l : List Event). IsLived config passes l) (append_assoc newer (event ∷ later) before) lived') in
-        way-tells limits c newer later event j end (go was (earlier below) second.1) lived' first.0 second.0 is' named alone over
-    go (forgets c later was) lived' steady' = way-forgets c later (go was lived' steady')

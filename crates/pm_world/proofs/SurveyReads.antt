@@ -292,6 +292,24 @@ cell-read config passes v later before (Out other q) own read are = record {
 asks-check : (s : _) (event : Event) (cell : Cell) → asked_by event ≡ Some (job.Check cell) → asked s event ≡ Some (host.Check cell)
 asks-check s event cell is = ap (λ (o : Option Job). option_and_then (accepted_job s.host) o) is
 
+-- a check of a survey's own output ended, which counts where it is done
+pub check-ended : Below → (config : Config) (passes : ℕ) (v : Survey) (newer later before : List Event) (event : Event) (cell : Cell)
+    (end : JobEnd) → IsLived config passes (newer ++ event ∷ (later ++ before)) →
+    ((other : ℕ) (register : Reg) → cell ≡ Out other register → other ≡ v.output) → AreRead config passes v later before →
+    asked_by event ≡ Some (job.Check cell) → list_any begins_other newer ≡ false →
+    (now config passes (newer ++ event ∷ (later ++ before))).end ≡ Some end →
+    AreRead config passes (ended (asking v (Some (job.Check cell))) (Some (job.Check cell)) end) (newer ++ event ∷ later) before
+check-ended laws config passes v newer later before event cell Done lived own are asks alone done =
+    cell-read config passes v (newer ++ event ∷ later) before cell own
+    (read-newer config passes cell newer (event ∷ later) before
+    (check-done laws config passes newer (later ++ before) event cell lived (asks-check (now config passes
+    (later ++ before)) event cell asks)
+    alone done))
+    (more-read config passes v newer (event ∷ later) before (more-read config passes v (event ∷ []) later before are))
+check-ended laws config passes v newer later before event cell end lived own are asks alone done =
+    same-read config passes v _ (newer ++ event ∷ later) before refl refl
+    (more-read config passes v newer (event ∷ later) before (more-read config passes v (event ∷ []) later before are))
+
 -- a job of the survey ended
 ended-read : Below → (config : Config) (passes : ℕ) (part : PartRegisters) (v : Survey) (newer later before : List Event)
     (event : Event) (job : Job)
@@ -300,15 +318,10 @@ ended-read : Below → (config : Config) (passes : ℕ) (part : PartRegisters) (
     asked_by event ≡ Some job → list_any begins_other newer ≡ false →
     (now config passes (newer ++ event ∷ (later ++ before))).end ≡ Some end →
     AreRead config passes (ended (asking v (Some job)) (Some job) end) (newer ++ event ∷ later) before
-ended-read laws config passes part v newer later before event (job.Check cell) Done lived are next asks alone done =
-    cell-read config passes v (newer ++ event ∷ later) before cell
+ended-read laws config passes part v newer later before event (job.Check cell) end lived are next asks alone done =
+    check-ended laws config passes v newer later before event cell end lived
     (λ other register same. own-output part v (now config passes (later ++ before)).host other register
-    (next ∙ ap (λ (c : Cell). Some (job.Check c)) same))
-    (read-newer config passes cell newer (event ∷ later) before
-    (check-done laws config passes newer (later ++ before) event cell lived (asks-check (now config passes
-    (later ++ before)) event cell asks)
-    alone done))
-    (more-read config passes v newer (event ∷ later) before (more-read config passes v (event ∷ []) later before are))
+    (next ∙ ap (λ (c : Cell). Some (job.Check c)) same)) are asks alone done
 ended-read laws config passes part v newer later before event (job.Learn output) Learned lived are next asks alone done =
     same-read config passes v _ (newer ++ event ∷ later) before refl refl
     (more-read config passes v newer (event ∷ later) before (more-read config passes v (event ∷ []) later before are))

@@ -1,14 +1,15 @@
 -- A course over a life: this project's own choice. Lists are newest first.
-use Rattle.std.specs.Prelude.{◌≡◌, ◌≢◌, ◌⊎◌, ◌<◌, ℕ, true, false, List, [], ◌∷◌, ◌++◌, Option, Some, None}
+use Rattle.std.specs.Prelude.{◌≡◌, ◌≢◌, ◌⊎◌, ◌<◌, ℕ, Bool, true, false, List, [], ◌∷◌, ◌++◌, Option, Some, None}
 use Rattle.std.specs.List.{list_any}
 use Rattle.pm_num.specs.Ratio.{Ratio}
-use Rattle.pm_table.specs.declared.cell.Cell.TheVariants.{Out}
+use Rattle.pm_table.specs.declared.cell.Cell.TheVariants.{Out, Protect}
 use Rattle.pm_table.specs.declared.reg.Reg.{Reg}
 use Rattle.pm_table.specs.declared.reg.Reg.TheVariants.{Operation}
 use Rattle.pm_device.specs.declared.config.Config.{Config}
 use Rattle.pm_device.specs.Held.{value_for}
 use Rattle.pm_host.specs.declared.command.Command.TheVariants.{RestoreUserAll}
 use Rattle.pm_host.specs.declared.job.Job.{Job as Asked}
+use Rattle.pm_host.specs.declared.job.Job.TheVariants.{Check, Order}
 use Rattle.pm_host.specs.declared.job.JobEnd.{JobEnd}
 use Rattle.pm_host.specs.Refusals.{is_busy}
 use Rattle.pm_host.specs.Transcript as host
@@ -22,7 +23,7 @@ use Rattle.pm_rail.specs.Registers.{wants_of}
 use Rattle.pm_rail.specs.declared.apply_end.ApplyEnd.TheVariants.{Reached}
 use Rattle.pm_rail.specs.declared.course.Course.{Course}
 use Rattle.pm_rail.specs.declared.next.Next.TheVariants.{Job, Ended}
-use Rattle.pm_rail.specs.Course.{after_next, course_of, next_of, power_course_of, told_of}
+use Rattle.pm_rail.specs.Course.{after_next, course_of, next_of, power_course_of, renewed, told_of}
 use Rattle.pm_world.specs.declared.event.Event.{Event}
 use Rattle.pm_world.specs.Bands.{HoldsMissing}
 use Rattle.pm_world.specs.Confirmed.{restarts_converter}
@@ -44,10 +45,25 @@ IsBeside part output (Some (host.Check (Out other register))) = has_register par
 IsBeside part output (Some (host.Send RestoreUserAll)) = ⊥
 IsBeside part output job = Unit {0}
 
+-- What a course to a byte of OPERATION may ask for in the place of the job that it names: a check of WRITE_PROTECT, or of a register of
+-- its output that the part has, and the order of the byte.
+pub data IsElse (part : PartRegisters) (output byte : ℕ) : Asked → Type 0 where
+  protects : IsElse part output byte (Check Protect)
+  selects : (register : Reg) → has_register part register ≡ true → IsElse part output byte (Check (Out output register))
+  turns : IsElse part output byte (Order (Out output Operation) byte)
+
+-- the course once it asked for such a job, with so many tries left
+abbrev pub asking_else : Course → Asked → ℕ → Bool → Course
+asking_else course job left ordered = record course {
+  survey = record course.survey { asked = Some job; left = left };
+  ordered = ordered;
+}
+
 -- How a course that began after some events stands after later ones. It is asked at any moment what is next, by what the
 -- host knows then and within some limits (`says`). The host is then asked for the job that it named (`asks`); how that job
 -- ended is told, where no other job nor a restart of the host came between (`tells`), or isn't. The format is to be learned again at
--- any moment (`forgets`). Besides, anything happens: what comes of frames, restarts of either end, and what others may ask for (`beside`).
+-- any moment (`forgets`). One to a byte may ask for another job than the one that it named (`asks_else`), whose end is told as well
+-- (`tells_else`). Besides, anything happens: what comes of frames, restarts of either end, and what others may ask for (`beside`).
 pub data IsCourse (config : Config) (passes : ℕ) (part : PartRegisters) (begun : Course) (before : List Event) : Course → List Event → Type 0 where
   begins : IsCourse config passes part begun before begun []
   beside : (course : Course) (later : List Event) (event : Event) →
@@ -69,6 +85,18 @@ pub data IsCourse (config : Config) (passes : ℕ) (part : PartRegisters) (begun
       (now config passes ((newer ++ event ∷ later) ++ before)).end ≡ Some end →
       IsCourse config passes part begun before
       (told_of (after_next part limits (now config passes (later ++ before)).host course) end) (newer ++ event ∷ later)
+  asks_else : (limits : Option Bounds) (course : Course) (later : List Event) (event : Event) (byte left : ℕ) (ordered : Bool) (job : Asked) →
+      IsCourse config passes part begun before course later → course.byte ≡ Some byte →
+      IsElse part course.survey.output byte job → asked_by event ≡ Some job →
+      IsCourse config passes part begun before
+      (asking_else (renewed part limits (now config passes (later ++ before)).host course) job left ordered) (event ∷ later)
+  tells_else : (limits : Option Bounds) (course : Course) (newer later : List Event) (event : Event) (byte left : ℕ) (ordered : Bool)
+      (job : Asked) (end : JobEnd) → IsCourse config passes part begun before course later → course.byte ≡ Some byte →
+      IsElse part course.survey.output byte job → asked_by event ≡ Some job → list_any begins_other newer ≡ false →
+      (now config passes ((newer ++ event ∷ later) ++ before)).end ≡ Some end →
+      IsCourse config passes part begun before
+      (told_of (asking_else (renewed part limits (now config passes (later ++ before)).host course) job left ordered) end)
+      (newer ++ event ∷ later)
   forgets : (course : Course) (later : List Event) → IsCourse config passes part begun before course later →
       IsCourse config passes part begun before (record course { survey = record course.survey { learned = false } }) later
 

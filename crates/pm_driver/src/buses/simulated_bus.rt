@@ -13,10 +13,7 @@ ghost use Rattle.pm_driver.specs.Plan.{restarts_of, restarts_so, tries_so, turne
 use crate::buses::converter_end::{ask, deliver, deliver_some, disturb};
 use crate::buses::fault::Fault;
 use crate::buses::laws::parts_compose;
-use crate::{
-    Adapter, Bus, Driver, ReadEnd, WriteEnd, new_converters_have_no_restart,
-    new_converters_may_begin,
-};
+use crate::{Adapter, Bus, Driver, ReadEnd, WriteEnd, new_converters_may_begin};
 use pm_device::{Config, Converter};
 use pm_host::Host;
 use pm_world::{Arrival, Back, spell};

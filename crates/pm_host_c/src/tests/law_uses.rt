@@ -1,0 +1,30 @@
+//! Callers of laws: functions that have what a law says.
+
+ghost use Rattle.std.specs.Prelude.{◌≡◌, Some};
+ghost use Rattle.pm_course.specs.FrameCourse.{to_survey};
+ghost use Rattle.pm_limits.specs.FaultWords.{limit_fault_words};
+ghost use Rattle.pm_host_c.specs.CourseImage.{course_in};
+ghost use Rattle.pm_host_c.specs.Names.{HasText};
+
+use crate::course::pm_course_survey;
+use crate::course_image::CourseImage;
+use crate::laws::{courses_are_kept, refusals_are_named};
+use crate::names::{NameImage, pm_refusal_name};
+use pm_limits::LimitFault;
+
+/// Each refusal of limits, and of a host by them, has a name, which is its own words.
+pub fn a_refusal_by_name(fault: LimitFault, name: &mut NameImage) -> u8
+    ensures number { result ≡ 0 }
+    ensures name { HasText (limit_fault_words fault) name.new }
+{
+    refusals_are_named();
+    pm_refusal_name(fault.number(), name)
+}
+
+/// A survey that is begun in a caller's memory is read there as that survey.
+pub fn a_survey_in_memory(course: &mut CourseImage, output: u8, tries: u16) -> u8
+    ensures { result ≡ 0 → course_in course.new ≡ Some (to_survey output tries) }
+{
+    courses_are_kept();
+    pm_course_survey(course, output, tries)
+}
