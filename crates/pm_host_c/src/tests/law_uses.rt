@@ -1,6 +1,6 @@
-//! Callers of laws: functions that have what a law says.
+//! A caller for each law of numbers and memories: a function that has what the law says.
 
-ghost use Rattle.std.specs.Prelude.{◌≡◌, Some};
+ghost use Rattle.std.specs.Prelude.{◌≡◌, Some, true};
 ghost use Rattle.pm_course.specs.FrameCourse.{to_survey};
 ghost use Rattle.pm_limits.specs.FaultWords.{limit_fault_words};
 ghost use Rattle.pm_host_c.specs.CourseImage.{course_in};
@@ -8,7 +8,9 @@ ghost use Rattle.pm_host_c.specs.Names.{HasText};
 
 use crate::course::pm_course_survey;
 use crate::course_image::CourseImage;
-use crate::laws::{courses_are_kept, refusals_are_named};
+use crate::guard_image::GuardImage;
+use crate::host::pm_host_new;
+use crate::laws::{courses_are_kept, memories_are_meanings, refusals_are_named};
 use crate::names::{NameImage, pm_refusal_name};
 use pm_limits::LimitFault;
 
@@ -19,6 +21,21 @@ pub fn a_refusal_by_name(fault: LimitFault, name: &mut NameImage) -> u8
 {
     refusals_are_named();
     pm_refusal_name(fault.number(), name)
+}
+
+/// Two hosts that are made alike have the same memory, byte for byte, whatever was in it before.
+pub fn two_hosts_alike(
+    one: &mut GuardImage,
+    other: &mut GuardImage,
+    address: u8,
+    outputs: u8,
+) -> bool
+    ensures { result ≡ true → one.new ≡ other.new }
+{
+    memories_are_meanings();
+    let first = pm_host_new(one, address, outputs, 5);
+    let second = pm_host_new(other, address, outputs, 5);
+    first == 0 && second == 0
 }
 
 /// A survey that is begun in a caller's memory is read there as that survey.
