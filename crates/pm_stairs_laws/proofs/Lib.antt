@@ -1,0 +1,6 @@
+-- Lemmas of this crate.
+mod Ordered
+mod Segments
+mod Stairs
+mod Back
+mod Followed

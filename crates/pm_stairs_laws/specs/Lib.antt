@@ -1,0 +1,5 @@
+-- What the crate promises.
+pub mod Ordered
+pub mod Stairs
+pub mod Back
+pub mod Followed
