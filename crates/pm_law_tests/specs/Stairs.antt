@@ -29,7 +29,7 @@ StopsHaveAWayBack config passes events = (part : PartRegisters) (before : List E
     AreSound config passes part before (step ∷ newest ++ left) → IsStairs config passes part before (step ∷ newest ++ left) events →
     GoesBack config passes part before events step newest left
 
--- where it is over, each register has its word of before
+-- each register has its word of before where that way is over
 abbrev pub ComesBack : Config → ℕ → List Event → Type 0
 ComesBack config passes events = (part : PartRegisters) (before stop : List Event) (step : RailStep) (newest : List RailStep) →
     AreSound config passes part before (step ∷ newest) → IsStairs config passes part before (step ∷ newest) stop →

@@ -43,7 +43,7 @@ module _ (laws : Below) (config : Config) (passes : ℕ) (part : PartRegisters) 
   abbrev start : Rails
   start = start_of config passes before
 
-  -- where the last of the steps is over
+  -- the outputs at a moment at which the last of the steps is over
   pub record At (done : List RailStep) (events : List Event) : Type 0 where
     pub idle : is_busy (now config passes events).host ≡ false
     pub words : (output : ℕ) (register : Reg) → output < config.count →
