@@ -4,3 +4,6 @@ mod Segments
 mod Stairs
 mod Back
 mod Followed
+mod Due
+mod Climb
+mod ComeBack

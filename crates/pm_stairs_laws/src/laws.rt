@@ -1,11 +1,14 @@
 //! The laws, over the definitions alone.
 
 ghost use Rattle.pm_stairs_laws.specs.Back.{StairsGoBack};
+ghost use Rattle.pm_stairs_laws.specs.Climb.{ClimbsAreStairs, ClimbsComeBack};
+ghost use Rattle.pm_stairs_laws.specs.Due.{MovesAreDue};
 ghost use Rattle.pm_stairs_laws.specs.Followed.{StairsAreFollowed};
 ghost use Rattle.pm_stairs_laws.specs.Ordered.{CellsTakeWhatIsOrdered};
 ghost use Rattle.pm_stairs_laws.specs.Stairs.{StairsHoldInLives};
 
 use pm_host::ends_are_told;
+use pm_table::cells_are_told_apart;
 use pm_world::{
     events_are_lived, lives_are_orders, plans_hold_in_lives, possible_words_are_held,
     settings_move_by_the_open_job,
@@ -59,4 +62,33 @@ pub fn stairs_are_followed()
     events_are_lived();
     plans_hold_in_lives();
     possible_words_are_held();
+}
+
+/// What the stairs say next, by what a host knows alone: a job reads, or is the order that is due in the step under way. The first step
+/// ahead begins only where the one before it is over by what is known then.
+pub fn moves_are_due()
+    ensures { MovesAreDue }
+{
+    cells_are_told_apart();
+}
+
+/// A caller that asks for what the stairs name carries out its steps in their order, one after another, and what it has noted undoes
+/// them.
+pub fn climbs_are_stairs()
+    ensures { ClimbsAreStairs }
+{
+    events_are_lived();
+    moves_are_due();
+    stairs_are_followed();
+}
+
+/// A caller that stops wherever it will, and then carries out the steps that it has noted, is on the way back. Once the stairs say that all is
+/// reached, each register of each output has its word of before.
+pub fn climbs_come_back()
+    ensures { ClimbsComeBack }
+{
+    climbs_are_stairs();
+    moves_are_due();
+    stairs_go_back();
+    stairs_hold_in_lives();
 }
