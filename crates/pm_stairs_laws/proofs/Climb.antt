@@ -321,8 +321,7 @@ module _ (lives : EventsAreLived) (follow : StairsAreFollowed) (due : MovesAreDu
       Holds (step ∷ begun) (back ∷ backs) ahead new events × IsDueOrder part (host_at events) step job
   begins-so begun backs ahead wishes stairs new events step back job was (means.begins job' at done of order lacks is) under =
       subst (λ (x : WordStep). Holds (x ∷ begun) (noted (host_at events) at ∷ backs) ahead new events
-      × IsDueOrder part (host_at events) x job) (one-step at step (step_under new) is under)
-      (
+      × IsDueOrder part (host_at events) x job) (one-step at step (step_under new) is under) (
         begin-more order.limits begun backs ahead wishes stairs new events at was done
             (answered-order config passes part events order.limits lacks.0 at.output at.act order.order order.due lacks.1) of is,
         order,

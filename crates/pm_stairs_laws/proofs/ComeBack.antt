@@ -152,14 +152,15 @@ unfolding act-deed
 back-deed (word.Sets words) = refl
 back-deed (word.Turns byte) = refl
 
-step-doing : ℕ → Deed → RailStep
-step-doing output deed = record { output = output; deed = deed }
+-- a step of an output
+abbrev doing : ℕ → Deed → RailStep
+doing output deed = record { output = output; deed = deed }
 
 back-rails : (backs : List WordStep) → rails-of (map step_of backs) ≡ rail_steps backs
-unfolding rails-of rail-of step-doing
+unfolding rails-of rail-of
 back-rails [] = refl
 back-rails (back ∷ backs) =
-    ap (λ (d : Deed). step-doing back.output d ∷ rails-of (map step_of backs)) (back-deed back.act)
+    ap (λ (d : Deed). doing back.output d ∷ rails-of (map step_of backs)) (back-deed back.act)
     ∙ ap (λ (l : List RailStep). rail_step back ∷ l) (back-rails backs)
 
 -- ---- The way ----

@@ -135,7 +135,7 @@ module _ (apart : CellsAreToldApart) (g : Guarded) where
       UnderSo (step_under old) next × (step_under new ≡ step_under old)
   under-so old new next (goes.free none) = (
     is-free (subst (λ (o : Option WordStep). IsDone g.registers g.host o)
-    (sym (ap (λ (u : Option Under). option_map (λ (v : Under). v.step) u) none)) tt),
+        (sym (ap (λ (u : Option Under). option_map (λ (v : Under). v.step) u) none)) tt),
     refl,
   )
   under-so old new next (goes.absent under is gone) = (is-stop _, refl)
