@@ -72,7 +72,9 @@ NUMBERS = ("crates/pm_frame/src/packet_error_code.rt", "crates/pm_lines/src/hex_
 EACH_REGISTER = ("crates/pm_limits/src/ends.rt", "crates/pm_limits/src/part_registers.rt", "crates/pm_limits/specs/Part.antt",
                  "crates/pm_rail/", "crates/pm_course/", "crates/pm_world/proofs/LimitedLives.antt", "crates/pm_world/proofs/SurveyReads.antt",
                  "crates/pm_world/proofs/Ones.antt", "crates/pm_law_tests/proofs/limits/", "crates/pm_law_tests/proofs/ManyTries.antt",
-                 "crates/pm_course_laws/proofs/Words.antt",
+                 "crates/pm_course_laws/proofs/Words.antt", "crates/pm_stairs_laws/proofs/Back.antt",
+                 "crates/pm_stairs_laws/proofs/Segments.antt", "crates/pm_stairs_laws/proofs/Climb.antt",
+                 "crates/pm_stairs/src/step.rt", "crates/pm_stairs/specs/Steps.antt",
                  *("crates/pm_driver/proofs/%s.antt" % name for name in ("CourseOrders", "CourseSteps", "CoursesThrough", "Places", "PlanTruth",
                                                                          "PowerReads", "PowerSteps", "SurveyTruth")))
 

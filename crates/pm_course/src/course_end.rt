@@ -61,8 +61,8 @@ impl Refusal {
         }
     }
 
-    // A refusal of a job, by its number.
-    pub(crate) fn of_job(number: u8, job: Job) -> Refusal
+    /// A refusal of a job, by its number.
+    pub fn of_job(number: u8, job: Job) -> Refusal
         ensures { result ≡ refusal_of_job number job }
     {
         Refusal {

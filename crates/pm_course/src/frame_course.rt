@@ -84,7 +84,7 @@ impl FrameCourse {
     }
 
     /// What to do next, by what the guard's host knows and within the output's limits.
-    pub(crate) fn next_by(&mut self, guard: &Guard) -> CourseNext
+    pub fn next_by(&mut self, guard: &Guard) -> CourseNext
         requires { self.old.course.survey.output < guard.now.host.setup.outputs }
         ensures { SaysNext guard.now.registers (limits_at guard.now self.old.course.survey.output) guard.now.host self.old result self.new }
     {

@@ -49,8 +49,8 @@ impl Sending {
     }
 }
 
-// What a guard's host is sending; `None` where no job is open.
-fn sent_by(guard: &Guard) -> Option<Sending>
+/// The frame that a guard's host is sending, whoever began its open job; `None` where none is open.
+pub fn sent_by(guard: &Guard) -> Option<Sending>
     ensures { IsSent guard.now result }
 {
     let host = guard.host();

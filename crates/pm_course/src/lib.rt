@@ -29,7 +29,7 @@ pub use accept_fault::AcceptFault;
 pub use answer_fault::AnswerFault;
 pub use course_end::{CourseEnd, CourseNext, Refusal};
 pub use frame_course::FrameCourse;
-pub use frames::Sending;
+pub use frames::{Sending, sent_by};
 pub use surprise::surprises;
 pub use voltages::Voltages;
 pub use wish::{Wish, Wishes};

@@ -19,7 +19,7 @@ use pm_table::Reg;
 impl FrameCourse {
     /// The words that are ordered, by the format that the host knows once the survey has learned it; before that, those that
     /// are wanted as such.
-    pub(crate) fn words_now(&self, host: &State) -> Result<Wanted, Refusal>
+    pub fn words_now(&self, host: &State) -> Result<Wanted, Refusal>
         requires { self.now.course.survey.output < 8 }
         ensures { AreFormed (format_now (held None host.now) self.now.course) (wanted_in self.now.course.survey.plan) self.now.voltages result }
     {

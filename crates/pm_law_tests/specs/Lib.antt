@@ -2,3 +2,4 @@
 pub mod ByName
 pub mod Rails
 pub mod FrameCourses
+pub mod Stairs

@@ -1,0 +1,39 @@
+-- What steps of several outputs are worth for a caller, of the events of a run.
+use Rattle.std.specs.Prelude.{◌≡◌, ◌⊎◌, ◌<◌, ℕ, Bool, true, false, List, [], ◌∷◌, ◌++◌}
+use Rattle.pm_table.specs.declared.cell.Cell.{Cell}
+use Rattle.pm_table.specs.declared.reg.Reg.{Reg}
+use Rattle.pm_table.specs.Cell.{IsCell}
+use Rattle.pm_model.specs.Settings.{word_at}
+use Rattle.pm_device.specs.declared.config.Config.{Config}
+use Rattle.pm_host.specs.Refusals.{is_busy}
+use Rattle.pm_limits.specs.declared.part_registers.PartRegisters.{PartRegisters}
+use Rattle.pm_world.specs.declared.event.Event.{Event}
+use Rattle.pm_world.specs.Life.{now}
+use Rattle.pm_world.specs.Moves.{words_at}
+use Rattle.pm_world.specs.Plans.{held_at}
+use Rattle.pm_stairs_laws.specs.Back.{GoesBack, downs_of}
+use Rattle.pm_stairs_laws.specs.Ordered.{OrdersOnly}
+use Rattle.pm_stairs_laws.specs.Stairs.{AreOver, AreSound, IsStairs, RailStep, start_of}
+
+-- a cell takes what is ordered for it, and nothing else
+abbrev pub CellsTake : Config → ℕ → List Event → Type 0
+CellsTake config passes events = (cell : Cell) (allowed : ℕ → Bool) (newer later before : List Event) →
+    events ≡ newer ++ (later ++ before) → IsCell config.count cell → is_busy (now config passes before).host ≡ false →
+    OrdersOnly config passes cell allowed later before → OrdersOnly config passes cell allowed newer (later ++ before) →
+    (word_at (words_at config passes events) cell ≡ word_at (words_at config passes (later ++ before)) cell)
+    ⊎ (allowed (word_at (words_at config passes events) cell) ≡ true)
+
+-- wherever steps were stopped, there is a way back
+abbrev pub StopsHaveAWayBack : Config → ℕ → List Event → Type 0
+StopsHaveAWayBack config passes events = (part : PartRegisters) (before : List Event) (step : RailStep) (newest left : List RailStep) →
+    AreSound config passes part before (step ∷ newest ++ left) → IsStairs config passes part before (step ∷ newest ++ left) events →
+    GoesBack config passes part before events step newest left
+
+-- each register has its word of before where that way is over
+abbrev pub ComesBack : Config → ℕ → List Event → Type 0
+ComesBack config passes events = (part : PartRegisters) (before stop : List Event) (step : RailStep) (newest : List RailStep) →
+    AreSound config passes part before (step ∷ newest) → IsStairs config passes part before (step ∷ newest) stop →
+    let downs = downs_of (start_of config passes before) (step ∷ newest) [] [] in
+    IsStairs config passes part stop downs events → AreOver config passes part downs events →
+    (output : ℕ) (register : Reg) → output < config.count →
+    held_at config passes events output register ≡ held_at config passes before output register

@@ -1,0 +1,57 @@
+//! What steps of several outputs are worth after a run, whatever the events of the run and those of the steps.
+
+ghost use Rattle.std.specs.Prelude.{IfOk, OnSome, reverse};
+ghost use Rattle.pm_stairs_laws.specs.Followed.{StairsAreFollowed};
+ghost use Rattle.pm_stairs_laws.specs.Stairs.{KeepsStairs};
+ghost use Rattle.pm_law_tests.specs.Stairs.{CellsTake, ComesBack, StopsHaveAWayBack};
+
+use crate::further::run_all;
+use pm_device::Config;
+use pm_stairs_laws::{
+    cells_take_what_is_ordered, stairs_are_followed, stairs_go_back, stairs_hold_in_lives,
+};
+use pm_world::{Event, SetupFault, World};
+
+/// After a run each cell has taken what was ordered for it, and nothing else.
+pub fn a_cell_that_takes_orders(
+    c: Config,
+    passes: u8,
+    events: &[Event],
+) -> Result<Option<World>, SetupFault>
+    ensures { IfOk result (λ found. OnSome found (CellsTake c passes (reverse events.now))) }
+{
+    cells_take_what_is_ordered();
+    run_all(c, passes, events)
+}
+
+/// After a run the outputs stand at the stair of the steps that have begun, or at the one before.
+pub fn steps_that_went_up(
+    c: Config,
+    passes: u8,
+    events: &[Event],
+) -> Result<Option<World>, SetupFault>
+    ensures { IfOk result (λ found. OnSome found (KeepsStairs c passes (reverse events.now))) }
+{
+    stairs_hold_in_lives();
+    run_all(c, passes, events)
+}
+
+/// After a run that stopped anywhere there is a way back, and after one that went it each register has its word of before.
+pub fn steps_that_went_back(
+    c: Config,
+    passes: u8,
+    events: &[Event],
+) -> Result<Option<World>, SetupFault>
+    ensures stops { IfOk result (λ found. OnSome found (StopsHaveAWayBack c passes (reverse events.now))) }
+    ensures back { IfOk result (λ found. OnSome found (ComesBack c passes (reverse events.now))) }
+{
+    stairs_go_back();
+    run_all(c, passes, events)
+}
+
+/// A caller's own loop carries out steps event by event.
+pub fn steps_event_by_event()
+    ensures { StairsAreFollowed }
+{
+    stairs_are_followed();
+}

@@ -1,0 +1,5 @@
+-- What the crate promises.
+pub mod Steps
+pub mod Due
+pub mod Stairs
+pub mod Frames

@@ -1,0 +1,303 @@
+//! The machine that carries out steps, one after another.
+
+ghost use Rattle.std.specs.Prelude.{◌≡◌, ◌<◌, true};
+ghost use Rattle.pm_limits.specs.Guard.{limits_at};
+ghost use Rattle.pm_stairs.specs.Due.{due_now as spec_due_now};
+ghost use Rattle.pm_stairs.specs.Steps.{noted as spec_noted};
+ghost use Rattle.pm_stairs.specs.Stairs.{ahead_move as spec_ahead_move, are_there as spec_are_there, begins_now as spec_begins_now, begun_with, coming_course, course_after, looked as spec_looked, no_output as spec_no_output, reading_for, stairs_new, trying as spec_trying, under_move as spec_under_move, AsksAhead, Goes, GoesAhead, GoesUnder, HasWords, SaysStep};
+
+use crate::due::Due;
+use crate::said::{Said, StepEnd, said_of};
+use crate::step::{Step, WordStep};
+use pm_course::{CourseEnd, FrameCourse, Refusal};
+use pm_host::{HostFault, Job};
+use pm_limits::Guard;
+use pm_rail::Wanted;
+use pm_table::Cell;
+
+/// The step that is under way.
+#[derive(Clone, Copy, Debug, PartialEq, Eq)]
+pub struct Under {
+    /// The step, in the words with which it began.
+    pub step: WordStep,
+    /// Its course.
+    pub course: FrameCourse,
+}
+
+/// How far a list of steps has come. It is a plain value, and holds neither the guard nor the list.
+#[derive(Clone, Copy, Debug, PartialEq, Eq)]
+pub struct Stairs {
+    /// The newest step that has begun.
+    pub under: Option<Under>,
+    /// The course of the first step ahead, once it has read something.
+    pub coming: Option<FrameCourse>,
+    /// Whether what was said last is of the first step ahead.
+    pub reading: bool,
+    /// Whether an answer showed that the part restarted or was exchanged, which ends all.
+    pub restarted: bool,
+}
+
+/// What comes next.
+#[derive(Clone, Copy, Debug, PartialEq, Eq)]
+pub enum Move {
+    /// This job, of the step under way or one that reads for the first step ahead.
+    Job(Job),
+    /// The first step ahead begins with this order, and this step undoes it.
+    Begins(Job, WordStep),
+    /// The first step ahead begins and is over at once, and this step undoes it. Ask again.
+    Passes(WordStep),
+    /// Nothing: each step is over.
+    Reached,
+    /// Nothing: the step under way stopped so, or where `reading` is set the first step ahead, which hasn't begun.
+    Stops(StepEnd),
+}
+
+impl Stairs {
+    /// No step has begun.
+    pub fn new() -> Stairs
+        ensures { result ≡ stairs_new }
+    {
+        Stairs {
+            under: None,
+            coming: None,
+            reading: false,
+            restarted: false,
+        }
+    }
+
+    /// What comes next, where this is the first step ahead, which gets so many tries.
+    pub fn next(&mut self, guard: &Guard, ahead: Option<Step>, tries: u16) -> Move
+        ensures { Goes guard.now tries ahead self.old result self.new }
+    {
+        if self.restarted {
+            return Move::Stops(StepEnd::Restarted);
+        }
+        if let Some(said) = self.under(guard) {
+            return said;
+        }
+        match ahead {
+            Some(step) => self.ahead(guard, &step, tries),
+            None => Move::Reached,
+        }
+    }
+
+    // What the step under way asks for; nothing where it is over, or none has begun.
+    fn under(&mut self, guard: &Guard) -> Option<Move>
+        ensures { GoesUnder guard.now self.old result self.new }
+    {
+        self.reading = false;
+        let Some(under) = self.under else {
+            return None;
+        };
+        let step = under.step;
+        if !are_there(guard, &step, &under.course) {
+            return Some(Move::Stops(absent()));
+        }
+        let (said, course) = ask(guard, true, &step, &under.course);
+        self.under = Some(Under { step, course });
+        under_move(said)
+    }
+
+    // What the first step ahead asks for.
+    fn ahead(&mut self, guard: &Guard, step: &Step, tries: u16) -> Move
+        ensures { GoesAhead guard.now tries step.now self.old result self.new }
+    {
+        let course = self.coming_course(step, tries);
+        match words_by(guard, &course) {
+            Err(refusal) => {
+                self.reads_for(course);
+                Move::Stops(StepEnd::Course(CourseEnd::Refused(refusal)))
+            }
+            Ok(words) => self.asks(guard, &step.with_words(words), &course),
+        }
+    }
+
+    // What a first step ahead asks for, in words.
+    fn asks(&mut self, guard: &Guard, step: &WordStep, course: &FrameCourse) -> Move
+        ensures { AsksAhead guard.now step.now course.now self.old result self.new }
+    {
+        if !are_there(guard, step, course) {
+            self.reads_for(*course);
+            return Move::Stops(absent());
+        }
+        let (said, after) = ask(guard, false, step, course);
+        if begins_now(said) {
+            self.begins(step, after);
+        } else {
+            self.reads_for(after);
+        }
+        ahead_move(said, noted(guard, step))
+    }
+
+    // The course of the first step ahead: as far as it has come, or a new one.
+    fn coming_course(&self, step: &Step, tries: u16) -> FrameCourse
+        ensures { result ≡ coming_course self.now step.now tries }
+    {
+        match self.coming {
+            Some(course) => course,
+            None => step.course(tries),
+        }
+    }
+
+    // A step begins.
+    fn begins(&mut self, step: &WordStep, course: FrameCourse)
+        ensures { self.new ≡ begun_with self.old step.now course }
+    {
+        *self = Stairs {
+            under: Some(Under {
+                step: *step,
+                course,
+            }),
+            coming: None,
+            reading: false,
+            restarted: self.restarted,
+        };
+    }
+
+    // The first step ahead has asked for something, and hasn't begun.
+    fn reads_for(&mut self, course: FrameCourse)
+        ensures { self.new ≡ reading_for self.old course }
+    {
+        self.coming = Some(course);
+        self.reading = true;
+    }
+}
+
+// What the step under way says of what comes next.
+fn under_move(said: Said) -> Option<Move>
+    ensures { result ≡ spec_under_move said }
+{
+    match said {
+        Said::Orders(cell, word) => Some(Move::Job(Job::Order(cell, word))),
+        Said::Reads(job) => Some(Move::Job(job)),
+        Said::Looks(cell) => Some(Move::Job(Job::Check(cell))),
+        Said::Over => None,
+        Said::Stops(why) => Some(Move::Stops(why)),
+    }
+}
+
+// What the first step ahead says of it, which this step undoes.
+fn ahead_move(said: Said, back: WordStep) -> Move
+    ensures { result ≡ spec_ahead_move back said }
+{
+    match said {
+        Said::Orders(cell, word) => Move::Begins(Job::Order(cell, word), back),
+        Said::Reads(job) => Move::Job(job),
+        Said::Looks(cell) => Move::Job(Job::Check(cell)),
+        Said::Over => Move::Passes(back),
+        Said::Stops(why) => Move::Stops(why),
+    }
+}
+
+// Whether it begins.
+fn begins_now(said: Said) -> bool
+    ensures { result ≡ spec_begins_now said }
+{
+    matches!(said, Said::Orders(..) | Said::Over)
+}
+
+// H4.
+fn no_output() -> Refusal
+    ensures { result ≡ spec_no_output }
+{
+    Refusal {
+        number: HostFault::UnknownOutput.number(),
+        register: None,
+    }
+}
+
+fn absent() -> StepEnd
+    ensures { result ≡ StepEnd.Course (CourseEnd.Refused spec_no_output) }
+{
+    StepEnd::Course(CourseEnd::Refused(no_output()))
+}
+
+// Whether the guard's host has the output of a step and that of its course, which are one.
+fn are_there(guard: &Guard, step: &WordStep, course: &FrameCourse) -> bool
+    ensures is { result ≡ spec_are_there guard.now step.now course.now }
+    ensures step { result ≡ true → step.now.output < guard.now.host.setup.outputs }
+    ensures course { result ≡ true → course.now.course.survey.output < guard.now.host.setup.outputs }
+{
+    let outputs = guard.host().outputs();
+    step.output < outputs && course.course.survey.output < outputs
+}
+
+// The words of the wishes of a step, by the format that is known.
+fn words_by(guard: &Guard, course: &FrameCourse) -> Result<Wanted, Refusal>
+    ensures { HasWords guard.now course.now result }
+{
+    if course.course.survey.output < guard.host().outputs() {
+        course.words_now(guard.host().state())
+    } else {
+        Err(no_output())
+    }
+}
+
+// What a step asks for, which has begun or begins now, and its course then.
+fn ask(guard: &Guard, begun: bool, step: &WordStep, course: &FrameCourse) -> (Said, FrameCourse)
+    requires step { step.now.output < guard.now.host.setup.outputs }
+    requires course { course.now.course.survey.output < guard.now.host.setup.outputs }
+    ensures { SaysStep guard.now begun step.now course.now result.0 result.1 }
+{
+    let mut after = *course;
+    let next = after.next_by(guard);
+    let said = trying(
+        course,
+        said_of(begun, step.output, &due_by(guard, step), next),
+    );
+    (said, after_said(course, after, said))
+}
+
+// What is due in a step by a guard.
+fn due_by(guard: &Guard, step: &WordStep) -> Due
+    requires { step.now.output < guard.now.host.setup.outputs }
+    ensures { result ≡ spec_due_now guard.now.registers (limits_at guard.now step.now.output) guard.now.host step.now }
+{
+    let host = guard.host();
+    let limits = guard.limits(step.output);
+    step.due(host.state(), host.stage(), guard.registers(), &limits)
+}
+
+// A look takes a try.
+fn trying(course: &FrameCourse, said: Said) -> Said
+    ensures { result ≡ spec_trying course.now said }
+{
+    match said {
+        Said::Looks(cell) if course.course.survey.left == 0 => {
+            Said::Stops(StepEnd::Course(CourseEnd::Spent {
+                code: cell.code(),
+                fault: course.fault,
+            }))
+        }
+        _ => said,
+    }
+}
+
+// The course of a step once it said so.
+fn after_said(old: &FrameCourse, after: FrameCourse, said: Said) -> FrameCourse
+    ensures { result ≡ course_after old.now after said }
+{
+    match said {
+        Said::Looks(cell) => looked(old, cell),
+        Said::Over => *old,
+        Said::Orders(..) | Said::Reads(_) | Said::Stops(_) => after,
+    }
+}
+
+// A course in whose name a cell is looked at.
+fn looked(course: &FrameCourse, cell: Cell) -> FrameCourse
+    ensures { result ≡ spec_looked course.now cell }
+{
+    let mut looks = *course;
+    looks.course.survey.asked = Some(Job::Check(cell));
+    looks.course.survey.left = looks.course.survey.left.saturating_sub(1);
+    looks
+}
+
+// The step that undoes one that begins now.
+fn noted(guard: &Guard, step: &WordStep) -> WordStep
+    requires { step.now.output < guard.now.host.setup.outputs }
+    ensures { result ≡ spec_noted guard.now.host step.now }
+{
+    step.noted(guard.host().state())
+}
