@@ -28,11 +28,11 @@ B0 8D / B1 19 00 *                        58 READ_TEMPERATURE_1 read 0019 25 C
 B2 20 / B3 40 *                           59 VOUT_MODE read 40 DIRECT
 B2 30 02 88 01 / B3 05 01 00 00 00 00 *   59 COEFFICIENTS of 88 side 1 read m 1 b 0 r 0
 B2 88 / B3 00 D3 *                        59 READ_VIN read D300
-B2 20 / B3 20 *                           59 VOUT_MODE read 20
+B2 20 / B3 20 *                           59 VOUT_MODE read 20 VID
 B2 88 / B3 00 D3 *                        59 READ_VIN read D300
-B2 20 / B3 21 *                           59 VOUT_MODE read 21
+B2 20 / B3 21 *                           59 VOUT_MODE read 21 VID
 B2 88 / B3 00 D3 *                        59 READ_VIN read D300
-B2 20 / B3 60 *                           59 VOUT_MODE read 60
+B2 20 / B3 60 *                           59 VOUT_MODE read 60 half
 B2 88 / B3 00 D3 *                        59 READ_VIN read D300
 B2 20 / B3 97 *                           59 VOUT_MODE read 97 ULINEAR16 -9 relative
 B2 88 / B3 00 D3 *                        59 READ_VIN read D300
@@ -40,20 +40,25 @@ B2 20 / B3 14 !                           59 read F5 WrongPec 2 bytes B2 20 / B3
 B2 88 / B3 00 D3 *                        59 READ_VIN read D300
 
 B0 01 / B1 00 *                           58 OPERATION read 00 off
-B0 01 40 *                                58 OPERATION write 40 off
-B0 01 7F *                                58 OPERATION write 7F off
+B0 01 3F *                                58 OPERATION write 3F off
+B0 01 40 *                                58 OPERATION write 40 soft off
+B0 01 7F *                                58 OPERATION write 7F soft off
 B0 01 80 *                                58 OPERATION write 80 on
 B0 01 8F *                                58 OPERATION write 8F on
-B0 01 90 *                                58 OPERATION write 90
-B0 01 93 *                                58 OPERATION write 93
+B0 01 90 *                                58 OPERATION write 90 on, margin low, reserved fault bits
+B0 01 93 *                                58 OPERATION write 93 on, margin low, reserved fault bits
 B0 05 03 01 01 94 *                       58 page 1 OPERATION write 94 on, margin low
 B0 01 9B *                                58 OPERATION write 9B on, margin low
-B0 01 9C *                                58 OPERATION write 9C
-B0 01 A3 *                                58 OPERATION write A3
+B0 01 9C *                                58 OPERATION write 9C on, margin low, reserved fault bits
+B0 01 9F *                                58 OPERATION write 9F on, margin low, reserved fault bits
+B0 01 A0 *                                58 OPERATION write A0 on, margin high, reserved fault bits
+B0 01 A3 *                                58 OPERATION write A3 on, margin high, reserved fault bits
 B0 06 02 00 01 / B1 01 A4 *               58 page 0 OPERATION read A4 on, margin high
 B0 01 AB *                                58 OPERATION write AB on, margin high
-B0 01 AC *                                58 OPERATION write AC
-B0 01 B0 *                                58 OPERATION write B0
+B0 01 AC *                                58 OPERATION write AC on, margin high, reserved fault bits
+B0 01 B0 *                                58 OPERATION write B0 on, AVSBus
+B0 01 BF *                                58 OPERATION write BF on, AVSBus
+B0 01 C0 *                                58 OPERATION write C0
 B0 01 FF *                                58 OPERATION write FF
 
 B0 10 00 *                                58 WRITE_PROTECT write 00 all writes
@@ -69,14 +74,18 @@ B0 20 / B1 0F *                           58 VOUT_MODE read 0F ULINEAR16 15
 B0 20 / B1 10 *                           58 VOUT_MODE read 10 ULINEAR16 -16
 B0 06 02 00 20 / B1 01 1F *               58 page 0 VOUT_MODE read 1F ULINEAR16 -1
 B0 06 02 00 20 / B1 01 40 *               58 page 0 VOUT_MODE read 40 DIRECT
-B0 20 / B1 20 *                           58 VOUT_MODE read 20
+B0 20 / B1 20 *                           58 VOUT_MODE read 20 VID
+B0 20 / B1 3F *                           58 VOUT_MODE read 3F VID
 B0 20 / B1 41 *                           58 VOUT_MODE read 41
-B0 20 / B1 60 *                           58 VOUT_MODE read 60
+B0 20 / B1 5F *                           58 VOUT_MODE read 5F
+B0 20 / B1 60 *                           58 VOUT_MODE read 60 half
+B0 20 / B1 7F *                           58 VOUT_MODE read 7F half
+B0 20 / B1 A0 *                           58 VOUT_MODE read A0
 B0 20 / B1 94 *                           58 VOUT_MODE read 94 ULINEAR16 -12 relative
 
 B0 00 01 *                                58 PAGE write 01
 B0 19 / B1 80 *                           58 CAPABILITY read 80 PEC, 100 kHz
-B0 98 / B1 33 *                           58 PMBUS_REVISION read 33
+B0 98 / B1 33 *                           58 PMBUS_REVISION read 33 Part I 1.3, Part II 1.3
 B0 03 *                                   58 CLEAR_FAULTS send
 B0 05 02 00 03 *                          58 page 0 CLEAR_FAULTS send
 B0 15 *                                   58 STORE_USER_ALL send
@@ -91,6 +100,12 @@ B0 30 02 21 00 / B1 05 01 00 00 00 03 *   58 COEFFICIENTS of 21 side 0 read m 1 
 = count VOUT_COMMAND 2
 = count COEFFICIENTS 1
 = lines 9 accepted 9 faults 0 bad 0
+
+B0 98 / B1 00 *                           58 PMBUS_REVISION read 00 Part I 1.0, Part II 1.0
+B0 98 / B1 12 *                           58 PMBUS_REVISION read 12 Part I 1.1, Part II 1.2
+B0 06 02 00 98 / B1 01 21 *               58 page 0 PMBUS_REVISION read 21 Part I 1.2, Part II 1.1
+B0 98 / B1 34 *                           58 PMBUS_REVISION read 34
+B0 98 / B1 43 *                           58 PMBUS_REVISION read 43
 
 B0 19 / B1 B0 *                           58 CAPABILITY read B0 PEC, 400 kHz, SMBALERT#
 B0 19 / B1 00 *                           58 CAPABILITY read 00 100 kHz
@@ -176,7 +191,7 @@ B2 05 04 00 21 CD 34 *                    59 page 0 VOUT_COMMAND write 34CD
 B0 21 CD 34 *                             58 VOUT_COMMAND write 34CD 3.300048 V
 B0 06 02 00 20 / B1 01 13 *               58 page 0 VOUT_MODE read 13 ULINEAR16 -13
 B0 05 04 00 21 CD 34 *                    58 page 0 VOUT_COMMAND write 34CD 1.650024 V
-B0 06 02 00 20 / B1 01 21 *               58 page 0 VOUT_MODE read 21
+B0 06 02 00 20 / B1 01 21 *               58 page 0 VOUT_MODE read 21 VID
 B0 05 04 00 21 CD 34 *                    58 page 0 VOUT_COMMAND write 34CD
 
 B0 20 / B1 14 *                           58 VOUT_MODE read 14 ULINEAR16 -12
@@ -281,7 +296,7 @@ B2 21 02 00 *                             59 page 1? VOUT_COMMAND write 0002 655
 B2 25 02 00 *                             59 page 1? VOUT_MARGIN_HIGH write 0002
 B2 20 / B3 B7 *                           59 page 1? VOUT_MODE read B7
 B2 21 02 00 *                             59 page 1? VOUT_COMMAND write 0002
-B2 20 / B3 7F *                           59 page 1? VOUT_MODE read 7F
+B2 20 / B3 7F *                           59 page 1? VOUT_MODE read 7F half
 B2 21 02 00 *                             59 page 1? VOUT_COMMAND write 0002
 """),
     ("--values --vout=ulinear16:-12", """
@@ -346,7 +361,7 @@ B0 06 02 00 20 / B1 01 13 *               58 page 0 VOUT_MODE read 13 ULINEAR16 
 B0 05 04 00 21 CD 34 *                    58 page 0 VOUT_COMMAND write 34CD 1.650024 V
 B0 05 04 01 21 CD 34 *                    58 page 1 VOUT_COMMAND write 34CD 3.300048 V
 B0 21 CD 34 *                             58 VOUT_COMMAND write 34CD 1.650024 V
-B0 06 02 00 20 / B1 01 21 *               58 page 0 VOUT_MODE read 21
+B0 06 02 00 20 / B1 01 21 *               58 page 0 VOUT_MODE read 21 VID
 B0 05 04 00 21 CD 34 *                    58 page 0 VOUT_COMMAND write 34CD
 B0 06 02 00 20 / B1 01 40 *               58 page 0 VOUT_MODE read 40 DIRECT
 B0 05 04 00 21 CD 34 *                    58 page 0 VOUT_COMMAND write 34CD
@@ -523,14 +538,15 @@ B0 96 03 00 D4 07                         58 code 96 READ_POUT write 03 00 D4 07
 = count code EF 3
 = lines 23 accepted 0 other 23 faults 0 bad 0
 
-# An answer of nothing but ones; with its PEC, which is chance, and with no byte it is none.
-B0 06 02 00 21 / B1 FF FF FF FF           58 code 06 PAGE_PLUS_READ write 02 00 21 read FF FF FF FF, all ones: nobody answered
-B0 79 / B1 FF FF                          58 code 79 STATUS_WORD read FF FF, all ones: nobody answered
-B0 79 / B1 FF FF FF                       58 code 79 STATUS_WORD read FF FF FF, all ones: nobody answered
-B0 78 / B1 FF                             58 code 78 STATUS_BYTE read FF, all ones: nobody answered
-B0 96 / B1 FF FF FF                       58 code 96 READ_POUT read FF FF FF, all ones: nobody answered
-B0 03 / B1 FF                             58 code 03 CLEAR_FAULTS read FF, all ones: nobody answered
-B0 78 00 / B1 FF                          58 code 78 STATUS_BYTE write 00 read FF, all ones: nobody answered
+# An answer of nothing but ones, which may be one until its address sent a right PEC; with its PEC, which is chance, and with no
+# byte it is none.
+B0 06 02 00 21 / B1 FF FF FF FF           58 code 06 PAGE_PLUS_READ write 02 00 21 read FF FF FF FF, all ones: nobody answered?
+B0 79 / B1 FF FF                          58 STATUS_WORD read FFFF, all ones: nobody answered?
+B0 79 / B1 FF FF FF                       58 code 79 STATUS_WORD read FF FF FF, all ones: nobody answered?
+B0 78 / B1 FF                             58 STATUS_BYTE read FF, all ones: nobody answered?
+B0 96 / B1 FF FF FF                       58 code 96 READ_POUT read FF FF FF, all ones: nobody answered?
+B0 03 / B1 FF                             58 code 03 CLEAR_FAULTS read FF, all ones: nobody answered?
+B0 78 00 / B1 FF                          58 code 78 STATUS_BYTE write 00 read FF, all ones: nobody answered?
 B0 78 / B1 FF *                           58 STATUS_BYTE read FF
 B0 78 / B1 FF FE                          58 read F5 WrongPec 2
 B0 D4 FF FF                               58 code D4 write FF FF, no PEC
@@ -541,18 +557,27 @@ B0 40 / B1 FF FF                          58 code 40 VOUT_OV_FAULT_LIMIT read FF
 B0 40 / B1 FF FF FF                       58 code 40 VOUT_OV_FAULT_LIMIT read FF FF, PEC right
 0E 96 / 0F FF                             -- write F1 NotOurs
 B0 96 / B3 FF                             58 write F6 UnknownCode 1
-= count STATUS_BYTE 1
+= count STATUS_WORD 1
+= count STATUS_BYTE 2
 = count code 03 1
 = count code 06 1
 = count code 40 2
-= count code 78 2
-= count code 79 2
+= count code 78 1
+= count code 79 1
 = count code 89 1
 = count code 96 1
 = count code D4 1
 = count code E0 1
 = count code FF 1
-= lines 17 accepted 1 other 13 faults 3 bad 0
+= lines 17 accepted 3 other 11 faults 3 bad 0
+
+# A write of PAGE_PLUS whose count says that its last byte is the PEC, which is wrong, stays a fault; not one whose count is that of
+# its bytes, or fits neither.
+B0 05 05 00 21 CD 34 00 11                58 write F4 WrongCount 2
+B0 05 03 00 21 CD 00                      58 write F4 WrongCount 2
+B0 05 05 00 21 CD 34 00 *                 58 page 0 code 21 VOUT_COMMAND write CD 34 00, PEC right
+B0 05 05 00 21 CD 34 00                   58 page 0 code 21 VOUT_COMMAND write CD 34 00, no PEC
+B0 05 03 00 21 CD 34 00                   58 code 05 PAGE_PLUS_WRITE write 03 00 21 CD 34 00, no PEC
 
 # The last byte is data, whatever it is, where without it an answer would have no byte, or a packet fewer than its code has.
 B0 7B / B1 *                              58 code 7B STATUS_IOUT read *, no PEC
@@ -672,6 +697,15 @@ B0 9E / B1 02 5B 5D                       58 code 9E MFR_SERIAL read 02 5B 5D "[
 B0 9E / B1 00                             58 code 9E MFR_SERIAL read 00, no PEC
 B0 9E / B1 02 41                          58 code 9E MFR_SERIAL read 02 41, no PEC
 B0 9E / B1 01 41 42                       58 code 9E MFR_SERIAL read 01 41 42, no PEC
+B0 9E / B1 04 41 42 43 00                 58 code 9E MFR_SERIAL read 04 41 42 43 00 "ABC", no PEC
+B0 9E / B1 04 41 42 43 FF                 58 code 9E MFR_SERIAL read 04 41 42 43 FF "ABC", no PEC
+B0 9E 02 41 00 *                          58 code 9E MFR_SERIAL write 02 41 00 "A", PEC right
+B0 9E / B1 04 41 42 00 00                 58 code 9E MFR_SERIAL read 04 41 42 00 00, no PEC
+B0 9E / B1 04 41 00 42 43                 58 code 9E MFR_SERIAL read 04 41 00 42 43, no PEC
+B0 9E / B1 04 41 42 43 FE                 58 code 9E MFR_SERIAL read 04 41 42 43 FE, no PEC
+B0 9E / B1 03 41 42 43 00                 58 code 9E MFR_SERIAL read 03 41 42 43 00, no PEC
+B0 9E / B1 01 00                          58 code 9E MFR_SERIAL read 01 00, no PEC
+B0 9E / B1 01 FF                          58 code 9E MFR_SERIAL read 01 FF, no PEC
 B0 AD / B1 02 54 49                       58 code AD IC_DEVICE_ID read 02 54 49 "TI", no PEC
 B0 AE / B1 01 30                          58 code AE IC_DEVICE_REV read 01 30 "0", no PEC
 B0 AC / B1 01 30                          58 code AC MFR_PIN_ACCURACY read 01 30, no PEC
@@ -695,7 +729,7 @@ B0 02 / B1 17                             58 code 02 ON_OFF_CONFIG read 17 by CO
 B0 02 / B1 1C                             58 code 02 ON_OFF_CONFIG read 1C by OPERATION and CONTROL, CONTROL active low, off with delay, no PEC
 B0 02 1F *                                58 code 02 ON_OFF_CONFIG write 1F by OPERATION and CONTROL, CONTROL active high, off at once, PEC right
 B0 02 / B1 3E                             58 code 02 ON_OFF_CONFIG read 3E by OPERATION and CONTROL, CONTROL active high, off with delay, bit 5, no PEC
-B0 02 / B1 FF                             58 code 02 ON_OFF_CONFIG read FF by OPERATION and CONTROL, CONTROL active high, off at once, bit 7, bit 6, bit 5, all ones: nobody answered
+B0 02 / B1 FF                             58 code 02 ON_OFF_CONFIG read FF by OPERATION and CONTROL, CONTROL active high, off at once, bit 7, bit 6, bit 5, all ones: nobody answered?
 B0 02 / B1 16 00                          58 code 02 ON_OFF_CONFIG read 16 00, no PEC
 B0 02                                     58 code 02 ON_OFF_CONFIG send, no PEC
 B0 05 03 00 02 18 *                       58 page 0 code 02 ON_OFF_CONFIG write 18 by OPERATION, PEC right
@@ -980,7 +1014,7 @@ B0 7E / B1 00 *                           58 page 1? STATUS_CML read 00 none
 B0 10 / B1 00 *                           58 WRITE_PROTECT read 00 all writes
 B0 15 *                                   58 STORE_USER_ALL send
 B0 19 / B1 B0 *                           58 CAPABILITY read B0 PEC, 400 kHz, SMBALERT#
-B0 98 / B1 33 *                           58 PMBUS_REVISION read 33
+B0 98 / B1 33 *                           58 PMBUS_REVISION read 33 Part I 1.3, Part II 1.3
 B0 30 02 21 00 / B1 05 01 00 00 00 03 *   58 COEFFICIENTS of 21 side 0 read m 1 b 0 r 3
 B0 06 02 00 21 / B1 02 CD 34 *            58 page 0 VOUT_COMMAND read 34CD
 B2 21 CD 34 *                             59 VOUT_COMMAND write 34CD
@@ -1112,7 +1146,7 @@ B0 00 01 *                                58 PAGE write 01
 B0 21 CD 34 *                             58 page 1? VOUT_COMMAND write 34CD 3.300048 V
 B0 20 / B1 13 *                           58 page 1? VOUT_MODE read 13 ULINEAR16 -13
 B0 21 CD 34 *                             58 page 1? VOUT_COMMAND write 34CD 1.650024 V
-B0 20 / B1 21 *                           58 page 1? VOUT_MODE read 21
+B0 20 / B1 21 *                           58 page 1? VOUT_MODE read 21 VID
 B0 21 CD 34 *                             58 page 1? VOUT_COMMAND write 34CD
 # a loss
 B0 21 CD 34 *                             58 VOUT_COMMAND write 34CD
@@ -1250,7 +1284,7 @@ B0 18 21                                  58 code 18 RESTORE_USER_CODE write 21,
 B0 19 / B1 B0 *                           58 CAPABILITY read B0 PEC, 400 kHz, SMBALERT#
 B0 1A 01 21 / B1 01 00                    58 code 1A QUERY write 01 21 read 01 00, no PEC
 B0 30 02 21 00 / B1 05 01 00 00 00 03 *   58 COEFFICIENTS of 21 side 0 read m 1 b 0 r 3
-B0 98 / B1 33 *                           58 PMBUS_REVISION read 33
+B0 98 / B1 33 *                           58 PMBUS_REVISION read 33 Part I 1.3, Part II 1.3
 B0 99 / B1 03 4C 54 43                    58 code 99 MFR_ID read 03 4C 54 43 "LTC", no PEC
 B0 9E / B1 01 31                          58 code 9E MFR_SERIAL read 01 31 "1", no PEC
 B0 AD / B1 01 31                          58 code AD IC_DEVICE_ID read 01 31 "1", no PEC
@@ -1385,6 +1419,47 @@ B0 03 *                                   58 page 1? CLEAR_FAULTS send
 B0 05 04 00 21 CD 34 *                    58 page 0 VOUT_COMMAND write 34CD
 B0 03 *                                   58 page 1? CLEAR_FAULTS send
 """),
+    # Answers of ones: one that was written, one of an address that never sent a right PEC, which keeps the page and teaches
+    # nothing, and one of an address that did.
+    ("--pages --all --values", """
+B0 00 FF                                  58 PAGE write FF, no PEC
+B0 00 / B1 FF                             58 PAGE read FF, no PEC
+B0 03                                     58 page 255? CLEAR_FAULTS send, no PEC
+B0 24 FF FF                               58 page 255? VOUT_MAX write FFFF, no PEC
+B0 24 / B1 FF FF                          58 page 255? VOUT_MAX read FFFF, no PEC
+B0 24 FF FE                               58 page 255? VOUT_MAX write FEFF, no PEC
+B0 24 / B1 FF FF                          58 page 255? VOUT_MAX read FFFF, all ones: nobody answered?
+B0 B0 FF FF FF                            58 page 255? code B0 USER_DATA_00 write FF FF FF, no PEC
+B0 B0 / B1 FF FF FF                       58 page 255? code B0 USER_DATA_00 read FF FF FF, no PEC
+B0 B0 / B1 FF FF FF FF                    58 page 255? code B0 USER_DATA_00 read FF FF FF FF, all ones: nobody answered?
+B0 B1 / B1 FF FF FF                       58 page 255? code B1 USER_DATA_01 read FF FF FF, all ones: nobody answered?
+B0 00 01                                  58 PAGE write 01, no PEC
+B0 20 / B1 14                             58 page 1? VOUT_MODE read 14 ULINEAR16 -12, no PEC
+B0 20 / B1 FF                             58 page 1? VOUT_MODE read FF, all ones: nobody answered?
+B0 8B / B1 FF FF                          58 page 1? READ_VOUT read FFFF 15.999755 V, all ones: nobody answered?
+B0 00 / B1 FF                             58 PAGE read FF, all ones: nobody answered?
+B0 8B / B1 00 10                          58 page 1? READ_VOUT read 1000 1 V, no PEC WRONG PAGE? lines 16 and 17
+B0 00 / B1 01                             58 PAGE read 01, no PEC
+B0 24 FF FF *                             58 page 1? VOUT_MAX write FFFF 15.999755 V
+B0 24 / B1 FF FF                          58 page 1? VOUT_MAX read FFFF 15.999755 V, no PEC
+B2 8B / B3 FF FF                          59 READ_VOUT read FFFF, all ones: nobody answered?
+B0 24 00 10 !                             58 write F5 WrongPec 4 bytes B0 24 00 10 !
+B0 24 / B1 FF FF                          58 VOUT_MAX read FFFF 15.999755 V, no PEC
+B0 00 01                                  58 PAGE write 01, no PEC
+B0 88 / B1 00 D3 *                        58 page 1? READ_VIN read D300 12 V
+B0 24 / B1 FF FF                          58 page 1? VOUT_MAX read FFFF 15.999755 V, no PEC
+B0 8B / B1 FF FF                          58 code 8B READ_VOUT read FF FF, all ones: nobody answered
+B0 8B / B1 00 10                          58 READ_VOUT read 1000 1 V, no PEC
+B2 00 01                                  59 PAGE write 01, no PEC
+B2 96 / B3 34 12 *                        59 page 1? code 96 READ_POUT read 34 12, PEC right
+B2 96 / B3 FF FF                          59 code 96 READ_POUT read FF FF, all ones: nobody answered
+"""),
+    ("--all --json", """
+B0 79 / B1 FF FF      {"line":1,"address":"58","code":"79","name":"STATUS_WORD","direction":"read","payload":"FF FF","pec":false,"answered":null}
+B0 D4 / B1 FF         {"line":2,"address":"58","code":"D4","direction":"read","payload":"FF","pec":false,"answered":null}
+B0 88 / B1 00 D3 *    {"line":3,"address":"58","code":"88","name":"READ_VIN","direction":"read","payload":"00 D3"}
+B0 79 / B1 FF FF      {"line":4,"address":"58","code":"79","name":"STATUS_WORD","direction":"read","payload":"FF FF","pec":false,"answered":false}
+"""),
     # With `--all`: what stays a fault, what nobody answered, what PAGE_PLUS carries, and a packet of PAGE of another length.
     ("--pages --all", """
 B0 00 01                                  58 PAGE write 01, no PEC
@@ -1394,7 +1469,7 @@ B0 D4 07                                  58 page 1? code D4 write 07, no PEC
 B0 20 14                                  58 page 1? code 20 VOUT_MODE write 14, no PEC
 B0 21 00 02                               58 page 1? VOUT_COMMAND write 0200, no PEC
 B0 78 / B1 FF *                           58 page 1? STATUS_BYTE read FF
-B2 96 / B3 FF                             59 code 96 READ_POUT read FF, all ones: nobody answered
+B2 96 / B3 FF                             59 code 96 READ_POUT read FF, all ones: nobody answered?
 B0 21 00 02                               58 page 1? VOUT_COMMAND write 0200, no PEC
 B0 03 47                                  58 write F5 WrongPec 2
 B0 21 00 02                               58 VOUT_COMMAND write 0200, no PEC
@@ -1426,10 +1501,10 @@ B0 21 00 10                               58 page 0? VOUT_COMMAND write 1000 1 V
 B0 96 / B1                                58 code 96 READ_POUT read, no PEC
 B0 21 00 10                               58 VOUT_COMMAND write 1000, no PEC
 B0 00 01                                  58 PAGE write 01, no PEC
-B0 8B / B1 FF FF                          58 code 8B READ_VOUT read FF FF, all ones: nobody answered
-B0 21 00 02                               58 VOUT_COMMAND write 0200, no PEC
+B0 8B / B1 FF FF                          58 page 1? READ_VOUT read FFFF, all ones: nobody answered?
+B0 21 00 02                               58 page 1? VOUT_COMMAND write 0200, no PEC
 B0 00 01                                  58 PAGE write 01, no PEC
-B0 00 / B1 FF                             58 code 00 PAGE read FF, all ones: nobody answered
+B0 00 / B1 FF                             58 PAGE read FF, all ones: nobody answered?
 B0 21 00 02                               58 page 1? VOUT_COMMAND write 0200, no PEC WRONG PAGE? lines 18 and 19
 B0 00 01                                  58 PAGE write 01, no PEC
 B0 00 / B1                                58 code 00 PAGE read, no PEC
@@ -1590,6 +1665,18 @@ B0 21 00 10 *                             58 page 1? VOUT_COMMAND write 1000
 B0 00 FF *                                58 PAGE write FF
 B0 00 / B1 FF *                           58 PAGE read FF
 B0 03 *                                   58 page 255? CLEAR_FAULTS send
+
+# The same without PEC, and a register that nobody wrote.
+B0 00 FF                                  58 PAGE write FF, no PEC
+B0 00 / B1 FF                             58 PAGE read FF, no PEC
+B0 03                                     58 page 255? CLEAR_FAULTS send, no PEC
+B0 01 80                                  58 page 255? OPERATION write 80 on, no PEC
+B0 24 / B1 FF FF                          58 page 255? VOUT_MAX read FFFF, all ones: nobody answered?
+
+# One output, and no PAGE.
+B0 20 / B1 17 *                           58 VOUT_MODE read 17 ULINEAR16 -9
+B0 8B / B1 66 02 *                        58 READ_VOUT read 0266 1.199218 V
+B0 88 / B1 00 D3 *                        58 READ_VIN read D300 12 V
 
 # A wrong PEC of PAGE.
 B0 00 01 !                                58 write F5 WrongPec 3 bytes B0 00 01 !

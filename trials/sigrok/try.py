@@ -58,7 +58,13 @@ def reader(vout="", readings=""):
     return importlib.import_module(f"{name}.packets").Reader(vout, readings)
 
 
-def wanted_words(told, write):
+def parts_in(line):
+    """The words of a line's write part, and of its read part or None."""
+    write, has_read, read = line.partition("/")
+    return write.split(), read.split() if has_read else None
+
+
+def wanted_words(told, write, read):
     """What the decoder has to say where `decode` tells this behind a line's number."""
     found = re.match(r"(..) (?:write|read) (F\d) ", told)
     if not found:
@@ -66,6 +72,8 @@ def wanted_words(told, write):
     where, fault = found.groups()
     if where == "--":
         return "-- no address of a device"
+    if read is None and fault not in WORDS and len(write) > 1:
+        return f"{where} {WORDS['F5']}"
     return f"{where} {WORDS.get(fault) or ('too short' if len(write) < 2 else WORDS['F1'])}"
 
 
@@ -92,7 +100,7 @@ def random_faults(decode, seed, texts):
         told, decoder = decode(b"\n".join(lines), words)[1].splitlines(), reader(vout, readings)
         for number, line in enumerate(lines, 1):
             write, read = parts_of(line)
-            found, wanted = decoder.tell(write, read).text, wanted_words(told[number - 1].partition(" ")[2] + " ", write)
+            found, wanted = decoder.tell(write, read).text, wanted_words(told[number - 1].partition(" ")[2] + " ", write, read)
             count += 1
             if found != wanted.rstrip(" "):
                 yield f"{line!r} with vout {vout!r} and readings {readings!r} gives {found!r}, and not {wanted!r}"
@@ -123,7 +131,7 @@ def waveform_faults(decode, name):
     for number, line in enumerate(lines, 1):
         if line.startswith(("# byte ", "# another device")):
             continue
-        words = line[2:] if line.startswith("#") else wanted_words(by_line[number] + " ", line.split("/")[0].split()).rstrip(" ")
+        words = line[2:] if line.startswith("#") else wanted_words(by_line[number] + " ", *parts_in(line)).rstrip(" ")
         wanted.append(words)
     # A packet that the capture's end cuts isn't told.
     if wanted and wanted[-1].startswith("no stop"):
@@ -136,8 +144,8 @@ def waveform_faults(decode, name):
 def drawn_faults():
     """Waveforms that are drawn of rows, which were written by hand."""
     for options, text in told_rows.GROUPS:
-        # The decoder tells values always, and follows no page.
-        if {*options.split()} & {"--json", "--times", "--pages"} or "--values" not in options:
+        # The decoder tells values always, follows no page, and takes one format of voltages.
+        if {*options.split()} & {"--json", "--times", "--pages"} or "--values" not in options or re.search("--vout=([0-7]|[^ ]*,)", options):
             continue
         for rows in traces(text):
             yield from drawn_fault(options, rows)
@@ -159,7 +167,8 @@ def drawn_fault(options, rows):
         if is_on_bus(said, parts):
             # The decoder tells a fault as decode does with --all.
             is_told = "--all" in options or " F" not in said
-            wanted.append(wanted_words(said + " ", parts[0]).rstrip(" ") if is_told else None)
+            read = parts[1] if len(parts) > 1 else None
+            wanted.append(wanted_words(said + " ", parts[0], read).rstrip(" ") if is_told else None)
         else:
             lines[int(number) - 1] = "# not drawn"
     given = re.findall(r"--(vout|readings)[= ](\S+)", options)
@@ -179,7 +188,7 @@ def random_wave_faults(decode, seed):
         if words and words[0] and is_on_bus("", words):
             lines.append(" / ".join(" ".join(part) for part in words))
     told = decode("\n".join(lines).encode(), ["--all", "--values", "--vout=ulinear16:-12"])[1].splitlines()
-    wanted = [wanted_words(said.partition(" ")[2] + " ", line.split("/")[0].split()).rstrip(" ") for said, line in zip(told, lines)]
+    wanted = [wanted_words(said.partition(" ")[2] + " ", *parts_in(line)).rstrip(" ") for said, line in zip(told, lines)]
     found, errors = sigrok(waveform("\n".join(lines)), ":vout=ulinear16/-12")
     for line, one, other in zip(lines, found, wanted):
         if one != other:

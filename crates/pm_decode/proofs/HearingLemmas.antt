@@ -1,5 +1,5 @@
 -- What is known, and what is written, behind one line more.
-use Rattle.std.proofs.Common.{◌≡◌, ℕ, ◌+◌, true, cond, List, [], ◌∷◌, ◌++◌, Option, Some, None, Result, Ok, Err, OnOk}
+use Rattle.std.proofs.Common.{◌≡◌, ℕ, ◌+◌, Bool, true, cond, List, [], ◌∷◌, ◌++◌, Option, Some, None, Result, Ok, Err, OnOk}
 use Rattle.std.proofs.Common.{refl, sym, ap, ◌∙◌, arith, append_assoc, append-nil}
 use Rattle.std.specs.List.{filter_map}
 use Rattle.std.proofs.lemmas.List.Elements.{filter_map-append}
@@ -8,19 +8,29 @@ use Rattle.pm_trace.specs.Counts.{counted, counts_of, counts_with, lines_in, one
 use Rattle.pm_trace.specs.Trace.{Judged, ToldLine, Accepted, Faulty, BadSyntax, BadHex}
 use Rattle.pm_trace.specs.Lemmas.Counts.{total_one_more}
 use Rattle.pm_trace.specs.Lemmas.Said.{counts_of-snoc}
-use Rattle.pm_trace.specs.Pages.{pages_by}
+use Rattle.pm_trace.specs.Pages.{Pages, pages_by}
 use Rattle.pm_trace.specs.declared.trace_line.TraceLine.{TraceLine}
 use Rattle.pm_decode.specs.Hints.{beyond_by}
-use Rattle.pm_decode.specs.PageSteps.{marks_by, step_by}
+use Rattle.pm_decode.specs.PageSteps.{marks_by, marks_in, step_by}
 use Rattle.pm_decode.specs.declared.page_step.Marks.{Marks}
 use Rattle.pm_decode.specs.declared.page_step.PageStep.{PageStep}
-use Rattle.pm_decode.specs.CaptureText.{line_text, lines_text}
-use Rattle.pm_decode.specs.Hearing.{HeardLines, Known, heard_lines, heard_of, heard_with, known_by, known_from, known_read, more_if, other_code}
-use Rattle.pm_decode.specs.Hearing.{other_code_in, taught_read, told_in, told_unless, unknown}
+use Rattle.pm_decode.specs.CaptureText.{line_text, lines_text, told_line}
+use Rattle.pm_values.specs.declared.answers.Ones.{Ones}
+use Rattle.pm_decode.specs.Hearing.{Heard, HeardLines, Known, answers_read, heard_all, heard_as, heard_lines, heard_of, heard_with, known_by}
+use Rattle.pm_decode.specs.Hearing.{known_from, known_read, more_if, ones_in, other_code, other_code_in, taught_read, told_in, told_unless, unknown}
 use Rattle.pm_decode.specs.Readings.{Entry, Reading, Told, Noted, is_without_pec, judged_as, judged_by, other_address}
 use Rattle.pm_decode.specs.TimedLines.{head_remark, passes_timed, timed_said}
+use Rattle.pm_decode.specs.declared.comment.Remark.{Remark}
 use Rattle.pm_decode.specs.declared.options.TellOptions.{TellOptions}
 use Rattle.pm_decode.specs.declared.timed_line.TimedLine.{TimedLine}
+
+-- what the answers of one line more are taken for
+heard_all-snoc : (options : TellOptions) (known : Known) (entries : List Entry) (entry : Entry)
+    → heard_all options known (entries ++ entry ∷ [])
+    ≡ heard_all options known entries ++ heard_as options (known_from options known entries) entry ∷ []
+heard_all-snoc options known [] entry = refl
+heard_all-snoc options known (first ∷ entries) entry =
+    ap (λ l. heard_as options known first ∷ l) (heard_all-snoc options (known_by options known first) entries entry)
 
 -- one line more is heard
 pub heard_of-snoc : (options : TellOptions) (entries : List Entry) (entry : Entry)
@@ -28,43 +38,54 @@ pub heard_of-snoc : (options : TellOptions) (entries : List Entry) (entry : Entr
 unfolding heard_of
 heard_of-snoc options entries entry = λ i. record {
   known = fold-append (known_by options) unknown entries (entry ∷ []) i;
-  counts = counts (told_in options.all entry) refl i;
-  others = others (other_code options.all entry) refl i;
+  counts = (ap (λ l. counts_of (filter_map (told_in options.all) l)) (heard_all-snoc options unknown entries entry)
+      ∙ counts (told_in options.all last) refl) i;
+  others = (ap (λ l. counted (filter_map (other_code options.all) l)) (heard_all-snoc options unknown entries entry)
+      ∙ others (other_code options.all last) refl) i;
 }
   where
+    before : List Heard
+    before = heard_all options unknown entries
+
+    last : Heard
+    last = heard_as options (known_from options unknown entries) entry
+
     lines : List ToldLine
-    lines = filter_map (told_in options.all) entries
+    lines = filter_map (told_in options.all) before
 
     codes_before : List ℕ
-    codes_before = filter_map (other_code options.all) entries
+    codes_before = filter_map (other_code options.all) before
 
-    counts : (told : Option ToldLine) → told_in options.all entry ≡ told
-        → counts_of (filter_map (told_in options.all) (entries ++ entry ∷ [])) ≡ counts_with (counts_of lines) told
+    counts : (told : Option ToldLine) → told_in options.all last ≡ told
+        → counts_of (filter_map (told_in options.all) (before ++ last ∷ [])) ≡ counts_with (counts_of lines) told
     counts None is =
-        let same : filter_map (told_in options.all) (entries ++ entry ∷ []) ≡ lines ++ [] =
-        filter_map-append (told_in options.all) entries (entry ∷ []) ∙ rw is refl in
+        let same : filter_map (told_in options.all) (before ++ last ∷ []) ≡ lines ++ [] =
+        filter_map-append (told_in options.all) before (last ∷ []) ∙ rw is refl in
         ap counts_of (same ∙ append-nil lines)
     counts (Some told) is =
-        let same : filter_map (told_in options.all) (entries ++ entry ∷ []) ≡ lines ++ told ∷ [] =
-        filter_map-append (told_in options.all) entries (entry ∷ []) ∙ rw is refl in
+        let same : filter_map (told_in options.all) (before ++ last ∷ []) ≡ lines ++ told ∷ [] =
+        filter_map-append (told_in options.all) before (last ∷ []) ∙ rw is refl in
         ap counts_of same ∙ counts_of-snoc lines told
 
-    others : (other : Option ℕ) → other_code options.all entry ≡ other
-        → counted (filter_map (other_code options.all) (entries ++ entry ∷ [])) ≡ more_if (counted codes_before) other
+    others : (other : Option ℕ) → other_code options.all last ≡ other
+        → counted (filter_map (other_code options.all) (before ++ last ∷ [])) ≡ more_if (counted codes_before) other
     others None is =
-        let same : filter_map (other_code options.all) (entries ++ entry ∷ []) ≡ codes_before ++ [] =
-        filter_map-append (other_code options.all) entries (entry ∷ []) ∙ rw is refl in
+        let same : filter_map (other_code options.all) (before ++ last ∷ []) ≡ codes_before ++ [] =
+        filter_map-append (other_code options.all) before (last ∷ []) ∙ rw is refl in
         ap counted (same ∙ append-nil codes_before)
     others (Some code) is =
-        let same : filter_map (other_code options.all) (entries ++ entry ∷ []) ≡ codes_before ++ code ∷ [] =
-        filter_map-append (other_code options.all) entries (entry ∷ []) ∙ rw is refl in
+        let same : filter_map (other_code options.all) (before ++ last ∷ []) ≡ codes_before ++ code ∷ [] =
+        filter_map-append (other_code options.all) before (last ∷ []) ∙ rw is refl in
         ap counted same ∙ fold-append one_more [] codes_before (code ∷ [])
 
 -- a line that is told is one more that is counted
 pub heard_one : (options : TellOptions) (heard : HeardLines) (number : ℕ) (reading : Reading)
     → heard_lines (heard_with options heard (number, Told reading)) ≡ heard_lines heard + 1
-heard_one options heard number reading = by (other_code_in options.all reading.parts) (judged_as options.all reading.parts)
+heard_one options heard number reading = by (other_code_in options.all ones reading.parts) (judged_as options.all ones reading.parts)
   where
+    ones : Ones
+    ones = ones_in options heard.known reading.parts
+
     one : (judged : Judged) → lines_in (one_counted heard.counts judged) ≡ lines_in heard.counts + 1
     one (Accepted addr message answer) = omega arith
     one (Faulty addr read fault) = omega arith
@@ -94,17 +115,99 @@ lines_text-append options known (x ∷ xs) ys =
 
 -- what is known behind a packet where PAGE is followed, by its place and its marks
 module _ (options : TellOptions) (number : ℕ) (time : Option ℕ) (parts : TraceLine) (known : Known) where
-  pub known_on_page : (step : PageStep) (marks : Marks) → options.pages ≡ true
-      → step ≡ step_by options.gap time known.pages parts (judged_by options.all parts) (other_address options.all parts)
-      → marks ≡ marks_by (is_without_pec options.all parts) (Some step)
+  pub known_on_page : (ones : Ones) (lacks : Bool) (judged : Judged) (other : Option ℕ) (step : PageStep) (marks : Marks)
+      → options.pages ≡ true
+      → ones ≡ ones_in options known (Ok parts)
+      → judged ≡ judged_by options.all ones parts
+      → other ≡ other_address options.all ones parts
+      → lacks ≡ is_without_pec options.all ones parts
+      → step ≡ step_by options.gap time known.pages ones parts judged other
+      → marks ≡ marks_by ones lacks (Some step)
       → record {
         taught = taught_read options number marks (Ok parts) known.taught;
         pages = pages_by number step.addr step.place step.used known.pages;
-        beyond = beyond_by options known.taught marks.reached number (judged_by options.all parts) known.beyond;
+        beyond = beyond_by options known.taught marks.reached number judged known.beyond;
+        answers = answers_read options marks.ones (Ok parts) known.answers;
       } ≡ known_read options number time (Ok parts) known
-  known_on_page step marks pages step_is marks_is = rw (marks_is, step_is, pages) refl
+  known_on_page ones lacks judged other step marks pages ones_is judged_is other_is lacks_is step_is marks_is =
+      rw (marks_is, step_is, other_is, judged_is, ones_is, pages) refl
+
+  pub marks_on_page : (ones : Ones) (lacks : Bool) (judged : Judged) (other : Option ℕ) (step : PageStep) (marks : Marks)
+      → options.pages ≡ true
+      → ones ≡ ones_in options known (Ok parts)
+      → judged ≡ judged_by options.all ones parts
+      → other ≡ other_address options.all ones parts
+      → lacks ≡ is_without_pec options.all ones parts
+      → step ≡ step_by options.gap time known.pages ones parts judged other
+      → marks ≡ marks_by ones lacks (Some step)
+      → marks ≡ marks_in options known.pages (ones_in options known (Ok parts)) time (Ok parts)
+  marks_on_page ones lacks judged other step marks pages ones_is judged_is other_is lacks_is step_is marks_is =
+      rw (marks_is, step_is, lacks_is, other_is, judged_is, ones_is, pages) refl
 
 -- what follows from a good end, of that end
 pub on_good : {T E P Q : Type 0} (result : Result T E) → (P → Q) → OnOk result P → OnOk result Q
 on_good (Ok value) follows good = follows good
 on_good (Err fault) follows good = tt
+
+-- a comment was heard, if PAGE is followed
+pub comment_noted : {E : Type 0} (result : Result (Unit {0}) E) (options : TellOptions) (heard new : HeardLines) (number : ℕ)
+    (line : TimedLine) (remark : Remark) → options.pages ≡ true → line.has_mark ≡ true → remark ≡ head_remark line.head
+    → OnOk result ((each : TellOptions) → new ≡ heard_with each heard (number, Noted remark))
+    → OnOk result (new ≡ cond (passes_timed options.pages line) heard (heard_with options heard (number, timed_said options.pages line)))
+comment_noted (Ok done) options heard new number line remark pages mark is noted = noted options
+    ∙ ap (λ r. heard_with options heard (number, Noted r)) is ∙ comment_heard options heard number line pages mark
+comment_noted (Err fault) options heard new number line remark pages mark is noted = tt
+
+-- a packet was told on its page, and what it says of PAGE was learned: what is known then, and the text
+module _ (options : TellOptions) (number : ℕ) (time : Option ℕ) (parts : TraceLine) (self : HeardLines) (ones : Ones) (lacks : Bool)
+    (judged : Judged) (other : Option ℕ) (step : PageStep) (marks : Marks) where
+  pub page_learned : {E : Type 0} (result : Result (Unit {0}) E) (told : HeardLines) (pages : Pages)
+      → options.pages ≡ true
+      → ones ≡ ones_in options self.known (Ok parts)
+      → judged ≡ judged_by options.all ones parts
+      → other ≡ other_address options.all ones parts
+      → lacks ≡ is_without_pec options.all ones parts
+      → step ≡ step_by options.gap time self.known.pages ones parts judged other
+      → marks ≡ marks_by ones lacks (Some step)
+      → told ≡ record self {
+        known = record self.known {
+          taught = taught_read options number marks (Ok parts) self.known.taught;
+          beyond = beyond_by options self.known.taught marks.reached number judged self.known.beyond;
+          answers = answers_read options marks.ones (Ok parts) self.known.answers;
+        };
+      }
+      → OnOk result (pages ≡ pages_by number step.addr step.place step.used told.known.pages)
+      → OnOk result (record told { known = record told.known { pages = pages } }
+      ≡ record self { known = known_read options number time (Ok parts) self.known })
+  page_learned (Ok done) told pages follows ones_is judged_is other_is lacks_is step_is marks_is told_is learned =
+      (λ i. record {
+        known = record {
+          taught = (told_is i).known.taught;
+          pages = (learned ∙ ap (λ (h : HeardLines). pages_by number step.addr step.place step.used h.known.pages) told_is) i;
+          beyond = (told_is i).known.beyond;
+          answers = (told_is i).known.answers;
+        };
+        counts = (told_is i).counts;
+        others = (told_is i).others;
+      })
+      ∙ ap (λ (known : Known). record self { known = known })
+      (known_on_page options number time parts self.known ones lacks judged other step marks follows ones_is judged_is other_is
+      lacks_is step_is marks_is)
+  page_learned (Err fault) told pages follows ones_is judged_is other_is lacks_is step_is marks_is told_is learned = tt
+
+  pub page_told : {E : Type 0} (result : Result (Unit {0}) E) (before after : List ℕ)
+      → options.pages ≡ true
+      → ones ≡ ones_in options self.known (Ok parts)
+      → judged ≡ judged_by options.all ones parts
+      → other ≡ other_address options.all ones parts
+      → lacks ≡ is_without_pec options.all ones parts
+      → step ≡ step_by options.gap time self.known.pages ones parts judged other
+      → marks ≡ marks_by ones lacks (Some step)
+      → after ≡ before ++ told_line options self.known.taught marks number time (Ok parts)
+      → OnOk result (after
+      ≡ before ++ line_text options self.known (number, Told (record { time = time; parts = Ok parts })))
+  page_told (Ok done) before after follows ones_is judged_is other_is lacks_is step_is marks_is text_is = text_is
+      ∙ ap (λ (m : Marks). before ++ told_line options self.known.taught m number time (Ok parts))
+      (marks_on_page options number time parts self.known ones lacks judged other step marks follows ones_is judged_is other_is
+      lacks_is step_is marks_is)
+  page_told (Err fault) before after follows ones_is judged_is other_is lacks_is step_is marks_is text_is = tt

@@ -24,7 +24,8 @@ use Rattle.pm_trace.specs.declared.line_fault.LineFault.{LineFault}
 use Rattle.pm_trace.specs.declared.trace_line.TraceLine.{TraceLine}
 use Rattle.pm_values.specs.declared.formats.GivenFormats.{GivenFormats}
 use Rattle.pm_decode.specs.CaptureText.{capture_text, counts_text, line_text, lines_text, plain_counts, plain_line, told_line, totals_line}
-use Rattle.pm_decode.specs.Hearing.{HeardLines, Known, heard_of, known_by, other_code, other_code_in, told_in, told_unless, unknown}
+use Rattle.pm_values.specs.declared.answers.Ones.{Ones}
+use Rattle.pm_decode.specs.Hearing.{HeardLines, Known, heard_all, heard_of, known_by, ones_in, other_code, other_code_in, told_in, told_unless, unknown}
 use Rattle.pm_decode.specs.Laws.{plain_options}
 use Rattle.pm_decode.specs.Readings.{Told, entries_of, entry_of, judged_as}
 use Rattle.pm_decode.specs.declared.telling.TellEnd.{TellEnd}
@@ -89,32 +90,36 @@ module _ (formats : GivenFormats) (long : Bool) (gap : ℕ) where
       ∙ ap (λ l. trace_line (told_of line) ++ l) (lines_by rest lines)
 
   -- no line has another code
-  no_code : (parts : Result TraceLine LineFault) → other_code_in false parts ≡ None
-  no_code (Ok parts) = refl
-  no_code (Err fault) = refl
+  no_code : (ones : Ones) (parts : Result TraceLine LineFault) → other_code_in false ones parts ≡ None
+  no_code ones (Ok parts) = refl
+  no_code ones (Err fault) = refl
 
-  no_codes : (lines : List Numbered) → filter_map (other_code false) (map (entry_of plain) lines) ≡ []
-  no_codes [] = refl
-  no_codes (line ∷ lines) = rw (no_code (line_read line.1)) (no_codes lines)
+  no_codes : (known : Known) (lines : List Numbered)
+      → filter_map (other_code false) (heard_all plain known (map (entry_of plain) lines)) ≡ []
+  no_codes known [] = refl
+  no_codes known (line ∷ lines) = rw (no_code (ones_in plain known (line_read line.1)) (line_read line.1))
+      (no_codes (known_by plain known (entry_of plain line)) lines)
 
   -- what is told of a line where packets without PEC aren't told
-  told_plain : (number : ℕ) (parts : Result TraceLine LineFault)
-      → told_unless (other_code_in false parts) (number, judged_as false parts) ≡ Some (number, reading_judged parts)
-  told_plain number (Ok parts) = refl
-  told_plain number (Err fault) = refl
+  told_plain : (ones : Ones) (number : ℕ) (parts : Result TraceLine LineFault)
+      → told_unless (other_code_in false ones parts) (number, judged_as false ones parts) ≡ Some (number, reading_judged parts)
+  told_plain ones number (Ok parts) = refl
+  told_plain ones number (Err fault) = refl
 
   -- what is told of the lines
-  as_told : (lines : List Numbered) → filter_map (told_in false) (map (entry_of plain) lines) ≡ map told_of lines
-  as_told [] = refl
-  as_told (line ∷ lines) = rw (told_plain line.0 (line_read line.1)) (ap (λ l. told_of line ∷ l) (as_told lines))
+  as_told : (known : Known) (lines : List Numbered)
+      → filter_map (told_in false) (heard_all plain known (map (entry_of plain) lines)) ≡ map told_of lines
+  as_told known [] = refl
+  as_told known (line ∷ lines) = rw (told_plain (ones_in plain known (line_read line.1)) line.0 (line_read line.1))
+      (ap (λ l. told_of line ∷ l) (as_told (known_by plain known (entry_of plain line)) lines))
 
   heard_by : (lines : List Numbered) → (heard_of plain (map (entry_of plain) lines)).counts ≡ counts_of (map told_of lines)
   unfolding heard_of
-  heard_by lines = ap counts_of (as_told lines)
+  heard_by lines = ap counts_of (as_told unknown lines)
 
   others_by : (lines : List Numbered) → (heard_of plain (map (entry_of plain) lines)).others ≡ []
   unfolding heard_of
-  others_by lines = ap counted (no_codes lines)
+  others_by lines = ap counted (no_codes unknown lines)
 
   -- the counts
   totals_by : (heard : HeardLines) → heard.others ≡ [] → totals_line false heard ≡ trace_totals heard.counts

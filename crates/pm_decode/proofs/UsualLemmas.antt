@@ -53,14 +53,15 @@ module _ (addr : ℕ) (message : Message) (page : Option ℕ) (code : ℕ) (payl
   -- it teaches nothing
   nothing_taught : (number : ℕ) (taught : Taught) (answer : Option (List ℕ)) → (m : Message) → code ≡ message_code m
       → taught_by number None taught (Accepted addr m answer) ≡ taught
-  nothing_taught number taught answer (ReadCoefficients c side) is = absurd (none_asked is)
-  nothing_taught number taught answer (SendByte c) is = refl
-  nothing_taught number taught answer (WriteByte c byte) is = refl
-  nothing_taught number taught answer (WriteWord c word) is = refl
-  nothing_taught number taught answer (PagePlusWrite p c carried) is = refl
-  nothing_taught number taught answer (ReadCommand c) is =
+  nothing_taught number taught None m is = refl
+  nothing_taught number taught (Some answer) (ReadCoefficients c side) is = absurd (none_asked is)
+  nothing_taught number taught (Some answer) (SendByte c) is = refl
+  nothing_taught number taught (Some answer) (WriteByte c byte) is = refl
+  nothing_taught number taught (Some answer) (WriteWord c word) is = refl
+  nothing_taught number taught (Some answer) (PagePlusWrite p c carried) is = refl
+  nothing_taught number taught (Some answer) (ReadCommand c) is =
       let other : eqb c command.vout_mode ≡ false = grind (arith, nat_tests, is, no_mode) in rw other refl
-  nothing_taught number taught answer (PagePlusRead p c) is =
+  nothing_taught number taught (Some answer) (PagePlusRead p c) is =
       let other : eqb c command.vout_mode ≡ false = grind (arith, nat_tests, is, no_mode) in rw other refl
 
   pub usual_written : (judged : Judged) → payload_bytes payload ≡ message_payload message → judged ≡ Accepted addr message None
@@ -132,6 +133,7 @@ usual_heard options heard number usual parts plain is =
         taught = sym (is.taught number heard.known.taught) i;
         pages = heard.known.pages;
         beyond = heard.known.beyond;
+        answers = heard.known.answers;
       };
       counts = sym (is.counted heard.counts) i;
       others = heard.others;

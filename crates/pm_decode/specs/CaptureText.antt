@@ -8,11 +8,13 @@ use Rattle.pm_trace.specs.Trace.{Judged, Accepted, Faulty, BadSyntax, BadHex, re
 use Rattle.pm_trace.specs.TraceText.{count_line, judged_text, message_text}
 use Rattle.pm_trace.specs.declared.line_fault.LineFault.{LineFault}
 use Rattle.pm_trace.specs.declared.trace_line.TraceLine.{TraceLine}
-use Rattle.pm_values.specs.Otherwise.{other_text, spaced}
+use Rattle.pm_values.specs.Otherwise.{ones_text, other_text, spaced}
+use Rattle.pm_values.specs.declared.answers.Ones.{Ones}
+use Rattle.pm_values.specs.declared.otherwise.Otherwise.{Otherwise}
 use Rattle.pm_values.specs.Taught.{Taught}
 use Rattle.pm_values.specs.ValueText.{known_text}
 use Rattle.pm_values.specs.Values.{packet_value}
-use Rattle.pm_decode.specs.Hearing.{HeardLines, Known, heard_lines, heard_of, known_by, told_end, unknown}
+use Rattle.pm_decode.specs.Hearing.{HeardLines, Known, heard_lines, heard_of, known_by, ones_in, told_end, unknown}
 use Rattle.pm_decode.specs.JsonText.{count_json, judged_fields, lack_field, number_field_if, other_fields, other_jsons, text_field, totals_json, wrong_field}
 use Rattle.pm_decode.specs.PageSteps.{marks_in}
 use Rattle.pm_decode.specs.Readings.{Entry, Said, Told, Noted, entries_of, judged_by, other_address}
@@ -48,9 +50,9 @@ abbrev pub extra_text : TellOptions → Taught → Option ℕ → TraceLine → 
 extra_text options taught reached parts judged =
     if options.values then meaning_text options taught reached parts judged else []
 
--- behind a packet that lacks its PEC
-abbrev pub lack_text : Bool → List ℕ
-lack_text lacks = if lacks then codes ", no PEC" else []
+-- behind a packet that lacks its PEC, whose answer of ones is taken so
+abbrev pub lack_text : Ones → Bool → List ℕ
+lack_text ones lacks = if lacks then ones_text ones else []
 
 -- behind one that contradicts a line: the two lines
 unfoldable pub two_lines : ℕ → ℕ → List ℕ
@@ -71,17 +73,22 @@ reached_text (Some page) number (Faulty addr is_read fault) = judged_text number
 reached_text (Some page) number BadSyntax = judged_text number BadSyntax
 reached_text (Some page) number BadHex = judged_text number BadHex
 
+-- how a packet with these marks is told by its code and bytes
+abbrev pub otherwise_by : TellOptions → Marks → ℕ → Otherwise
+otherwise_by options marks addr =
+    record { values = options.values; addr = addr; reached = marks.reached; ones = marks.ones }
+
 -- a packet as the command table has it, in the line of this number, or by its code and bytes
 abbrev pub packet_text_by : TellOptions → Taught → Marks → ℕ → TraceLine → Option ℕ → List ℕ
-packet_text_by options taught marks number parts None = reached_text marks.reached number (judged_by options.all parts)
-    ++ (extra_text options taught marks.reached parts (judged_by options.all parts)
-    ++ (lack_text marks.lacks ++ wrong_text number marks.wrong))
+packet_text_by options taught marks number parts None = reached_text marks.reached number (judged_by options.all marks.ones parts)
+    ++ (extra_text options taught marks.reached parts (judged_by options.all marks.ones parts)
+    ++ (lack_text marks.ones marks.lacks ++ wrong_text number marks.wrong))
 packet_text_by options taught marks number parts (Some addr) =
-    other_text options.values addr marks.reached parts.write parts.read ++ wrong_text number marks.wrong
+    other_text (otherwise_by options marks addr) parts.write parts.read ++ wrong_text number marks.wrong
 
 abbrev pub packet_text : TellOptions → Taught → Marks → ℕ → TraceLine → List ℕ
 packet_text options taught marks number parts =
-    packet_text_by options taught marks number parts (other_address options.all parts)
+    packet_text_by options taught marks number parts (other_address options.all marks.ones parts)
 
 abbrev pub time_text : Option ℕ → List ℕ
 time_text None = []
@@ -101,13 +108,14 @@ plain_line options taught marks number time parts = decimal number
 -- a packet as fields of JSON
 abbrev pub packet_fields_by : TellOptions → Taught → Marks → ℕ → TraceLine → Option ℕ → List ℕ
 packet_fields_by options taught marks number parts None = judged_fields options.formats options.values taught marks.reached
-    parts.write parts.read (judged_by options.all parts) ++ (lack_field marks.lacks ++ wrong_field number marks.wrong)
+    parts.write parts.read (judged_by options.all marks.ones parts)
+    ++ (lack_field marks.ones marks.lacks ++ wrong_field number marks.wrong)
 packet_fields_by options taught marks number parts (Some addr) =
-    other_fields options.values addr marks.reached parts.write parts.read ++ wrong_field number marks.wrong
+    other_fields (otherwise_by options marks addr) parts.write parts.read ++ wrong_field number marks.wrong
 
 abbrev pub reading_fields : TellOptions → Taught → Marks → ℕ → Option ℕ → Result TraceLine LineFault → List ℕ
 reading_fields options taught marks number time (Ok parts) = number_field_if (codes "time") time
-    ++ packet_fields_by options taught marks number parts (other_address options.all parts)
+    ++ packet_fields_by options taught marks number parts (other_address options.all marks.ones parts)
 reading_fields options taught marks number time (Err fault) =
     text_field (codes "fault") (judged_text number (reading_judged (Err fault)))
 
@@ -124,7 +132,7 @@ told_line options taught marks number time parts = if options.json
 -- what is written of a line by what is known before it: nothing of a comment
 abbrev pub said_line : TellOptions → Known → ℕ → Said → List ℕ
 said_line options known number (Told reading) = told_line options known.taught
-    (marks_in options known.pages reading.time reading.parts) number reading.time reading.parts
+    (marks_in options known.pages (ones_in options known reading.parts) reading.time reading.parts) number reading.time reading.parts
 said_line options known number (Noted remark) = []
 
 abbrev pub line_text : TellOptions → Known → Entry → List ℕ

@@ -1,18 +1,21 @@
 -- What is known behind the lines of a capture: what they teach and say of PAGE, and how many there were of each kind. This
 -- project's own choice.
-use Rattle.std.specs.Prelude.{ℕ, ◌+◌, ◌==◌, ◌&&◌, nat_lt, Bool, true, false, if◌then◌else◌, List, [], Option, Some, None, Result, Ok, Err}
+use Rattle.std.specs.Prelude.{ℕ, ◌+◌, ◌==◌, ◌&&◌, ◌||◌, not, nat_lt, Bool, true, false, if◌then◌else◌, is_some, List, [], ◌∷◌, Option, Some, None, Result, Ok, Err}
 use Rattle.std.specs.List.{filter_map, fold}
 use Rattle.pm_trace.specs.Counts.{Counts, counted, counts_of, counts_with, lines_in, one_more, total_of}
 use Rattle.pm_trace.specs.Pages.{Pages, no_pages}
-use Rattle.pm_trace.specs.Trace.{ToldLine}
+use Rattle.pm_trace.specs.Trace.{Judged, ToldLine, parts_judged}
 use Rattle.pm_trace.specs.TraceText.{end_of}
 use Rattle.pm_trace.specs.declared.line_fault.LineFault.{LineFault}
 use Rattle.pm_trace.specs.declared.trace_line.TraceLine.{TraceLine}
-use Rattle.pm_values.specs.Otherwise.{content_of}
+use Rattle.pm_values.specs.Answers.{Answers, answers_by, none_heard, ones_of}
+use Rattle.pm_values.specs.Otherwise.{content_of, has_pec, is_accepted, is_doubtful}
+use Rattle.pm_values.specs.declared.answers.Ones.{Ones}
+use Rattle.pm_values.specs.declared.answers.Ones.TheVariants.{Answer}
 use Rattle.pm_values.specs.Taught.{Taught, changed_by, paged_at, paged_by, taught_by, untaught}
 use Rattle.pm_decode.specs.Hints.{beyond_by}
 use Rattle.pm_decode.specs.PageSteps.{change_by, judged_address, marks_in, pages_noted, pages_read}
-use Rattle.pm_decode.specs.Readings.{Entry, Said, Told, Noted, judged_as, judged_by, other_address}
+use Rattle.pm_decode.specs.Readings.{Entry, Said, Told, Noted, is_without_pec, judged_as, judged_by, other_address}
 use Rattle.pm_decode.specs.declared.comment.Remark.{Remark}
 use Rattle.pm_decode.specs.declared.comment.Remark.TheVariants.{Elsewhere, Unacknowledged, Failed, LossAt, Loss}
 use Rattle.pm_decode.specs.declared.hints.Hint.{Hint}
@@ -23,36 +26,68 @@ use Rattle.pm_decode.specs.declared.options.TellOptions.{TellOptions}
 
 -- ---- what is known
 
--- what was taught of formats, said of PAGE, and which line was the first one that ordered a voltage beyond 1000 V by the format
--- that was given
+-- what was taught of formats, said of PAGE, which line was the first one that ordered a voltage beyond 1000 V by the format that was
+-- given, and what decides of answers of ones
 pub record Known : Type 0 where
   pub taught : Taught
   pub pages : Pages
   pub beyond : Option ℕ
+  pub answers : Answers
 
 abbrev pub unknown : Known
-unknown = record { taught = untaught; pages = no_pages; beyond = None }
+unknown = record { taught = untaught; pages = no_pages; beyond = None; answers = none_heard }
+
+-- what an answer of ones is taken for, where packets without PEC are told, and it isn't good with one
+abbrev pub ones_in : TellOptions → Known → Result TraceLine LineFault → Ones
+ones_in options known (Ok parts) = if options.all && not (is_accepted (parts_judged parts.write parts.read))
+    then ones_of known.answers parts.write parts.read else Answer
+ones_in options known (Err fault) = Answer
 
 -- what a packet teaches; where values are told, a mode that it may have changed isn't known any more, and a packet of PAGE says
 -- that its address has pages
 abbrev pub taught_over : TellOptions → ℕ → Marks → TraceLine → Taught → Taught
 taught_over options number marks parts taught = if options.values
-    then paged_by (judged_address (judged_by options.all parts)) parts.write
-    (changed_by number (judged_address (judged_by options.all parts)) (change_by marks parts) taught) else taught
+    then paged_by (judged_address (judged_by options.all marks.ones parts)) parts.write
+    (changed_by number (judged_address (judged_by options.all marks.ones parts)) (change_by marks parts) taught) else taught
 
+-- an answer that may be nobody's teaches nothing
 abbrev pub taught_read : TellOptions → ℕ → Marks → Result TraceLine LineFault → Taught → Taught
-taught_read options number marks (Ok parts) taught =
-    taught_by number marks.reached (taught_over options number marks parts taught) (judged_by options.all parts)
+taught_read options number marks (Ok parts) taught = if is_doubtful marks.ones
+    then taught_over options number marks parts taught
+    else taught_by number marks.reached (taught_over options number marks parts taught) (judged_by options.all marks.ones parts)
 taught_read options number marks (Err fault) taught = taught
 
--- behind a line that isn't skipped
-abbrev pub known_read : TellOptions → ℕ → Option ℕ → Result TraceLine LineFault → Known → Known
-known_read options number time parts known = record {
-  taught = taught_read options number (marks_in options known.pages time parts) parts known.taught;
-  pages = pages_read options number time parts known.pages;
-  beyond = beyond_by options known.taught (marks_in options known.pages time parts).reached number (judged_as options.all parts)
-      known.beyond;
+-- a packet is told as good, or by its code and bytes
+abbrev pub is_told : Option ℕ → Judged → Bool
+is_told other judged = is_some other || is_accepted judged
+
+-- one that is has the right PEC
+abbrev pub is_checked : Option ℕ → Bool → TraceLine → Bool
+is_checked None lacks parts = not lacks
+is_checked (Some addr) lacks parts = has_pec parts.write parts.read
+
+abbrev pub answers_told : Bool → Ones → TraceLine → Answers → Answers
+answers_told all ones parts answers =
+    if is_told (other_address all ones parts) (judged_by all ones parts)
+    then answers_by parts.write parts.read (is_checked (other_address all ones parts) (is_without_pec all ones parts) parts) answers
+    else answers
+
+abbrev pub answers_read : TellOptions → Ones → Result TraceLine LineFault → Answers → Answers
+answers_read options ones (Ok parts) answers = if options.all then answers_told options.all ones parts answers else answers
+answers_read options ones (Err fault) answers = answers
+
+-- behind a line that isn't skipped, whose answer of ones is taken so
+abbrev pub known_with : TellOptions → ℕ → Option ℕ → Ones → Result TraceLine LineFault → Known → Known
+known_with options number time ones parts known = record {
+  taught = taught_read options number (marks_in options known.pages ones time parts) parts known.taught;
+  pages = pages_read options number ones time parts known.pages;
+  beyond = beyond_by options known.taught (marks_in options known.pages ones time parts).reached number
+      (judged_as options.all ones parts) known.beyond;
+  answers = answers_read options ones parts known.answers;
 }
+
+abbrev pub known_read : TellOptions → ℕ → Option ℕ → Result TraceLine LineFault → Known → Known
+known_read options number time parts known = known_with options number time (ones_in options known parts) parts known
 
 -- behind a comment: one that shows a packet of PAGE says that its address has pages
 abbrev pub taught_noted : Remark → Taught → Taught
@@ -83,28 +118,47 @@ abbrev pub code_if : Option ℕ → ℕ → Option ℕ
 code_if None code = None
 code_if (Some addr) code = Some code
 
-abbrev pub other_code_in : Bool → Result TraceLine LineFault → Option ℕ
-other_code_in all (Ok parts) = code_if (other_address all parts) (content_of parts.write parts.read).code
-other_code_in all (Err fault) = None
+abbrev pub other_code_in : Bool → Ones → Result TraceLine LineFault → Option ℕ
+other_code_in all ones (Ok parts) = code_if (other_address all ones parts) (content_of parts.write parts.read).code
+other_code_in all ones (Err fault) = None
 
-abbrev pub other_code_of : Bool → Said → Option ℕ
-other_code_of all (Told reading) = other_code_in all reading.parts
-other_code_of all (Noted remark) = None
+abbrev pub other_code_of : Bool → Ones → Said → Option ℕ
+other_code_of all ones (Told reading) = other_code_in all ones reading.parts
+other_code_of all ones (Noted remark) = None
 
-abbrev pub other_code : Bool → Entry → Option ℕ
-other_code all entry = other_code_of all entry.1
+-- a line whose answer of ones is taken so
+abbrev pub Heard : Type 0
+Heard = Ones × Entry
+
+abbrev pub other_code : Bool → Heard → Option ℕ
+other_code all heard = other_code_of all heard.0 heard.1.1
 
 -- a line that is told as the command table has it
 abbrev pub told_unless : Option ℕ → ToldLine → Option ToldLine
 told_unless None told = Some told
 told_unless (Some code) told = None
 
-abbrev pub told_as : Bool → ℕ → Said → Option ToldLine
-told_as all number (Told reading) = told_unless (other_code_in all reading.parts) (number, judged_as all reading.parts)
-told_as all number (Noted remark) = None
+abbrev pub told_as : Bool → Ones → ℕ → Said → Option ToldLine
+told_as all ones number (Told reading) =
+    told_unless (other_code_in all ones reading.parts) (number, judged_as all ones reading.parts)
+told_as all ones number (Noted remark) = None
 
-abbrev pub told_in : Bool → Entry → Option ToldLine
-told_in all entry = told_as all entry.0 entry.1
+abbrev pub told_in : Bool → Heard → Option ToldLine
+told_in all heard = told_as all heard.0 heard.1.0 heard.1.1
+
+-- what the answer of a line is taken for by what is known before it
+abbrev pub ones_said : TellOptions → Known → Said → Ones
+ones_said options known (Told reading) = ones_in options known reading.parts
+ones_said options known (Noted remark) = Answer
+
+abbrev pub heard_as : TellOptions → Known → Entry → Heard
+heard_as options known entry = (ones_said options known entry.1, entry)
+
+-- what the answers of lines one after another are taken for
+abbrev pub heard_all : TellOptions → Known → List Entry → List Heard
+heard_all options known [] = []
+heard_all options known (entry ∷ entries) =
+    heard_as options known entry ∷ heard_all options (known_by options known entry) entries
 
 -- ---- all that is heard
 
@@ -119,8 +173,8 @@ pub record HeardLines : Type 0 where
 unfoldable pub heard_of : TellOptions → List Entry → HeardLines
 heard_of options entries = record {
   known = known_from options unknown entries;
-  counts = counts_of (filter_map (told_in options.all) entries);
-  others = counted (filter_map (other_code options.all) entries);
+  counts = counts_of (filter_map (told_in options.all) (heard_all options unknown entries));
+  others = counted (filter_map (other_code options.all) (heard_all options unknown entries));
 }
 
 -- before the first
@@ -140,8 +194,8 @@ more_if others (Some code) = one_more others code
 abbrev pub heard_with : TellOptions → HeardLines → Entry → HeardLines
 heard_with options heard entry = record {
   known = known_by options heard.known entry;
-  counts = counts_with heard.counts (told_in options.all entry);
-  others = more_if heard.others (other_code options.all entry);
+  counts = counts_with heard.counts (told_in options.all (heard_as options heard.known entry));
+  others = more_if heard.others (other_code options.all (heard_as options heard.known entry));
 }
 
 -- ---- what may be wrong

@@ -9,7 +9,7 @@ use Rattle.pm_values.specs.declared.formats.GivenFormat.{GivenFormat}
 use Rattle.pm_values.specs.declared.formats.GivenFormats.{GivenFormats}
 use Rattle.pm_values.specs.declared.value.Unit.TheVariants.{Volt, Ampere, Celsius}
 use Rattle.pm_values.specs.declared.value.Value.{Value}
-use Rattle.pm_values.specs.declared.value.Value.TheVariants.{Measured, Operates, Protects, Scales, Relative, Flags, Capable, Controls}
+use Rattle.pm_values.specs.declared.value.Value.TheVariants.{Measured, Operates, Protects, Scales, Relative, Vid, Half, Flags, Capable, Controls, Revises}
 use Rattle.pm_decode.specs.declared.options.TellOptions.{TellOptions}
 
 -- ---- a voltage
@@ -19,13 +19,16 @@ abbrev pub is_huge_value : Value → Bool
 is_huge_value (Measured ratio Volt) = nat_lt 1000000000 (unsigned_abs (millionths ratio))
 is_huge_value (Measured ratio Ampere) = false
 is_huge_value (Measured ratio Celsius) = false
-is_huge_value (Operates operation) = false
+is_huge_value (Operates byte) = false
 is_huge_value (Protects byte) = false
 is_huge_value (Scales mode) = false
 is_huge_value (Relative n) = false
+is_huge_value Vid = false
+is_huge_value Half = false
 is_huge_value (Flags status bits) = false
 is_huge_value (Capable byte) = false
 is_huge_value (Controls byte) = false
+is_huge_value (Revises byte) = false
 
 abbrev pub is_huge : Option Value → Bool
 is_huge None = false

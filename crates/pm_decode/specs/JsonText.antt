@@ -16,16 +16,19 @@ use Rattle.pm_table.specs.declared.coefficients.Coefficients.{Coefficients}
 use Rattle.pm_trace.specs.Counts.{total_of}
 use Rattle.pm_trace.specs.Trace.{Judged, Accepted, Faulty, BadSyntax, BadHex}
 use Rattle.pm_values.specs.CodeNames.{standard_name}
-use Rattle.pm_values.specs.Otherwise.{ContentBytes, content_letters, content_of, has_pec, is_all_ones, said_bytes, spaced}
+use Rattle.pm_values.specs.Otherwise.{ContentBytes, content_letters, content_of, has_pec, said_bytes, spaced}
+use Rattle.pm_values.specs.declared.answers.Ones.{Ones}
+use Rattle.pm_values.specs.declared.answers.Ones.TheVariants.{Answer, Doubtful, Nobody}
+use Rattle.pm_values.specs.declared.otherwise.Otherwise.{Otherwise}
 use Rattle.pm_values.specs.Statuses.{names_from, rows_of}
 use Rattle.pm_values.specs.Taught.{Taught}
-use Rattle.pm_values.specs.ValueText.{capability_text, decimal_of, mode_text, on_off_text, operation_text, protection_text, relative_text}
+use Rattle.pm_values.specs.ValueText.{capability_text, decimal_of, mode_text, on_off_text, operation_text, protection_text, relative_text, revision_text}
 use Rattle.pm_values.specs.Values.{carried, millionths, other_value, packet_value}
 use Rattle.pm_values.specs.declared.formats.GivenFormats.{GivenFormats}
 use Rattle.pm_values.specs.declared.value.Unit.{Unit as MeasureUnit}
 use Rattle.pm_values.specs.declared.value.Unit.TheVariants.{Volt, Ampere, Celsius}
 use Rattle.pm_values.specs.declared.value.Value.{Value}
-use Rattle.pm_values.specs.declared.value.Value.TheVariants.{Measured, Operates, Protects, Scales, Relative, Flags, Capable, Controls}
+use Rattle.pm_values.specs.declared.value.Value.TheVariants.{Measured, Operates, Protects, Scales, Relative, Vid, Half, Flags, Capable, Controls, Revises}
 use Rattle.pm_decode.specs.Hearing.{HeardLines, heard_lines}
 
 -- ---- fields
@@ -81,12 +84,15 @@ rounded_field ratio unit = key (unit_key unit) ++ decimal_of (millionths ratio)
 
 abbrev pub value_fields : Value → List ℕ
 value_fields (Measured ratio unit) = fraction_by ratio.num (pos ratio.den) ++ rounded_field ratio unit
-value_fields (Operates operation) = text_field (codes "value") (operation_text operation)
+value_fields (Operates byte) = text_field (codes "value") (operation_text byte)
 value_fields (Protects byte) = text_field (codes "value") (protection_text byte)
 value_fields (Scales mode) = text_field (codes "value") (mode_text mode)
 value_fields (Relative n) = text_field (codes "value") (relative_text n)
+value_fields Vid = text_field (codes "value") (codes "VID")
+value_fields Half = text_field (codes "value") (codes "half")
 value_fields (Capable byte) = text_field (codes "value") (capability_text byte)
 value_fields (Controls byte) = text_field (codes "value") (on_off_text byte)
+value_fields (Revises byte) = text_field (codes "value") (revision_text byte)
 value_fields (Flags status bits) =
     key (codes "flags") ++ (codes "[" ++ (names_from (codes ",") (codes "\"") true (rows_of status) bits ++ codes "]"))
 
@@ -213,18 +219,24 @@ content_fields values reached content = page_fields reached content.page
     ++ (text_field (codes "code") (hex_byte content.code) ++ (name_field (standard_name content.code)
     ++ (other_payload_by content.written content.answer ++ meaning_fields values content)))
 
--- whether it has its PEC, and that nobody answered
-abbrev pub pec_fields : Bool → Bool → List ℕ
-pec_fields is_right is_ones = if is_right then codes ",\"pec\":true"
-    else (if is_ones then codes ",\"pec\":false,\"answered\":false" else codes ",\"pec\":false")
+-- a packet has no right PEC, and nobody answered, or maybe nobody
+abbrev pub ones_fields : Ones → List ℕ
+ones_fields Answer = codes ",\"pec\":false"
+ones_fields Doubtful = codes ",\"pec\":false,\"answered\":null"
+ones_fields Nobody = codes ",\"pec\":false,\"answered\":false"
 
-unfoldable pub other_fields : Bool → ℕ → Option ℕ → List ℕ → Option (List ℕ) → List ℕ
-other_fields values addr reached write read = address_field (Some addr) ++ (content_fields values reached (content_of write read)
-    ++ pec_fields (has_pec write read) (is_all_ones write read))
+-- whether it has its PEC
+abbrev pub pec_fields : Bool → Ones → List ℕ
+pec_fields is_right ones = if is_right then codes ",\"pec\":true" else ones_fields ones
 
--- behind a packet of the table that lacks its PEC
-abbrev pub lack_field : Bool → List ℕ
-lack_field lacks = if lacks then codes ",\"pec\":false" else []
+unfoldable pub other_fields : Otherwise → List ℕ → Option (List ℕ) → List ℕ
+other_fields otherwise write read = address_field (Some otherwise.addr)
+    ++ (content_fields otherwise.values otherwise.reached (content_of write read)
+    ++ pec_fields (has_pec write read) otherwise.ones)
+
+-- behind a packet of the table that lacks its PEC, whose answer of ones is taken so
+abbrev pub lack_field : Ones → Bool → List ℕ
+lack_field ones lacks = if lacks then ones_fields ones else []
 
 -- behind one that contradicts a line: the two lines
 unfoldable pub lines_field : ℕ → ℕ → List ℕ

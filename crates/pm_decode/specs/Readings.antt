@@ -11,6 +11,7 @@ use Rattle.pm_trace.specs.declared.line_fault.LineFault.{LineFault}
 use Rattle.pm_trace.specs.declared.line_fault.LineFault.TheVariants as fault
 use Rattle.pm_trace.specs.declared.trace_line.TraceLine.{TraceLine}
 use Rattle.pm_values.specs.Otherwise.{address_otherwise, judged_anyway, lacks_pec}
+use Rattle.pm_values.specs.declared.answers.Ones.{Ones}
 use Rattle.pm_decode.specs.declared.comment.Remark.{Remark}
 use Rattle.pm_decode.specs.declared.comment.Remark.TheVariants.{Elsewhere, Unacknowledged, Failed, LossAt, Loss}
 use Rattle.pm_decode.specs.declared.options.TellOptions.{TellOptions}
@@ -148,20 +149,20 @@ entries_of options text = map (entry_of options) (filter (is_heard options.pages
 
 -- ---- what a packet says
 
--- what a packet says; where `all` is told, its PEC may be missing
-abbrev pub judged_by : Bool → TraceLine → Judged
-judged_by all parts = if all then judged_anyway parts.write parts.read else parts_judged parts.write parts.read
+-- what a packet says whose answer of ones is taken so; where `all` is told, its PEC may be missing
+abbrev pub judged_by : Bool → Ones → TraceLine → Judged
+judged_by all ones parts = if all then judged_anyway ones parts.write parts.read else parts_judged parts.write parts.read
 
 -- what a line says of a packet
-abbrev pub judged_as : Bool → Result TraceLine LineFault → Judged
-judged_as all (Ok parts) = judged_by all parts
-judged_as all (Err fault) = reading_judged (Err fault)
+abbrev pub judged_as : Bool → Ones → Result TraceLine LineFault → Judged
+judged_as all ones (Ok parts) = judged_by all ones parts
+judged_as all ones (Err fault) = reading_judged (Err fault)
 
 -- the address of a packet that is told otherwise, where that is wanted
-abbrev pub other_address : Bool → TraceLine → Option ℕ
-other_address all parts = if all
-    then address_otherwise parts.write parts.read (judged_anyway parts.write parts.read) else None
+abbrev pub other_address : Bool → Ones → TraceLine → Option ℕ
+other_address all ones parts = if all
+    then address_otherwise ones parts.write parts.read (judged_anyway ones parts.write parts.read) else None
 
 -- whether a packet is told as good that lacks its PEC
-abbrev pub is_without_pec : Bool → TraceLine → Bool
-is_without_pec all parts = if all then lacks_pec parts.write parts.read else false
+abbrev pub is_without_pec : Bool → Ones → TraceLine → Bool
+is_without_pec all ones parts = if all then lacks_pec ones parts.write parts.read else false

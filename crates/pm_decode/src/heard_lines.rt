@@ -1,9 +1,8 @@
 //! What is known behind the lines of a capture.
-ghost use Rattle.std.specs.Prelude.{◌≡◌, ◌||◌, Err, IfSome, None, is_some, not, option_map, true};
+ghost use Rattle.std.specs.Prelude.{◌≡◌, None, not, option_map, true};
 ghost use Rattle.pm_trace.specs.ShownLines.{judged_in};
-ghost use Rattle.pm_trace.specs.Trace.{parts_judged, reading_judged};
-ghost use Rattle.pm_values.specs.Otherwise.{IsCompleted, content_of, is_accepted};
-ghost use Rattle.pm_decode.specs.PageSteps.{change_by};
+ghost use Rattle.pm_trace.specs.Trace.{parts_judged};
+ghost use Rattle.pm_values.specs.Otherwise.{is_accepted};
 ghost use Rattle.pm_decode.specs.Readings.{is_without_pec};
 ghost use Rattle.pm_decode.specs.ShownReadings.{packet_in};
 
@@ -14,11 +13,11 @@ use crate::options::TellOptions;
 use crate::others::Others;
 use crate::page_step::{Marks, address_in, page_step};
 use crate::timed_line::LineReading;
-use arrayvec::ArrayVec;
-use pm_trace::{LineFault, Pages, Shown, Tally, packet_shown};
-use pm_values::{
-    Lessons, ModeChange, Packet, address_otherwise, completed_part, mode_change, shown_with,
+use crate::told_as::{
+    bad_shown, change_in, completed_if, is_checked, is_plain, is_told, told_code,
 };
+use pm_trace::{Pages, Shown, Tally, packet_shown};
+use pm_values::{Answers, Lessons, Ones, Packet, address_otherwise, shown_with};
 use std::alloc::{AllocError, Global};
 use std::marker::Model;
 
@@ -27,6 +26,7 @@ use std::marker::Model;
 pub(crate) struct HeardLines {
     lessons: Lessons,
     pages: Pages,
+    answers: Answers,
     // The first line that orders a voltage beyond 1000 V by the format that was given.
     beyond: Option<u64>,
     tally: Tally,
@@ -38,15 +38,18 @@ impl Model for HeardLines {
 
     ghost Value = { HeardLines };
 
-    ghost view = { λ h. record { known = record { taught = h.lessons; pages = h.pages; beyond = h.beyond }; counts = h.tally; others = h.others } };
+    ghost view = { λ h. record { known = record { taught = h.lessons; pages = h.pages; beyond = h.beyond; answers = h.answers }; counts = h.tally; others = h.others } };
 }
 
 impl HeardLines {
     ghost use Rattle.std.specs.Prelude.{◌+◌, ◌<◌, ◌≤◌, ◌^◌, ◌++◌, codes, OnOk, Ok, string_bytes};
     ghost use Rattle.pm_trace.specs.Counts.{lines_in};
+    ghost use Rattle.std.specs.Prelude.{◌&&◌, if◌then◌else◌};
     ghost use Rattle.pm_decode.specs.CaptureText.{line_text};
     ghost use Rattle.pm_decode.specs.CaptureText.{told_line};
-    ghost use Rattle.pm_decode.specs.Hearing.{heard_lines, heard_with, known_read, taught_read, unheard};
+    ghost use Rattle.pm_values.specs.Answers.{ones_of};
+    ghost use Rattle.pm_values.specs.declared.answers.Ones.TheVariants.{Answer};
+    ghost use Rattle.pm_decode.specs.Hearing.{answers_read, heard_lines, heard_with, known_read, ones_in, taught_read, unheard};
     ghost use Rattle.pm_decode.specs.Hints.{beyond_by};
     ghost use Rattle.pm_decode.specs.UsualLines.{code_counted};
     ghost use Rattle.pm_decode.specs.Readings.{other_address};
@@ -62,6 +65,7 @@ impl HeardLines {
         HeardLines {
             lessons: Lessons::new(alloc),
             pages: Pages::new(alloc),
+            answers: Answers::new(alloc),
             beyond: None,
             tally: Tally::new(alloc),
             others: Others::new(alloc),
@@ -92,6 +96,7 @@ impl HeardLines {
                     time: line.time,
                     packet: *packet,
                     shown: &shown,
+                    ones: self.ones(options.all, packet, &shown),
                     other: None,
                 };
                 self.hear_packet(options, &line, text)
@@ -117,6 +122,7 @@ impl HeardLines {
         requires few { heard_lines self.old + 1 < 2 ^ 64 }
         requires shown { judged_in line.now.shown.now
             ≡ parts_judged line.now.packet.write.now (option_map (λ bytes. bytes.now) line.now.packet.read) }
+        requires ones { line.now.ones ≡ ones_in options.now self.old.known (Ok (packet_in line.now.packet)) }
         requires plain { line.now.other ≡ None }
         ensures text { OnOk result (string_bytes text.new ++ codes "\n" ≡ string_bytes text.old
             ++ line_text options.now self.old.known
@@ -128,7 +134,7 @@ impl HeardLines {
         if options.pages || !is_plain(options.all, line.shown) {
             return self.hear_closely(options, line, text);
         }
-        let marks = Marks::without_page(false);
+        let marks = Marks::without_page(line.ones, false);
         self.tell_packet(options, &marks, line, text)?;
         self.tally.count(line.shown)
     }
@@ -144,6 +150,7 @@ impl HeardLines {
         requires few { heard_lines self.old + 1 < 2 ^ 64 }
         requires shown { judged_in line.now.shown.now
             ≡ parts_judged line.now.packet.write.now (option_map (λ bytes. bytes.now) line.now.packet.read) }
+        requires ones { line.now.ones ≡ ones_in options.now self.old.known (Ok (packet_in line.now.packet)) }
         ensures text { OnOk result (string_bytes text.new ++ codes "\n" ≡ string_bytes text.old
             ++ line_text options.now self.old.known
             (line.now.number, Told (record { time = line.now.time; parts = Ok (packet_in line.now.packet) }))) }
@@ -151,7 +158,7 @@ impl HeardLines {
             ≡ heard_with options.now self.old (line.now.number, Told (record { time = line.now.time; parts = Ok (packet_in line.now.packet) }))) }
         ensures few { heard_lines self.new ≤ heard_lines self.old + 1 }
     {
-        match completed_if(options.all, &line.packet, line.shown) {
+        match completed_if(options.all, line) {
             Some(part) => {
                 let whole = shown_with(line.packet.write, line.packet.is_read(), &part);
                 let line = PacketLine {
@@ -159,6 +166,7 @@ impl HeardLines {
                     time: line.time,
                     packet: line.packet,
                     shown: &whole,
+                    ones: line.ones,
                     other: None,
                 };
                 self.hear_shown(options, &line, true, text)
@@ -177,8 +185,9 @@ impl HeardLines {
         text: &mut String,
     ) -> Result<(), AllocError>
         requires few { heard_lines self.old + 1 < 2 ^ 64 }
-        requires shown { judged_in line.now.shown.now ≡ judged_by options.now.all (packet_in line.now.packet) }
-        requires lacks { lacks ≡ is_without_pec options.now.all (packet_in line.now.packet) }
+        requires shown { judged_in line.now.shown.now ≡ judged_by options.now.all line.now.ones (packet_in line.now.packet) }
+        requires lacks { lacks ≡ is_without_pec options.now.all line.now.ones (packet_in line.now.packet) }
+        requires ones { line.now.ones ≡ ones_in options.now self.old.known (Ok (packet_in line.now.packet)) }
         ensures text { OnOk result (string_bytes text.new ++ codes "\n" ≡ string_bytes text.old
             ++ line_text options.now self.old.known
             (line.now.number, Told (record { time = line.now.time; parts = Ok (packet_in line.now.packet) }))) }
@@ -191,8 +200,9 @@ impl HeardLines {
             time: line.time,
             packet: line.packet,
             shown: line.shown,
+            ones: line.ones,
             other: if options.all {
-                address_otherwise(&line.packet, line.shown)
+                address_otherwise(&line.packet, line.shown, line.ones)
             } else {
                 None
             },
@@ -200,7 +210,7 @@ impl HeardLines {
         if options.pages {
             self.tell_on_page(options, lacks, &line, text)?;
         } else {
-            let marks = Marks::without_page(lacks);
+            let marks = Marks::without_page(line.ones, lacks);
             self.tell_packet(options, &marks, &line, text)?;
         }
         match line.other {
@@ -218,9 +228,10 @@ impl HeardLines {
         text: &mut String,
     ) -> Result<(), AllocError>
         requires pages { options.now.pages ≡ true }
-        requires shown { judged_in line.now.shown.now ≡ judged_by options.now.all (packet_in line.now.packet) }
-        requires lacks { lacks ≡ is_without_pec options.now.all (packet_in line.now.packet) }
-        requires other { line.now.other ≡ other_address options.now.all (packet_in line.now.packet) }
+        requires shown { judged_in line.now.shown.now ≡ judged_by options.now.all line.now.ones (packet_in line.now.packet) }
+        requires lacks { lacks ≡ is_without_pec options.now.all line.now.ones (packet_in line.now.packet) }
+        requires other { line.now.other ≡ other_address options.now.all line.now.ones (packet_in line.now.packet) }
+        requires ones { line.now.ones ≡ ones_in options.now self.old.known (Ok (packet_in line.now.packet)) }
         ensures text { OnOk result (string_bytes text.new ++ codes "\n" ≡ string_bytes text.old
             ++ line_text options.now self.old.known
             (line.now.number, Told (record { time = line.now.time; parts = Ok (packet_in line.now.packet) }))) }
@@ -230,7 +241,7 @@ impl HeardLines {
         ensures few { heard_lines self.new ≡ heard_lines self.old }
     {
         let step = page_step(&self.pages, options.gap, line);
-        let marks = Marks::of(lacks, &step);
+        let marks = Marks::of(line.ones, lacks, &step);
         self.tell_packet(options, &marks, line, text)?;
         self.pages
             .learn(line.number, step.addr, step.place, step.used)
@@ -244,27 +255,86 @@ impl HeardLines {
         line: &PacketLine<'_>,
         text: &mut String,
     ) -> Result<(), AllocError>
-        requires shown { judged_in line.now.shown.now ≡ judged_by options.now.all (packet_in line.now.packet) }
-        requires other { line.now.other ≡ other_address options.now.all (packet_in line.now.packet) }
+        requires shown { judged_in line.now.shown.now ≡ judged_by options.now.all marks.now.ones (packet_in line.now.packet) }
+        requires other { line.now.other ≡ other_address options.now.all marks.now.ones (packet_in line.now.packet) }
+        requires lacks { marks.now.lacks ≡ is_without_pec options.now.all marks.now.ones (packet_in line.now.packet) }
         ensures text { OnOk result (string_bytes text.new ++ codes "\n" ≡ string_bytes text.old
             ++ told_line options.now self.old.known.taught marks.now line.now.number line.now.time (Ok (packet_in line.now.packet))) }
         ensures known { OnOk result (self.new ≡ record self.old {
           known = record self.old.known {
             taught = taught_read options.now line.now.number marks.now (Ok (packet_in line.now.packet)) self.old.known.taught;
             beyond = beyond_by options.now self.old.known.taught marks.now.reached line.now.number (judged_in line.now.shown.now) self.old.known.beyond;
+            answers = answers_read options.now marks.now.ones (Ok (packet_in line.now.packet)) self.old.known.answers;
           };
         }) }
         ensures few { heard_lines self.new ≡ heard_lines self.old }
     {
         push_packet_line(text, options, &self.lessons, marks, line)?;
         self.beyond = first_beyond(options, &self.lessons, marks.reached, line, self.beyond);
+        self.hear_answer(options, marks, line)?;
+        self.learn(options, marks, line)
+    }
+
+    // Hears what a packet says of answers of ones, where packets without PEC are told.
+    fn hear_answer(
+        &mut self,
+        options: &TellOptions,
+        marks: &Marks,
+        line: &PacketLine<'_>,
+    ) -> Result<(), AllocError>
+        requires shown { judged_in line.now.shown.now ≡ judged_by options.now.all marks.now.ones (packet_in line.now.packet) }
+        requires other { line.now.other ≡ other_address options.now.all marks.now.ones (packet_in line.now.packet) }
+        requires lacks { marks.now.lacks ≡ is_without_pec options.now.all marks.now.ones (packet_in line.now.packet) }
+        ensures known { OnOk result (self.new ≡ record self.old {
+          known = record self.old.known {
+            answers = answers_read options.now marks.now.ones (Ok (packet_in line.now.packet)) self.old.known.answers;
+          };
+        }) }
+        ensures few { heard_lines self.new ≡ heard_lines self.old }
+    {
+        if options.all && is_told(line) {
+            self.answers.hear(&line.packet, is_checked(marks, line))?;
+        }
+        Ok(())
+    }
+
+    // Learns what a packet teaches: an answer that may be nobody's teaches nothing.
+    fn learn(
+        &mut self,
+        options: &TellOptions,
+        marks: &Marks,
+        line: &PacketLine<'_>,
+    ) -> Result<(), AllocError>
+        requires shown { judged_in line.now.shown.now ≡ judged_by options.now.all marks.now.ones (packet_in line.now.packet) }
+        ensures known { OnOk result (self.new ≡ record self.old {
+          known = record self.old.known {
+            taught = taught_read options.now line.now.number marks.now (Ok (packet_in line.now.packet)) self.old.known.taught;
+          };
+        }) }
+        ensures few { heard_lines self.new ≡ heard_lines self.old }
+    {
         if options.values {
             let addr = address_in(line.shown);
             let change = change_in(marks, &line.packet);
             self.lessons.forget(line.number, addr, change)?;
             self.lessons.see_pages(addr, line.packet.write)?;
         }
+        if matches!(marks.ones, Ones::Doubtful) {
+            return Ok(());
+        }
         self.lessons.learn(line.number, marks.reached, line.shown)
+    }
+
+    // What the answer of a packet is taken for, where packets without PEC are told, and it isn't good with one.
+    fn ones(&self, all: bool, packet: &Packet<'_>, shown: &Shown<'_>) -> Ones
+        ensures { result ≡ (if all && not (is_accepted (judged_in shown.now)) then ones_of self.now.known.answers packet.now.write.now
+            (option_map (λ bytes. bytes.now) packet.now.read) else Answer) }
+    {
+        if all && !matches!(shown, Shown::Accepted { .. }) {
+            self.answers.ones(packet)
+        } else {
+            Ones::Answer
+        }
     }
 
     /// Counts a good packet of this code that teaches nothing, where PAGE isn't followed. Takes memory for a code that is
@@ -328,54 +398,5 @@ impl HeardLines {
         ensures { result.now ≡ self.now.others }
     {
         &self.others
-    }
-}
-
-// The modes that a packet with these marks may change: all of its address where that restarted.
-fn change_in(marks: &Marks, packet: &Packet<'_>) -> ModeChange
-    ensures { result ≡ change_by marks.now (packet_in packet.now) }
-{
-    if marks.is_turned {
-        ModeChange::OfAll
-    } else {
-        mode_change(packet.write, packet.is_read(), marks.page)
-    }
-}
-
-// Whether a packet is told as the command table has it, with its PEC: it is good, or no other is told otherwise.
-fn is_plain(all: bool, shown: &Shown<'_>) -> bool
-    ensures { result ≡ (not all || is_accepted (judged_in shown.now)) }
-{
-    !all || matches!(shown, Shown::Accepted { .. })
-}
-
-// The last part of a packet with its PEC, where it lacks nothing but that, and packets without PEC are told.
-fn completed_if(all: bool, packet: &Packet<'_>, shown: &Shown<'_>) -> Option<ArrayVec<u8, 16>>
-    requires { judged_in shown.now ≡ parts_judged packet.now.write.now (option_map (λ bytes. bytes.now) packet.now.read) }
-    ensures lacks { is_some result ≡ is_without_pec all (packet_in packet.now) }
-    ensures part { IfSome result (λ part.
-        IsCompleted packet.now.write.now (option_map (λ bytes. bytes.now) packet.now.read) part.items) }
-{
-    if all {
-        completed_part(packet, shown)
-    } else {
-        None
-    }
-}
-
-// The code by which a packet is told that the table doesn't have.
-fn told_code(packet: &Packet<'_>) -> u8
-    ensures { result ≡ (content_of packet.now.write.now (option_map (λ bytes. bytes.now) packet.now.read)).code }
-{
-    packet.content(packet.has_pec()).code
-}
-
-// What a line says that can't be read.
-fn bad_shown(fault: LineFault) -> Shown<'static>
-    ensures { judged_in result ≡ reading_judged (Err fault) }
-{
-    match fault {
-        LineFault::Syntax => Shown::BadSyntax,
-        LineFault::BadHex => Shown::BadHex,
     }
 }

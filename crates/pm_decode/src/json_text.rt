@@ -4,7 +4,7 @@ ghost use Rattle.pm_frame.specs.FaultWords.{frame_fault_place};
 ghost use Rattle.pm_table.specs.Coefficients.{coefficients_of};
 ghost use Rattle.pm_trace.specs.ShownLines.{judged_in};
 ghost use Rattle.pm_values.specs.Contents.{content_in};
-ghost use Rattle.pm_decode.specs.JsonText.{code_fields, coefficients_fields, fault_fields, judged_fields, content_fields, kind_fields, lines_field, meaning_fields, message_fields, name_field, numbers_fields, other_fields, other_payload_by, page_fields, payload_fields, pec_fields as spec_pec_fields, plain_fields, sent_direction as spec_sent_direction, sent_fields, whole_field, whole_words, wrong_field};
+ghost use Rattle.pm_decode.specs.JsonText.{code_fields, coefficients_fields, fault_fields, judged_fields, content_fields, kind_fields, lines_field, meaning_fields, message_fields, name_field, numbers_fields, ones_fields as spec_ones_fields, other_fields, other_payload_by, page_fields, payload_fields, pec_fields as spec_pec_fields, plain_fields, sent_direction as spec_sent_direction, sent_fields, whole_field, whole_words, wrong_field};
 
 use crate::json_fields::{
     push_address_field, push_bytes_field, push_fault_code, push_hex_field, push_key,
@@ -18,7 +18,8 @@ use pm_lines::{push_decimal, push_hex};
 use pm_table::{Code, Coefficients};
 use pm_trace::{Shown, answered, coefficients_in};
 use pm_values::{
-    Content, GoodPacket, Lessons, Packet, other_value, packet_value, push_spaced, standard_name,
+    Content, GoodPacket, Lessons, Ones, Otherwise, Packet, other_value, packet_value, push_spaced,
+    standard_name,
 };
 use std::alloc::AllocError;
 
@@ -292,35 +293,46 @@ fn push_lines_field(text: &mut String, line: u64, number: u64) -> Result<(), All
     text.push_str("]")
 }
 
-/// Appends the fields of a packet that is told by its code and bytes, with what the bytes say where `values` asks for that.
-/// `reached` is the output that PAGE selects, where that is followed.
+/// Appends the fields of a packet that is told by its code and bytes.
 #[tactic(auto, using(pm_lines::specs::Lemmas::Joins::joins), unfolding(crate::specs::JsonText::other_fields))]
 pub(crate) fn push_other_fields(
     text: &mut String,
-    values: bool,
-    addr: u8,
-    reached: Option<u8>,
+    otherwise: &Otherwise,
     packet: &Packet<'_>,
 ) -> Result<(), AllocError>
     ensures { OnOk result (string_bytes text.new ≡ string_bytes text.old
-        ++ other_fields values addr reached packet.now.write.now (option_map (λ bytes. bytes.now) packet.now.read)) }
+        ++ other_fields otherwise.now packet.now.write.now (option_map (λ bytes. bytes.now) packet.now.read)) }
 {
     let has_pec = packet.has_pec();
-    push_address_field(text, Some(addr))?;
-    push_content_fields(text, values, reached, &packet.content(has_pec))?;
-    text.push_str(pec_fields(has_pec, packet.is_all_ones()))
+    push_address_field(text, Some(otherwise.addr))?;
+    push_content_fields(
+        text,
+        otherwise.values,
+        otherwise.reached,
+        &packet.content(has_pec),
+    )?;
+    text.push_str(pec_fields(has_pec, otherwise.ones))
 }
 
-// Whether a packet has its PEC, and that nobody answered.
-fn pec_fields(is_right: bool, is_ones: bool) -> &'static str
-    ensures { result.now ≡ spec_pec_fields is_right is_ones }
+// Whether a packet has its PEC.
+fn pec_fields(is_right: bool, ones: Ones) -> &'static str
+    ensures { result.now ≡ spec_pec_fields is_right ones }
 {
     if is_right {
         ",\"pec\":true"
-    } else if is_ones {
-        ",\"pec\":false,\"answered\":false"
     } else {
-        ",\"pec\":false"
+        ones_fields(ones)
+    }
+}
+
+/// The fields of a packet that has no right PEC, whose answer of ones is taken so.
+pub(crate) fn ones_fields(ones: Ones) -> &'static str
+    ensures { result.now ≡ spec_ones_fields ones }
+{
+    match ones {
+        Ones::Answer => ",\"pec\":false",
+        Ones::Doubtful => ",\"pec\":false,\"answered\":null",
+        Ones::Nobody => ",\"pec\":false,\"answered\":false",
     }
 }
 

@@ -1,6 +1,6 @@
 //! Values as fields of objects of JSON.
 ghost use Rattle.std.specs.Prelude.{◌≡◌, ◌++◌, codes, OnOk, string_bytes};
-ghost use Rattle.pm_values.specs.ValueText.{capability_text, mode_text, on_off_text, relative_text};
+ghost use Rattle.pm_values.specs.ValueText.{capability_text, mode_text, on_off_text, relative_text, revision_text};
 ghost use Rattle.pm_decode.specs.JsonText.{fraction_by, rounded_field, text_field, unit_key as spec_unit_key, value_fields, value_fields_if};
 
 use crate::json_fields::{push_key, push_signed_field, push_text_field, push_text_key};
@@ -8,7 +8,7 @@ use pm_num::Frac;
 use pm_table::VoutMode;
 use pm_values::{
     NameMarks, Status, Unit, Value, operation_words, protection_words, push_capability,
-    push_millionths, push_mode, push_names, push_on_off, push_relative,
+    push_millionths, push_mode, push_names, push_on_off, push_relative, push_revision,
 };
 use std::alloc::AllocError;
 
@@ -29,13 +29,16 @@ fn push_fields_of(text: &mut String, value: Value) -> Result<(), AllocError>
 {
     match value {
         Value::Measured(ratio, unit) => push_measured_fields(text, ratio, unit),
-        Value::Operates(operation) => { push_text_field(text, "value", operation_words(operation)) }
+        Value::Operates(byte) => push_text_field(text, "value", operation_words(byte)),
         Value::Protects(byte) => push_text_field(text, "value", protection_words(byte)),
         Value::Scales(mode) => push_mode_field(text, mode),
         Value::Relative(exponent) => push_relative_field(text, exponent),
+        Value::Vid => push_text_field(text, "value", "VID"),
+        Value::Half => push_text_field(text, "value", "half"),
         Value::Flags(status, bits) => push_flags_field(text, status, bits),
         Value::Capable(byte) => push_capability_field(text, byte),
         Value::Controls(byte) => push_on_off_field(text, byte),
+        Value::Revises(byte) => push_revision_field(text, byte),
     }
 }
 
@@ -118,6 +121,17 @@ fn push_on_off_field(text: &mut String, byte: u8) -> Result<(), AllocError>
 {
     push_text_key(text, "value")?;
     push_on_off(text, byte)?;
+    text.push_str("\"")
+}
+
+// A byte of PMBUS_REVISION.
+#[tactic(auto, using(pm_lines::specs::Lemmas::Joins::joins), unfolding(crate::specs::JsonText::text_field))]
+fn push_revision_field(text: &mut String, byte: u8) -> Result<(), AllocError>
+    ensures { OnOk result (string_bytes text.new
+        ≡ string_bytes text.old ++ text_field (codes "value") (revision_text byte)) }
+{
+    push_text_key(text, "value")?;
+    push_revision(text, byte)?;
     text.push_str("\"")
 }
 

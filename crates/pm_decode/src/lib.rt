@@ -43,6 +43,7 @@ mod others;
 mod page_step;
 mod telling;
 mod timed_line;
+mod told_as;
 mod told_text;
 mod usual_line;
 mod usual_packet;

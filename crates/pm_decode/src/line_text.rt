@@ -4,20 +4,21 @@ ghost use Rattle.pm_trace.specs.ShownLines.{judged_in};
 ghost use Rattle.pm_trace.specs.Trace.{reading_judged};
 ghost use Rattle.pm_trace.specs.TraceText.{judged_text};
 ghost use Rattle.pm_values.specs.Taught.{Taught};
-ghost use Rattle.pm_decode.specs.CaptureText.{bytes_text, extra_text, json_line, lack_text, plain_line, meaning_text, packet_fields_by, packet_text_by, reached_text, read_bytes_text, time_text, told_line, two_lines, wrong_text};
+ghost use Rattle.pm_decode.specs.CaptureText.{bytes_text, extra_text, json_line, lack_text, plain_line, meaning_text, otherwise_by as spec_otherwise_by, packet_fields_by, packet_text_by, reached_text, read_bytes_text, time_text, told_line, two_lines, wrong_text};
 ghost use Rattle.pm_decode.specs.JsonText.{lack_field};
 ghost use Rattle.pm_decode.specs.Readings.{judged_by, other_address};
 ghost use Rattle.pm_decode.specs.ShownReadings.{packet_in};
 ghost use Rattle.pm_decode.specs.declared.page_step.Marks.{Marks};
 
 use crate::json_fields::{push_number_field_if, push_text_field};
-use crate::json_text::{push_judged_fields, push_other_fields, push_wrong_field};
+use crate::json_text::{ones_fields, push_judged_fields, push_other_fields, push_wrong_field};
 use crate::options::TellOptions;
 use crate::page_step::Marks;
 use pm_lines::{TextFault, push_decimal, push_hex};
 use pm_trace::{LineFault, Shown, push_packet, push_shown};
 use pm_values::{
-    GoodPacket, Lessons, Packet, packet_value, push_known, push_otherwise, push_spaced,
+    GoodPacket, Lessons, Ones, Otherwise, Packet, ones_words, packet_value, push_known,
+    push_otherwise, push_spaced,
 };
 use std::alloc::AllocError;
 
@@ -93,6 +94,8 @@ pub(crate) struct PacketLine<'a> {
     pub(crate) packet: Packet<'a>,
     /// What it says.
     pub(crate) shown: &'a Shown<'a>,
+    /// What an answer of ones is taken for.
+    pub(crate) ones: Ones,
     /// Its address, where it is told by its code and bytes.
     pub(crate) other: Option<u8>,
 }
@@ -107,8 +110,8 @@ pub(crate) fn push_packet_line(
     marks: &Marks,
     line: &PacketLine<'_>,
 ) -> Result<(), AllocError>
-    requires shown { judged_in line.now.shown.now ≡ judged_by options.now.all (packet_in line.now.packet) }
-    requires other { line.now.other ≡ other_address options.now.all (packet_in line.now.packet) }
+    requires shown { judged_in line.now.shown.now ≡ judged_by options.now.all marks.now.ones (packet_in line.now.packet) }
+    requires other { line.now.other ≡ other_address options.now.all marks.now.ones (packet_in line.now.packet) }
     ensures { OnOk result (string_bytes text.new ++ codes "\n" ≡ string_bytes text.old
         ++ told_line options.now lessons.now marks.now line.now.number line.now.time (Ok (packet_in line.now.packet))) }
 {
@@ -128,8 +131,8 @@ fn push_packet_json(
     marks: &Marks,
     line: &PacketLine<'_>,
 ) -> Result<(), AllocError>
-    requires shown { judged_in line.now.shown.now ≡ judged_by options.now.all (packet_in line.now.packet) }
-    requires other { line.now.other ≡ other_address options.now.all (packet_in line.now.packet) }
+    requires shown { judged_in line.now.shown.now ≡ judged_by options.now.all marks.now.ones (packet_in line.now.packet) }
+    requires other { line.now.other ≡ other_address options.now.all marks.now.ones (packet_in line.now.packet) }
     ensures { OnOk result (string_bytes text.new ++ codes "\n" ≡ string_bytes text.old
         ++ json_line options.now lessons.now marks.now line.now.number line.now.time (Ok (packet_in line.now.packet))) }
 {
@@ -149,18 +152,18 @@ fn push_packet_fields(
     marks: &Marks,
     line: &PacketLine<'_>,
 ) -> Result<(), AllocError>
-    requires shown { judged_in line.now.shown.now ≡ judged_by options.now.all (packet_in line.now.packet) }
+    requires shown { judged_in line.now.shown.now ≡ judged_by options.now.all marks.now.ones (packet_in line.now.packet) }
     ensures { OnOk result (string_bytes text.new ≡ string_bytes text.old
         ++ packet_fields_by options.now lessons.now marks.now line.now.number (packet_in line.now.packet) line.now.other) }
 {
     match line.other {
         None => {
             push_judged_fields(text, options, lessons, marks.reached, line)?;
-            push_lack_field(text, marks.lacks)?;
+            push_lack_field(text, marks)?;
             push_wrong_field(text, line.number, marks.wrong)
         }
         Some(addr) => {
-            push_other_fields(text, options.values, addr, marks.reached, &line.packet)?;
+            push_other_fields(text, &otherwise_by(options, marks, addr), &line.packet)?;
             push_wrong_field(text, line.number, marks.wrong)
         }
     }
@@ -175,8 +178,8 @@ fn push_packet_plain(
     marks: &Marks,
     line: &PacketLine<'_>,
 ) -> Result<(), AllocError>
-    requires shown { judged_in line.now.shown.now ≡ judged_by options.now.all (packet_in line.now.packet) }
-    requires other { line.now.other ≡ other_address options.now.all (packet_in line.now.packet) }
+    requires shown { judged_in line.now.shown.now ≡ judged_by options.now.all marks.now.ones (packet_in line.now.packet) }
+    requires other { line.now.other ≡ other_address options.now.all marks.now.ones (packet_in line.now.packet) }
     ensures { OnOk result (string_bytes text.new ++ codes "\n" ≡ string_bytes text.old
         ++ plain_line options.now lessons.now marks.now line.now.number line.now.time (Ok (packet_in line.now.packet))) }
 {
@@ -195,7 +198,7 @@ fn push_packet_text(
     marks: &Marks,
     line: &PacketLine<'_>,
 ) -> Result<(), AllocError>
-    requires shown { judged_in line.now.shown.now ≡ judged_by options.now.all (packet_in line.now.packet) }
+    requires shown { judged_in line.now.shown.now ≡ judged_by options.now.all marks.now.ones (packet_in line.now.packet) }
     ensures { OnOk result (string_bytes text.new ≡ string_bytes text.old
         ++ packet_text_by options.now lessons.now marks.now line.now.number (packet_in line.now.packet) line.now.other) }
 {
@@ -206,9 +209,21 @@ fn push_packet_text(
             push_marks(text, line.number, marks)
         }
         Some(addr) => {
-            push_otherwise(text, options.values, addr, marks.reached, &line.packet)?;
+            push_otherwise(text, &otherwise_by(options, marks, addr), &line.packet)?;
             push_wrong_if(text, line.number, marks.wrong)
         }
+    }
+}
+
+// How a packet with these marks is told by its code and bytes.
+fn otherwise_by(options: &TellOptions, marks: &Marks, addr: u8) -> Otherwise
+    ensures { result ≡ spec_otherwise_by options.now marks.now addr }
+{
+    Otherwise {
+        values: options.values,
+        addr,
+        reached: marks.reached,
+        ones: marks.ones,
     }
 }
 
@@ -239,10 +254,10 @@ fn push_reached(
 #[tactic(auto, using(pm_lines::specs::Lemmas::Joins::joins))]
 fn push_marks(text: &mut String, number: u64, marks: &Marks) -> Result<(), AllocError>
     ensures { OnOk result (string_bytes text.new
-        ≡ string_bytes text.old ++ (lack_text marks.now.lacks ++ wrong_text number marks.now.wrong)) }
+        ≡ string_bytes text.old ++ (lack_text marks.now.ones marks.now.lacks ++ wrong_text number marks.now.wrong)) }
 {
     if marks.lacks {
-        text.push_str(", no PEC")?;
+        text.push_str(ones_words(marks.ones))?;
     }
     push_wrong_if(text, number, marks.wrong)
 }
@@ -277,11 +292,11 @@ fn push_two_lines(text: &mut String, line: u64, number: u64) -> Result<(), Alloc
 }
 
 // What stands in JSON behind a packet that lacks its PEC.
-fn push_lack_field(text: &mut String, lacks: bool) -> Result<(), AllocError>
-    ensures { OnOk result (string_bytes text.new ≡ string_bytes text.old ++ lack_field lacks) }
+fn push_lack_field(text: &mut String, marks: &Marks) -> Result<(), AllocError>
+    ensures { OnOk result (string_bytes text.new ≡ string_bytes text.old ++ lack_field marks.now.ones marks.now.lacks) }
 {
-    if lacks {
-        text.push_str(",\"pec\":false")
+    if marks.lacks {
+        text.push_str(ones_fields(marks.ones))
     } else {
         Ok(())
     }

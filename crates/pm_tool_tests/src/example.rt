@@ -4,14 +4,20 @@ use crate::checks::equal;
 use pm_decode::{TellOptions, tell};
 use pm_test_streams::{blank_paper, in_pieces};
 use pm_tool::{Sink, Source, TextFault, run};
-use pm_values::{Packet, push_otherwise};
+use pm_values::{Ones, Otherwise, Packet, push_otherwise};
 use std::alloc::{AllocError, Global};
 use std::io::{Read, Write};
 use std::test::Fail;
 
 fn told_by_bytes(alloc: Global, write: &[u8]) -> Result<String, AllocError> {
     let mut text = String::new(alloc);
-    push_otherwise(&mut text, false, 0x58, None, &Packet { write, read: None })?;
+    let otherwise = Otherwise {
+        values: false,
+        addr: 0x58,
+        reached: None,
+        ones: Ones::Answer,
+    };
+    push_otherwise(&mut text, &otherwise, &Packet { write, read: None })?;
     Ok(text)
 }
 

@@ -1,7 +1,7 @@
 -- PAGE as a trace shows it, address by address: the output that plain packets reach, and which lines contradict each other
 -- (PMBus 1.3 Part II, PAGE). A trace doesn't show a restart, so a page is what the trace says of it. What ends a page and
 -- what counts as a contradiction are this project's own choice.
-use Rattle.std.specs.Prelude.{ℕ, ◌-◌, Bool, true, false, not, ◌&&◌, ◌||◌, ◌==◌, nat_eq, nat_lt, nat_le, if◌then◌else◌, List, [], length, slice_index, unwrap_or, option_map, Option, Some, None}
+use Rattle.std.specs.Prelude.{ℕ, ◌-◌, Bool, true, false, not, ◌&&◌, ◌||◌, ◌==◌, nat_eq, nat_lt, nat_le, if◌then◌else◌, List, [], length, slice_index, unwrap_or, option_map, is_some, Option, Some, None}
 use Rattle.std.specs.Map.{lookup}
 use Rattle.indexmap.specs.IndexMap.{insert_entry}
 use Rattle.pm_frame.specs.declared.message.Message.{Message}
@@ -185,10 +185,21 @@ doubting pages = record pages { doubted = true }
 abbrev pub place_in : ℕ → Option ℕ → Pages → ℕ → Place
 place_in gap time pages addr = come pages.lost gap time (place_of pages addr)
 
--- behind the packet of this line, at an address if it has one, where that was such a place
+-- a packet says nothing of PAGE
+abbrev pub is_silent : PageUse → Bool
+is_silent OfOutput = true
+is_silent Beside = true
+is_silent (Written number) = false
+is_silent (ReadBack number) = false
+is_silent (Failed writes) = false
+is_silent Lost = false
+
+-- behind the packet of this line, at an address if it has one, where that was such a place; one that says nothing of PAGE and
+-- has no time leaves what was known
 abbrev pub pages_by : ℕ → Option ℕ → Place → PageUse → Pages → Pages
 pages_by line None place used pages = record pages { doubted = false }
-pages_by line (Some addr) place used pages = record pages {
-  places = insert_entry nat_eq pages.places addr (behind line pages.doubted place used);
-  doubted = false;
-}
+pages_by line (Some addr) place used pages = if is_silent used && not (is_some place.time)
+    then record pages { doubted = false } else record pages {
+      places = insert_entry nat_eq pages.places addr (behind line pages.doubted place used);
+      doubted = false;
+    }

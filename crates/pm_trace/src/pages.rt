@@ -1,7 +1,7 @@
 //! PAGE as a trace shows it, address by address.
 ghost use Rattle.std.specs.Prelude.{◌≡◌};
 ghost use Rattle.pm_trace.specs.Pages.{behind, contradicted, output_of, use_of};
-ghost use Rattle.pm_trace.specs.Pages.{accepted_use as spec_accepted_use, is_of_device as spec_is_of_device, is_of_page as spec_is_of_page, other_use as spec_other_use, plain_use as spec_plain_use};
+ghost use Rattle.pm_trace.specs.Pages.{accepted_use as spec_accepted_use, is_of_device as spec_is_of_device, is_of_page as spec_is_of_page, is_silent as spec_is_silent, other_use as spec_other_use, plain_use as spec_plain_use};
 ghost use Rattle.pm_trace.specs.Pages.{is_apart as spec_is_apart, kept_since as spec_kept_since, line_since as spec_line_since, written_else as spec_written_else};
 ghost use Rattle.pm_trace.specs.ShownLines.{judged_in};
 
@@ -28,6 +28,15 @@ pub enum PageUse {
     OfOutput,
     /// Any other packet.
     Beside,
+}
+
+impl PageUse {
+    /// Whether the packet says nothing of PAGE.
+    pub fn is_silent(self) -> bool
+        ensures { result ≡ spec_is_silent self }
+    {
+        matches!(self, PageUse::OfOutput | PageUse::Beside)
+    }
 }
 
 /// What a line said of a page.
@@ -158,11 +167,9 @@ impl Pages {
     pub fn lose_at(&mut self, addr: u8) -> Result<(), AllocError>
         ensures { OnOk result (self.new ≡ lost_at addr self.old) }
     {
-        let doubted = self.doubted;
         let time = self.kept(addr).time;
-        let learned = self.learn(0, Some(addr), Place { time, ..NOWHERE }, PageUse::Beside);
-        self.doubted = doubted;
-        learned
+        self.places.insert(addr, Place { time, ..NOWHERE })?;
+        Ok(())
     }
 
     /// A packet of PAGE at an address failed in this line; `writes` is whether it may have written PAGE. Takes memory for an
@@ -212,8 +219,8 @@ impl Pages {
         }
     }
 
-    /// Learns what the packet in this line says of its address's page, which was such a place when it came. Takes memory
-    /// for an address that is new.
+    /// Learns what the packet in this line says of its address's page, which was such a place when it came; one that says
+    /// nothing of PAGE and has no time leaves what was known. Takes memory for an address that is new.
     pub fn learn(
         &mut self,
         line: u64,
@@ -228,6 +235,9 @@ impl Pages {
         let Some(addr) = addr else {
             return Ok(());
         };
+        if used.is_silent() && place.time.is_none() {
+            return Ok(());
+        }
         self.places.insert(addr, place.behind(line, doubted, used))?;
         Ok(())
     }

@@ -11,6 +11,9 @@ use Rattle.pm_table.specs.Codes as command
 use Rattle.pm_table.specs.Commands.{is_written}
 use Rattle.pm_trace.specs.Trace.{Judged, Accepted, Faulty, BadSyntax, BadHex, parts_judged}
 use Rattle.pm_values.specs.CodeNames.{standard_name}
+use Rattle.pm_values.specs.declared.answers.Ones.{Ones}
+use Rattle.pm_values.specs.declared.answers.Ones.TheVariants.{Answer, Doubtful, Nobody}
+use Rattle.pm_values.specs.declared.otherwise.Otherwise.{Otherwise}
 use Rattle.pm_values.specs.ValueText.{known_text}
 use Rattle.pm_values.specs.Values.{other_value}
 
@@ -68,7 +71,7 @@ abbrev pub has_pec : List ℕ → Option (List ℕ) → Bool
 has_pec write None = ends_in_pec [] (fewest_written (slice_index write 1) + 2) write
 has_pec write (Some read) = ends_in_pec write (fewest_read (slice_index write 1) + 1) read
 
--- ---- nobody answered
+-- ---- ones
 
 -- there is a byte, and each is FFh
 abbrev pub are_ones : List ℕ → Bool
@@ -79,14 +82,37 @@ abbrev pub is_all_ones : List ℕ → Option (List ℕ) → Bool
 is_all_ones write None = false
 is_all_ones write (Some read) = are_ones (drop 1 read) && not (has_pec write (Some read))
 
+-- an answer of ones is taken for an answer, for nobody's, or may be either
+abbrev pub is_answer : Ones → Bool
+is_answer Answer = true
+is_answer Doubtful = false
+is_answer Nobody = false
+
+abbrev pub is_nobody : Ones → Bool
+is_nobody Answer = false
+is_nobody Doubtful = false
+is_nobody Nobody = true
+
+abbrev pub is_doubtful : Ones → Bool
+is_doubtful Answer = false
+is_doubtful Doubtful = true
+is_doubtful Nobody = false
+
+-- a write of PAGE_PLUS whose count says that its last byte is the PEC, which is wrong
+abbrev pub is_miscounted : List ℕ → Option (List ℕ) → Bool
+is_miscounted write None = slice_index write 1 == command.page_plus_write
+    && (slice_index write 2 + 4 == length write && not (has_pec write None))
+is_miscounted write (Some read) = false
+
 -- the address of a packet that is told by its code and bytes
-abbrev pub address_otherwise : List ℕ → Option (List ℕ) → Judged → Option ℕ
-address_otherwise write read (Faulty (Some addr) is_read fault) =
-    if has_code write read && (is_of_code (slice_index write 1) read fault || is_all_ones write read) then Some addr else None
-address_otherwise write read (Faulty None is_read fault) = None
-address_otherwise write read (Accepted addr message answer) = None
-address_otherwise write read BadSyntax = None
-address_otherwise write read BadHex = None
+abbrev pub address_otherwise : Ones → List ℕ → Option (List ℕ) → Judged → Option ℕ
+address_otherwise ones write read (Faulty (Some addr) is_read fault) =
+    if has_code write read && ((is_of_code (slice_index write 1) read fault || not (is_answer ones)) && not (is_miscounted write read))
+    then Some addr else None
+address_otherwise ones write read (Faulty None is_read fault) = None
+address_otherwise ones write read (Accepted addr message answer) = None
+address_otherwise ones write read BadSyntax = None
+address_otherwise ones write read BadHex = None
 
 -- ---- packets without PEC
 
@@ -128,13 +154,13 @@ last_part write None = write
 last_part write (Some read) = read
 
 -- The packet has nothing but its PEC too few. A part of the command table has fewer than 16 bytes.
-abbrev pub lacks_pec : List ℕ → Option (List ℕ) → Bool
-lacks_pec write read = is_short (parts_judged write read) && (nat_lt (length (last_part write read)) 16
-    && (not (is_all_ones write read) && is_accepted (completed_judged write read)))
+abbrev pub lacks_pec : Ones → List ℕ → Option (List ℕ) → Bool
+lacks_pec ones write read = is_short (parts_judged write read) && (nat_lt (length (last_part write read)) 16
+    && (not (is_nobody ones) && is_accepted (completed_judged write read)))
 
 -- what a packet says where its PEC may be missing
-abbrev pub judged_anyway : List ℕ → Option (List ℕ) → Judged
-judged_anyway write read = if lacks_pec write read then completed_judged write read else parts_judged write read
+abbrev pub judged_anyway : Ones → List ℕ → Option (List ℕ) → Judged
+judged_anyway ones write read = if lacks_pec ones write read then completed_judged write read else parts_judged write read
 
 -- ---- how they are told
 
@@ -211,14 +237,24 @@ is_text_code code = nat_le 0x99 code && nat_le code 0x9E || (code == 0xAD || cod
 abbrev pub is_told_letter : ℕ → Bool
 is_told_letter byte = nat_le 32 byte && (nat_le byte 126 && (not (byte == 34) && not (byte == 92)))
 
--- as many letters as the count says, at least one
-abbrev pub is_counted : ℕ → List ℕ → Bool
-is_counted count letters = not (length letters == 0) && (count == length letters && list_all is_told_letter letters)
+-- the last byte of a block is 00h or FFh, which fills up a text of a fixed length
+abbrev pub has_filler : List ℕ → Bool
+has_filler block = not (length block == 0)
+    && (slice_index block (length block - 1) == 0x00 || slice_index block (length block - 1) == 0xFF)
 
--- the letters behind their count
+-- a block without one such byte
+abbrev pub unfilled : List ℕ → List ℕ
+unfilled block = if has_filler block then take (length block - 1) block else block
+
+-- there is a letter, and each byte is one
+abbrev pub are_some_letters : List ℕ → Bool
+are_some_letters letters = not (length letters == 0) && list_all is_told_letter letters
+
+-- the letters of a block behind its count
 abbrev pub letters_in : List ℕ → Option (List ℕ)
 letters_in [] = None
-letters_in (count ∷ letters) = if is_counted count letters then Some letters else None
+letters_in (count ∷ block) =
+    if count == length block && are_some_letters (unfilled block) then Some (unfilled block) else None
 
 -- the bytes that say something: those of an answer, otherwise what was written
 abbrev pub said_bytes : ContentBytes → List ℕ
@@ -253,10 +289,15 @@ abbrev pub carried_by : List ℕ → Option (List ℕ) → List ℕ
 carried_by written None = sent_text written
 carried_by written (Some answer) = written_text written ++ (codes " read" ++ spaced answer)
 
+-- what is said of a packet that has no right PEC
+abbrev pub ones_text : Ones → List ℕ
+ones_text Answer = codes ", no PEC"
+ones_text Doubtful = codes ", all ones: nobody answered?"
+ones_text Nobody = codes ", all ones: nobody answered"
+
 -- whether the packet has its PEC
-abbrev pub verdict_text : Bool → Bool → List ℕ
-verdict_text is_right is_ones = if is_right then codes ", PEC right"
-    else (if is_ones then codes ", all ones: nobody answered" else codes ", no PEC")
+abbrev pub verdict_text : Bool → Ones → List ℕ
+verdict_text is_right ones = if is_right then codes ", PEC right" else ones_text ones
 
 -- the page of a carried code, or with a question mark the output that PAGE selects
 abbrev pub content_page : Option ℕ → Option ℕ → List ℕ
@@ -269,6 +310,6 @@ unfoldable pub content_text : Bool → Option ℕ → ContentBytes → List ℕ
 content_text values reached content = content_page reached content.page ++ (codes " code " ++ (hex_byte content.code
     ++ (named content.code ++ (carried_by content.written content.answer ++ content_meaning values content))))
 
-unfoldable pub other_text : Bool → ℕ → Option ℕ → List ℕ → Option (List ℕ) → List ℕ
-other_text values addr reached write read = hex_byte addr ++ (content_text values reached (content_of write read)
-    ++ verdict_text (has_pec write read) (is_all_ones write read))
+unfoldable pub other_text : Otherwise → List ℕ → Option (List ℕ) → List ℕ
+other_text otherwise write read = hex_byte otherwise.addr ++ (content_text otherwise.values otherwise.reached (content_of write read)
+    ++ verdict_text (has_pec write read) otherwise.ones)

@@ -2,7 +2,7 @@
 -- VOUT_MODE for each output, until the mode may have changed; for each address, each code that has a voltage and each side the last
 -- good answer to COEFFICIENTS; and the addresses that answered a read of VOUT_MODE with ULINEAR16, since the readings of such a part
 -- are LINEAR11. That these decide is this project's own choice.
-use Rattle.std.specs.Prelude.{ℕ, ◌/◌, Bool, true, ◌&&◌, ◌||◌, ◌==◌, nat_eq, nat_lt, if◌then◌else◌, List, [], ◌∷◌, slice_index, unwrap_or, option_map, Option, Some, None, Result, Ok, Err}
+use Rattle.std.specs.Prelude.{ℕ, ◌/◌, Bool, true, ◌&&◌, ◌||◌, ◌==◌, nat_eq, nat_lt, if◌then◌else◌, List, [], ◌∷◌, slice_index, option_map, Option, Some, None, Result, Ok, Err}
 use Rattle.std.specs.Map.{lookup}
 use Rattle.std.specs.Option.{option_or}
 use Rattle.std.specs.Result.{result_ok}
@@ -83,10 +83,10 @@ answer_taught line taught addr reached (WriteByte code byte) answer = taught
 answer_taught line taught addr reached (WriteWord code word) answer = taught
 answer_taught line taught addr reached (PagePlusWrite page code payload) answer = taught
 
--- what is known behind a line
+-- what is known behind a line: a write teaches nothing
 abbrev pub taught_by : ℕ → Option ℕ → Taught → Judged → Taught
-taught_by line reached taught (Accepted addr message answer) =
-    answer_taught line taught addr reached message (unwrap_or answer [])
+taught_by line reached taught (Accepted addr message None) = taught
+taught_by line reached taught (Accepted addr message (Some answer)) = answer_taught line taught addr reached message answer
 taught_by line reached taught (Faulty addr read fault) = taught
 taught_by line reached taught BadSyntax = taught
 taught_by line reached taught BadHex = taught

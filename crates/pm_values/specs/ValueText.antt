@@ -1,8 +1,6 @@
 -- Values as they are told to a person. The forms are this project's own choice.
-use Rattle.std.specs.Prelude.{ℕ, ℤ, pos, negsuc, zero, suc, ◌+◌, ◌*◌, ◌/◌, ◌%◌, true, false, ◌==◌, bit_and, if◌then◌else◌, List, [], ◌++◌, codes, decimal, Option, Some, None}
+use Rattle.std.specs.Prelude.{ℕ, ℤ, pos, negsuc, zero, suc, ◌+◌, ◌*◌, ◌/◌, ◌%◌, true, false, ◌||◌, ◌==◌, bit_and, if◌then◌else◌, List, [], ◌++◌, codes, decimal, Option, Some, None}
 use Rattle.std.specs.Fmt.{signed_decimal}
-use Rattle.pm_table.specs.declared.operation.Operation.{Operation}
-use Rattle.pm_table.specs.declared.operation.Operation.TheVariants.{Off, On, MarginLow, MarginHigh}
 use Rattle.pm_table.specs.declared.vout_mode.VoutMode.{VoutMode}
 use Rattle.pm_table.specs.declared.vout_mode.VoutMode.TheVariants.{Linear, Direct}
 use Rattle.pm_values.specs.Statuses.{capability_rows, names_from, on_off_rows, rows_of}
@@ -11,18 +9,25 @@ use Rattle.pm_values.specs.declared.status.Status.{Status}
 use Rattle.pm_values.specs.declared.value.Unit.{Unit as MeasureUnit}
 use Rattle.pm_values.specs.declared.value.Unit.TheVariants.{Volt, Ampere, Celsius}
 use Rattle.pm_values.specs.declared.value.Value.{Value}
-use Rattle.pm_values.specs.declared.value.Value.TheVariants.{Measured, Operates, Protects, Scales, Relative, Flags, Capable, Controls}
+use Rattle.pm_values.specs.declared.value.Value.TheVariants.{Measured, Operates, Protects, Scales, Relative, Vid, Half, Flags, Capable, Controls, Revises}
 
 abbrev pub unit_text : MeasureUnit → List ℕ
 unit_text Volt = codes "V"
 unit_text Ampere = codes "A"
 unit_text Celsius = codes "C"
 
-abbrev pub operation_text : Operation → List ℕ
-operation_text Off = codes "off"
-operation_text On = codes "on"
-operation_text MarginLow = codes "on, margin low"
-operation_text MarginHigh = codes "on, margin high"
+-- a byte of OPERATION below C0h: bits 7 and 6 turn off at once, off by the delays of the part, or on; bits 5 and 4 select what
+-- the voltage is; of a margin bits 3 and 2 say what a fault does, and 00 and 11 are reserved there
+abbrev pub fault_bits_text : ℕ → List ℕ
+fault_bits_text bits = if bits == 0b01 || bits == 0b10 then [] else codes ", reserved fault bits"
+
+abbrev pub operation_text : ℕ → List ℕ
+operation_text byte = if byte / 64 == 0b00 then codes "off"
+    else (if byte / 64 == 0b01 then codes "soft off"
+    else (if byte / 16 == 0b1000 then codes "on"
+    else (if byte / 16 == 0b1001 then codes "on, margin low" ++ fault_bits_text (byte / 4 % 4)
+    else (if byte / 16 == 0b1010 then codes "on, margin high" ++ fault_bits_text (byte / 4 % 4)
+    else codes "on, AVSBus"))))
 
 -- the writes that a byte of WRITE_PROTECT lets through
 abbrev pub protection_text : ℕ → List ℕ
@@ -98,15 +103,27 @@ control_text byte = if bit_and byte 0x14 == 0x14 then polarity_text byte ++ dela
 unfoldable pub on_off_text : ℕ → List ℕ
 on_off_text byte = switch_text byte ++ (control_text byte ++ names_from (codes ", ") [] false on_off_rows byte)
 
+-- a part of the standard by its digit in PMBUS_REVISION, which is below 4
+abbrev pub part_text : ℕ → List ℕ
+part_text digit = if digit == 0 then codes "1.0"
+    else (if digit == 1 then codes "1.1" else (if digit == 2 then codes "1.2" else codes "1.3"))
+
+-- a byte of PMBUS_REVISION
+unfoldable pub revision_text : ℕ → List ℕ
+revision_text byte = codes "Part I " ++ (part_text (byte / 16) ++ (codes ", Part II " ++ part_text (byte % 16)))
+
 unfoldable pub value_text : Value → List ℕ
 value_text (Measured ratio unit) = decimal_of (millionths ratio) ++ (codes " " ++ unit_text unit)
-value_text (Operates operation) = operation_text operation
+value_text (Operates byte) = operation_text byte
 value_text (Protects byte) = protection_text byte
 value_text (Scales mode) = mode_text mode
 value_text (Relative n) = relative_text n
+value_text Vid = codes "VID"
+value_text Half = codes "half"
 value_text (Flags status bits) = flags_text status bits
 value_text (Capable byte) = capability_text byte
 value_text (Controls byte) = on_off_text byte
+value_text (Revises byte) = revision_text byte
 
 -- behind a packet's text
 abbrev pub known_text : Option Value → List ℕ

@@ -1,5 +1,5 @@
 -- What a code's payload means (PMBus 1.3 Part II): which codes are told with a value is this project's own choice.
-use Rattle.std.specs.Prelude.{ℕ, ℤ, pos, ◌+◌, ◌*◌, ◌*ℤ◌, Bool, ◌||◌, ◌==◌, if◌then◌else◌, List, [], ◌∷◌, slice_index, unwrap_or, is_some, option_map, Option, Some, None}
+use Rattle.std.specs.Prelude.{ℕ, ℤ, pos, ◌+◌, ◌*◌, ◌*ℤ◌, Bool, ◌&&◌, ◌||◌, ◌==◌, ◌/◌, ◌%◌, nat_lt, if◌then◌else◌, List, [], ◌∷◌, slice_index, unwrap_or, is_some, option_map, Option, Some, None}
 use Rattle.std.specs.Option.{option_or}
 use Rattle.std.specs.Result.{result_ok}
 use Rattle.std.specs.Int.{int_div_euclid}
@@ -8,13 +8,12 @@ use Rattle.pm_frame.specs.declared.message.Message.{Message}
 use Rattle.pm_num.specs.AnyFormat.{Shape, shape_value}
 use Rattle.pm_num.specs.Ratio.{Ratio}
 use Rattle.pm_table.specs.Codes as command
-use Rattle.pm_table.specs.Operation.{operation_of}
 use Rattle.pm_table.specs.VoutMode.{exponent_of, mode_of}
 use Rattle.pm_values.specs.Taught.{Taught, is_relative, is_voltage, packet_shape}
 use Rattle.pm_values.specs.declared.lessons.Asked.{Asked}
 use Rattle.pm_values.specs.declared.status.Status.TheVariants as status
 use Rattle.pm_values.specs.declared.value.Value.{Value}
-use Rattle.pm_values.specs.declared.value.Value.TheVariants.{Measured, Operates, Protects, Scales, Relative, Flags, Capable, Controls}
+use Rattle.pm_values.specs.declared.value.Value.TheVariants.{Measured, Operates, Protects, Scales, Relative, Vid, Half, Flags, Capable, Controls, Revises}
 use Rattle.pm_values.specs.declared.formats.GivenFormats.{GivenFormats}
 use Rattle.pm_values.specs.declared.value.Unit.{Unit as MeasureUnit}
 use Rattle.pm_values.specs.declared.value.Unit.TheVariants as unit
@@ -41,9 +40,19 @@ is_protection byte = byte == 0x00 || (byte == 0x20 || (byte == 0x40 || byte == 0
 abbrev pub protects : ℕ → Option Value
 protects byte = if is_protection byte then Some (Protects byte) else None
 
+-- a byte of OPERATION whose bits 7 and 6 aren't both set
+abbrev pub operates : ℕ → Option Value
+operates byte = if nat_lt byte 0xC0 then Some (Operates byte) else None
+
 -- a byte of VOUT_MODE
 abbrev pub mode_value : ℕ → Option Value
-mode_value byte = if is_relative byte then Some (Relative (exponent_of byte)) else option_map Scales (result_ok (mode_of byte))
+mode_value byte = if is_relative byte then Some (Relative (exponent_of byte))
+    else (if byte / 32 == 1 then Some Vid
+    else (if byte / 32 == 3 then Some Half else option_map Scales (result_ok (mode_of byte))))
+
+-- a byte of PMBUS_REVISION, a digit for each part of the standard, of versions 1.0 to 1.3
+abbrev pub revises : ℕ → Option Value
+revises byte = if nat_lt (byte / 16) 4 && nat_lt (byte % 16) 4 then Some (Revises byte) else None
 
 -- a number, where its format is known
 abbrev pub measured : Option Shape → ℕ → MeasureUnit → Option Value
@@ -57,7 +66,7 @@ code_value shape code bytes =
     else (if code == command.read_vin then measured shape (word_in bytes) unit.Volt
     else (if code == command.read_iout then measured shape (word_in bytes) unit.Ampere
     else (if code == command.read_temperature_1 then measured shape (word_in bytes) unit.Celsius
-    else (if code == command.operation then option_map Operates (operation_of (byte_in bytes))
+    else (if code == command.operation then operates (byte_in bytes)
     else (if code == command.write_protect then protects (byte_in bytes)
     else (if code == command.vout_mode then mode_value (byte_in bytes)
     else (if code == command.status_byte then Some (Flags status.Byte (word_in bytes))
@@ -65,7 +74,8 @@ code_value shape code bytes =
     else (if code == command.status_vout then Some (Flags status.Vout (word_in bytes))
     else (if code == command.status_cml then Some (Flags status.Cml (word_in bytes))
     else (if code == command.capability then Some (Capable (byte_in bytes))
-    else None)))))))))))
+    else (if code == command.pmbus_revision then revises (byte_in bytes)
+    else None))))))))))))
 
 -- the payload that a packet carries: what was answered, otherwise what was written
 abbrev pub carried : Message → Option (List ℕ) → List ℕ

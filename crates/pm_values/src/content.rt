@@ -2,9 +2,9 @@
 ghost use Rattle.std.specs.Prelude.{◌≡◌, Some, true, option_map};
 ghost use Rattle.std.specs.List.{list_all};
 ghost use Rattle.pm_values.specs.Contents.{content_in};
-ghost use Rattle.pm_values.specs.Otherwise.{content_of, has_pec as spec_has_pec, is_counted as spec_is_counted, is_text_code as spec_is_text_code, is_told_letter as spec_is_told_letter, letters_in as spec_letters_in, read_content as spec_read_content, write_content as spec_write_content};
+ghost use Rattle.pm_values.specs.Otherwise.{are_some_letters as spec_are_some_letters, content_of, has_pec as spec_has_pec, has_filler as spec_has_filler, is_text_code as spec_is_text_code, is_told_letter as spec_is_told_letter, letters_in as spec_letters_in, read_content as spec_read_content, write_content as spec_write_content};
 
-use crate::packet::{Packet, shown_of};
+use crate::packet::{Packet, shown_of, without_last};
 use pm_table::Code;
 
 /// The page, the code and the bytes of a packet, without its PEC: those of another code that PAGE_PLUS_WRITE or
@@ -122,26 +122,41 @@ fn is_text_code(code: u8) -> bool
     (0x99 <= code && code <= 0x9E) || code == 0xAD || code == 0xAE
 }
 
-// The letters behind their count.
+// The letters behind their count, without the byte that fills them up.
 fn letters_in<'a>(bytes: &'a [u8]) -> Option<&'a str>
     ensures { option_map (λ letters. letters.now) result ≡ spec_letters_in bytes.entry.now }
 {
-    let [count, letters @ ..] = bytes else {
+    let [count, block @ ..] = bytes else {
         return None;
     };
-    if is_counted(*count, letters) {
+    let letters = if has_filler(block) {
+        without_last(block)
+    } else {
+        block
+    };
+    if usize::from(*count) == block.len() && are_some_letters(letters) {
         text_of(letters)
     } else {
         None
     }
 }
 
-// Whether there are as many letters as the count says, at least one.
-fn is_counted(count: u8, letters: &[u8]) -> bool
-    ensures counted { result ≡ spec_is_counted count letters.now }
+// Whether the last byte of a block is 00h or FFh.
+fn has_filler(block: &[u8]) -> bool
+    ensures { result ≡ spec_has_filler block.now }
+{
+    match block {
+        [.., last] => *last == 0x00 || *last == 0xFF,
+        [] => false,
+    }
+}
+
+// Whether there is a letter, and each byte is one.
+fn are_some_letters(letters: &[u8]) -> bool
+    ensures some { result ≡ spec_are_some_letters letters.now }
     ensures letters { result ≡ true → list_all spec_is_told_letter letters.now ≡ true }
 {
-    !letters.is_empty() && usize::from(count) == letters.len() && are_letters(letters)
+    !letters.is_empty() && are_letters(letters)
 }
 
 // Whether each byte can stand in a text in quotation marks.

@@ -13,7 +13,7 @@ use indexmap::IndexMap;
 use pm_frame::Message;
 use pm_num::AnyFormat;
 use pm_table::{Code, Coefficients, VoutMode, cell_of, format_of};
-use pm_trace::{Shown, answered, coefficients_in};
+use pm_trace::{Shown, coefficients_in};
 use std::alloc::{AllocError, Global};
 use std::marker::Model;
 
@@ -50,7 +50,7 @@ impl Model for Lessons {
 }
 
 impl Lessons {
-    ghost use Rattle.std.specs.Prelude.{[], OnOk, nat_eq, unwrap_or};
+    ghost use Rattle.std.specs.Prelude.{OnOk, nat_eq};
     ghost use Rattle.std.specs.Map.{lookup};
     ghost use Rattle.pm_table.specs.VoutMode.{IsMode};
     ghost use Rattle.pm_trace.specs.ShownLines.{judged_in};
@@ -111,26 +111,33 @@ impl Lessons {
         ensures { OnOk result (self.new ≡ taught_by line reached self.old (judged_in shown.now)) }
     {
         match shown {
-            Shown::Accepted { addr, view, answer } => {
+            Shown::Accepted {
+                addr,
+                view,
+                answer: Some(answer),
+            } => {
                 let packet = GoodPacket {
                     addr: *addr,
                     reached,
                     view,
-                    answer: *answer,
+                    answer: Some(answer),
                 };
-                self.learn_answer(line, &packet)
+                self.learn_answer(line, &packet, answer)
             }
             _ => Ok(()),
         }
     }
 
-    // Learns from a good packet.
-    fn learn_answer(&mut self, line: u64, packet: &GoodPacket<'_>) -> Result<(), AllocError>
-        ensures { OnOk result (self.new ≡ answer_taught line self.old packet.now.addr packet.now.reached packet.now.view.now
-            (unwrap_or (option_map (λ bytes. bytes.now) packet.now.answer) [])) }
+    // Learns from a good packet that was answered so.
+    fn learn_answer(
+        &mut self,
+        line: u64,
+        packet: &GoodPacket<'_>,
+        answer: &[u8],
+    ) -> Result<(), AllocError>
+        ensures { OnOk result (self.new ≡ answer_taught line self.old packet.now.addr packet.now.reached packet.now.view.now answer.now) }
     {
         let addr = packet.addr;
-        let answer = answered(packet.answer);
         let byte = byte_in(answer);
         match packet.view.message() {
             Message::PagePlusRead { page, code } => {

@@ -9,7 +9,13 @@
 //! ```
 //! fn told_by_bytes(alloc: Global, write: &[u8]) -> Result<String, AllocError> {
 //!     let mut text = String::new(alloc);
-//!     push_otherwise(&mut text, false, 0x58, None, &Packet { write, read: None })?;
+//!     let otherwise = Otherwise {
+//!         values: false,
+//!         addr: 0x58,
+//!         reached: None,
+//!         ones: Ones::Answer,
+//!     };
+//!     push_otherwise(&mut text, &otherwise, &Packet { write, read: None })?;
 //!     Ok(text)
 //! }
 //! ```
@@ -17,6 +23,7 @@
 //! Tests: crates/pm_tool_tests
 #![tactic(auto)]
 
+mod answers;
 mod code_names;
 mod content;
 mod formats;
@@ -31,6 +38,7 @@ mod status;
 mod value;
 mod value_text;
 
+pub use answers::{Answers, Ones};
 pub use code_names::standard_name;
 pub use content::Content;
 pub use formats::{GivenFormat, GivenFormats};
@@ -38,11 +46,14 @@ pub use laws::microvolts_are_the_floor;
 pub use lessons::Lessons;
 pub use meaning::{GoodPacket, other_value, packet_value};
 pub use mode_changes::{ModeChange, is_paging, mode_change};
-pub use otherwise::{address_otherwise, completed_part, push_otherwise, push_spaced, shown_with};
+pub use otherwise::{
+    Otherwise, address_otherwise, completed_part, ones_words, push_otherwise, push_spaced,
+    shown_with,
+};
 pub use packet::Packet;
 pub use status::{Row, Status};
 pub use value::{Unit, Value};
 pub use value_text::{
     NameMarks, millionths, operation_words, protection_words, push_capability, push_known,
-    push_millionths, push_mode, push_names, push_on_off, push_relative,
+    push_millionths, push_mode, push_names, push_on_off, push_relative, push_revision,
 };

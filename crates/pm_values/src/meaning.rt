@@ -3,7 +3,7 @@ ghost use Rattle.std.specs.Prelude.{◌≡◌, option_map};
 ghost use Rattle.pm_num.specs.AnyFormat.{shape_of};
 ghost use Rattle.pm_num.specs.Formats.{IsExponent};
 ghost use Rattle.pm_table.specs.VoutMode.{exponent_of};
-ghost use Rattle.pm_values.specs.Values.{byte_in as spec_byte_in, code_value as spec_code_value, measured as spec_measured, mode_value as spec_mode_value, other_value as spec_other_value, packet_value as spec_packet_value, protects, word_in as spec_word_in};
+ghost use Rattle.pm_values.specs.Values.{byte_in as spec_byte_in, code_value as spec_code_value, measured as spec_measured, mode_value as spec_mode_value, operates, other_value as spec_other_value, packet_value as spec_packet_value, protects, revises, word_in as spec_word_in};
 
 use crate::formats::GivenFormats;
 use crate::lessons::{Asked, Lessons, is_voltage};
@@ -11,7 +11,7 @@ use crate::status::Status;
 use crate::value::{Unit, Value};
 use pm_frame::FrameView;
 use pm_num::{AnyFormat, NumFormat};
-use pm_table::{Code, Operation, VoutMode};
+use pm_table::{Code, VoutMode};
 
 /// A good packet.
 #[derive(Clone, Copy, Debug)]
@@ -67,7 +67,7 @@ fn code_value(format: Option<AnyFormat>, code: u8, bytes: &[u8]) -> Option<Value
         Code::READ_VIN => measured(format, word, Unit::Volt),
         Code::READ_IOUT => measured(format, word, Unit::Ampere),
         Code::READ_TEMPERATURE_1 => measured(format, word, Unit::Celsius),
-        Code::OPERATION => Operation::read(u16::from(byte)).map(Value::Operates),
+        Code::OPERATION => operation(byte),
         Code::WRITE_PROTECT => protection(byte),
         Code::VOUT_MODE => mode_value(byte),
         Code::STATUS_BYTE => Some(Value::Flags(Status::Byte, word)),
@@ -75,6 +75,7 @@ fn code_value(format: Option<AnyFormat>, code: u8, bytes: &[u8]) -> Option<Value
         Code::STATUS_VOUT => Some(Value::Flags(Status::Vout, word)),
         Code::STATUS_CML => Some(Value::Flags(Status::Cml, word)),
         Code::CAPABILITY => Some(Value::Capable(byte)),
+        Code::PMBUS_REVISION => revision(byte),
         _ => None,
     }
 }
@@ -118,7 +119,35 @@ fn mode_value(byte: u8) -> Option<Value>
     if byte / 32 == 4 {
         return Some(Value::Relative(exponent_in(byte)));
     }
+    if byte / 32 == 1 {
+        return Some(Value::Vid);
+    }
+    if byte / 32 == 3 {
+        return Some(Value::Half);
+    }
     VoutMode::read(byte).ok().map(Value::Scales)
+}
+
+// What a byte of OPERATION asks for.
+fn operation(byte: u8) -> Option<Value>
+    ensures { result ≡ operates byte }
+{
+    if byte < 0xC0 {
+        Some(Value::Operates(byte))
+    } else {
+        None
+    }
+}
+
+// What a byte of PMBUS_REVISION means.
+fn revision(byte: u8) -> Option<Value>
+    ensures { result ≡ revises byte }
+{
+    if byte / 16 < 4 && byte % 16 < 4 {
+        Some(Value::Revises(byte))
+    } else {
+        None
+    }
 }
 
 /// The exponent of a mode of ULINEAR16, its bits 4 to 0.

@@ -1,11 +1,12 @@
 //! Packets that the command table doesn't have with their bytes: those that lack their PEC, and those that are told by
 //! their code and bytes alone.
-ghost use Rattle.std.specs.Prelude.{◌≡◌, ◌++◌, ◌||◌, IfSome, is_some, option_map, slice_index, string_bytes, OnOk};
+ghost use Rattle.std.specs.Prelude.{◌≡◌, ◌++◌, ◌&&◌, ◌||◌, not, IfSome, is_some, option_map, slice_index, string_bytes, OnOk};
 ghost use Rattle.pm_trace.specs.ShownLines.{judged_in};
 ghost use Rattle.pm_trace.specs.Trace.{parts_judged};
 ghost use Rattle.pm_values.specs.Contents.{content_in};
-ghost use Rattle.pm_values.specs.Otherwise.{IsCompleted, address_otherwise as spec_address_otherwise, carried_by, content_meaning, content_page, content_text, has_code as spec_has_code, is_all_ones, is_accepted, is_of_code as spec_is_of_code, is_read_from, is_short as spec_is_short, judged_with, lacks_pec, letters_text, named_by, other_text, sent_text, spaced, verdict_text, written_text};
+ghost use Rattle.pm_values.specs.Otherwise.{IsCompleted, address_otherwise as spec_address_otherwise, carried_by, content_meaning, content_page, content_text, has_code as spec_has_code, is_accepted, is_answer, is_miscounted as spec_is_miscounted, is_of_code as spec_is_of_code, is_read_from, is_short as spec_is_short, judged_with, lacks_pec, letters_text, named_by, ones_text, other_text, sent_text, spaced, verdict_text, written_text};
 
+use crate::answers::Ones;
 use crate::code_names::standard_name;
 use crate::content::Content;
 use crate::meaning::other_value;
@@ -18,10 +19,28 @@ use pm_table::Code;
 use pm_trace::{Shown, packet_shown};
 use std::alloc::AllocError;
 
-/// The last part of a packet with its PEC, where it has nothing but its PEC too few; `shown` is what it says without.
-pub fn completed_part(packet: &Packet<'_>, shown: &Shown<'_>) -> Option<ArrayVec<u8, 16>>
+/// How a packet is told by its code and bytes.
+#[derive(Clone, Copy, Debug)]
+pub struct Otherwise {
+    /// What the bytes say is told too.
+    pub values: bool,
+    /// The address.
+    pub addr: u8,
+    /// The output that PAGE selects, where that is followed.
+    pub reached: Option<u8>,
+    /// What an answer of ones is taken for.
+    pub ones: Ones,
+}
+
+/// The last part of a packet with its PEC, where it has nothing but its PEC too few; `shown` is what it says without, and `ones`
+/// what an answer of ones is taken for.
+pub fn completed_part(
+    packet: &Packet<'_>,
+    shown: &Shown<'_>,
+    ones: Ones,
+) -> Option<ArrayVec<u8, 16>>
     requires { judged_in shown.now ≡ parts_judged packet.now.write.now (option_map (λ bytes. bytes.now) packet.now.read) }
-    ensures lacks { is_some result ≡ lacks_pec packet.now.write.now (option_map (λ bytes. bytes.now) packet.now.read) }
+    ensures lacks { is_some result ≡ lacks_pec ones packet.now.write.now (option_map (λ bytes. bytes.now) packet.now.read) }
     ensures part { IfSome result (λ part.
         IsCompleted packet.now.write.now (option_map (λ bytes. bytes.now) packet.now.read) part.items) }
 {
@@ -29,7 +48,7 @@ pub fn completed_part(packet: &Packet<'_>, shown: &Shown<'_>) -> Option<ArrayVec
         return None;
     }
     let part = packet.with_pec()?;
-    if !packet.is_all_ones() && is_good_with(packet.write, packet.is_read(), &part) {
+    if !matches!(ones, Ones::Nobody) && is_good_with(packet.write, packet.is_read(), &part) {
         Some(part)
     } else {
         None
@@ -69,9 +88,10 @@ fn is_good_with(write: &[u8], is_read: bool, part: &[u8]) -> bool
 }
 
 /// The address of a packet that is told by its code and bytes: it has a fault of its code, its direction or its length, or
-/// an answer of nothing but FFh, and an address and a code.
-pub fn address_otherwise(packet: &Packet<'_>, shown: &Shown<'_>) -> Option<u8>
-    ensures { result ≡ spec_address_otherwise packet.now.write.now (option_map (λ bytes. bytes.now) packet.now.read)
+/// maybe nobody answered, and it has an address and a code. A write of PAGE_PLUS isn't whose count says that its last byte is the PEC, which
+/// is wrong.
+pub fn address_otherwise(packet: &Packet<'_>, shown: &Shown<'_>, ones: Ones) -> Option<u8>
+    ensures { result ≡ spec_address_otherwise ones packet.now.write.now (option_map (λ bytes. bytes.now) packet.now.read)
         (judged_in shown.now) }
 {
     match shown {
@@ -79,17 +99,29 @@ pub fn address_otherwise(packet: &Packet<'_>, shown: &Shown<'_>) -> Option<u8>
             addr: Some(addr),
             read: _,
             fault,
-        } if has_code(packet) && is_otherwise(packet, *fault) => Some(*addr),
+        } if has_code(packet) && is_otherwise(packet, *fault, ones) => Some(*addr),
         _ => None,
     }
 }
 
-// Whether a fault is of a packet's code, direction or length, or nobody answered.
-fn is_otherwise(packet: &Packet<'_>, fault: FrameFault) -> bool
-    ensures { result ≡ (spec_is_of_code (slice_index packet.now.write.now 1) (option_map (λ bytes. bytes.now) packet.now.read) fault
-        || is_all_ones packet.now.write.now (option_map (λ bytes. bytes.now) packet.now.read)) }
+// Whether a fault is of a packet's code, direction or length, or maybe nobody answered.
+fn is_otherwise(packet: &Packet<'_>, fault: FrameFault, ones: Ones) -> bool
+    ensures { result ≡ ((spec_is_of_code (slice_index packet.now.write.now 1) (option_map (λ bytes. bytes.now) packet.now.read) fault
+        || not (is_answer ones)) && not (spec_is_miscounted packet.now.write.now (option_map (λ bytes. bytes.now) packet.now.read))) }
 {
-    is_of_code(packet.code(), packet.read, fault) || packet.is_all_ones()
+    (is_of_code(packet.code(), packet.read, fault) || !matches!(ones, Ones::Answer))
+        && !is_miscounted(packet)
+}
+
+// Whether a packet is a write of PAGE_PLUS whose count says that its last byte is the PEC, which is wrong.
+fn is_miscounted(packet: &Packet<'_>) -> bool
+    ensures { result ≡ spec_is_miscounted packet.now.write.now (option_map (λ bytes. bytes.now) packet.now.read) }
+{
+    if packet.read.is_some() || Code(packet.code()) != Code::PAGE_PLUS_WRITE {
+        return false;
+    }
+    let count = packet.write.get(2).copied().unwrap_or(0);
+    usize::from(count) + 4 == packet.write.len() && !packet.has_pec()
 }
 
 // Whether a fault is of another code or another length than the table has, or of the other direction.
@@ -142,35 +174,46 @@ pub fn push_spaced(text: &mut String, bytes: &[u8]) -> Result<(), AllocError>
     push_spaced(text, rest)
 }
 
-/// Appends a packet by its code and bytes to a text, with what the bytes say where `values` asks for that. `reached` is the
-/// output that PAGE selects, where that is followed.
+/// Appends a packet by its code and bytes to a text.
 #[tactic(auto, using(pm_lines::specs::Lemmas::Joins::joins), unfolding(crate::specs::Otherwise::other_text))]
 pub fn push_otherwise(
     text: &mut String,
-    values: bool,
-    addr: u8,
-    reached: Option<u8>,
+    otherwise: &Otherwise,
     packet: &Packet<'_>,
 ) -> Result<(), AllocError>
     ensures { OnOk result (string_bytes text.new ≡ string_bytes text.old
-        ++ other_text values addr reached packet.now.write.now (option_map (λ bytes. bytes.now) packet.now.read)) }
+        ++ other_text otherwise.now packet.now.write.now (option_map (λ bytes. bytes.now) packet.now.read)) }
 {
     let has_pec = packet.has_pec();
-    push_hex(text, addr)?;
-    push_content(text, values, reached, &packet.content(has_pec))?;
-    text.push_str(verdict(has_pec, packet.is_all_ones()))
+    push_hex(text, otherwise.addr)?;
+    push_content(
+        text,
+        otherwise.values,
+        otherwise.reached,
+        &packet.content(has_pec),
+    )?;
+    text.push_str(verdict(has_pec, otherwise.ones))
 }
 
 // What is said of a packet's PEC.
-fn verdict(is_right: bool, is_ones: bool) -> &'static str
-    ensures { result.now ≡ verdict_text is_right is_ones }
+fn verdict(is_right: bool, ones: Ones) -> &'static str
+    ensures { result.now ≡ verdict_text is_right ones }
 {
     if is_right {
         ", PEC right"
-    } else if is_ones {
-        ", all ones: nobody answered"
     } else {
-        ", no PEC"
+        ones_words(ones)
+    }
+}
+
+/// What is said of a packet that has no right PEC.
+pub fn ones_words(ones: Ones) -> &'static str
+    ensures { result.now ≡ ones_text ones }
+{
+    match ones {
+        Ones::Answer => ", no PEC",
+        Ones::Doubtful => ", all ones: nobody answered?",
+        Ones::Nobody => ", all ones: nobody answered",
     }
 }
 

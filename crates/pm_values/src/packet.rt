@@ -1,6 +1,6 @@
 //! A packet by its bytes.
 ghost use Rattle.std.specs.List.{list_all};
-ghost use Rattle.std.specs.Prelude.{◌≡◌, ◌==◌, ◌-◌, ◌≤◌, IfSome, is_some, length, nat_lt, option_map, slice_index, take};
+ghost use Rattle.std.specs.Prelude.{[], ◌≡◌, ◌==◌, ◌-◌, ◌/◌, ◌≤◌, IfSome, drop, is_some, length, nat_lt, option_map, slice_index, take, unwrap_or};
 ghost use Rattle.pm_values.specs.Otherwise.{IsCompleted, are_ones as spec_are_ones, ends_in_pec as spec_ends_in_pec, fewest_read as spec_fewest_read, fewest_written as spec_fewest_written, has_pec as spec_has_pec, is_all_ones as spec_is_all_ones, is_of_word as spec_is_of_word, last_part, shown_of as spec_shown_of, with_pec as spec_with_pec};
 
 use arrayvec::ArrayVec;
@@ -24,6 +24,23 @@ impl Packet<'_> {
         self.write.get(1).copied().unwrap_or(0)
     }
 
+    /// The address, by the first byte; 0 where there is none.
+    pub(crate) fn address(&self) -> u8
+        ensures { result ≡ slice_index self.now.write.now 0 / 2 }
+    {
+        self.write.first().copied().unwrap_or(0) / 2
+    }
+
+    /// How many bytes were read behind the address.
+    pub(crate) fn answer_len(&self) -> usize
+        ensures { result ≡ length (drop 1 (unwrap_or (option_map (λ bytes. bytes.now) self.now.read) [])) }
+    {
+        match self.read {
+            Some([_, bytes @ ..]) => bytes.len(),
+            _ => 0,
+        }
+    }
+
     /// Whether there is a read part.
     pub fn is_read(&self) -> bool
         ensures { result ≡ is_some (option_map (λ bytes. bytes.now) self.now.read) }
@@ -42,7 +59,7 @@ impl Packet<'_> {
         }
     }
 
-    /// Whether what was read behind the address is nothing but FFh: nobody answered. It isn't where it ends in the right PEC.
+    /// Whether what was read behind the address is nothing but FFh. It isn't where it ends in the right PEC.
     pub fn is_all_ones(&self) -> bool
         ensures { result ≡ spec_is_all_ones self.now.write.now (option_map (λ bytes. bytes.now) self.now.read) }
     {
@@ -148,7 +165,7 @@ pub(crate) fn shown_of(fewest: usize, is_right: bool, part: &[u8]) -> &[u8]
 }
 
 // The bytes before the last one.
-fn without_last(part: &[u8]) -> &[u8]
+pub(crate) fn without_last(part: &[u8]) -> &[u8]
     ensures { result.now ≡ take (length part.now - 1) part.now }
 {
     match part {

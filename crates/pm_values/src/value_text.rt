@@ -1,14 +1,14 @@
 //! The texts of values.
 ghost use Rattle.std.specs.Prelude.{◌≡◌, ◌++◌, ◌*◌, ◌/◌, ◌%◌, ◌^◌, ◌<◌, ◌≤ℤ◌, ◌<ℤ◌, pos, neg_ℤ, unsigned_abs, OnOk, map, string_bytes};
 ghost use Rattle.pm_values.specs.Statuses.{names_from};
-ghost use Rattle.pm_values.specs.ValueText.{capability_text, control_text, decimal_of, delay_text, flags_text, known_text, minus as minus_text, mode_text, on_off_text, operation_text, pec_text, places, point_text, polarity_text, protection_text, relative_text, size_text, speed_text, switch_text, unit_text, value_text};
+ghost use Rattle.pm_values.specs.ValueText.{capability_text, control_text, decimal_of, delay_text, flags_text, known_text, minus as minus_text, mode_text, on_off_text, operation_text, part_text, pec_text, places, point_text, polarity_text, protection_text, relative_text, revision_text, size_text, speed_text, switch_text, unit_text, value_text};
 ghost use Rattle.pm_values.specs.Values.{millionths as spec_millionths};
 
 use crate::status::{Row, Status, capability_rows, on_off_rows};
 use crate::value::{Unit, Value};
 use pm_lines::{push_decimal, push_signed};
 use pm_num::Frac;
-use pm_table::{Operation, VoutMode};
+use pm_table::VoutMode;
 use std::alloc::AllocError;
 
 /// Appends a space and a value to a text, where there is a value, as ` 3.300048 V`.
@@ -30,13 +30,16 @@ fn push_value(text: &mut String, value: Value) -> Result<(), AllocError>
 {
     match value {
         Value::Measured(ratio, unit) => push_measured(text, ratio, unit),
-        Value::Operates(operation) => text.push_str(operation_words(operation)),
+        Value::Operates(byte) => text.push_str(operation_words(byte)),
         Value::Protects(byte) => text.push_str(protection_words(byte)),
         Value::Scales(mode) => push_mode(text, mode),
         Value::Relative(exponent) => push_relative(text, exponent),
+        Value::Vid => text.push_str("VID"),
+        Value::Half => text.push_str("half"),
         Value::Flags(status, bits) => push_flags(text, status, bits),
         Value::Capable(byte) => push_capability(text, byte),
         Value::Controls(byte) => push_on_off(text, byte),
+        Value::Revises(byte) => push_revision(text, byte),
     }
 }
 
@@ -53,15 +56,19 @@ impl Unit {
     }
 }
 
-/// What a byte of OPERATION asks for.
-pub fn operation_words(operation: Operation) -> &'static str
-    ensures { result.now ≡ operation_text operation }
+/// What a byte of OPERATION asks for, which is below C0h.
+pub fn operation_words(byte: u8) -> &'static str
+    ensures { result.now ≡ operation_text byte }
 {
-    match operation {
-        Operation::Off => "off",
-        Operation::On => "on",
-        Operation::MarginLow => "on, margin low",
-        Operation::MarginHigh => "on, margin high",
+    match byte {
+        0x00..=0x3F => "off",
+        0x40..=0x7F => "soft off",
+        0x80..=0x8F => "on",
+        0x94..=0x9B => "on, margin low",
+        0x90..=0x9F => "on, margin low, reserved fault bits",
+        0xA4..=0xAB => "on, margin high",
+        0xA0..=0xAF => "on, margin high, reserved fault bits",
+        _ => "on, AVSBus",
     }
 }
 
@@ -275,6 +282,29 @@ pub fn push_on_off(text: &mut String, byte: u8) -> Result<(), AllocError>
     text.push_str(switch_words(byte))?;
     push_control(text, byte)?;
     push_names(text, &PLAIN, on_off_rows(), u16::from(byte), false)
+}
+
+/// Appends a byte of PMBUS_REVISION to a text, as `Part I 1.3, Part II 1.3`.
+#[tactic(auto, using(pm_lines::specs::Lemmas::Joins::joins), unfolding(crate::specs::ValueText::revision_text))]
+pub fn push_revision(text: &mut String, byte: u8) -> Result<(), AllocError>
+    ensures { OnOk result (string_bytes text.new ≡ string_bytes text.old ++ revision_text byte) }
+{
+    text.push_str("Part I ")?;
+    text.push_str(part_words(byte / 16))?;
+    text.push_str(", Part II ")?;
+    text.push_str(part_words(byte % 16))
+}
+
+// The version of a part of the standard by its digit, which is below 4.
+fn part_words(digit: u8) -> &'static str
+    ensures { result.now ≡ part_text digit }
+{
+    match digit {
+        0 => "1.0",
+        1 => "1.1",
+        2 => "1.2",
+        _ => "1.3",
+    }
 }
 
 // What turns an output on and off.

@@ -6,7 +6,7 @@ from .following import Pages, is_good_page
 from .lines import MOST_BYTES, TextFault, decimal, is_skipped, lines_of
 from .numbers import coefficients_fault
 from .packets import VOUT_CODES, name_of
-from .telling import fields_of, object_text, of_all, text_of
+from .telling import DOUBTFUL, Answers, fields_of, object_text, of_all, text_of
 from .trace import judged, parts_of
 from .values import READINGS, Formats, value_fields, words_of_value
 
@@ -108,6 +108,7 @@ class Telling:
     def __init__(self, options):
         self.options = options
         self.formats = Formats(options.get("--vout", []), options.get("--readings", []))
+        self.answers = Answers()
         self.pages = Pages(1000 * options.get("--gap", GAP)) if "--pages" in options else None
         self.said, self.counts, self.codes = [], {}, {}
         self.faults = self.bad = self.others = 0
@@ -136,7 +137,8 @@ class Telling:
     def packet(self, number, time, frame, read):
         packet, wrong = judged(frame, read), None
         if "--all" in self.options:
-            packet = of_all(packet, frame, read)
+            packet = of_all(packet, frame, read, self.answers.taken(frame, read))
+            self.answers.hear(packet, frame, read)
         if self.pages:
             self.pages.come(packet, time)
             wrong = self.pages.contradiction(number, packet)
@@ -147,7 +149,8 @@ class Telling:
             self.beyond = number
         is_turned = wrong is not None and is_good_page(packet)
         self.formats.forget(packet, frame, read, self.pages.sure_page(packet) if self.pages else None, is_turned)
-        self.formats.learn(packet)
+        if packet.get("taken") != DOUBTFUL:
+            self.formats.learn(packet)
         if self.pages:
             self.pages.learn(number, packet, frame, read)
 

@@ -100,8 +100,9 @@ def write_line(dice, address, message):
 def payload_of(dice, code):
     """Bytes of a code, mostly such as say something."""
     name, count = TABLE[code][:2]
-    told = {"OPERATION": [0x00, 0x40, 0x7F, 0x80, 0x8F, 0x90, 0x93, 0x94, 0x9B, 0x9C, 0xA4, 0xAB, 0xAC],
-            "WRITE_PROTECT": [0x00, 0x20, 0x40, 0x80, 0x03], "VOUT_MODE": MODES, "PAGE": [0, 0, 1, 0xFF]}.get(name)
+    told = {"OPERATION": [0x00, 0x3F, 0x40, 0x7F, 0x80, 0x8F, 0x90, 0x93, 0x94, 0x9B, 0x9C, 0xA3, 0xA4, 0xAB, 0xAC, 0xB0, 0xBF, 0xC0],
+            "WRITE_PROTECT": [0x00, 0x20, 0x40, 0x80, 0x03], "VOUT_MODE": MODES, "PAGE": [0, 0, 1, 0xFF],
+            "PMBUS_REVISION": [0x00, 0x12, 0x33, 0x34, 0x43]}.get(name)
     if told and dice.random() < 0.9:
         return [dice.choice(told)]
     if name in STATUS_BITS and dice.random() < 0.6:
@@ -188,6 +189,7 @@ def payload_of_other(dice, code):
     """Bytes of a code beyond the table, mostly such as say something."""
     if code in TEXTS and dice.random() < 0.8:
         text = [dice.choice([0x20, 0x41, 0x7E, 0x4C, 0x54, dice.randrange(0x1E, 0x81), 0x41]) for _ in range(dice.choice([0, 1, 2, 3, 9]))]
+        text += dice.choice([[], [], [0x00], [0xFF], [0x00, 0x00]])
         return [max(0, len(text) + dice.choice([0, 0, 0, 0, 0, 1, -1])), *text]
     if code == ON_OFF_CONFIG or code in BITS:
         return [dice.choice([0, 1 << dice.randrange(8), dice.randrange(256), 0x10 | dice.randrange(16)])]
@@ -228,7 +230,20 @@ def unknown_line(dice):
     return spelled(dice, frame) + b" / " + spelled(dice, answer)
 
 
+def ones_line(dice):
+    """Ones that are written to a few codes, and answered of them."""
+    address, code = dice.choice(PLACES)[0], dice.choice([0x00, 0x00, 0x24, 0xD4])
+    data = [0xFF] * dice.choice([1, 1, 2, 2, 3]) + dice.choice([[], [], [], [0xFE]])
+    frame = [2 * address, code, *(data if dice.random() < 0.4 else [])]
+    if frame[2:]:
+        return spelled(dice, [*frame, pec(frame)] if dice.random() < 0.4 else frame)
+    answer = [2 * address + 1, *data]
+    return spelled(dice, frame) + b"/" + spelled(dice, [*answer, pec([*frame, *answer])] if dice.random() < 0.1 else answer)
+
+
 def packet_line(dice, strange):
+    if dice.random() < 0.06:
+        return ones_line(dice)
     kind = dice.random()
     if kind < 0.06:
         line = unpaged_line(dice)

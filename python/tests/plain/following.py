@@ -2,6 +2,7 @@
 import re
 
 from .packets import CODES
+from .telling import DOUBTFUL
 
 PAGE = CODES["PAGE"]
 # Codes that PAGE selects no output for: PAGE and those of PAGE_PLUS, WRITE_PROTECT to QUERY, COEFFICIENTS, PMBUS_REVISION to
@@ -123,4 +124,5 @@ def is_of_output(packet):
 
 
 def is_good_page(packet):
-    return packet["kind"] in ("read", "write") and packet["code"] == PAGE
+    """An answer that may be nobody's isn't good."""
+    return packet["kind"] in ("read", "write") and packet["code"] == PAGE and packet.get("taken") != DOUBTFUL

@@ -80,9 +80,13 @@ def capability_words(byte):
 
 
 def block_text(shown):
-    """The text of a block: its count, and as many bytes that can be printed, none of them a quote or a backslash."""
-    is_text = len(shown) > 1 and shown[0] == len(shown) - 1 and all(0x20 <= it < 0x7F and it not in b'"\\' for it in shown[1:])
-    return bytes(shown[1:]).decode("ascii") if is_text else None
+    """The text of a block: its count, and as many bytes that can be printed, none of them a quote or a backslash; the last one
+    may be 00 or FF, which fills up a text of a fixed length."""
+    if not shown or shown[0] != len(shown) - 1:
+        return None
+    block = shown[1:-1] if shown[1:] and shown[-1] in (0x00, 0xFF) else shown[1:]
+    is_text = block and all(0x20 <= it < 0x7F and it not in b'"\\' for it in block)
+    return bytes(block).decode("ascii") if is_text else None
 
 
 def fields_of_bytes(code, shown):

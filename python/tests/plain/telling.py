@@ -8,7 +8,35 @@ from .values import Rounded
 
 # The faults of a packet that `--all` tells by its code and bytes, whatever its code is.
 OTHERS = ("F2 Short", "F3 Long", "F4 WrongCount", "F6 UnknownCode", "F7 WrongDirection", "F8 Nested")
-ALL_ONES = "all ones: nobody answered"
+# What an answer of only FF, whose last byte isn't its PEC, is taken for; what is said of each, and of any other packet.
+ANSWER, DOUBTFUL, NOBODY = "no PEC", "all ones: nobody answered?", "all ones: nobody answered"
+# What JSON says of each besides.
+ANSWERED = {ANSWER: {}, DOUBTFUL: {"answered": None}, NOBODY: {"answered": False}}
+
+
+class Answers:
+    """The addresses that sent a right PEC, and the bytes that were written last to each code of each address."""
+
+    def __init__(self):
+        self.checked, self.written = set(), {}
+
+    def taken(self, frame, read):
+        """What the answer of a packet is taken for, where it is one of ones."""
+        if len(frame) < 2 or not read or {*read[1:]} != {0xFF} or is_closed(frame, read):
+            return ANSWER
+        written = self.written.get((frame[0] >> 1, frame[1]), [])
+        if written[:len(read) - 1] == read[1:] and len(written) - len(read) in (-1, 0):
+            return ANSWER
+        return NOBODY if frame[0] >> 1 in self.checked else DOUBTFUL
+
+    def hear(self, packet, frame, read):
+        """A packet as it is told."""
+        if packet["kind"] == "fault":
+            return
+        if read is None:
+            self.written[frame[0] >> 1, frame[1]] = frame[2:]
+        elif packet.get("pec", True):
+            self.checked.add(frame[0] >> 1)
 
 
 def spaced(frame):
@@ -20,24 +48,28 @@ def whole_bytes(frame, read):
     return " ".join(word for word in (spaced(frame), *(("/", spaced(read)) if read is not None else ())) if word)
 
 
-def of_all(packet, frame, read):
+def of_all(packet, frame, read, taken):
     """What `--all` makes of a packet with a fault: one without PEC, one by its code and bytes, or the same."""
     if packet["kind"] != "fault" or packet["address"] is None or len(frame) < 2:
         return packet
     is_answer = read is None or read[:1] == [frame[0] + 1]
-    is_right = is_closed(frame, read)
-    if read is not None and is_answer and {*read[1:]} == {0xFF} and not is_right:
-        return carried({**otherwise(packet["address"], frame, read), "is_ones": True, "is_lost": True}, frame, read)
-    if packet["fault"][0] == "F2 Short":
+    if packet["fault"][0] == "F2 Short" and taken != NOBODY:
         message = [*frame, *(read or [])]
         whole = judged([*frame, pec(message)], None) if read is None else judged(frame, [*read, pec(message)])
         if whole["kind"] != "fault":
-            return {**whole, "pec": False}
-    if packet["fault"][0] == "F5 WrongPec":
+            return {**whole, "pec": False, "taken": taken}
+    if taken != ANSWER:
+        is_other = is_answer
+    elif packet["fault"][0] == "F5 WrongPec":
         is_other = read is None and not is_written(frame[1])
     else:
-        is_other = packet["fault"][0] in OTHERS and is_answer
-    return carried(otherwise(packet["address"], frame, read), frame, read) if is_other else packet
+        is_other = packet["fault"][0] in OTHERS and is_answer and not is_miscounted(frame, read)
+    return carried(otherwise(packet["address"], frame, read, taken), frame, read) if is_other else packet
+
+
+def is_miscounted(frame, read):
+    """A write of PAGE_PLUS whose count says that its last byte is the PEC, which is wrong."""
+    return read is None and frame[1] == 0x05 and len(frame) > 2 and frame[2] + 4 == len(frame) and not is_closed(frame, read)
 
 
 def bytes_of_code(code):
@@ -52,13 +84,13 @@ def is_closed(frame, read):
     return len(last) > before + enough and last[-1] == pec([*frame, *(read or [])][:-1])
 
 
-def otherwise(address, frame, read):
+def otherwise(address, frame, read, taken):
     """A packet by its code and bytes, whether its last byte is its PEC, and whether nobody answered."""
     last, before = (frame, 2) if read is None else (read, 1)
     shown = last[before:-1] if is_closed(frame, read) else last[before:]
     written, got = (shown, None) if read is None else (frame[2:], shown)
     return {"kind": "other", "address": address, "page": None, "code": frame[1], "written": written, "got": got,
-            "pec": is_closed(frame, read), "is_ones": False, "is_lost": read is not None and len(read) < 2}
+            "pec": is_closed(frame, read), "taken": taken, "is_lost": taken == NOBODY or read is not None and len(read) < 2}
 
 
 def carried(packet, frame, read):
@@ -78,7 +110,7 @@ def text_of(packet, frame, read, has_values, value):
     text = packet_words(packet) + value
     if packet["kind"] == "fault" and has_values and (frame or read is not None):
         text += " bytes " + whole_bytes(frame, read)
-    return text + (", no PEC" if "pec" in packet else "")
+    return text + (f", {packet['taken']}" if "pec" in packet else "")
 
 
 def fields_of(packet, frame, read, has_values, value):
@@ -92,7 +124,7 @@ def fields_of(packet, frame, read, has_values, value):
     if packet["kind"] == "other":
         return {**head, **other_fields(packet, value)}
     code, shown = {"code": f"{packet['code']:02X}", "name": name_of(packet["code"])}, spaced(packet["payload"])
-    last = {"pec": packet.get("pec")}
+    last = {"pec": packet.get("pec"), **ANSWERED[packet.get("taken", ANSWER)]}
     if packet["kind"] == "coefficients":
         of = {"of": f"{packet['of']:02X}", "side": packet["side"], "direction": "read"}
         return {**head, **code, **of, "payload": shown, **dict(zip("mbr", coefficients_of(packet["payload"]))), **last}
@@ -115,8 +147,7 @@ def other_text(packet, value):
         words.append(("read " + spaced(got)).rstrip(" "))
     if not written and got is None:
         words.append("send")
-    ending = ALL_ONES if packet["is_ones"] else "PEC right" if packet["pec"] else "no PEC"
-    return f"{' '.join(words)}{value}, {ending}"
+    return f"{' '.join(words)}{value}, {'PEC right' if packet['pec'] else packet['taken']}"
 
 
 def other_fields(packet, value):
@@ -126,12 +157,11 @@ def other_fields(packet, value):
         direction, shown, before = ("write" if written else "send"), written, None
     return {"page": packet["page"], "followed": packet.get("followed"), "code": f"{packet['code']:02X}",
             "name": NAMES.get(packet["code"]), "direction": direction,
-            "written": before, "payload": spaced(shown) or None, **value, "pec": packet["pec"],
-            "answered": False if packet["is_ones"] else None}
+            "written": before, "payload": spaced(shown) or None, **value, "pec": packet["pec"], **ANSWERED[packet["taken"]]}
 
 
 def object_text(fields):
     """An object of JSON, of the fields that have something to say."""
     said = [f"{json.dumps(name)}:{str(it) if isinstance(it, Rounded) else json.dumps(it, separators=(',', ':'))}"
-            for name, it in fields.items() if it is not None]
+            for name, it in fields.items() if it is not None or name == "answered"]
     return "{" + ",".join(said) + "}"

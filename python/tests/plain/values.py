@@ -1,6 +1,6 @@
 """What a code's payload says to a person. A value is a dictionary of what JSON has of it, in its order; `words_of_value`
 makes the text of it. Where nothing is known it is empty."""
-from .converter import OPERATION, PROTECT, accepts, format_of, mode_fault
+from .converter import PROTECT, accepts, format_of, mode_fault
 from .names import bits_of, capability_words, fields_of_bytes
 from .numbers import coefficients_fault, millionths, value_of
 from .packets import CODES, VOUT_CODES, name_of
@@ -47,11 +47,18 @@ def number_fields(pair, measured):
 
 
 def operation_words(byte):
-    if not accepts((0, OPERATION), byte):
-        return None
-    if byte < 0x80:
-        return "off"
-    return {0x8: "on", 0x9: "on, margin low", 0xA: "on, margin high"}[byte >> 4]
+    """Bits 7 and 6 turn an output on or off, bits 5 and 4 select its voltage; of a margin 3 and 2 say what a fault does."""
+    switch, source, fault = byte >> 6, byte >> 4 & 3, byte >> 2 & 3
+    if switch != 2:
+        return ("off", "soft off", None, None)[switch]
+    words = ("on", "on, margin low", "on, margin high", "on, AVSBus")[source]
+    return words + ", reserved fault bits" * (source in (1, 2) and fault in (0, 3))
+
+
+def revision_words(byte):
+    """Each half is the version of a part of the standard, of those that there are."""
+    halves = byte >> 4, byte & 0xF
+    return "Part I 1.{}, Part II 1.{}".format(*halves) if max(halves) < 4 else None
 
 
 def protection_words(byte):
@@ -71,13 +78,16 @@ def is_relative(byte):
 def mode_words(byte):
     if is_relative(byte):
         return f"{mode_words(byte - 0x80)} relative"
+    if byte >> 5 in (1, 3):
+        return {1: "VID", 3: "half"}[byte >> 5]
     if mode_fault(byte):
         return None
     form = format_of(byte, ())
     return "DIRECT" if form[0] == "direct" else f"ULINEAR16 {form[1]}"
 
 
-WORDS = {"OPERATION": operation_words, "WRITE_PROTECT": protection_words, "VOUT_MODE": mode_words, "CAPABILITY": capability_words}
+WORDS = {"OPERATION": operation_words, "WRITE_PROTECT": protection_words, "VOUT_MODE": mode_words, "CAPABILITY": capability_words,
+         "PMBUS_REVISION": revision_words}
 
 
 def value_fields(packet, form):

@@ -17,7 +17,7 @@ NOT_CARRIED = (CODES["PAGE"], CARRIER, REQUESTER, ASKER)
 KNOWN, OTHER, FAULT = "known", "other", "fault"
 # What is wrong: NO_PEC is a packet of another code, length or direction, which need not have one, SHORT one that is too short.
 NO_PEC, SHORT, WRONG_PEC, ELSEWHERE = "no PEC", "too short", "wrong PEC", "another address answers"
-RIGHT, NOBODY = "PEC right", "all ones: nobody answered"
+RIGHT, NOBODY, DOUBTFUL = "PEC right", "all ones: nobody answered", "all ones: nobody answered?"
 # RESTORE_DEFAULT_ALL, RESTORE_DEFAULT_CODE, RESTORE_USER_ALL and RESTORE_USER_CODE; a mode that isn't known any more.
 RESTORES, OVER = (0x12, 0x14, 0x16, 0x18), "over"
 # What is never relative where VOUT_MODE is.
@@ -109,13 +109,13 @@ def vouts_of(text):
 
 class Told:
     """A packet as it is told: its kind, its text, a short text, and how its PEC is: None where that isn't asked. `packet` is its address,
-    its code, its page and its payload, where it has them; `is_ones` that nobody answered."""
+    its code, its page and its payload, where it has them; `is_ones` that nobody answered, `is_good` that it surely is one of the table."""
 
-    def __init__(self, kind, text, short, pec=None, packet=(None, None, None, None), is_ones=False):
+    def __init__(self, kind, text, short, pec=None, packet=(None, None, None, None), is_ones=False, is_good=True):
         self.kind, self.text, self.short, self.pec = kind, text, short, pec
         self.address, self.code, page, self.payload = packet
         self.is_read = False
-        self.is_good = kind == KNOWN
+        self.is_good = kind == KNOWN and is_good
         # Whether it says nothing certain of its address any more, and whether it acts on an output and names none.
         self.is_lost = kind == FAULT or is_ones
         self.is_of_output = not self.is_lost and page is None
@@ -126,7 +126,25 @@ class Reader:
 
     def __init__(self, vout="", readings=""):
         self.modes, self.plain, self.paged, self.linear, self.coefficients = {}, {}, set(), set(), {}
+        # The addresses that sent a right PEC, and what was written last to each code.
+        self.checked, self.written = set(), {}
         self.vout, self.readings = vouts_of(vout), readings_of(readings)
+
+    def taken(self, write, read):
+        """What is said of a packet without its PEC: an answer of ones may be nobody's, unless its bytes were written last."""
+        if not read or {*read[1:]} != {0xFF} or is_last_right(write, read):
+            return NO_PEC
+        written = self.written.get((write[0], write[1]), [])
+        if written[:len(read) - 1] == read[1:] and len(written) - len(read) in (-1, 0):
+            return NO_PEC
+        return NOBODY if write[0] in self.checked else DOUBTFUL
+
+    def hear(self, told, write, read):
+        """Keeps what decides of answers of ones."""
+        if told.kind != FAULT and read is None:
+            self.written[write[0], write[1]] = write[2:]
+        elif told.kind != FAULT and told.pec:
+            self.checked.add(write[0])
 
     def tell(self, write, read=None):
         """A packet: the bytes of its write part, and of its read part."""
@@ -138,6 +156,7 @@ class Reader:
         if not write or write[0] & 1 or not 0x08 <= write[0] >> 1 <= 0x77:
             return Told(FAULT, "-- no address of a device", "?")
         told = self.told(write, read)
+        self.hear(told, write, read)
         self.forget(write, read)
         return told
 
@@ -161,24 +180,25 @@ class Reader:
         where = "%02X " % (write[0] >> 1)
         fault = fault_of(write, read)
         if fault is None:
-            return self.known(where, write, read, True)
+            return self.known(where, write, read)
         if len(write) > 1 and is_answer(write, read):
-            if read and len(read) > 1 and {*read[1:]} == {0xFF} and not is_last_right(write, read):
-                return self.other(where, write, read, True)
-            if fault == SHORT:
+            taken = self.taken(write, read)
+            if fault == SHORT and taken != NOBODY:
                 right = pec(write + (read or []))
                 if fault_of(write + [right], None) is None if read is None else fault_of(write, read + [right]) is None:
-                    return self.known(where, *([write + [right], None] if read is None else [write, read + [right]]), False)
-            if fault in (NO_PEC, SHORT):
-                return self.other(where, write, read)
+                    return self.known(where, *([write + [right], None] if read is None else [write, read + [right]]), taken)
+            if taken == NO_PEC and is_miscounted(write, read):
+                fault = WRONG_PEC
+            elif taken != NO_PEC or fault in (NO_PEC, SHORT):
+                return self.other(where, write, read, taken)
         if fault in (NO_PEC, SHORT):
             fault = ELSEWHERE if len(write) > 1 else "too short"
         code = write[1] if len(write) > 1 else None
         return Told(FAULT, where + fault, fault, False if fault == WRONG_PEC else None, (write[0] >> 1, code, None, None))
 
-    def known(self, where, write, read, has_pec):
-        """A packet of the table, with its PEC; it may have none on the bus."""
-        code, page, ending = write[1], None, "" if has_pec else ", " + NO_PEC
+    def known(self, where, write, read, taken=None):
+        """A packet of the table, with its PEC; `taken` is what is said of it if it has none on the bus."""
+        code, page, ending, has_pec = write[1], None, ", " + taken if taken else "", not taken
         if code == ASKER:
             m, b, r = signed(number(read[2:4]), 16), signed(number(read[4:6]), 16), signed(read[6], 8)
             self.coefficients[write[0], write[3], write[4]] = m, b, r
@@ -194,7 +214,7 @@ class Reader:
         if payload:
             said = ("write " if read is None else "read ") + "%0*X" % (2 * len(payload), number(payload))
         value = self.value((write[0], page, code, int(read is not None)), payload)
-        if read is not None and code == MODE:
+        if read is not None and code == MODE and taken != DOUBTFUL:
             if page is not None:
                 self.modes[write[0], page] = payload[0]
             elif write[0] not in self.paged:
@@ -202,7 +222,8 @@ class Reader:
             if payload[0] < 0x20:
                 self.linear.add(write[0])
         text = "%s%s %s%s%s" % (where, NAMES[code], said, value and " " + value, ending)
-        return Told(KNOWN, text, "%s %s" % (NAMES[code], value or said), has_pec or None, (write[0] >> 1, code, page, payload))
+        return Told(KNOWN, text, "%s %s" % (NAMES[code], value or said), has_pec or None, (write[0] >> 1, code, page, payload),
+                    is_good=taken != DOUBTFUL)
 
     def value(self, asked, payload):
         """What a payload says, of an address, a page or None, a code and a side: 0 for what is written, 1 for what is read."""
@@ -250,7 +271,7 @@ class Reader:
         said = {mode for (where, _), mode in self.modes.items() if where == address}
         return said.pop() if len(said) == 1 else OVER if said else None
 
-    def other(self, where, write, read, is_ones=False):
+    def other(self, where, write, read, taken):
         """A packet by its code and bytes."""
         last, first = (write, 2) if read is None else (read, 1)
         is_right, code, page = is_last_right(write, read), write[1], None
@@ -271,9 +292,8 @@ class Reader:
             words.append("send")
         value = value_of_bytes(code, written if got is None else got)
         said = " ".join(words) + (value and " " + value)
-        ending = NOBODY if is_ones else RIGHT if is_right else NO_PEC
-        return Told(OTHER, "%s%s, %s" % (where, said, ending), said, True if is_right else None, (write[0] >> 1, code, page, None),
-                    is_ones or got == [])
+        return Told(OTHER, "%s%s, %s" % (where, said, RIGHT if is_right else taken), said, True if is_right else None,
+                    (write[0] >> 1, code, page, None), taken == NOBODY or got == [])
 
 
 def mode_words(byte):
@@ -307,8 +327,10 @@ def on_off_words(byte):
 def value_of_bytes(code, shown):
     """What the bytes of a code beyond the table say."""
     if code in TEXTS:
-        is_text = len(shown) > 1 and shown[0] == len(shown) - 1 and all(0x20 <= it < 0x7F and it not in (0x22, 0x5C) for it in shown[1:])
-        return '"%s"' % bytes(shown[1:]).decode("ascii") if is_text else ""
+        # One 00 or FF may fill a text up.
+        block = shown[1:-1] if len(shown) > 1 and shown[-1] in (0x00, 0xFF) else shown[1:]
+        is_text = block and shown[0] == len(shown) - 1 and all(0x20 <= it < 0x7F and it not in (0x22, 0x5C) for it in block)
+        return '"%s"' % bytes(block).decode("ascii") if is_text else ""
     if code in TABLE or len(shown) != 1:
         return ""
     if code == ON_OFF_CONFIG:
@@ -325,6 +347,11 @@ def is_last_right(write, read):
 
 def fault_of(write, read):
     return write_fault(write) if read is None else request_fault(write) or answer_fault(write, read)
+
+
+def is_miscounted(write, read):
+    """A write of PAGE_PLUS whose count says that its last byte is the PEC, which is wrong."""
+    return read is None and write[1] == CARRIER and len(write) > 2 and write[2] + 4 == len(write) and not is_last_right(write, read)
 
 
 def is_answer(write, read):

@@ -112,7 +112,11 @@ FLAGS = {
 # What bytes say: the first and the last byte, and the words.
 WORDS = {
     0x01: [
-        (0x00, 0x7F, "off"), (0x80, 0x8F, "on"), (0x94, 0x9B, "on, margin low"), (0xA4, 0xAB, "on, margin high"),
+        (0x00, 0x3F, "off"), (0x40, 0x7F, "soft off"), (0x80, 0x8F, "on"),
+        (0x90, 0x93, "on, margin low, reserved fault bits"), (0x94, 0x9B, "on, margin low"),
+        (0x9C, 0x9F, "on, margin low, reserved fault bits"), (0xA0, 0xA3, "on, margin high, reserved fault bits"),
+        (0xA4, 0xAB, "on, margin high"), (0xAC, 0xAF, "on, margin high, reserved fault bits"),
+        (0xB0, 0xBF, "on, AVSBus"),
     ],
     0x10: [
         (0x00, 0x00, "all writes"),
@@ -130,8 +134,8 @@ WORDS = {
         (0x15, 0x15, "ULINEAR16 -11"), (0x16, 0x16, "ULINEAR16 -10"), (0x17, 0x17, "ULINEAR16 -9"),
         (0x18, 0x18, "ULINEAR16 -8"), (0x19, 0x19, "ULINEAR16 -7"), (0x1A, 0x1A, "ULINEAR16 -6"),
         (0x1B, 0x1B, "ULINEAR16 -5"), (0x1C, 0x1C, "ULINEAR16 -4"), (0x1D, 0x1D, "ULINEAR16 -3"),
-        (0x1E, 0x1E, "ULINEAR16 -2"), (0x1F, 0x1F, "ULINEAR16 -1"), (0x40, 0x40, "DIRECT"),
-        (0x80, 0x80, "ULINEAR16 0 relative"), (0x81, 0x81, "ULINEAR16 1 relative"),
+        (0x1E, 0x1E, "ULINEAR16 -2"), (0x1F, 0x1F, "ULINEAR16 -1"), (0x20, 0x3F, "VID"), (0x40, 0x40, "DIRECT"),
+        (0x60, 0x7F, "half"), (0x80, 0x80, "ULINEAR16 0 relative"), (0x81, 0x81, "ULINEAR16 1 relative"),
         (0x82, 0x82, "ULINEAR16 2 relative"), (0x83, 0x83, "ULINEAR16 3 relative"),
         (0x84, 0x84, "ULINEAR16 4 relative"), (0x85, 0x85, "ULINEAR16 5 relative"),
         (0x86, 0x86, "ULINEAR16 6 relative"), (0x87, 0x87, "ULINEAR16 7 relative"),
@@ -147,6 +151,16 @@ WORDS = {
         (0x9A, 0x9A, "ULINEAR16 -6 relative"), (0x9B, 0x9B, "ULINEAR16 -5 relative"),
         (0x9C, 0x9C, "ULINEAR16 -4 relative"), (0x9D, 0x9D, "ULINEAR16 -3 relative"),
         (0x9E, 0x9E, "ULINEAR16 -2 relative"), (0x9F, 0x9F, "ULINEAR16 -1 relative"),
+    ],
+    0x98: [
+        (0x00, 0x00, "Part I 1.0, Part II 1.0"), (0x01, 0x01, "Part I 1.0, Part II 1.1"),
+        (0x02, 0x02, "Part I 1.0, Part II 1.2"), (0x03, 0x03, "Part I 1.0, Part II 1.3"),
+        (0x10, 0x10, "Part I 1.1, Part II 1.0"), (0x11, 0x11, "Part I 1.1, Part II 1.1"),
+        (0x12, 0x12, "Part I 1.1, Part II 1.2"), (0x13, 0x13, "Part I 1.1, Part II 1.3"),
+        (0x20, 0x20, "Part I 1.2, Part II 1.0"), (0x21, 0x21, "Part I 1.2, Part II 1.1"),
+        (0x22, 0x22, "Part I 1.2, Part II 1.2"), (0x23, 0x23, "Part I 1.2, Part II 1.3"),
+        (0x30, 0x30, "Part I 1.3, Part II 1.0"), (0x31, 0x31, "Part I 1.3, Part II 1.1"),
+        (0x32, 0x32, "Part I 1.3, Part II 1.2"), (0x33, 0x33, "Part I 1.3, Part II 1.3"),
     ],
 }
 

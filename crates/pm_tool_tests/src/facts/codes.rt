@@ -137,6 +137,10 @@ B0 AE / B1 01 41 AE -> 58 code AE IC_DEVICE_REV read 01 41 "A", PEC right
 B0 9F / B1 01 41 11 -> 58 code 9F APP_PROFILE_SUPPORT read 01 41, PEC right
 B0 97 / B1 01 41 A1 -> 58 code 97 READ_PIN read 01 41, PEC right
 B0 AF / B1 01 41 B8 -> 58 code AF read 01 41, PEC right
+B0 99 / B1 03 41 42 00 E9 -> 58 code 99 MFR_ID read 03 41 42 00 "AB", PEC right
+B0 99 / B1 03 41 42 FF 1A -> 58 code 99 MFR_ID read 03 41 42 FF "AB", PEC right
+B0 99 / B1 03 41 00 00 98 -> 58 code 99 MFR_ID read 03 41 00 00, PEC right
+B0 99 / B1 01 00 A5 -> 58 code 99 MFR_ID read 01 00, PEC right
 B0 99 / B1 00 51 -> 58 code 99 MFR_ID read 00, PEC right
 B0 99 / B1 00 -> 58 code 99 MFR_ID read 00, no PEC
 B0 99 / B1 -> 58 code 99 MFR_ID read, no PEC
@@ -151,7 +155,7 @@ count CAPABILITY 12
 count code 02 14
 count code 7B 1
 count code 97 1
-count code 99 10
+count code 99 14
 count code 9A 1
 count code 9B 1
 count code 9C 1
@@ -161,7 +165,7 @@ count code 9F 1
 count code AD 1
 count code AE 1
 count code AF 1
-lines 47 accepted 12 other 35 faults 0 bad 0
+lines 51 accepted 12 other 39 faults 0 bad 0
 "#,
     ),
     (

@@ -60,7 +60,7 @@ B2 21 02 00 B6 -> 59 page 1? VOUT_COMMAND write 0002 65536 V
 B2 25 02 00 1D -> 59 page 1? VOUT_MARGIN_HIGH write 0002
 B2 20 / B3 B7 8B -> 59 page 1? VOUT_MODE read B7
 B2 21 02 00 B6 -> 59 page 1? VOUT_COMMAND write 0002
-B2 20 / B3 7F FD -> 59 page 1? VOUT_MODE read 7F
+B2 20 / B3 7F FD -> 59 page 1? VOUT_MODE read 7F half
 B2 21 02 00 B6 -> 59 page 1? VOUT_COMMAND write 0002
 count VOUT_MODE 4
 count VOUT_COMMAND 4

@@ -174,27 +174,35 @@ B0 05 04 01 21 CD 34 -> 58 page 1 VOUT_COMMAND write 34CD, no PEC
 B0 05 02 01 03 -> 58 page 1 CLEAR_FAULTS send, no PEC
 B0 06 02 00 21 / B1 02 CD 34 -> 58 page 0 VOUT_COMMAND read 34CD, no PEC
 B0 30 02 21 00 / B1 05 01 00 00 00 03 -> 58 COEFFICIENTS of 21 side 0 read m 1 b 0 r 3, no PEC
-B0 8B / B1 FF FF -> 58 code 8B READ_VOUT read FF FF, all ones: nobody answered
-B0 8B / B1 FF FF FF -> 58 code 8B READ_VOUT read FF FF FF, all ones: nobody answered
-B0 7A / B1 FF -> 58 code 7A STATUS_VOUT read FF, all ones: nobody answered
-B0 06 02 00 21 / B1 FF FF FF FF -> 58 code 06 PAGE_PLUS_READ write 02 00 21 read FF FF FF FF, all ones: nobody answered
-B0 D4 / B1 FF FF FF FF FF -> 58 code D4 read FF FF FF FF FF, all ones: nobody answered
+B0 8B / B1 FF FF -> 58 READ_VOUT read FFFF, all ones: nobody answered?
+B0 8B / B1 FF FF FF -> 58 code 8B READ_VOUT read FF FF FF, all ones: nobody answered?
+B0 7A / B1 FF -> 58 STATUS_VOUT read FF, all ones: nobody answered?
+B0 06 02 00 21 / B1 FF FF FF FF -> 58 code 06 PAGE_PLUS_READ write 02 00 21 read FF FF FF FF, all ones: nobody answered?
+B0 D4 / B1 FF FF FF FF FF -> 58 code D4 read FF FF FF FF FF, all ones: nobody answered?
 B0 D4 / B1 FF FE -> 58 code D4 read FF FE, no PEC
 B0 D4 / B1 -> 58 code D4 read, no PEC
 B0 D4 FF FF -> 58 code D4 write FF FF, no PEC
 B0 8B / B1 FF FF DF -> 58 READ_VOUT read FFFF
+B0 8B / B1 FF FF -> 58 code 8B READ_VOUT read FF FF, all ones: nobody answered
+B0 24 FF FF -> 58 VOUT_MAX write FFFF, no PEC
+B0 24 / B1 FF FF -> 58 VOUT_MAX read FFFF, no PEC
+B0 24 / B1 FF -> 58 code 24 VOUT_MAX read FF, no PEC
+B0 24 FF FE -> 58 VOUT_MAX write FEFF, no PEC
+B0 24 / B1 FF FF -> 58 code 24 VOUT_MAX read FF FF, all ones: nobody answered
 count VOUT_COMMAND 3
 count CLEAR_FAULTS 2
 count OPERATION 1
 count READ_VIN 1
 count STATUS_BYTE 1
 count COEFFICIENTS 1
-count READ_VOUT 1
+count READ_VOUT 2
+count STATUS_VOUT 1
+count VOUT_MAX 3
 count code 06 1
-count code 7A 1
+count code 24 2
 count code 8B 2
 count code D4 4
-lines 18 accepted 10 other 8 faults 0 bad 0
+lines 24 accepted 15 other 9 faults 0 bad 0
 ",
     ),
     (
@@ -211,16 +219,15 @@ B0 06 02 01 20 / B1 01 14 -> 58 page 1 VOUT_MODE read 14 ULINEAR16 -12, no PEC
 B0 06 02 01 8B / B1 02 CD 34 -> 58 page 1 READ_VOUT read 34CD 3.300048 V, no PEC
 B0 8B / B1 CD 34 -> 58 READ_VOUT read 34CD 3.300048 V, no PEC
 B0 79 00 08 -> 58 code 79 STATUS_WORD write 00 08, no PEC
-B0 88 / B1 FF FF -> 58 code 88 READ_VIN read FF FF, all ones: nobody answered
+B0 88 / B1 FF FF -> 58 READ_VIN read FFFF -0.5 V, all ones: nobody answered?
 B0 03 47 -> 58 write F5 WrongPec 2 bytes B0 03 47
-count READ_VIN 3
+count READ_VIN 4
 count VOUT_MODE 2
 count READ_IOUT 1
 count STATUS_WORD 1
 count READ_VOUT 2
 count code 79 1
-count code 88 1
-lines 12 accepted 9 other 2 faults 1 bad 0
+lines 12 accepted 10 other 1 faults 1 bad 0
 ",
     ),
     (
@@ -242,7 +249,7 @@ lines 3 accepted 1 other 2 faults 0 bad 0
         "
 B0 02 -> 58 code 02 ON_OFF_CONFIG send, no PEC
 B0 FF -> 58 code FF PMBUS_COMMAND_EXT send, no PEC
-B0 FF / B1 FF -> 58 code FF PMBUS_COMMAND_EXT read FF, all ones: nobody answered
+B0 FF / B1 FF -> 58 code FF PMBUS_COMMAND_EXT read FF, all ones: nobody answered?
 count code 02 1
 count code FF 2
 lines 3 accepted 0 other 3 faults 0 bad 0
@@ -376,6 +383,7 @@ B0 06 02 00 EF / B1 01 60 7D -> {"line":10,"address":"58","page":0,"code":"EF","
 B0 05 02 FF D4 -> {"line":11,"address":"58","page":255,"code":"D4","direction":"send","pec":false}
 B0 06 02 00 21 / B1 FF FF -> {"line":12,"address":"58","code":"06","name":"PAGE_PLUS_READ","direction":"read","written":"02 00 21","payload":"FF FF","pec":false,"answered":false}
 B0 99 / B1 03 4C 54 43 -> {"line":13,"address":"58","code":"99","name":"MFR_ID","direction":"read","payload":"03 4C 54 43","pec":false}
+B2 D4 / B3 FF -> {"line":14,"address":"59","code":"D4","direction":"read","payload":"FF","pec":false,"answered":null}
 {"count":"VOUT_COMMAND","lines":1}
 {"count":"CLEAR_FAULTS","lines":1}
 {"code":"02","lines":1}
@@ -383,10 +391,10 @@ B0 99 / B1 03 4C 54 43 -> {"line":13,"address":"58","code":"99","name":"MFR_ID",
 {"code":"86","lines":1}
 {"code":"96","lines":2}
 {"code":"99","lines":1}
-{"code":"D4","lines":3}
+{"code":"D4","lines":4}
 {"code":"EF","lines":1}
 {"code":"FF","lines":1}
-{"lines":13,"accepted":2,"other":11,"faults":0,"bad":0}
+{"lines":14,"accepted":2,"other":12,"faults":0,"bad":0}
 "#,
     ),
     (

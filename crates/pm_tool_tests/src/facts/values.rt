@@ -78,20 +78,23 @@ B0 8D / B1 19 00 65 -> 58 READ_TEMPERATURE_1 read 0019 25 C
 B0 8D / B1 64 F0 F0 -> 58 READ_TEMPERATURE_1 read F064 25 C
 B0 8D / B1 D8 07 88 -> 58 READ_TEMPERATURE_1 read 07D8 -40 C
 B0 01 / B1 00 A9 -> 58 OPERATION read 00 off
-B0 01 40 38 -> 58 OPERATION write 40 off
-B0 01 7F 85 -> 58 OPERATION write 7F off
+B0 01 3F 42 -> 58 OPERATION write 3F off
+B0 01 40 38 -> 58 OPERATION write 40 soft off
+B0 01 7F 85 -> 58 OPERATION write 7F soft off
 B0 01 80 76 -> 58 OPERATION write 80 on
 B0 01 8F 5B -> 58 OPERATION write 8F on
-B0 01 90 06 -> 58 OPERATION write 90
-B0 01 93 0F -> 58 OPERATION write 93
+B0 01 90 06 -> 58 OPERATION write 90 on, margin low, reserved fault bits
+B0 01 93 0F -> 58 OPERATION write 93 on, margin low, reserved fault bits
 B0 05 03 01 01 94 05 -> 58 page 1 OPERATION write 94 on, margin low
 B0 01 9B 37 -> 58 OPERATION write 9B on, margin low
-B0 01 9C 22 -> 58 OPERATION write 9C
-B0 01 A3 9F -> 58 OPERATION write A3
+B0 01 9C 22 -> 58 OPERATION write 9C on, margin low, reserved fault bits
+B0 01 A3 9F -> 58 OPERATION write A3 on, margin high, reserved fault bits
 B0 06 02 00 01 / B1 01 A4 8F -> 58 page 0 OPERATION read A4 on, margin high
 B0 01 AB A7 -> 58 OPERATION write AB on, margin high
-B0 01 AC B2 -> 58 OPERATION write AC
-B0 01 B0 E6 -> 58 OPERATION write B0
+B0 01 AC B2 -> 58 OPERATION write AC on, margin high, reserved fault bits
+B0 01 B0 E6 -> 58 OPERATION write B0 on, AVSBus
+B0 01 BF CB -> 58 OPERATION write BF on, AVSBus
+B0 01 C0 B1 -> 58 OPERATION write C0
 B0 01 FF 0C -> 58 OPERATION write FF
 B0 10 00 BD -> 58 WRITE_PROTECT write 00 all writes
 B0 10 20 5D -> 58 WRITE_PROTECT write 20 writes of WRITE_PROTECT, OPERATION, PAGE, ON_OFF_CONFIG and VOUT_COMMAND
@@ -104,13 +107,14 @@ B0 20 / B1 0F AC -> 58 VOUT_MODE read 0F ULINEAR16 15
 B0 20 / B1 10 F1 -> 58 VOUT_MODE read 10 ULINEAR16 -16
 B0 06 02 00 20 / B1 01 1F 7F -> 58 page 0 VOUT_MODE read 1F ULINEAR16 -1
 B0 06 02 00 20 / B1 01 40 E5 -> 58 page 0 VOUT_MODE read 40 DIRECT
-B0 20 / B1 20 61 -> 58 VOUT_MODE read 20
+B0 20 / B1 20 61 -> 58 VOUT_MODE read 20 VID
 B0 20 / B1 41 41 -> 58 VOUT_MODE read 41
-B0 20 / B1 60 A6 -> 58 VOUT_MODE read 60
+B0 20 / B1 60 A6 -> 58 VOUT_MODE read 60 half
+B0 20 / B1 A0 E8 -> 58 VOUT_MODE read A0
 B0 20 / B1 94 64 -> 58 VOUT_MODE read 94 ULINEAR16 -12 relative
 B0 00 01 ED -> 58 PAGE write 01
 B0 19 / B1 80 D3 -> 58 CAPABILITY read 80 PEC, 100 kHz
-B0 98 / B1 33 A3 -> 58 PMBUS_REVISION read 33
+B0 98 / B1 33 A3 -> 58 PMBUS_REVISION read 33 Part I 1.3, Part II 1.3
 B0 03 46 -> 58 CLEAR_FAULTS send
 B0 05 02 00 03 50 -> 58 page 0 CLEAR_FAULTS send
 B0 15 24 -> 58 STORE_USER_ALL send
@@ -127,10 +131,10 @@ B0 79 / B1 40 08 B7 -> 58 STATUS_WORD read 0840 POWER_GOOD#, OFF
 B0 05 03 00 7A 88 0F -> 58 page 0 STATUS_VOUT write 88 VOUT_OV_FAULT, VOUT_MAX_MIN
 B0 7E FF 6D -> 58 STATUS_CML write FF COMMAND, DATA, PEC, MEMORY, PROCESSOR, bit 2, COMMUNICATION, OTHER
 count READ_VIN 6
-count VOUT_MODE 10
+count VOUT_MODE 11
 count READ_IOUT 3
 count READ_TEMPERATURE_1 3
-count OPERATION 16
+count OPERATION 19
 count WRITE_PROTECT 6
 count PAGE 1
 count CAPABILITY 1
@@ -143,7 +147,7 @@ count STATUS_BYTE 2
 count STATUS_WORD 3
 count STATUS_VOUT 2
 count STATUS_CML 2
-lines 62 accepted 62 faults 0 bad 0
+lines 66 accepted 66 faults 0 bad 0
 ",
     ),
     (
@@ -164,7 +168,7 @@ B2 05 04 00 21 CD 34 E3 -> 59 page 0 VOUT_COMMAND write 34CD
 B0 21 CD 34 38 -> 58 VOUT_COMMAND write 34CD 3.300048 V
 B0 06 02 00 20 / B1 01 13 5B -> 58 page 0 VOUT_MODE read 13 ULINEAR16 -13
 B0 05 04 00 21 CD 34 5A -> 58 page 0 VOUT_COMMAND write 34CD 1.650024 V
-B0 06 02 00 20 / B1 01 21 C5 -> 58 page 0 VOUT_MODE read 21
+B0 06 02 00 20 / B1 01 21 C5 -> 58 page 0 VOUT_MODE read 21 VID
 B0 05 04 00 21 CD 34 5A -> 58 page 0 VOUT_COMMAND write 34CD
 count VOUT_COMMAND 8
 count VOUT_MODE 3
@@ -250,7 +254,7 @@ lines 25 accepted 25 faults 0 bad 0
         "
 B0 05 04 00 21 E4 0C E1 -> 58 page 0 VOUT_COMMAND write 0CE4 3.3 V
 B0 21 E4 0C 83 -> 58 VOUT_COMMAND write 0CE4 3.3 V
-B0 06 02 00 20 / B1 01 21 C5 -> 58 page 0 VOUT_MODE read 21
+B0 06 02 00 20 / B1 01 21 C5 -> 58 page 0 VOUT_MODE read 21 VID
 B0 05 04 00 21 E4 0C E1 -> 58 page 0 VOUT_COMMAND write 0CE4
 B0 05 04 01 21 E4 0C F7 -> 58 page 1 VOUT_COMMAND write 0CE4 3.3 V
 B0 06 02 01 20 / B1 01 40 87 -> 58 page 1 VOUT_MODE read 40 DIRECT
@@ -287,7 +291,7 @@ lines 4 accepted 4 faults 0 bad 0
         "
 B4 20 / B5 1F D0 -> 5A VOUT_MODE read 1F ULINEAR16 -1
 B4 88 / B5 00 D3 D2 -> 5A READ_VIN read D300 12 V
-B6 20 / B7 20 6B -> 5B VOUT_MODE read 20
+B6 20 / B7 20 6B -> 5B VOUT_MODE read 20 VID
 B6 88 / B7 00 D3 C0 -> 5B READ_VIN read D300
 count VOUT_MODE 2
 count READ_VIN 2
