@@ -1,5 +1,5 @@
 -- The jobs of a course to wanted words over a bus whose calls nothing disturbs: what each leaves to do.
-use Rattle.std.specs.Prelude.{◌≡◌, ◌≢◌, ◌≤◌, ◌<◌, ◌+◌, ◌&&◌, ◌||◌, ◌⊎◌, ℕ, Bool, true, false, not, cond, if◌then◌else◌, refl, List, [], ◌∷◌, Option, Some, None, Ok, Err, Result, is_none, is_some, option_map, unwrap_or, slice_index_or}
+use Rattle.std.specs.Prelude.{◌≡◌, ◌≢◌, ◌≤◌, ◌<◌, ◌+◌, ◌&&◌, ◌||◌, ◌⊎◌, ℕ, Bool, true, false, not, cond, if◌then◌else◌, refl, List, [], ◌∷◌, Option, Some, None, Ok, is_none, is_some, option_map, unwrap_or, slice_index_or}
 use Rattle.std.proofs.Common.{arith, sym, ◌∙◌, ap, ap₂, subst, inl, inr}
 use Rattle.std.proofs.Math.Path.{fun_ext}
 use Rattle.std.proofs.lemmas.Bool.{not-false}
@@ -27,6 +27,7 @@ use Rattle.pm_limits.specs.declared.part_registers.PartRegisters.{PartRegisters}
 use Rattle.pm_limits.specs.Guard.{limits_at}
 use Rattle.pm_limits.specs.Part.{has_register, missing_word}
 use Rattle.pm_world.specs.Bands.{HoldsMissing}
+use Rattle.pm_world.specs.Lemmas.Plans.{last-none}
 use Rattle.pm_rail.specs.declared.apply_end.ApplyEnd.TheVariants.{Stopped}
 use Rattle.pm_rail.specs.declared.apply_end.StopCause.TheVariants.{Refused}
 use Rattle.pm_rail.specs.declared.course.Course.{Course}
@@ -34,10 +35,9 @@ use Rattle.pm_rail.specs.declared.course.Differing.{Differing}
 use Rattle.pm_rail.specs.declared.fault.PlanFault.{PlanFault}
 use Rattle.pm_rail.specs.declared.fault.PlanFault.TheVariants.{Busy, MissingRegister, Protected}
 use Rattle.pm_rail.specs.declared.next.Next.TheVariants.{Job, Ended}
-use Rattle.pm_rail.specs.declared.orders.PlanOrder.{PlanOrder}
 use Rattle.pm_rail.specs.declared.survey.Survey.{Survey}
 use Rattle.pm_rail.specs.declared.wanted.Wanted.{Wanted}
-use Rattle.pm_rail.specs.Course.{going, going_to, is_carried_out, is_last, naming, once_more, order_by, order_next, reading, reading_for, renewed}
+use Rattle.pm_rail.specs.Course.{going, going_to, is_carried_out, naming, once_more, order_by, order_next, reading, reading_for, renewed}
 use Rattle.pm_rail.specs.Course.{says, told_of}
 use Rattle.pm_rail.specs.Known.{known_word}
 use Rattle.pm_rail.specs.Laws.{SurveysEndKnown}
@@ -61,12 +61,6 @@ use Rattle.pm_driver.proofs.PlanTruth.{due-before, due-wanted, dues, fewer, firs
 use Rattle.pm_driver.proofs.Surveyed.{asked-output, asked-plan}
 use Rattle.pm_driver.proofs.SurveySteps.{At, Knows, LawsOfSurveys, accepts, in-range, is_learned, life-on, need, settled, survey-step, todo}
 use Rattle.pm_driver.proofs.SurveyTruth.{Allows, plan-is, plan_in, same-fits}
-
--- no order is left
-pub last-none : (o : Result (Option PlanOrder) PlanFault) → is_last o ≡ true → o ≡ Ok None
-last-none (Ok None) is = refl
-last-none (Ok (Some order)) is = cc
-last-none (Err fault) is = cc
 
 module _ (laws : LawsOfSurveys) (end_known : SurveysEndKnown) {B : Type 0} (gives : B → Call → B → Type 0) (held : B → Converter)
     (restarts : B → ℕ) (jobs : UndisturbedJobs gives held restarts) (is_so : B → Bool) (all : AreUndisturbed gives held is_so)

@@ -4,6 +4,7 @@ use Rattle.std.proofs.Common.{subst}
 use Rattle.std.specs.Prelude.{is_some, option_map, unwrap_or}
 use Rattle.std.proofs.lemmas.List.{append-nil}
 use Rattle.std.proofs.Math.Path.{fun_ext}
+use Rattle.std.proofs.lemmas.Bool.{eqb-true}
 use Rattle.pm_table.specs.declared.cell.Cell.{Cell}
 use Rattle.pm_table.specs.declared.cell.Cell.TheVariants.{Out}
 use Rattle.pm_table.specs.declared.reg.Reg.{Reg}
@@ -26,7 +27,7 @@ use Rattle.pm_world.specs.Possible.{has_read}
 use Rattle.pm_stairs_laws.specs.Back.{GoesBack, StairsGoBack, back_of, back_step, downs_of}
 use Rattle.pm_stairs_laws.specs.Stairs.{AreSound, Deed, IsOfStep, IsReadFor, IsSoundStep, IsStairs, RailStep, Rails, Sets, StairsHoldInLives}
 use Rattle.pm_stairs_laws.specs.Stairs.{Turns, TurnsNothing, climbs, done_to, stair_of, stands, start_of}
-use Rattle.pm_stairs_laws.proofs.Segments.{Below, itself, one-number}
+use Rattle.pm_stairs_laws.proofs.Segments.{Below, itself}
 use Rattle.pm_stairs_laws.proofs.Stairs.{At, at-of, fresh-of, held-is, missing-of, segment-at, still}
 
 -- ---- Over words alone ----
@@ -107,7 +108,7 @@ module _ (count : ℕ) (start : Rails) where
         cond b (done_to (stair_of from downs output) (back_of (stair_of start done step.output) step.deed)) (stair_of from downs output) register
         ≡ stair_of start done output register
     go true e = subst (λ (o : ℕ). done_to (stair_of from downs o) (back_of (stair_of start done step.output) step.deed) register
-        ≡ stair_of start done o register) (sym (one-number output step.output e)) (half.own register)
+        ≡ stair_of start done o register) (sym (eqb-true output step.output e)) (half.own register)
     go false e = half.others output register here e
 
 module _ (laws : Below) (config : Config) (passes : ℕ) (part : PartRegisters) (before : List Event) (spelled : IsSpelled config) where

@@ -1,8 +1,9 @@
 -- What a caller of the stairs carries out.
-use Rattle.std.proofs.Common.{◌≡◌, ℕ, Bool, true, false, not, cond, List, [], ◌∷◌, Option, Some, None, Ok, Err, refl, sym, ◌∙◌, ap, subst}
+use Rattle.std.proofs.Common.{◌≡◌, ℕ, Bool, true, false, not, List, [], ◌∷◌, Option, Some, None, Ok, Err, refl, sym, ◌∙◌, ap, subst}
 use Rattle.std.specs.Prelude.{◌==◌, ◌&&◌, is_none, option_map, option_and_then, unwrap_or, Result}
 use Rattle.std.specs.Option.{option_map_or}
 use Rattle.std.proofs.Math.Path.{fun_ext}
+use Rattle.std.proofs.lemmas.Bool.{eqb-true}
 use Rattle.pm_table.specs.declared.cell.Cell.{Cell}
 use Rattle.pm_table.specs.declared.cell.Cell.TheVariants.{Out, Protect}
 use Rattle.pm_table.specs.declared.reg.Reg.{Reg}
@@ -21,8 +22,6 @@ use Rattle.pm_limits.specs.Bounds.{Bounds}
 use Rattle.pm_limits.specs.Guard.{Guarded}
 use Rattle.pm_rail.specs.declared.fault.PlanFault.{PlanFault}
 use Rattle.pm_rail.specs.declared.orders.PlanOrder.{PlanOrder}
-use Rattle.pm_rail.specs.declared.wanted.Wanted.{Wanted}
-use Rattle.pm_rail.specs.Course.{is_last, is_operation_known}
 use Rattle.pm_rail.specs.Known.{known_word}
 use Rattle.pm_rail.specs.Lemmas.Known.{is-planned}
 use Rattle.pm_rail.specs.Orders.{plan_of}
@@ -34,7 +33,7 @@ use Rattle.pm_stairs.specs.declared.step.Step.{Step}
 use Rattle.pm_stairs.specs.declared.step.WordAct.{WordAct}
 use Rattle.pm_stairs.specs.declared.step.WordAct.TheVariants as act
 use Rattle.pm_stairs.specs.declared.step.WordStep.{WordStep}
-use Rattle.pm_stairs.specs.Due.{due_now, due_of, plan_order}
+use Rattle.pm_stairs.specs.Due.{due_of, plan_order}
 use Rattle.pm_stairs.specs.Stairs.{Goes}
 use Rattle.pm_stairs.specs.Steps.{act_back, back_word, noted}
 use Rattle.pm_world.specs.declared.event.Event.{Event}
@@ -42,17 +41,17 @@ use Rattle.pm_world.specs.declared.event.Event.TheVariants.{RestartDevice}
 use Rattle.pm_world.specs.Confirmed.{restarts_converter}
 use Rattle.pm_world.specs.Honest.{IsSpelled}
 use Rattle.pm_world.specs.Job.{asked_by}
+use Rattle.pm_world.specs.Lemmas.Plans.{last-none}
 use Rattle.pm_world.specs.Life.{now}
 use Rattle.pm_world.specs.Lived.{EventsAreLived, IsLived}
 use Rattle.pm_world.specs.State.{asked}
 use Rattle.pm_stairs_laws.specs.Back.{back_of}
 use Rattle.pm_stairs_laws.specs.Climb.{AreBacks, AreOf, ClimbsAreStairs, IsClimb, IsGuardAt, deed_of, first, rail_step, rail_steps}
 use Rattle.pm_stairs_laws.specs.Climb as climb
-use Rattle.pm_stairs_laws.specs.Due.{IsDone, IsDueOrder, IsFirst, IsOf, LacksNone, Means, MovesAreDue, is_read, step_under}
+use Rattle.pm_stairs_laws.specs.Due.{IsDone, IsDueOrder, IsFirst, IsOf, Means, MovesAreDue, is_read, step_under}
 use Rattle.pm_stairs_laws.specs.Due as means
 use Rattle.pm_stairs_laws.specs.Followed.{IsKnownFrom, IsNextOrder, MayNext, StairsAreFollowed}
 use Rattle.pm_stairs_laws.specs.Stairs.{AreOver, AreSound, Deed, IsOver, IsStairs, MayRest, RailStep, Sets, Turns, stair_of, start_of}
-use Rattle.pm_stairs_laws.proofs.Segments.{one-number}
 
 -- ---- What is due, in a life ----
 
@@ -60,11 +59,6 @@ use Rattle.pm_stairs_laws.proofs.Segments.{one-number}
 plan-some : (answer : Result (Option PlanOrder) PlanFault) (order : PlanOrder) → plan_order answer ≡ Some order → answer ≡ Ok (Some order)
 plan-some (Ok o) order is = ap (λ (x : Option PlanOrder). Ok x) is
 plan-some (Err fault) order is = cc
-
-plan-last : (answer : Result (Option PlanOrder) PlanFault) → is_last answer ≡ true → answer ≡ Ok None
-plan-last (Ok None) is = refl
-plan-last (Ok (Some order)) is = cc
-plan-last (Err fault) is = cc
 
 -- a byte's order is due while the host is idle
 byte-order : (busy : Bool) (byte : ℕ) (order : PlanOrder) → rule (not busy) (record { register = Operation; word = byte }) ≡ Some order →
@@ -78,7 +72,7 @@ byte-over : (busy : Bool) (known : Option ℕ) (byte : ℕ) → (not busy && opt
     (busy ≡ false) × (known ≡ Some byte)
 byte-over true known byte is = cc
 byte-over false None byte is = cc
-byte-over false (Some word) byte is = (refl, ap (λ (w : ℕ). Some w) (one-number word byte is))
+byte-over false (Some word) byte is = (refl, ap (λ (w : ℕ). Some w) (eqb-true word byte is))
 
 known-some : (known : Option ℕ) (cell : Cell) → rule (is_none known) cell ≡ None → known ≡ Some (unwrap_or known 0)
 known-some None cell is = cc
@@ -107,7 +101,7 @@ module _ (config : Config) (passes : ℕ) (part : PartRegisters) (events : List 
 
   over-act : (limits : Option Bounds) (output : ℕ) (a : WordAct) → (due_of part limits s output a).over ≡ true →
       IsOver config passes part output (deed_of a) events
-  over-act limits output (act.Sets words) is = (limits, plan-last (plan_of part s limits output (wants_of words)) is)
+  over-act limits output (act.Sets words) is = (limits, last-none (plan_of part s limits output (wants_of words)) is)
   over-act limits output (act.Turns byte) is =
       byte-over (is_busy s) (known_word (Out output Operation) (possible_at s (Out output Operation))) byte is
 
@@ -131,7 +125,7 @@ module _ (config : Config) (passes : ℕ) (part : PartRegisters) (events : List 
   answered-over : (limits : Option Bounds) (output : ℕ) (a : WordAct) → (due_of part limits s output a).over ≡ true →
       IsAnswered limits output a
   unfolding IsAnswered
-  answered-over limits output (act.Sets words) is = (None, plan-last (plan_of part s limits output (wants_of words)) is)
+  answered-over limits output (act.Sets words) is = (None, last-none (plan_of part s limits output (wants_of words)) is)
   answered-over limits output (act.Turns byte) is =
       let over = byte-over (is_busy s) (known_word (Out output Operation) (possible_at s (Out output Operation))) byte is in
       (over.0, over.1 ∙ ap (λ (o : Option ℕ). Some (unwrap_or o 0)) (sym over.1))

@@ -1,5 +1,5 @@
 -- The way back of a caller of the stairs.
-use Rattle.std.proofs.Common.{◌≡◌, ◌⊎◌, inl, inr, ℕ, ◌<◌, Bool, true, false, List, [], ◌∷◌, ◌++◌, Option, Some, None, refl, sym, ◌∙◌, ap, subst}
+use Rattle.std.proofs.Common.{◌≡◌, ◌⊎◌, inl, inr, ℕ, ◌<◌, Bool, true, false, List, [], ◌∷◌, ◌++◌, Option, None, refl, sym, ◌∙◌, ap, subst}
 use Rattle.std.specs.Prelude.{◌&&◌, map}
 use Rattle.std.proofs.lemmas.List.{append-nil, append_assoc}
 use Rattle.pm_table.specs.declared.reg.Reg.{Reg}
@@ -27,7 +27,7 @@ use Rattle.pm_stairs_laws.specs.Back.{StairsGoBack, back_step, downs_of}
 use Rattle.pm_stairs_laws.specs.Climb.{AreBacks, AreOf, ClimbsAreStairs, ClimbsComeBack, IsClimb, IsGuardAt, IsOnWayBack, deed_of, first, rail_step, rail_steps}
 use Rattle.pm_stairs_laws.specs.Due.{IsOf, Means, MovesAreDue}
 use Rattle.pm_stairs_laws.specs.Due as means
-use Rattle.pm_stairs_laws.proofs.Due.{both}
+use Rattle.pm_rail.specs.Lemmas.Steps.{first-of, second-of}
 use Rattle.pm_stairs_laws.specs.Stairs.{AreOver, AreSound, Deed, IsStairs, RailStep, Rails, Sets, StairsHoldInLives, Turns, start_of}
 
 -- ---- Lists, one turned round before another ----
@@ -126,7 +126,7 @@ words-ahead : (begun : List WordStep) (ahead steps : List Step) → AreOf begun 
 unfolding all_words
 words-ahead [] ahead steps are has = ap all_words are ∙ has
 words-ahead (step ∷ begun) ahead steps are has =
-    (both (has_words are.0.act) (all_words ahead) (words-ahead begun (are.0 ∷ ahead) steps are.1.1 has)).1
+    second-of (has_words are.0.act) (all_words ahead) (words-ahead begun (are.0 ∷ ahead) steps are.1.1 has)
 
 all-onto : (begun : List WordStep) (ahead steps : List Step) → AreOf begun ahead steps → all_words steps ≡ true →
     onto (rail_steps begun) (rails-of ahead) ≡ rails-of steps
@@ -134,7 +134,7 @@ unfolding onto rails-of all_words
 all-onto [] ahead steps are has = ap rails-of are
 all-onto (step ∷ begun) ahead steps are has =
     ap (λ (r : RailStep). onto (rail_steps begun) (r ∷ rails-of ahead))
-    (words-of are.0 step are.1.0 (both (has_words are.0.act) (all_words ahead) (words-ahead begun (are.0 ∷ ahead) steps are.1.1 has)).0)
+    (words-of are.0 step are.1.0 (first-of (has_words are.0.act) (all_words ahead) (words-ahead begun (are.0 ∷ ahead) steps are.1.1 has)))
     ∙ all-onto begun (are.0 ∷ ahead) steps are.1.1 has
 
 has-words : (a : WordAct) → has_words (act_of a) ≡ true

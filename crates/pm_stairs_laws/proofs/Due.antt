@@ -1,6 +1,7 @@
 -- What the stairs say, case by case.
-use Rattle.std.proofs.Common.{◌≡◌, ◌⊎◌, inl, inr, ℕ, Bool, true, false, cond, Option, Some, None, refl, sym, ◌∙◌, ap, subst}
-use Rattle.std.specs.Prelude.{◌==◌, ◌&&◌, option_map, Result, Ok, Err}
+use Rattle.std.proofs.Common.{◌≡◌, ℕ, Bool, true, false, cond, Option, Some, None, refl, sym, ◌∙◌, ap, subst}
+use Rattle.std.specs.Prelude.{◌==◌, ◌&&◌, option_map}
+use Rattle.std.proofs.lemmas.Bool.{eqb-true}
 use Rattle.pm_table.specs.declared.cell.Cell.{Cell}
 use Rattle.pm_table.specs.declared.cell.Cell.TheVariants.{Out}
 use Rattle.pm_table.specs.Cell.{same_cell}
@@ -9,7 +10,7 @@ use Rattle.pm_host.specs.declared.job.Job.{Job as Asked}
 use Rattle.pm_host.specs.declared.job.Job.TheVariants.{Order, Check, Learn, OrderMicro, Send}
 use Rattle.pm_limits.specs.Guard.{Guarded, limits_at}
 use Rattle.pm_rail.specs.declared.orders.PlanOrder.{PlanOrder}
-use Rattle.pm_rail.specs.declared.wanted.Wanted.{Wanted}
+use Rattle.pm_rail.specs.Lemmas.Steps.{first-of, second-of}
 use Rattle.pm_course.specs.declared.course_end.CourseEnd.{CourseEnd}
 use Rattle.pm_course.specs.declared.course_end.CourseEnd.TheVariants as end
 use Rattle.pm_course.specs.declared.course_end.CourseNext.{CourseNext}
@@ -26,17 +27,12 @@ use Rattle.pm_stairs.specs.declared.stairs.Stairs.{Stairs}
 use Rattle.pm_stairs.specs.declared.stairs.Under.{Under}
 use Rattle.pm_stairs.specs.declared.step.Step.{Step}
 use Rattle.pm_stairs.specs.declared.step.WordStep.{WordStep}
-use Rattle.pm_stairs.specs.Due.{asked_for, due_now, ended_for, is_due_order, looking, ordered, reached as reached_of, said_of}
-use Rattle.pm_stairs.specs.Stairs.{AsksAhead, Goes, GoesAhead, GoesUnder, SaysStep, ahead_move, begins_now, said_for, trying, under_move}
+use Rattle.pm_stairs.specs.Due.{asked_for, due_now, ended_for, is_due_order, looking, ordered, said_of}
+use Rattle.pm_stairs.specs.Stairs.{AsksAhead, Goes, GoesAhead, GoesUnder, SaysStep, ahead_move, begins_now, trying, under_move}
 use Rattle.pm_stairs.specs.Stairs as goes
 use Rattle.pm_stairs.specs.Steps.{noted, step_with}
 use Rattle.pm_stairs_laws.specs.Due.{IsDone, IsDueOrder, IsFirst, LacksNone, Means, MovesAreDue, is_read, step_under}
 use Rattle.pm_stairs_laws.specs.Due as means
-use Rattle.pm_stairs_laws.proofs.Segments.{one-number}
-
-pub both : (a b : Bool) → (a && b) ≡ true → (a ≡ true) × (b ≡ true)
-both true b h = (refl, h)
-both false b h = cc
 
 -- ---- What a step asks for ----
 
@@ -54,9 +50,10 @@ module _ (apart : CellsAreToldApart) (begun : Bool) (output : ℕ) (due : Due) w
       (same_cell cell (Out output order.register) && word == order.word) ≡ true →
       Order cell word ≡ Order (Out output order.register) order.word
   the-order cell word order h =
-      let e = both (same_cell cell (Out output order.register)) (word == order.word) h in
-      ap (λ (c : Cell). Order c word) ((apart cell (Out output order.register)).0 e.0)
-      ∙ ap (λ (w : ℕ). Order (Out output order.register) w) (one-number word order.word e.1)
+      let cells = first-of (same_cell cell (Out output order.register)) (word == order.word) h in
+      let words = second-of (same_cell cell (Out output order.register)) (word == order.word) h in
+      ap (λ (c : Cell). Order c word) ((apart cell (Out output order.register)).0 cells)
+      ∙ ap (λ (w : ℕ). Order (Out output order.register) w) (eqb-true word order.word words)
 
   order-said : (cell : Cell) (word : ℕ) (order : PlanOrder) → due.order ≡ Some order →
       Order cell word ≡ Order (Out output order.register) order.word → (b : Bool) → begun ≡ b → (lacks : Option Cell) → due.lacks ≡ lacks →

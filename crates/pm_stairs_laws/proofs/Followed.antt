@@ -1,11 +1,11 @@
 -- Steps event by event.
-use Rattle.std.proofs.Common.{◌≡◌, inl, ℕ, ◌<◌, Bool, true, false, not, List, [], ◌∷◌, ◌++◌, Option, Some, None, Ok, refl, sym, ◌∙◌, ap}
+use Rattle.std.proofs.Common.{◌≡◌, inl, ℕ, ◌<◌, true, false, List, [], ◌∷◌, ◌++◌, Option, Some, Ok, sym, ◌∙◌, ap}
 use Rattle.std.specs.Prelude.{is_none, is_some, unwrap_or}
 use Rattle.std.specs.Option.{option_map_or}
 use Rattle.pm_table.specs.declared.cell.Cell.{Cell}
 use Rattle.pm_table.specs.declared.cell.Cell.TheVariants.{Out, Protect}
 use Rattle.pm_table.specs.declared.reg.Reg.{Reg}
-use Rattle.pm_table.specs.declared.reg.Reg.TheVariants.{Operation, VoutCommand}
+use Rattle.pm_table.specs.declared.reg.Reg.TheVariants.{Operation}
 use Rattle.pm_device.specs.declared.config.Config.{Config}
 use Rattle.pm_host.specs.declared.command.Command.TheVariants.{RestoreUserAll}
 use Rattle.pm_host.specs.declared.knowledge.Possible.{Possible}
@@ -15,16 +15,15 @@ use Rattle.pm_host.specs.Summary.{Summary, possible_at}
 use Rattle.pm_host.specs.Transcript as host
 use Rattle.pm_limits.specs.declared.part_registers.PartRegisters.{PartRegisters}
 use Rattle.pm_limits.specs.Bounds.{Bounds}
-use Rattle.pm_limits.specs.Part.{has_register}
-use Rattle.pm_rail.specs.declared.fault.PlanFault.TheVariants.{MissingRegister}
 use Rattle.pm_rail.specs.declared.orders.PlanOrder.{PlanOrder}
 use Rattle.pm_rail.specs.Known.{Cells, cells_of, known_of, known_word}
-use Rattle.pm_rail.specs.Lemmas.Known.{IsPlanned, is-planned, known-all, known-held, none-voltage, not-second, wanted-needed}
+use Rattle.pm_rail.specs.Lemmas.Known.{IsPlanned, is-planned, known-all, known-held, wanted-needed}
 use Rattle.pm_rail.specs.Lemmas.Surveyed.{has-none}
-use Rattle.pm_rail.specs.Orders.{is_wanted_missing, missing_fault, plan_of}
+use Rattle.pm_rail.specs.Orders.{plan_of}
 use Rattle.pm_rail.specs.Registers.{Wants}
 use Rattle.pm_world.specs.declared.event.Event.{Event}
 use Rattle.pm_world.specs.Confirmed.{restarted_since, restarts_converter}
+use Rattle.pm_world.specs.Lemmas.Plans.{known-is, wanted-has}
 use Rattle.pm_world.specs.Life.{now}
 use Rattle.pm_world.specs.Lived.{IsLived}
 use Rattle.pm_world.specs.Plans.{held_at}
@@ -60,24 +59,6 @@ module _ (config : Config) (passes : ℕ) (part : PartRegisters) where
       restarts_converter event ≡ false → MayRest (asked (now config passes events) event) →
       IsStairs config passes part before [] (event ∷ events)
   rests event (stands later idle rest) steady may = stands (event ∷ later) idle (steady, may, rest)
-
--- no word is wanted of a missing register: the part has each of which one is
-wanted-has : (part : PartRegisters) (wants : Wants) → missing_fault part wants ≡ None → (register : Reg) →
-    is_some (wants register) ≡ true → has_register part register ≡ true
-wanted-has part wants there Operation some = refl
-wanted-has part wants there VoutCommand some = refl
-wanted-has part wants there register some = un-not (has_register part register)
-    (not-second (is_some (wants register)) (not (has_register part register))
-    (none-voltage (λ r. MissingRegister r) (is_wanted_missing part wants) there register refl) some)
-  where
-    un-not : (b : Bool) → not b ≡ false → b ≡ true
-    un-not true h = refl
-    un-not false h = cc
-
--- a word that is known, as an option
-known-is : (word : Option ℕ) → is_none word ≡ false → word ≡ Some (unwrap_or word 0)
-known-is None some = cc
-known-is (Some word) some = refl
 
 module _ (laws : Below) (config : Config) (passes : ℕ) (part : PartRegisters) (output : ℕ) (events : List Event)
     (lived : IsLived config passes events) (here : output < config.count) where

@@ -1,9 +1,8 @@
 -- One step: what its output does, what the others do, and what is known when it is over.
 use Rattle.std.proofs.Common.{◌≡◌, ◌⊎◌, inl, inr, ℕ, ◌<◌, ◌==◌, Bool, true, false, cond, ◌||◌, List, [], ◌∷◌, ◌++◌, Option, Some, None}
-use Rattle.std.proofs.Common.{refl, sym, ◌∙◌, ap, subst, arith}
+use Rattle.std.proofs.Common.{refl, sym, ◌∙◌, ap, subst}
 use Rattle.std.specs.Prelude.{is_none, option_map, unwrap_or}
-use Rattle.std.proofs.lemmas.Bool.{eq-eqb}
-use Rattle.std.proofs.lemmas.Bool.Decides.{nat_tests}
+use Rattle.std.proofs.lemmas.Bool.{eq-eqb, eqb-true}
 use Rattle.std.proofs.lemmas.List.{append_assoc}
 use Rattle.std.proofs.Math.Path.{fun_ext}
 use Rattle.pm_table.specs.declared.cell.Cell.{Cell}
@@ -48,10 +47,6 @@ pub record Below : Type 0 where
   pub plans : PlansHoldInLives
   pub cells : CellsTakeWhatIsOrdered
   pub possible : PossibleWordsAreHeld
-
--- numbers that test as one are one
-pub one-number : (x y : ℕ) → (x == y) ≡ true → x ≡ y
-one-number x y h = grind (arith, nat_tests)
 
 pub itself : (x : ℕ) → (x == x) ≡ true
 itself x = eq-eqb x x refl
@@ -369,7 +364,7 @@ module _ (laws : Below) (config : Config) (passes : ℕ) (part : PartRegisters) 
       (first-only config passes (Out output Operation) is_byte newer later before only)
       (last-of config passes (Out output Operation) is_byte newer later before only)) [
         | inl e ↦ inl e
-        | inr e ↦ inr (one-number _ byte e)
+        | inr e ↦ inr (eqb-true _ byte e)
       ]
 
   stood : (h : Held) → ((r : Reg) → held_at config passes events' output r ≡ h r) →

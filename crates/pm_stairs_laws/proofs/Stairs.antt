@@ -2,6 +2,7 @@
 use Rattle.std.proofs.Common.{◌≡◌, ◌⊎◌, inl, inr, ℕ, ◌<◌, ◌==◌, Bool, true, false, cond, List, [], ◌∷◌, ◌++◌, refl, sym, ◌∙◌, ap, subst}
 use Rattle.std.proofs.lemmas.List.{append-nil, append_assoc, append_cancel_right}
 use Rattle.std.proofs.Math.Path.{fun_ext}
+use Rattle.std.proofs.lemmas.Bool.{eqb-true}
 use Rattle.pm_table.specs.declared.cell.Cell.{Cell}
 use Rattle.pm_table.specs.declared.cell.Cell.TheVariants.{Out}
 use Rattle.pm_table.specs.declared.reg.Reg.{Reg}
@@ -24,7 +25,7 @@ use Rattle.pm_stairs_laws.specs.Stairs.{AreOver, AreSound, Deed, IsAtRest, IsBet
 use Rattle.pm_stairs_laws.specs.Stairs.{Rails, Sets, StairsHoldInLives, Turns, WasBetween, climbs, done_to, stair_of, stair_stand, stand_by}
 use Rattle.pm_stairs_laws.specs.Stairs.{stands, stands_at, start_of}
 use Rattle.pm_stairs_laws.proofs.Segments.{Below, Segment, first-of, first-rest, itself, none-other, over-idle, rest-none, rest-still, segment}
-use Rattle.pm_stairs_laws.proofs.Segments.{one-number, since-later, since-still, stands-is}
+use Rattle.pm_stairs_laws.proofs.Segments.{since-later, since-still, stands-is}
 
 -- two ways to take one list apart
 split : (xs ys zs ws : List Event) → xs ++ ys ≡ zs ++ ws →
@@ -91,7 +92,7 @@ module _ (laws : Below) (config : Config) (passes : ℕ) (part : PartRegisters) 
       (b : Bool) → (output == step.output) ≡ b → HoldsMissing part config (now config passes (newer ++ older)).device.words output
   missing-in {older = older} at step sound newer lived of output here lacks true e =
       subst (λ (o : ℕ). HoldsMissing part config (now config passes (newer ++ older)).device.words o)
-      (sym (one-number output step.output e)) (segment-at at step sound [] newer lived of).missing
+      (sym (eqb-true output step.output e)) (segment-at at step sound [] newer lived of).missing
   missing-in at step sound newer lived of output here lacks false e = λ register word is.
       still at step newer lived of output register here e ∙ at.missing output here lacks register word is
 
@@ -113,7 +114,7 @@ module _ (laws : Below) (config : Config) (passes : ℕ) (part : PartRegisters) 
           held_at config passes (newer ++ older) output register ≡ stair_of start (step ∷ done) output register
       word-at output register here true e =
           subst (λ (o : ℕ). held_at config passes (newer ++ older) o register ≡ done_to (stair_of start done o) step.deed register)
-          (sym (one-number output step.output e))
+          (sym (eqb-true output step.output e))
           (part-of.over over register
           ∙ ap (λ (h : Held). done_to h step.deed register) (held-is at step.output sound.here))
           ∙ sym (ap (λ (b : Bool). cond b (done_to (stair_of start done output) step.deed) (stair_of start done output) register) e)
@@ -270,7 +271,7 @@ each-of : (config : Config) (passes : ℕ) (before events : List Event) (step : 
     ⊎ (stands_at config passes events output ≡ stair_stand config passes before (step ∷ done) output)
 each-of config passes before events step done between output here true e =
     subst (λ (o : ℕ). (stands_at config passes events o ≡ stair_stand config passes before done o)
-    ⊎ (stands_at config passes events o ≡ stair_stand config passes before (step ∷ done) o)) (sym (one-number output step.output e)) between.1
+    ⊎ (stands_at config passes events o ≡ stair_stand config passes before (step ∷ done) o)) (sym (eqb-true output step.output e)) between.1
 each-of config passes before events step done between output here false e =
     inl (stands-is config passes events output ∙ ap (λ (h : Held). stand_by (value_for config output) h)
     (fun_ext (λ (r : Reg). between.0 output r here e)))

@@ -1,12 +1,12 @@
 -- What a plan answers in a life, where what it needs was read since the converter's last restart.
-use Rattle.std.proofs.Common.{◌≡◌, ◌≢◌, inr, ℕ, ◌<◌, Bool, true, false, cond, not, ◌||◌, List, Option, Some, None, Ok, refl, sym, ◌∙◌, ap}
+use Rattle.std.proofs.Common.{◌≡◌, ◌≢◌, inr, ℕ, ◌<◌, Bool, true, false, ◌||◌, List, Option, Some, None, Ok, refl, sym, ◌∙◌, ap}
 use Rattle.std.proofs.Common.{subst}
 use Rattle.std.specs.Prelude.{IsSomeAnd, is_none, is_some, option_map, unwrap_or}
 use Rattle.std.specs.Option.{option_map_or}
 use Rattle.pm_num.specs.AnyFormat.{Shape, shape_value}
 use Rattle.pm_table.specs.declared.cell.Cell.TheVariants.{Out}
 use Rattle.pm_table.specs.declared.reg.Reg.{Reg}
-use Rattle.pm_table.specs.declared.reg.Reg.TheVariants.{Operation, VoutCommand, VoutMax, VoutMin}
+use Rattle.pm_table.specs.declared.reg.Reg.TheVariants.{Operation, VoutMax, VoutMin}
 use Rattle.pm_table.specs.Cell.{same_register}
 use Rattle.pm_table.specs.Operation.{selected_register}
 use Rattle.pm_device.specs.declared.config.Config.{Config}
@@ -17,12 +17,11 @@ use Rattle.pm_host.specs.Summary.{Summary, format_at, possible_at}
 use Rattle.pm_limits.specs.declared.part_registers.PartRegisters.{PartRegisters}
 use Rattle.pm_limits.specs.Bounds.{Bounds}
 use Rattle.pm_limits.specs.Part.{has_register, missing_word}
-use Rattle.pm_rail.specs.declared.fault.PlanFault.TheVariants.{MissingRegister}
 use Rattle.pm_rail.specs.declared.orders.PlanOrder.{PlanOrder}
 use Rattle.pm_rail.specs.Known.{Cells, cells_of, known_at, known_of, known_word}
 use Rattle.pm_rail.specs.Laws.{MayHold, PlansAreOfWhatIsHeld, PlansAreWithoutGlitch, PlansEnd}
-use Rattle.pm_rail.specs.Lemmas.Known.{IsPlanned, is-planned, known-all, known-held, none-voltage, not-second, wanted-needed}
-use Rattle.pm_rail.specs.Orders.{is_needed, is_wanted_missing, missing_fault, order_of, plan_of, unknown_fault}
+use Rattle.pm_rail.specs.Lemmas.Known.{IsPlanned, is-planned, known-all, known-held, wanted-needed}
+use Rattle.pm_rail.specs.Orders.{is_needed, order_of, plan_of, unknown_fault}
 use Rattle.pm_rail.specs.Plan.{goal_of, is_cut_by, next_register}
 use Rattle.pm_rail.specs.Registers.{Held, Wants}
 pub use Rattle.pm_rail.specs.Lemmas.Surveyed.{has-none}
@@ -30,6 +29,7 @@ use Rattle.pm_world.specs.Bands.{HoldsMissing}
 use Rattle.pm_world.specs.Below.{Below}
 use Rattle.pm_world.specs.declared.event.Event.{Event}
 use Rattle.pm_world.specs.Honest.{IsSpelled}
+use Rattle.pm_world.specs.Lemmas.Plans.{known-is, wanted-has}
 use Rattle.pm_world.specs.Life.{now}
 use Rattle.pm_world.specs.Plans.{IsReadSince, held_at}
 use Rattle.pm_world.proofs.BandLives.{here-possible, stands}
@@ -59,11 +59,6 @@ own-format : (P : Shape → Type 0) (known : Option Shape) (own : Shape) → ((s
 own-format P None own agree holds = absurd holds
 own-format P (Some shape) own agree holds = subst P (agree shape refl) holds
 
--- a word that is known, as an option
-known-is : (word : Option ℕ) → is_none word ≡ false → word ≡ Some (unwrap_or word 0)
-known-is None some = cc
-known-is (Some word) some = refl
-
 -- a register that stands at a word of its own is one that the part lacks
 pub is-lacking : (part : PartRegisters) (shape : Shape) (register : Reg) (word : ℕ) → missing_word part shape register ≡ Some word →
     has_register part register ≡ false
@@ -71,19 +66,6 @@ is-lacking part shape register word is = go (has_register part register) refl wh
   go : (b : Bool) → has_register part register ≡ b → has_register part register ≡ false
   go true e = absurd (let bad = sym (has-none part shape register e) ∙ is in cc)
   go false e = e
-
--- the part has each register of which a word is wanted, if none is wanted of a missing one
-wanted-has : (part : PartRegisters) (wants : Wants) → missing_fault part wants ≡ None → (register : Reg) →
-    is_some (wants register) ≡ true → has_register part register ≡ true
-wanted-has part wants there Operation some = refl
-wanted-has part wants there VoutCommand some = refl
-wanted-has part wants there register some = un-not (has_register part register)
-    (not-second (is_some (wants register)) (not (has_register part register))
-    (none-voltage (λ r. MissingRegister r) (is_wanted_missing part wants) there register refl) some)
-  where
-    un-not : (b : Bool) → not b ≡ false → b ≡ true
-    un-not true h = refl
-    un-not false h = cc
 
 -- a word that isn't the one that is held is wanted
 wanted-is : (wanted : Option ℕ) (held : ℕ) → unwrap_or wanted held ≢ held → is_some wanted ≡ true

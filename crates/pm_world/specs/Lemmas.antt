@@ -4,6 +4,7 @@ pub mod Formats
 pub mod Hosts
 pub mod Limits
 pub mod Orders
+pub mod Plans
 pub mod SinceRestart
 use Rattle.std.specs.Prelude.{◌≡◌, ◌++◌, ℕ, true, List, [], ◌∷◌, Option, Some, None, IsSomeAnd, option_to_list, refl}
 use Rattle.std.specs.List.{starts_with}

@@ -1,6 +1,6 @@
-use Rattle.std.proofs.Common.{◌≡◌, ◌≤◌, ℕ, false, Err, ap, arith, sym, subst, ◌∙◌}
+use Rattle.std.proofs.Common.{ℕ, Err, ap, sym, subst, ◌∙◌}
 use Rattle.std.specs.Prelude.{nat_lt}
-use Rattle.std.proofs.lemmas.Bool.Decides.{nat_tests}
+use Rattle.std.proofs.lemmas.Bool.{le-ltb}
 use Rattle.pm_host.specs.Summary.{Summary}
 use Rattle.pm_rail.specs.Survey.{wanted_in}
 use Rattle.pm_course.specs.declared.course_end.Refusal.{Refusal}
@@ -14,12 +14,9 @@ returns-then-course-outputs c = formed c.words_now.result
     (subst (λ (s : Summary). AreFormed (format_now s c.args.course.now.course) (wanted_in c.args.course.now.course.survey.plan)
     c.args.course.now.voltages c.words_now.result) (c.state.ensures.state ∙ c.host-then-course-outputs.ensures) c.words_now.ensures)
 
-not-below : (at most : ℕ) → most ≤ at → nat_lt at most ≡ false
-not-below at most h = grind (arith, nat_tests)
-
 pub returns-else-course-outputs : goal.returns-else-course-outputs
 returns-else-course-outputs c =
     subst (λ (r : Refusal). HasWords c.args.guard.now c.args.course.now (Err r)) (sym c.no_output.ensures)
     (absent (ap (λ (most : ℕ). nat_lt c.args.course.now.course.survey.output most)
     (sym (c.outputs.ensures ∙ ap (λ (s : Summary). s.setup.outputs) c.host.ensures))
-    ∙ not-below c.args.course.now.course.survey.output c.outputs.result c.if-course-outputs.false))
+    ∙ le-ltb c.args.course.now.course.survey.output c.outputs.result c.if-course-outputs.false))
