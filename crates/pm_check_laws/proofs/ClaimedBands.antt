@@ -88,6 +88,17 @@ in-bounds bounds band value ends said inside =
           inside.to_greatest (at-most band.greatest (micros bounds.most) parts.1);
     }
 
+-- a claim that is known speaks of an output that is there
+pub output-there : Below → (config : Config) (passes : ℕ) (events : List Event) (log : List Act) (claims : List Claim) (at : ℕ) (output : ℕ)
+    (part : PartRegisters) (least most : ℤ) → IsLived config passes events → TellsLog config passes events log →
+    Accepts (setup_of config passes) log claims → slice_get claims at ≡ Some (Commands output part least most) → output < config.count
+output-there laws config passes events log claims at output part least most lived tells accepts is =
+    let s = (now config passes events).host in
+    let known = known-now laws config passes events log claims at (Commands output part least most) lived tells accepts is in
+    let apart = and_parts (nat_lt output s.setup.outputs) _ known in
+    let inside : nat_lt output config.count ≡ true = subst (λ (n : ℕ). nat_lt output n ≡ true) (same-outputs config passes events) apart.0 in
+    grind (arith, nat_tests)
+
 -- what an output commands lies between the microvolts of a claim that is known
 pub commands-claimed : Below → BandsAreHeld → LearnedFormatsAreTrue →
     (config : Config) (passes : ℕ) (events : List Event) (log : List Act) (claims : List Claim) (at : ℕ) (output : ℕ)
@@ -102,8 +113,7 @@ commands-claimed laws bands formats config passes events log claims at output pa
     let s = (now config passes events).host in
     let known = known-now laws config passes events log claims at (Commands output part least most) lived tells accepts is in
     let apart = and_parts (nat_lt output s.setup.outputs) _ known in
-    let inside : nat_lt output config.count ≡ true = subst (λ (n : ℕ). nat_lt output n ≡ true) (same-outputs config passes events) apart.0 in
-    let here : output < config.count = grind (arith, nat_tests) in
+    let here : output < config.count = output-there laws config passes events log claims at output part least most lived tells accepts is in
     let yes = (and_parts (is_none (bounds_fault least most)) _ apart.1).1 in
     let agree = formats.agree config passes events spelled lived in
     go here agree.held (band_at part s output) refl yes

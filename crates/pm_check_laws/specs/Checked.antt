@@ -5,11 +5,13 @@ use Rattle.std.specs.List.{list_any}
 use Rattle.pm_table.specs.declared.cell.Cell.{Cell}
 use Rattle.pm_table.specs.declared.cell.Cell.TheVariants.{Out}
 use Rattle.pm_table.specs.declared.reg.Reg.{Reg}
+use Rattle.pm_table.specs.declared.reg.Reg.TheVariants.{Operation, VoutMax, VoutMin}
 use Rattle.pm_host.specs.Marks.{marks}
 use Rattle.pm_table.specs.Cell.{same_cell}
 use Rattle.pm_model.specs.declared.order_machine.PendingJob.{PendingJob}
 use Rattle.pm_model.specs.declared.order_machine.PendingJob.TheVariants as pending
 use Rattle.pm_world.specs.Retelling.{open_pending}
+use Rattle.pm_model.specs.Commanded.{selected_register}
 use Rattle.pm_model.specs.Settings.{word_at}
 use Rattle.pm_device.specs.declared.config.Config.{Config}
 use Rattle.pm_check.specs.declared.act.Act.{Act}
@@ -139,3 +141,25 @@ AcceptedClaimsStay = (config : Config) (passes : ℕ) (later before : List Event
     Accepts (setup_of config passes) log claims → slice_get claims at ≡ Some (Holds cell word) →
     restarted_since config passes cell before ≡ false → LeavesCell config passes cell later before →
     word_at (now config passes (later ++ before)).device.words cell ≡ word
+
+-- none of the four words by which an output commands may be written at the later events: OPERATION, the word that it selects, and those
+-- of VOUT_MAX and VOUT_MIN
+pub record LeavesCommand (config : Config) (passes : ℕ) (output : ℕ) (later before : List Event) : Type 0 where
+  pub operation : LeavesCell config passes (Out output Operation) later before
+  pub selected : LeavesCell config passes
+      (Out output (selected_register (word_at (now config passes before).device.words (Out output Operation)))) later before
+  pub most : LeavesCell config passes (Out output VoutMax) later before
+  pub least : LeavesCell config passes (Out output VoutMin) later before
+
+-- What the output commands stays between the microvolts that an accepted log claims, as long as that is so. The premises are those of `commands`,
+-- at the end of the log.
+abbrev pub AcceptedVoltagesStay : Type 0
+AcceptedVoltagesStay = (config : Config) (passes : ℕ) (later before : List Event) (log : List Act) (claims : List Claim) (at : ℕ)
+    (output : ℕ) (part : PartRegisters) (least most : ℤ) →
+    IsSpelled config → IsLived config passes (later ++ before) → TellsLog config passes before log →
+    Accepts (setup_of config passes) log claims → slice_get claims at ≡ Some (Commands output part least most) →
+    AreShort (now config passes before).device.words output →
+    BandStands config passes before (now config passes before).host output →
+    HoldsMissing part config (now config passes before).device.words output →
+    LeavesCommand config passes output later before →
+    IsWithin (record { least = least; most = most }) (commands config passes (later ++ before) output)

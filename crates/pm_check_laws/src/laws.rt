@@ -1,6 +1,6 @@
 //! The laws, over the definitions alone.
 
-ghost use Rattle.pm_check_laws.specs.Checked.{AcceptedClaimsAreHeld, AcceptedClaimsStay, UnknownClaimsAreOpen, UnknownVoltagesAreOpen};
+ghost use Rattle.pm_check_laws.specs.Checked.{AcceptedClaimsAreHeld, AcceptedClaimsStay, AcceptedVoltagesStay, UnknownClaimsAreOpen, UnknownVoltagesAreOpen};
 
 use pm_check::logs_are_transcripts;
 use pm_host::{possible_words_are_followed, transcripts_are_followed};
@@ -68,5 +68,22 @@ pub fn accepted_claims_stay()
     events_are_lived();
     lives_are_followed();
     possible_words_are_held();
+    settings_move_by_the_open_job();
+}
+
+/// After an accepted log what an output commands stays between the microvolts that it claims, while the converter doesn't restart
+/// and neither a restore is open nor an order of one of the four registers by which the output commands: OPERATION, the one that
+/// it selects, VOUT_MAX and VOUT_MIN.
+pub fn accepted_voltages_stay()
+    ensures { AcceptedVoltagesStay }
+{
+    transcripts_are_followed();
+    possible_words_are_followed();
+    logs_are_transcripts();
+    events_are_lived();
+    lives_are_followed();
+    possible_words_are_held();
+    learned_formats_are_true();
+    bands_are_held();
     settings_move_by_the_open_job();
 }

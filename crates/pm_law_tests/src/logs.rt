@@ -9,14 +9,16 @@ ghost use Rattle.pm_model.specs.Settings.{word_at};
 ghost use Rattle.pm_host.specs.Marks.{marks};
 ghost use Rattle.pm_limits.specs.declared.part_registers.PartRegisters.{PartRegisters};
 ghost use Rattle.pm_limits.specs.Band.{band_at};
-ghost use Rattle.pm_limits.specs.Bounds.{bounds_fault};
+ghost use Rattle.pm_limits.specs.Bounds.{IsWithin, bounds_fault};
 ghost use Rattle.pm_check.specs.declared.claim.Claim.TheVariants.{Commands, Holds};
 ghost use Rattle.pm_check.specs.Log.{MightCome, is_claimed, replayed, transcript};
-ghost use Rattle.pm_check_laws.specs.Checked.{CommandsOther, HeldWhenRead, LeavesCell, LeavesOther, TellsLog};
+ghost use Rattle.pm_check_laws.specs.Checked.{CommandsOther, HeldWhenRead, LeavesCell, LeavesCommand, LeavesOther, TellsLog};
 ghost use Rattle.pm_world.specs.declared.event.Event.{Event as Happening};
-ghost use Rattle.pm_world.specs.Bands.{MissingUntold};
+ghost use Rattle.pm_world.specs.Bands.{AreShort, BandStands, HoldsMissing, MissingUntold};
 ghost use Rattle.pm_world.specs.Confirmed.{restarted_since};
+ghost use Rattle.pm_world.specs.Honest.{IsSpelled};
 ghost use Rattle.pm_world.specs.Life.{now};
+ghost use Rattle.pm_world.specs.Limited.{commands};
 ghost use Rattle.pm_world.specs.Lived.{IsLived};
 ghost use Rattle.pm_world.specs.Possible.{restarted_since_host};
 ghost use Rattle.pm_world.specs.Setup.{setup_of};
@@ -25,7 +27,7 @@ ghost use Rattle.pm_world.specs.Uncertainty.{AreOpen, since_restart};
 use crate::further::run_all;
 use pm_check::{Act, Claim, check};
 use pm_check_laws::{
-    accepted_claims_are_held, accepted_claims_stay, unknown_claims_are_open,
+    accepted_claims_are_held, accepted_claims_stay, accepted_voltages_stay, unknown_claims_are_open,
     unknown_voltages_are_open,
 };
 use pm_device::Config;
@@ -65,6 +67,24 @@ pub fn a_word_that_stays(c: Config, passes: u8, acts: &[Act<'_>], claims: &[Clai
         LeavesCell c passes cell later before → word_at (now c passes (later ++ before)).device.words cell ≡ word) }
 {
     accepted_claims_stay();
+    match check(c.addr, c.count, passes, acts, claims) {
+        Ok(()) => Some(()),
+        Err(_) => None,
+    }
+}
+
+/// Later events of a life leave what an output commands between the claimed microvolts, while the converter doesn't restart and no
+/// job is open that may write a word by which the output commands.
+pub fn a_voltage_that_stays(c: Config, passes: u8, acts: &[Act<'_>], claims: &[Claim]) -> Option<()>
+    requires { IsAddress c.addr }
+    ensures { IfSome result (λ accepted. (later before : List Happening) (at : ℕ) (output : ℕ) (part : PartRegisters) (least most : ℤ) →
+        IsSpelled c → IsLived c passes (later ++ before) → TellsLog c passes before acts.now →
+        slice_get claims.now at ≡ Some (Commands output part least most) →
+        AreShort (now c passes before).device.words output → BandStands c passes before (now c passes before).host output →
+        HoldsMissing part c (now c passes before).device.words output → LeavesCommand c passes output later before →
+        IsWithin (record { least = least; most = most }) (commands c passes (later ++ before) output)) }
+{
+    accepted_voltages_stay();
     match check(c.addr, c.count, passes, acts, claims) {
         Ok(()) => Some(()),
         Err(_) => None,
