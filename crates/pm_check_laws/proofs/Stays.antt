@@ -1,7 +1,6 @@
 -- A cell's word stays while the converter doesn't restart and no job that may write it is open; and so does what an output commands.
 use Rattle.std.proofs.Common.{◌≡◌, ◌⊎◌, inl, inr, ℕ, true, false, List, [], ◌∷◌, ◌++◌, Option, refl, sym, ◌∙◌, ap}
 use Rattle.std.specs.Prelude.{◌<◌}
-use Rattle.pm_num.specs.Ratio.{Ratio}
 use Rattle.pm_table.specs.declared.cell.Cell.{Cell}
 use Rattle.pm_table.specs.declared.cell.Cell.TheVariants.{Out}
 use Rattle.pm_table.specs.declared.reg.Reg.{Reg}
@@ -54,10 +53,10 @@ same_command : (value : Scale) (words others : Words) (output : ℕ) → Same wo
     Same words others output (selected_register (word_at others (Out output Operation))) →
     Same words others output VoutMax → Same words others output VoutMin →
     commanded value words output ≡ commanded value others output
-unfolding (commanded, selected)
+unfolding commanded selected
 same_command value words others output operation chosen most least =
     let picked : word_at words (Out output (selected_register (word_at words (Out output Operation))))
-        ≡ word_at others (Out output (selected_register (word_at others (Out output Operation))))
+    ≡ word_at others (Out output (selected_register (word_at others (Out output Operation))))
     = ap (λ (byte : ℕ). word_at words (Out output (selected_register byte))) operation ∙ chosen in
     λ i. limited (value (picked i)) (value (least i)) (value (most i))
 
@@ -66,7 +65,7 @@ pub command-stays : SettingsMoveByTheOpenJob → EventsAreLived → (config : Co
     commands config passes (later ++ before) output ≡ commands config passes before output
 command-stays law events config passes output later before here lived leaves =
     let keeps = λ (register : Reg) (left : LeavesCell config passes (Out output register) later before).
-        stay law events config passes (Out output register) before here later lived left in
+    stay law events config passes (Out output register) before here later lived left in
     same_command (value_for config output) (words_at config passes (later ++ before)) (words_at config passes before) output
     (keeps Operation leaves.operation)
     (keeps (selected_register (word_at (words_at config passes before) (Out output Operation))) leaves.selected)

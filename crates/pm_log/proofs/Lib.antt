@@ -1,2 +1,5 @@
+mod EmptyLog
+mod EndLemmas
 mod Follow
+mod Pieces
 mod TextLemmas

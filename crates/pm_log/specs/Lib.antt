@@ -5,5 +5,6 @@ pub mod Laws
 pub mod Lines
 pub mod Logs
 pub mod Replays
+pub mod TakenLogs
 pub mod Texts
 pub mod Verdicts

@@ -93,10 +93,13 @@ fault_text (Voltage output least most) = unknown_voltage output least most
 unfoldable pub refusal_text : Refusal → List ℕ
 refusal_text refusal = codes "line " ++ (decimal refusal.line ++ (codes ": " ++ fault_text refusal.fault))
 
--- what a log comes to, with a line feed
+-- what a log comes to, and the same with a line feed
+abbrev pub verdict_words : Result Known Refusal → List ℕ
+verdict_words (Ok known) = accepted_text known
+verdict_words (Err refusal) = refusal_text refusal
+
 abbrev pub verdict_text : Result Known Refusal → List ℕ
-verdict_text (Ok known) = accepted_text known ++ codes "\n"
-verdict_text (Err refusal) = refusal_text refusal ++ codes "\n"
+verdict_text log = verdict_words log ++ codes "\n"
 
 abbrev pub end_of : Result Known Refusal → LogEnd
 end_of (Ok known) = Accepted

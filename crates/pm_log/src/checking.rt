@@ -1,7 +1,10 @@
 //! The engine: a log from a reader, and its verdict to a writer.
-ghost use Rattle.std.specs.Prelude.{◌≡◌, ◌≤◌, ◌↔◌, List, ℕ, IsFalse, IsTrue, IfErr, IfOk, OnOk, string_bytes};
+ghost use Rattle.std.specs.Prelude.{◌≡◌, ◌+◌, ◌≤◌, ◌↔◌, List, [], ℕ, IsFalse, IsTrue, IfErr, IfOk, MatchResult, OnOk, length, string_bytes};
+ghost use Rattle.std.specs.List.{fold};
+ghost use Rattle.std.specs.Io.KnownBytes.{IsAtEnd};
 ghost use Rattle.pm_lines.specs.Engine.{over};
-ghost use Rattle.pm_log.specs.Texts.{Breaks, IsAll, LogEnds, ended, finished, kept_of, most_bytes, no_byte};
+ghost use Rattle.pm_log.specs.Texts.{Breaks, LogEnds, ended, finished, log_text, most_bytes, no_byte, with_byte};
+ghost use Rattle.pm_log.specs.TakenLogs.{Taken, TakesPiece, StopsBytes, StopsPiece};
 ghost use Rattle.pm_log.specs.Verdicts.{end_of as spec_end_of, verdict_text};
 
 use crate::log_text::LogText;
@@ -60,7 +63,7 @@ fn check_all<R: Read, W: Write>(
     take_all(alloc, reader, log)?;
     if log.taken() == 0 {
         // the text of a verdict takes memory, which is wanted only for what was read
-        writer.put(b"line 1: no #log line stands before it\n")?;
+        writer.put(empty_verdict().as_bytes())?;
         return Ok(LogEnd::Refused);
     }
     let text = verdict(alloc, log)?;
@@ -77,21 +80,59 @@ fn take_all<R: Read>(
     requires reader { IsFalse reader.old.failed }
     requires fresh { log.old ≡ no_byte }
     ensures all { OnOk result (IsFalse reader.new.failed × (input : List ℕ)
-        × IsAll (R.remaining reader.old.inner) (R.remaining reader.new.inner) input × (log.new ≡ kept_of input)) }
+        × Taken (R.remaining reader.old.inner) (R.remaining reader.new.inner) input log.new
+        × IsAtEnd (R.remaining reader.new.inner)) }
     ensures breaks { IfErr result (λ fault. (IsTrue reader.new.failed ↔ (fault ≡ TextFault.Read))
         × Breaks (R.remaining reader.old.inner) (R.remaining reader.new.inner) fault) }
 {
     let mut piece = [0u8; PIECE];
     'reads: loop {
-        let count = reader.read(&mut piece)?;
-        if count == 0 {
+        if take_piece(alloc, reader, log, &mut piece)? == 0 {
             return Ok(());
         }
-        if count as u64 > MOST_BYTES - log.taken() {
-            return Err(TextFault::TooLong);
-        }
-        log.take(alloc, &piece[..count])?;
     }
+}
+
+// Reads a piece, and takes it: how many bytes were read.
+fn take_piece<R: Read>(
+    alloc: Global,
+    reader: &mut Source<R>,
+    log: &mut LogText,
+    piece: &mut [u8; PIECE],
+) -> Result<usize, TextFault>
+    requires reader { IsFalse reader.old.failed }
+    requires room { log.old.taken ≤ most_bytes }
+    ensures taken { IfOk result (λ count. TakesPiece (R.remaining reader.old.inner) (R.remaining reader.new.inner)
+        log.old log.new count) }
+    ensures stops { IfErr result (λ fault. StopsPiece (R.remaining reader.old.inner) (R.remaining reader.new.inner)
+        log.old fault) }
+    ensures failed { MatchResult result (λ _. IsFalse reader.new.failed)
+        (λ fault. IsTrue reader.new.failed ↔ (fault ≡ TextFault.Read)) }
+{
+    let count = reader.read(piece)?;
+    take_bytes(alloc, log, &piece[..count])?;
+    Ok(count)
+}
+
+// Takes further bytes, if a log may have as many.
+fn take_bytes(alloc: Global, log: &mut LogText, bytes: &[u8]) -> Result<(), TextFault>
+    requires room { log.old.taken ≤ most_bytes }
+    ensures taken { OnOk result (log.new ≡ fold with_byte log.old bytes.now) }
+    ensures room { OnOk result (log.old.taken + length bytes.now ≤ most_bytes) }
+    ensures stops { IfErr result (StopsBytes log.old bytes.now) }
+{
+    if bytes.len() as u64 > MOST_BYTES - log.taken() {
+        return Err(TextFault::TooLong);
+    }
+    log.take(alloc, bytes)
+}
+
+// The verdict of no byte.
+#[tactic(auto, using(crate::proofs::EmptyLog::empty_text))]
+fn empty_verdict() -> &'static str
+    ensures { result.now ≡ log_text [] }
+{
+    "line 1: no #log line stands before it\n"
 }
 
 // Ends the log: its verdict.

@@ -30,7 +30,7 @@ impl Model for LogText {
 }
 
 impl LogText {
-    ghost use Rattle.std.specs.Prelude.{◌+◌, ◌<◌, ◌≤◌, ◌^◌, [], length, IfErr, OnOk};
+    ghost use Rattle.std.specs.Prelude.{◌+◌, ◌<◌, ◌≤◌, ◌^◌, [], length, IfErr, OnErr, OnOk};
     ghost use Rattle.std.specs.List.{fold};
     ghost use Rattle.pm_log.specs.Logs.{at_end, with_line};
     ghost use Rattle.pm_log.specs.Texts.{ended, finished, no_byte, with_byte};
@@ -66,6 +66,7 @@ impl LogText {
         requires { self.old.taken + length bytes.now < 2 ^ 64 }
         ensures taken { OnOk result (self.new ≡ fold with_byte self.old bytes.now) }
         ensures memory { IfErr result (λ fault. fault ≡ TextFault.Memory) }
+        ensures some { OnErr result (0 < length bytes.now) }
     {
         for byte in bytes {
             self.take_byte(alloc, *byte)?;
@@ -91,17 +92,29 @@ impl LogText {
     }
 
     /// Ends the text: a last line without a line feed ends here.
-    #[tactic(auto, unfolding(crate::specs::Logs::with_line))]
     pub fn finish(&mut self, alloc: Global) -> Result<(), TextFault>
         requires { self.old.taken + 1 < 2 ^ 64 }
         ensures taken { OnOk result (self.new.checked.log ≡ ended (finished self.old)) }
+        ensures memory { IfErr result (λ fault. fault ≡ TextFault.Memory) }
+    {
+        self.end_line(alloc)?;
+        self.checked.end();
+        Ok(())
+    }
+
+    // A line that goes on ends.
+    #[tactic(auto, unfolding(crate::specs::Logs::with_line))]
+    fn end_line(&mut self, alloc: Global) -> Result<(), TextFault>
+        requires { self.old.taken + 1 < 2 ^ 64 }
+        ensures ended { OnOk result (self.new.checked ≡ finished self.old) }
+        ensures line { OnOk result (self.new.line ≡ []) }
+        ensures taken { OnOk result (self.new.taken ≡ self.old.taken) }
         ensures memory { IfErr result (λ fault. fault ≡ TextFault.Memory) }
     {
         if !self.line.is_empty() {
             self.checked.take(alloc, &self.line)?;
             self.line.clear();
         }
-        self.checked.end();
         Ok(())
     }
 }

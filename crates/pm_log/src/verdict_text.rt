@@ -15,11 +15,19 @@ use std::alloc::AllocError;
 pub(crate) fn push_verdict(text: &mut String, checked: &Checked) -> Result<(), AllocError>
     ensures { OnOk result (string_bytes text.new ≡ string_bytes text.old ++ spec.verdict_text checked.now.log) }
 {
-    match checked.log() {
-        Ok(known) => push_accepted(text, known)?,
-        Err(refusal) => push_refusal(text, refusal)?,
-    }
+    push_words(text, checked)?;
     text.push_str("\n")
+}
+
+// The same without the line feed.
+#[tactic(auto, using(pm_lines::specs::Lemmas::Joins::joins))]
+fn push_words(text: &mut String, checked: &Checked) -> Result<(), AllocError>
+    ensures { OnOk result (string_bytes text.new ≡ string_bytes text.old ++ spec.verdict_words checked.now.log) }
+{
+    match checked.log() {
+        Ok(known) => push_accepted(text, known),
+        Err(refusal) => push_refusal(text, refusal),
+    }
 }
 
 #[tactic(auto, using(pm_lines::specs::Lemmas::Joins::joins), unfolding(crate::specs::Verdicts::accepted_text))]

@@ -10,7 +10,7 @@ ghost use Rattle.pm_tool.specs.Refusals.{Says, text_refusal};
 ghost use Rattle.pm_decode.specs.declared.hints.Hint.TheVariants.{Beyond};
 ghost use Rattle.pm_tool.specs.Execution.{End, EngineRuns, IsDone, IsEnd, NumberEnds, RunEnds, UsageEnds};
 ghost use Rattle.pm_tool.specs.Execution.{CheckRuns, OptionsEnd, TellEnds, TellRuns};
-ghost use Rattle.pm_tool.specs.Execution.{CutShort, IsToldDone, Printed, hint_words, refusal_line, wants_memory};
+ghost use Rattle.pm_tool.specs.Execution.{CutShort, IsToldDone, Printed, hint_words, log_status, refusal_line, wants_memory};
 ghost use Rattle.pm_tool.specs.Question.{asked_by};
 
 use crate::arguments::{texts_of, words_of};
@@ -146,9 +146,18 @@ fn run_check<R: Read, W: Write, E: Write>(
         × IsEnd W.contents E.contents output.old output.new errors.old errors.new result end }
 {
     match check_log(alloc, input, output) {
-        Ok(LogEnd::Accepted) => done(output, errors, 0),
-        Ok(LogEnd::Refused) => done(output, errors, 1),
+        Ok(end) => done(output, errors, status_of_log(end)),
         Err(fault) => refuse_text(errors, &fault),
+    }
+}
+
+// The status of a log whose verdict was printed.
+fn status_of_log(end: LogEnd) -> u8
+    ensures { result ≡ log_status end }
+{
+    match end {
+        LogEnd::Accepted => 0,
+        LogEnd::Refused => 1,
     }
 }
 
