@@ -2,4 +2,5 @@ mod EmptyLog
 mod EndLemmas
 mod Follow
 mod Pieces
+mod Pushes
 mod TextLemmas

@@ -209,7 +209,7 @@ said_line n text lines was known before (Err fault) at said left rest =
 
 read_lines : (lines : List (List ℕ)) (n : ℕ) (was known : Known) (before : List LogLine) → known_of before ≡ Ok was →
     (fold with_line (record { ended = n; log = Ok was }) lines).log ≡ Ok known → ReadLines n lines before known
-unfolding with_line
+unfolding with_line ok_fault
 read_lines [] n was known before at is = record { said = []; read = refl; come = at ∙ ap ok_fault (same_log _ _ _ refl is) }
 read_lines (text ∷ lines) n was known before at is =
     said_line n text lines was known before (line_said (n + 1, text)) at refl is
@@ -220,7 +220,7 @@ ended_ok : (n : ℕ) (log : Result Known Refusal) (known : Known) → at_end n l
 ended_ok n (Err refusal) known is = absurd (cc)
 ended_ok n (Ok was) known is = go was.host refl is
   where
-    go : (host : Option Summary) → was.host ≡ host → has_head n (Ok was) host ≡ Ok known → Ok was ≡ Ok known
+    go : (host : Option Summary) → was.host ≡ host → has_head n (Ok was) host ≡ Ok known → ◌≡◌ {A = Result Known Refusal} (Ok was) (Ok known)
     go None at is = absurd (cc)
     go (Some s) at is = is
 
