@@ -25,7 +25,7 @@ pub struct Refusal {
 pub struct Checked {
     // How many lines there were.
     ended: u64,
-    open: OpenLog,
+    so_far: OpenLog,
     refusal: Option<Refusal>,
 }
 
@@ -36,9 +36,9 @@ impl Model for Checked {
 
     ghost Value = { Lines };
 
-    ghost view = { λ c. record { ended = c.ended; log = kept_in c.open c.refusal } };
+    ghost view = { λ c. record { ended = c.ended; log = kept_in c.so_far c.refusal } };
 
-    ghost invariant = { λ c. (c.open.claims ≤ c.ended) × (c.open.transfers ≤ c.ended) };
+    ghost invariant = { λ c. (c.so_far.claims ≤ c.ended) × (c.so_far.transfers ≤ c.ended) };
 }
 
 impl Checked {
@@ -51,7 +51,7 @@ impl Checked {
     {
         Checked {
             ended: 0,
-            open: OpenLog::new(),
+            so_far: OpenLog::new(),
             refusal: None,
         }
     }
@@ -62,7 +62,7 @@ impl Checked {
     {
         match &self.refusal {
             Some(refusal) => Err(refusal),
-            None => Ok(&self.open),
+            None => Ok(&self.so_far),
         }
     }
 
@@ -82,7 +82,7 @@ impl Checked {
         let number = self.ended + 1;
         if self.refusal.is_none() {
             self.refusal = match line_of(alloc, number, text)? {
-                Ok(line) => refused(number, self.open.take(&line)),
+                Ok(line) => refused(number, self.so_far.take(&line)),
                 Err(fault) => refused(number, Err(LogFault::Line(fault))),
             };
         }
@@ -95,7 +95,7 @@ impl Checked {
         requires { self.old.ended + 1 < 2 ^ 64 }
         ensures { self.new ≡ record self.old { log = at_end self.old.ended self.old.log } }
     {
-        if self.refusal.is_none() && !self.open.has_head() {
+        if self.refusal.is_none() && !self.so_far.has_head() {
             self.refusal = Some(Refusal {
                 line: self.ended + 1,
                 fault: LogFault::NoHead,

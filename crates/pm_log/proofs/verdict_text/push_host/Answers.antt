@@ -10,4 +10,4 @@ returns c =
     let rest = c.args.words.now in
     let P : List ℕ → Type 0 = λ l. OnOk c.push_str-2.result (string_bytes c.push_str-2.new.self ≡ l) in
     subst P (ap (λ l. l ++ rest) c.in_ok-push_str.ensures.bytes ∙ append_assoc text (codes "there is no such host: ") rest)
-    (pushed c.push_str-2.result _ _ _ c.push_str-2.ensures.bytes)
+    (pushed c.push_str-2.result (string_bytes c.push_str-2.new.self) (string_bytes c.push_str.new.self) rest c.push_str-2.ensures.bytes)

@@ -15,4 +15,4 @@ returns c =
     (ap (λ l. l ++ rest) (c.in_ok-push_decimal.ensures ∙ ap (λ n. string_bytes c.push_str.new.self ++ decimal n) c.from.ensures
     ∙ ap (λ l. l ++ digits) c.in_ok-push_str.ensures.bytes)
     ∙ append_assoc (text ++ codes "output ") digits rest ∙ append_assoc text (codes "output ") (digits ++ rest))
-    (pushed c.push_str-2.result _ _ _ c.push_str-2.ensures.bytes)
+    (pushed c.push_str-2.result (string_bytes c.push_str-2.new.self) (string_bytes c.push_decimal.new.text) rest c.push_str-2.ensures.bytes)
