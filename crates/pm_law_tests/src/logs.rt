@@ -27,8 +27,8 @@ ghost use Rattle.pm_world.specs.Uncertainty.{AreOpen, since_restart};
 use crate::further::run_all;
 use pm_check::{Act, Claim, check};
 use pm_check_laws::{
-    accepted_claims_are_held, accepted_claims_stay, accepted_voltages_stay, unknown_claims_are_open,
-    unknown_voltages_are_open,
+    accepted_claims_are_held, accepted_claims_stay, accepted_voltages_stay,
+    unknown_claims_are_open, unknown_voltages_are_open,
 };
 use pm_device::Config;
 use pm_world::{Event, SetupFault, World};

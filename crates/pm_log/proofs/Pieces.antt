@@ -1,7 +1,5 @@
 -- What was taken of a reader, with a piece more, and at its end.
-use Rattle.std.proofs.Common.{◌≡◌, ◌+◌, ◌<◌, ◌≤◌, ℕ, List, [], ◌++◌, length, Option, Result, Ok, Err, refl, sym, ◌∙◌, ap, subst, arith, append-nil, length-append}
-use Rattle.std.proofs.Common.{Bool, IsFalse, IsTrue, IfOk, IfErr, ◌↔◌}
-use Rattle.std.specs.Prelude.{MatchResult}
+use Rattle.std.proofs.Common.{◌≡◌, ◌+◌, ◌<◌, ◌≤◌, ℕ, List, [], ◌++◌, length, Option, sym, ◌∙◌, ap, subst, arith, append-nil, length-append}
 use Rattle.std.specs.List.{fold}
 use Rattle.std.specs.Io.KnownBytes.{Consumes, IsAtEnd}
 use Rattle.std.proofs.KnownBytes.{Consumes-nil, Consumes-trans}
@@ -70,25 +68,3 @@ grown r0 r1 r2 front old new taken count piece =
     let size = length-append front piece.bytes in
     let same = piece.count_is in
     omega (arith, before, after, size, same)
-
--- what a piece that was read comes to, by its result
-pub takes_at : (r1 r2 : Option (List ℕ)) (old new : Kept) (result : Result ℕ TextFault) (count : ℕ) → result ≡ Ok count →
-    IfOk result (λ count. TakesPiece r1 r2 old new count) → TakesPiece r1 r2 old new count
-takes_at r1 r2 old new result count is took =
-    subst (λ (r : Result ℕ TextFault). IfOk r (λ count. TakesPiece r1 r2 old new count)) is took
-
-pub sound_at : (result : Result ℕ TextFault) (count : ℕ) (failed : Bool) → result ≡ Ok count →
-    MatchResult result (λ _. IsFalse failed) (λ fault. IsTrue failed ↔ (fault ≡ Read)) → IsFalse failed
-sound_at result count failed is why =
-    subst (λ (r : Result ℕ TextFault). MatchResult r (λ _. IsFalse failed) (λ fault. IsTrue failed ↔ (fault ≡ Read))) is why
-
--- why no piece was taken, by its result
-pub stops_at : (r1 r2 : Option (List ℕ)) (old : Kept) (result : Result ℕ TextFault) (fault : TextFault) → result ≡ Err fault →
-    IfErr result (λ fault. StopsPiece r1 r2 old fault) → StopsPiece r1 r2 old fault
-stops_at r1 r2 old result fault is stopped =
-    subst (λ (r : Result ℕ TextFault). IfErr r (λ fault. StopsPiece r1 r2 old fault)) is stopped
-
-pub why_at : (result : Result ℕ TextFault) (fault : TextFault) (failed : Bool) → result ≡ Err fault →
-    MatchResult result (λ _. IsFalse failed) (λ fault. IsTrue failed ↔ (fault ≡ Read)) → IsTrue failed ↔ (fault ≡ Read)
-why_at result fault failed is why =
-    subst (λ (r : Result ℕ TextFault). MatchResult r (λ _. IsFalse failed) (λ fault. IsTrue failed ↔ (fault ≡ Read))) is why

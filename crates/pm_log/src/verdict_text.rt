@@ -19,7 +19,7 @@ pub(crate) fn push_verdict(text: &mut String, checked: &Checked) -> Result<(), A
     text.push_str("\n")
 }
 
-// The same without the line feed.
+// Appends the words of that line, and no line feed.
 #[tactic(auto, using(pm_lines::specs::Lemmas::Joins::joins))]
 fn push_words(text: &mut String, checked: &Checked) -> Result<(), AllocError>
     ensures { OnOk result (string_bytes text.new ≡ string_bytes text.old ++ spec.verdict_words checked.now.log) }

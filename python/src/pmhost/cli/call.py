@@ -206,12 +206,12 @@ class Call:
             is_board = self._rails is not None and self._rails.is_board
             self._log = Log(self._log_path, f"pmhost {' + '.join(said(each) for each in self.commands)}", not is_board)
             if self._rails is not None and is_board:
-                self._places = {part.name: Place(part, limits, options, BusTrace(self._trace, part.bus), self._log)
+                self._places = {part.name: Place(part, limits, options, BusTrace(self._trace, part.bus), log=self._log)
                                 for part, limits in self._rails.made_for()}
             else:
                 only = BoardPart(ONLY, self.bus or "", self.address or MODEL_ADDRESS, self.counted(), "", self.lacks, self._one("ready"))
-                self._places = {ONLY: Place(only, self.limits, options, self._trace, self._log,
-                                            self.outputs or max(MODEL_OUTPUTS, self.counted()))}
+                self._places = {ONLY: Place(only, self.limits, options, self._trace, self.outputs or max(MODEL_OUTPUTS, self.counted()),
+                                            self._log)}
         return self._places
 
     @property
