@@ -1,5 +1,5 @@
 -- How a check of a log ends, by what was read and what was written.
-use Rattle.std.proofs.Common.{◌≡◌, ◌↔◌, ℕ, List, Option, Ok, Err, IsFalse, IsTrue, subst}
+use Rattle.std.proofs.Common.{◌≡◌, ◌↔◌, ℕ, List, Ok, Err, IsFalse, IsTrue, subst}
 use Rattle.std.specs.Io.KnownBytes.{Appends}
 use Rattle.pm_lines.specs.Engine.{Run}
 use Rattle.pm_lines.specs.Streams.{AppendsFront}

@@ -1,10 +1,9 @@
 -- Lines that are accepted, and the acts that they are.
-use Rattle.std.proofs.Common.{◌≡◌, ℕ, Bool, true, false, List, [], ◌∷◌, ◌++◌, Option, Some, None, Result, Ok, Err, refl, sym, ◌∙◌, ap, subst, cond}
-use Rattle.std.specs.Prelude.{if◌then◌else◌, ◌&&◌, not, IsSomeAnd, IfSome, option_map, reverse, is_some, is_none}
+use Rattle.std.proofs.Common.{◌≡◌, ℕ, Bool, true, false, List, [], ◌∷◌, ◌++◌, Option, Some, None, Result, Ok, Err, refl, sym, ◌∙◌, ap, subst}
+use Rattle.std.specs.Prelude.{IsSomeAnd, IfSome, option_map, reverse, is_none}
 use Rattle.std.specs.Option.{option_map_or}
 use Rattle.std.proofs.lemmas.Bool.{and_parts}
 use Rattle.std.proofs.lemmas.List.{reverse-reverse}
-use Rattle.pm_frame.specs.declared.message.Message.{Message}
 use Rattle.pm_host.specs.declared.fault.HostFault.{HostFault}
 use Rattle.pm_host.specs.declared.host.Told.{Told}
 use Rattle.pm_host.specs.declared.host.Told.TheVariants as told
@@ -13,19 +12,18 @@ use Rattle.pm_host.specs.declared.stage.Stage.{Stage}
 use Rattle.pm_host.specs.Jobs.{accepted_job, begin_fault}
 use Rattle.pm_host.specs.Lemmas.{accepted-free}
 use Rattle.pm_host.specs.Refusals.{is_busy, may_come, setup_fault}
-use Rattle.pm_host.specs.Summary.{Summary, next, sending_in, stage_message, start}
+use Rattle.pm_host.specs.Summary.{Summary, next, start}
 use Rattle.pm_host.specs.Told.{entry_told}
 use Rattle.pm_host.specs.Transcript as host
 use Rattle.pm_check.specs.declared.act.Act.{Act}
 use Rattle.pm_check.specs.declared.act.Act.TheVariants as act
 use Rattle.pm_check.specs.declared.claim.Claim.{Claim}
-use Rattle.pm_check.specs.declared.fault.ActFault.{ActFault}
 use Rattle.pm_check.specs.declared.fault.ActFault.TheVariants as act_fault
 use Rattle.pm_check.specs.declared.fault.CheckFault.TheVariants as check
-use Rattle.pm_check.specs.Log.{Accepts, AreClaimed, Checks, MightComeFrom, act_fault as fault_of, act_next, all_after, entry_of, is_claimed, is_own, told_fault}
+use Rattle.pm_check.specs.Log.{Accepts, Checks, MightComeFrom, act_next, all_after, is_claimed, is_own, told_fault}
 use Rattle.pm_log.specs.Jobs.{job_in}
 use Rattle.pm_log.specs.Laws.{Log, at_hand, held_by, known_of, known_by, log_of_lines, log_told, log_with, told_of, with_job, with_restart, with_transfer}
-use Rattle.pm_log.specs.Logs.{Known, begun_with, claimed, headed, is_address, judged, nothing, one_if, told as heard, told_with, unknown}
+use Rattle.pm_log.specs.Logs.{Known, begun_with, claimed, headed, is_address, judged, told as heard, told_with, unknown}
 use Rattle.pm_log.specs.Replays.{begun_by, first_told, fits, free, is_answer, named_told, transferred}
 use Rattle.pm_log.specs.declared.fault.LogFault.{LogFault}
 use Rattle.pm_log.specs.declared.log_line.LogLine.{LogLine}

@@ -1,5 +1,5 @@
 -- What was taken of a reader, with a piece more, and at its end.
-use Rattle.std.proofs.Common.{◌≡◌, ◌+◌, ◌<◌, ◌≤◌, ℕ, List, [], ◌++◌, length, Option, sym, ◌∙◌, ap, subst, arith, append-nil, length-append}
+use Rattle.std.proofs.Common.{◌≡◌, ◌+◌, ◌≤◌, ℕ, List, [], ◌++◌, length, Option, sym, ◌∙◌, ap, subst, arith, append-nil, length-append}
 use Rattle.std.specs.List.{fold}
 use Rattle.std.specs.Io.KnownBytes.{Consumes, IsAtEnd}
 use Rattle.std.proofs.KnownBytes.{Consumes-nil, Consumes-trans}
@@ -7,7 +7,7 @@ use Rattle.std.proofs.lemmas.List.{nil_from_length}
 use Rattle.pm_lines.specs.declared.fault.TextFault.{TextFault}
 use Rattle.pm_lines.specs.declared.fault.TextFault.TheVariants.{Syntax, BadHex, TooLong, Read, Write, Memory, Setup}
 use Rattle.pm_log.specs.TakenLogs.{StopsPiece, Taken, TakesPiece}
-use Rattle.pm_log.specs.Texts.{Breaks, IsAll, Kept, kept_of, most_bytes, no_byte, with_byte}
+use Rattle.pm_log.specs.Texts.{Breaks, IsAll, Kept, most_bytes, no_byte, with_byte}
 use Rattle.pm_log.proofs.TextLemmas.{kept_more, taken_is}
 
 -- nothing was read yet

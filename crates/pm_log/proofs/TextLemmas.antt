@@ -1,11 +1,11 @@
 -- The lines of a text, as its bytes come.
-use Rattle.std.proofs.Common.{arith, ◌≡◌, ◌<◌, ◌≤◌, ◌+◌, ℕ, suc, Bool, true, false, List, [], ◌∷◌, ◌++◌, length, take, Option, Some, None, Result, Ok, Err, refl, sym, ◌∙◌, ap, subst, append_assoc, cond, append-nil}
-use Rattle.std.specs.Prelude.{if◌then◌else◌, map, nat_lt, reverse}
-use Rattle.std.specs.List.{enumerate_from, fold, slice_split}
+use Rattle.std.proofs.Common.{arith, ◌≡◌, ◌≤◌, ◌+◌, ℕ, suc, Bool, true, false, List, [], ◌∷◌, ◌++◌, length, take, Option, Some, None, Result, Ok, Err, refl, sym, ◌∙◌, ap, subst, append_assoc, cond, append-nil}
+use Rattle.std.specs.Prelude.{map, nat_lt, reverse}
+use Rattle.std.specs.List.{enumerate_from, fold}
 use Rattle.std.proofs.lemmas.Bool.Decides.{nat_tests}
 use Rattle.std.proofs.lemmas.Grind.{fold-append}
 use Rattle.std.proofs.lemmas.List.{length-append, length-take, reverse-append, take-append-le, take_all}
-use Rattle.pm_lines.specs.Lines.{Numbered, has_bytes, is_line_feed, without_empty_last, without_return}
+use Rattle.pm_lines.specs.Lines.{has_bytes, is_line_feed, without_empty_last}
 use Rattle.pm_trace.specs.Marks.{ended, since}
 use Rattle.pm_trace.specs.Lemmas.Marks.{ended-mark, ended-other, since-mark, since-other, split-ended}
 use Rattle.pm_trace.specs.Lemmas.Said.{last_kept}

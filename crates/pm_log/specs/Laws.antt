@@ -1,6 +1,6 @@
 -- A log and the acts that it says: what its lines come to is what `pm_check` says of its acts and claims. Lists of lines and of
 -- acts are newest first. This project's own choice.
-use Rattle.std.specs.Prelude.{◌≡◌, ℕ, Bool, true, false, if◌then◌else◌, List, [], ◌∷◌, ◌++◌, reverse, Option, Some, None, IsSomeAnd, option_map, Result, Ok, Err}
+use Rattle.std.specs.Prelude.{◌≡◌, ℕ, true, false, if◌then◌else◌, List, [], ◌∷◌, ◌++◌, reverse, Option, Some, None, IsSomeAnd, option_map, Result, Ok, Err}
 use denote.Ref.{Bor}
 use Rattle.pm_host.specs.declared.host.Told.{Told}
 use Rattle.pm_host.specs.declared.host.Told.TheVariants as told

@@ -1,12 +1,11 @@
 -- What a line of a log says: a packet as a trace has it, a head, a claim, or nothing. The forms are this project's own choice.
 use Rattle.std.specs.Prelude.{ℕ, Bool, true, false, not, ◌||◌, nat_eq, if◌then◌else◌, List, [], ◌∷◌, drop, codes, Option, Some, None, Result, Ok, Err}
 use Rattle.std.specs.List.{starts_with, list_all}
-use Rattle.pm_table.specs.declared.cell.Cell.{Cell}
 use Rattle.pm_limits.specs.declared.part_registers.PartRegisters.{PartRegisters}
 use Rattle.pm_limits.specs.Part.{all_registers}
 use Rattle.pm_check.specs.declared.claim.Claim.TheVariants.{Holds, Commands}
 use Rattle.pm_lines.specs.Digits.{hex_of, signed_of, small_of}
-use Rattle.pm_lines.specs.Lines.{Numbered, WordsLeft, is_next, is_space}
+use Rattle.pm_lines.specs.Lines.{Numbered, is_next, is_space}
 use Rattle.pm_trace.specs.Trace.{line_read}
 use Rattle.pm_trace.specs.declared.line_fault.LineFault.{LineFault}
 use Rattle.pm_trace.specs.declared.line_fault.LineFault.TheVariants as unread

@@ -1,11 +1,11 @@
 -- What a transfer of a log tells the host that replays it. This project's own choice.
-use Rattle.std.specs.Prelude.{◌≡◌, ℕ, Bool, true, false, ◌&&◌, if◌then◌else◌, List, [], ◌∷◌, Option, Some, None, Result, Ok, Err}
+use Rattle.std.specs.Prelude.{ℕ, Bool, true, false, ◌&&◌, if◌then◌else◌, List, Option, Some, None, Result, Ok, Err}
 use Rattle.pm_host.specs.declared.fault.HostFault.{HostFault}
 use Rattle.pm_host.specs.declared.job.Job.{Job}
 use Rattle.pm_host.specs.Jobs.{begin_fault}
 use Rattle.pm_host.specs.Refusals.{is_busy, may_come}
 use Rattle.pm_host.specs.Summary.{Summary, next}
-use Rattle.pm_host.specs.Transcript.{Entry, Accepted, Finished, Got, Restarted}
+use Rattle.pm_host.specs.Transcript.{Entry, Got, Restarted}
 use Rattle.pm_check.specs.declared.act.Act.TheVariants.{Begun}
 use Rattle.pm_check.specs.Log.{act_next, is_own}
 use Rattle.pm_log.specs.Jobs.{job_in}

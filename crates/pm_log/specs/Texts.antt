@@ -1,5 +1,5 @@
 -- A log as a text: its lines, and what they come to. This project's own choice.
-use Rattle.std.specs.Prelude.{◌≡◌, ◌↔◌, ℕ, ◌+◌, ◌<◌, ◌≤◌, ◌-◌, ◌^◌, Bool, nat_lt, if◌then◌else◌, cond, List, [], ◌∷◌, ◌++◌, length, Option, Result, Ok, Err, IsTrue, IsFalse}
+use Rattle.std.specs.Prelude.{◌≡◌, ◌↔◌, ℕ, ◌+◌, ◌<◌, ◌≤◌, ◌^◌, nat_lt, if◌then◌else◌, List, [], ◌∷◌, ◌++◌, length, Option, Result, Ok, Err, IsTrue, IsFalse}
 use Rattle.std.specs.List.{fold, slice_split}
 use Rattle.std.specs.Io.KnownBytes.{Appends, Consumes, IsAtEnd}
 use Rattle.pm_lines.specs.Lines.{has_bytes, is_line_feed, without_empty_last}

@@ -1,5 +1,5 @@
 -- The line that says what a log comes to. This project's own choice.
-use Rattle.std.specs.Prelude.{ℕ, ℤ, ◌==◌, ◌%◌, Bool, if◌then◌else◌, List, [], ◌∷◌, ◌++◌, codes, decimal, flat_map, Result, Ok, Err}
+use Rattle.std.specs.Prelude.{ℕ, ℤ, ◌==◌, ◌%◌, if◌then◌else◌, List, [], ◌++◌, codes, decimal, flat_map, Result, Ok, Err}
 use Rattle.std.specs.Fmt.{signed_decimal}
 use Rattle.pm_frame.specs.FaultWords.{frame_fault_words}
 use Rattle.pm_host.specs.FaultWords.{host_fault_words}

@@ -1,9 +1,9 @@
 -- A word that is taken where it is the next one.
-use Rattle.std.proofs.Common.{◌≡◌, ◌∙◌, ℕ, Bool, true, false, List, [], ◌∷◌, Ok, Err, ap, refl, sym, subst}
+use Rattle.std.proofs.Common.{◌≡◌, ◌∙◌, ℕ, Bool, true, false, List, [], ◌∷◌, Ok, ap, refl, sym}
 use Rattle.std.specs.Result.{IfOk}
-use Rattle.std.specs.Prelude.{bytes_eq, drop, if◌then◌else◌}
+use Rattle.std.specs.Prelude.{bytes_eq}
 use Rattle.std.proofs.lemmas.Slice.Eq.{bytes_eq-Decides}
-use Rattle.pm_lines.specs.Lines.{WordsLeft, is_next}
+use Rattle.pm_lines.specs.Lines.{WordsLeft}
 use Rattle.pm_text.specs.Readers.{IsNotNext, first_word, word}
 use Rattle.pm_log.specs.Lines.{optional}
 use Rattle.pm_log.proofs.log_line.optional.Goals as goal
