@@ -2,7 +2,7 @@
 _pmb() {
     local word=${COMP_WORDS[COMP_CWORD]} command=${COMP_WORDS[1]-}
     if [ "$COMP_CWORD" = 1 ]; then
-        mapfile -t COMPREPLY < <(compgen -W "replay hear decode number --help --version" -- "$word")
+        mapfile -t COMPREPLY < <(compgen -W "replay hear decode check number --help --version" -- "$word")
     elif [ "$command" = number ]; then
         mapfile -t COMPREPLY < <(compgen -W "--format= --word= --micro= --help" -- "$word")
         compopt -o nospace

@@ -1,5 +1,6 @@
 pub mod EndLemmas
 pub mod GivenOptions
+pub mod LogLemmas
 pub mod OneText
 pub mod PartLemmas
 pub mod RangeLemmas

@@ -10,7 +10,7 @@ use Rattle.clap.specs.declared.error.Error.{Error}
 use Rattle.clap.specs.declared.error.kind.ErrorKind.TheVariants.{OutOfMemory}
 use Rattle.pm_tool.specs.Options.{option_rule}
 use Rattle.pm_tool.specs.declared.commandline.choice.Chosen.{Chosen}
-use Rattle.pm_tool.specs.declared.commandline.choice.Chosen.TheVariants.{Hear, Replay, Decode, Number}
+use Rattle.pm_tool.specs.declared.commandline.choice.Chosen.TheVariants.{Hear, Replay, Decode, Check, Number}
 
 -- ---- the commands, as the builder's calls make them
 
@@ -34,14 +34,14 @@ with_plain app name = with_subcommand app (new_app name).top
 
 -- the whole command line
 abbrev pub pmb : App
-pmb = with_subcommand (with_plain (with_plain (with_plain
+pmb = with_subcommand (with_plain (with_plain (with_plain (with_plain
     (with_required_subcommand (new_app (codes "pmb"))) (codes "hear")) (codes "replay")) (codes "decode"))
-    number_app.top
+    (codes "check")) number_app.top
 
 -- the names of the subcommands
 abbrev pub IsCommandName : Text → Type 0
 IsCommandName name = (name ≡ codes "hear") ⊎ (name ≡ codes "replay") ⊎ (name ≡ codes "decode")
-    ⊎ (name ≡ codes "number")
+    ⊎ (name ≡ codes "check") ⊎ (name ≡ codes "number")
 
 -- ---- what is chosen, by the subcommand's name and what was found for its options
 
@@ -49,6 +49,7 @@ abbrev pub Asks : Text → List Row → Chosen → Type 0
 Asks name rows Hear = name ≡ codes "hear"
 Asks name rows Replay = name ≡ codes "replay"
 Asks name rows Decode = name ≡ codes "decode"
+Asks name rows Check = name ≡ codes "check"
 Asks name rows (Number format word micro) = (name ≡ codes "number")
     × (format.now ≡ unwrap_or (first_of (codes "format") rows) [])
     × (option_map (λ s. s.now) word ≡ first_of (codes "word") rows)
@@ -102,6 +103,7 @@ abbrev pub HasValuesOf : List Given → Chosen → Type 0
 HasValuesOf given Hear = ⊥
 HasValuesOf given Replay = ⊥
 HasValuesOf given Decode = ⊥
+HasValuesOf given Check = ⊥
 HasValuesOf given (Number format word micro) =
     (format.now ≡ unwrap_or (text_of format_option given) [])
     × (option_map (λ s. s.now) word ≡ text_of word_option given)

@@ -21,6 +21,10 @@ use Rattle.pm_decode.specs.LongEngine.{Breaks, GaveAll, IsCut}
 use Rattle.pm_decode.specs.declared.hints.Hint.{Hint}
 use Rattle.pm_decode.specs.declared.hints.Hint.TheVariants.{Beyond, NoTimes, NoGoodPacket}
 use Rattle.pm_decode.specs.declared.options.TellOptions.{TellOptions}
+use Rattle.pm_log.specs.Texts.{IsAll, log_end, log_text}
+use Rattle.pm_log.specs.Texts.{Breaks as LogBreaks}
+use Rattle.pm_log.specs.declared.checking.LogEnd.{LogEnd}
+use Rattle.pm_log.specs.declared.checking.LogEnd.TheVariants.{Accepted as LogAccepted, Refused as LogRefused}
 use Rattle.pm_text.specs.Replay.{replaying}
 use Rattle.pm_text.specs.declared.replays.ReplayEnd.{ReplayEnd}
 use Rattle.pm_text.specs.declared.replays.ReplayEnd.TheVariants.{Ran as AllTaken, Stopped}
@@ -35,7 +39,7 @@ use Rattle.pm_tool.specs.Telling.{HasTexts, IsAsked, tell_app, tell_fault_status
 use Rattle.pm_tool.specs.declared.commandline.tell_fault.TellFault.{TellFault}
 use Rattle.pm_tool.specs.declared.commandline.telling.TellTexts.{TellTexts}
 use Rattle.pm_tool.specs.declared.commandline.choice.Chosen.{Chosen}
-use Rattle.pm_tool.specs.declared.commandline.choice.Chosen.TheVariants.{Hear, Replay, Decode, Number as NumberChosen}
+use Rattle.pm_tool.specs.declared.commandline.choice.Chosen.TheVariants.{Hear, Replay, Decode, Check, Number as NumberChosen}
 use Rattle.pm_tool.specs.declared.numbers.fault.NumberFault.{NumberFault}
 use Rattle.pm_tool.specs.declared.numbers.fault.NumberFault.TheVariants.{Num, Text as OfText}
 use Rattle.pm_tool.specs.declared.numbers.question.Question.{Question}
@@ -106,6 +110,11 @@ SaysAny contents old new (Some line) = Says contents old new line
 abbrev pub replay_status : ReplayEnd → ℕ
 replay_status AllTaken = 0
 replay_status Stopped = 1
+
+-- a log of which a line isn't accepted has status 1
+abbrev pub log_status : LogEnd → ℕ
+log_status LogAccepted = 0
+log_status LogRefused = 1
 
 -- a trace with bad lines has status 1
 abbrev pub decode_status : DecodeEnd → ℕ
@@ -184,6 +193,20 @@ abbrev pub TellEnds : {R : Type 0} → (R → Option (List ℕ)) → Held R → 
 TellEnds remaining old new given end = (asked : Result TellOptions TellFault) × IsAsked given asked
     × AskedEnds remaining old new asked end
 
+-- ---- `check`
+
+-- how a check of a log ends, by what its reader gave: the line of the whole log was printed, or nothing was
+abbrev pub CheckRuns : {R : Type 0} → (R → Option (List ℕ)) → Held R → Held R → End → Type 0
+CheckRuns remaining old new (Printed status text) = IsFalse new.failed × (input : List ℕ)
+    × IsAll (remaining old.inner) (remaining new.inner) input × (status ≡ log_status (log_end input)) × (text ≡ log_text input)
+CheckRuns remaining old new (Hinted status text words) = ⊥
+CheckRuns remaining old new (CutShort text) = IsFalse new.failed × (input : List ℕ)
+    × IsAll (remaining old.inner) (remaining new.inner) input × (text ≡ log_text input)
+CheckRuns remaining old new (Refused status words) = (status ≡ 1) × (fault : TextFault) × (words ≡ text_refusal fault)
+    × (IsTrue new.failed ↔ (fault ≡ Read)) × LogBreaks (remaining old.inner) (remaining new.inner) fault
+CheckRuns remaining old new (Broken text words) = ⊥
+CheckRuns remaining old new (Misused text) = ⊥
+
 -- ---- `number`
 
 -- why `number` refuses; memory is wanted only for a line to write
@@ -210,6 +233,7 @@ abbrev pub ChoiceEnds : {R : Type 0} → (R → Option (List ℕ)) → Held R �
 ChoiceEnds remaining old new Hear end = EngineRuns hearing (λ _. 0) remaining old new end
 ChoiceEnds remaining old new Replay end = EngineRuns replaying replay_status remaining old new end
 ChoiceEnds remaining old new Decode end = EngineRuns decoding decode_status remaining old new end
+ChoiceEnds remaining old new Check end = CheckRuns remaining old new end
 ChoiceEnds remaining old new (NumberChosen format word micro) end = (new ≡ old)
     × NumberEnds (asked_by format word micro) end
 

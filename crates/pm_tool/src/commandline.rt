@@ -1,7 +1,7 @@
 //! What the words of a command line choose, by the rules of `clap`.
 //!
-//! One level of subcommands, of which one is required: `hear`, `replay`, `decode`, and `number` with its
-//! three options.
+//! One level of subcommands, of which one is required: `hear`, `replay`, `decode`, `check`, and `number`
+//! with its three options.
 //! The options are optional for the parser, since which of them belong together is for `number` to
 //! judge.
 //!
@@ -57,6 +57,8 @@ pub fn chosen<'a>(alloc: Global, words: &'a [&'a str]) -> Result<Chosen<'a>, Err
         → UnlessMemory result (λ chosen. chosen ≡ Chosen.Replay) }
     ensures decode { (program : List ℕ) → texts words.entry.now ≡ program ∷ codes "decode" ∷ []
         → UnlessMemory result (λ chosen. chosen ≡ Chosen.Decode) }
+    ensures check { (program : List ℕ) → texts words.entry.now ≡ program ∷ codes "check" ∷ []
+        → UnlessMemory result (λ chosen. chosen ≡ Chosen.Check) }
     ensures number { (program : List ℕ) (given : List Given) → is_once given ≡ true
         → texts words.entry.now ≡ number_words program given
         → UnlessMemory result (HasValuesOf given) }
@@ -90,6 +92,7 @@ fn choice_of<'a>(name: &str, found: &ArgMatches<'a>) -> Chosen<'a>
         "hear" => Chosen::Hear,
         "replay" => Chosen::Replay,
         "decode" => Chosen::Decode,
+        "check" => Chosen::Check,
         "number" => Chosen::Number {
             format: text_of(found, "format"),
             word: found.get_str("word"),

@@ -9,8 +9,8 @@ ghost use Rattle.pm_tool.specs.Arguments.{arguments_of};
 ghost use Rattle.pm_tool.specs.Refusals.{Says, text_refusal};
 ghost use Rattle.pm_decode.specs.declared.hints.Hint.TheVariants.{Beyond};
 ghost use Rattle.pm_tool.specs.Execution.{End, EngineRuns, IsDone, IsEnd, NumberEnds, RunEnds, UsageEnds};
-ghost use Rattle.pm_tool.specs.Execution.{OptionsEnd, TellEnds, TellRuns};
-ghost use Rattle.pm_tool.specs.Execution.{CutShort, IsToldDone, Printed, hint_words, refusal_line, wants_memory};
+ghost use Rattle.pm_tool.specs.Execution.{CheckRuns, OptionsEnd, TellEnds, TellRuns};
+ghost use Rattle.pm_tool.specs.Execution.{CutShort, IsToldDone, Printed, hint_words, log_status, refusal_line, wants_memory};
 ghost use Rattle.pm_tool.specs.Question.{asked_by};
 
 use crate::arguments::{texts_of, words_of};
@@ -21,6 +21,7 @@ use crate::text_commands::{Decoding, Hearing, Replaying, TextCommand};
 use crate::text_faults::say_fault;
 use crate::usage::{Usage, usage_of};
 use pm_decode::{Hint, TellOptions, tell};
+use pm_log::{LogEnd, check_log};
 use pm_text::{Sink, Source, TextFault};
 use std::alloc::Global;
 use std::env::Args;
@@ -99,6 +100,7 @@ pub fn run<R: Read, W: Write, E: Write>(
         Ok(Chosen::Hear) => run_engine(&Hearing, alloc, input, output, errors),
         Ok(Chosen::Replay) => run_engine(&Replaying, alloc, input, output, errors),
         Ok(Chosen::Decode) => run_engine(&Decoding, alloc, input, output, errors),
+        Ok(Chosen::Check) => run_check(alloc, input, output, errors),
         Ok(
             Chosen::Number {
                 format,
@@ -127,6 +129,35 @@ fn run_engine<G: TextCommand, R: Read, W: Write, E: Write>(
     match engine.run(alloc, input, output) {
         Ok(end) => done(output, errors, engine.status_of(end)),
         Err(fault) => refuse_text(errors, &fault),
+    }
+}
+
+// `pmb check`: status 1 where a line of the log isn't accepted.
+fn run_check<R: Read, W: Write, E: Write>(
+    alloc: Global,
+    input: &mut Source<R>,
+    output: &mut Sink<W>,
+    errors: &mut Sink<E>,
+) -> u8
+    requires input { IsFalse input.old.failed }
+    requires output { IsFalse output.old.failed }
+    requires errors { IsFalse errors.old.failed }
+    ensures { (end : End) × CheckRuns R.remaining input.old input.new end
+        × IsEnd W.contents E.contents output.old output.new errors.old errors.new result end }
+{
+    match check_log(alloc, input, output) {
+        Ok(end) => done(output, errors, status_of_log(end)),
+        Err(fault) => refuse_text(errors, &fault),
+    }
+}
+
+// The status of a log whose verdict was printed.
+fn status_of_log(end: LogEnd) -> u8
+    ensures { result ≡ log_status end }
+{
+    match end {
+        LogEnd::Accepted => 0,
+        LogEnd::Refused => 1,
     }
 }
 

@@ -18,7 +18,8 @@ fn is_chosen<'a>(
 fn commands_are_chosen_by_their_names(rt: HostRuntime) -> Result<(), Fail> {
     is_chosen(&rt, &["pmb", "hear"], Chosen::Hear)?;
     is_chosen(&rt, &["pmb", "replay"], Chosen::Replay)?;
-    is_chosen(&rt, &["pmb", "decode"], Chosen::Decode)
+    is_chosen(&rt, &["pmb", "decode"], Chosen::Decode)?;
+    is_chosen(&rt, &["pmb", "check"], Chosen::Check)
 }
 
 #[test]

@@ -167,6 +167,9 @@ fn a_failed_reader_and_a_long_text_are_told(rt: HostRuntime) -> Result<(), Fail>
         }
         ends_reading(&rt, command, in_pieces(&long, 4096), "pmb: X3 TooLong\n");
     }
+    for fails_at in 1..=5 {
+        ends_at_read(&rt, "check", fails_at);
+    }
     Ok(())
 }
 
@@ -228,6 +231,8 @@ fn holds_a_front(rt: &(impl Abort + AllocGlobal), words: &[&str], text: &str) {
 #[test]
 fn a_failed_output_is_told_and_holds_a_front(rt: HostRuntime) {
     holds_a_front(&rt, &["pmb", "hear"], TAKEN);
+    let refused = "line 1: no #log line stands before it\n";
+    holds_a_front(&rt, &["pmb", "check"], refused);
     let number = ["pmb", "number", "--format=linear11", "--word=87FF"];
     holds_a_front(&rt, &number, "word 87FF value -1/65536 micro -16\n");
 }
@@ -256,7 +261,7 @@ fn flushed(alloc: Global, words: &[&str], text: &str, flush_fails: bool) -> Ran 
 }
 
 /// The option or the command, what is read, the status, what is printed and what is said.
-static HANDED_ON: [(&str, &str, u8, &str, &str); 7] = [
+static HANDED_ON: [(&str, &str, u8, &str, &str); 9] = [
     (
         "decode",
         "B0",
@@ -276,6 +281,20 @@ static HANDED_ON: [(&str, &str, u8, &str, &str); 7] = [
         "pmb: X2 BadHex line 2\n",
     ),
     ("number", "", 2, "", "pmb: give one of --word and --micro\n"),
+    (
+        "check",
+        "#log 58 2 2\nB0 06 02 00 21 / B1 02 CD 34 B9\n#holds 0 VOUT_COMMAND 34CD\n",
+        0,
+        "accepted: 1 claim, 1 transfer\n",
+        "",
+    ),
+    (
+        "check",
+        "#log 58 2 2\nB0 06 02 00 21 / B1 02 CD 34 B8\n#holds 0 VOUT_COMMAND 34CD\n",
+        1,
+        "line 3: 0 VOUT_COMMAND isn't known to hold 34CD: possible any\n",
+        "",
+    ),
 ];
 
 #[test]

@@ -7,7 +7,7 @@ use pm_tool::Source;
 use std::process::Abort;
 
 static MISSING: &str = "error: 'pmb' requires a subcommand but one was not provided
-  [subcommands: hear, replay, decode, number]
+  [subcommands: hear, replay, decode, check, number]
 
 Usage: pmb <COMMAND>
 
@@ -55,6 +55,7 @@ Commands:
   hear    Lets a model converter hear the frames of standard input
   replay  Replays a scenario between a host and a converter, and reports
   decode  Tells what the packets of a bus trace say
+  check   Checks a log: whether its transfers make its claims known
   number  Prints a word of a number format, its exact value and its whole millionths
 
 Options:

@@ -7,7 +7,7 @@ from typing import TYPE_CHECKING, Any, Callable, Iterable
 from . import _library as at
 from ._library import library
 from .errors import accepted, refusal
-from .states import Band, Bus, Known, Limits, RailState, Sending, Step
+from .states import Band, Bus, Known, Limits, Listener, RailState, Sending, Step
 from .transfers import Transfers
 from .values import NAMES, Format, code_of, frame_bytes, whole
 from .voltages import GivenVoltage, given_microvolts, of_microvolts
@@ -61,6 +61,9 @@ class Host:
     It says by `frame` what to send, and is told what became of it by `write_ended` or `read_ended`; `run` does so over a bus.
     Copies share nothing. It isn't for several threads at once.
     """
+
+    # Told of what `run` and `run_course` tell the host, and of restarts; a copy has none.
+    listener: Listener | None = None
 
     def __init__(self, address: int, outputs: int = 1, passes: int = 3, lacks: Iterable[str | int] = ()) -> None:
         self._image = at.HostImage()
@@ -171,6 +174,8 @@ class Host:
     def restart(self) -> None:
         """Drops the open job and all that is known; the limits stay."""
         accepted(library.pm_host_restart(REFERENCE(self._image)))
+        if self.listener is not None:
+            self.listener.restarted()
 
     # ---- Frames ----
 
@@ -216,8 +221,7 @@ class Host:
         kept.has_stored = False
         try:
             while (sending := self.frame()) is not None:
-                step = self.read_ended(self._asked(bus, sending, kept)) if sending.is_request \
-                    else self.write_ended(self._written(bus, sending, kept))
+                step = self._hear(sending, self._came(bus, sending, kept))
         except BaseException:
             self.give_up()
             raise
@@ -244,8 +248,7 @@ class Host:
                     order = None if sending.is_request or not has_hooks else course.job()
                     if order and before_order:
                         self._tell(before_order, order, course, *memory)
-                step = course.read_ended(self, self._asked(bus, sending, kept)) if sending.is_request \
-                    else course.write_ended(self, self._written(bus, sending, kept))
+                step = self._hear(sending, self._came(bus, sending, kept), course)
                 is_open = not step.is_over
                 if step.is_over and order and after_order:
                     after_order(order, step)
@@ -266,12 +269,19 @@ class Host:
     def give_up(self, course: Course | None = None) -> None:
         """Ends the open job, which may be a course's: its frames that are left aren't sent, and are told as failed."""
         while (sending := self.frame()) is not None:
-            if course is not None:
-                course.read_ended(self, b"") if sending.is_request else course.write_ended(self, False)
-            elif sending.is_request:
-                self.read_ended(b"")
-            else:
-                self.write_ended(False)
+            self._hear(sending, b"" if sending.is_request else False, course)
+
+    def _hear(self, sending: Sending, came: bytes | bool, course: Course | None = None) -> Step:
+        """The host, and the course that it carries out, are told what came of a frame."""
+        if self.listener is not None:
+            self.listener.told(sending, came)
+        if isinstance(came, bool):
+            return self.write_ended(came) if course is None else course.write_ended(self, came)
+        return self.read_ended(came) if course is None else course.read_ended(self, came)
+
+    def _came(self, bus: Bus, sending: Sending, transfers: Transfers) -> bytes | bool:
+        """What came of a frame: the answer to a request, or whether a write was acknowledged."""
+        return self._asked(bus, sending, transfers) if sending.is_request else self._written(bus, sending, transfers)
 
     def _written(self, bus: Bus, sending: Sending, transfers: Transfers) -> bool:
         """Sends a write: whether it was acknowledged."""

@@ -9,6 +9,8 @@ pub enum Chosen<'a> {
     Replay,
     /// `decode`: the trace on standard input is told line by line.
     Decode,
+    /// `check`: the log on standard input is checked.
+    Check,
     /// `number`: one word of a number format, as an exact value.
     Number {
         /// The text of `--format`, empty where the option is absent.

@@ -44,8 +44,18 @@ pub(super) fn pmb_command<'a>(alloc: Global) -> Result<Command<'a>, AllocError>
         helps::DECODE,
     );
     let with_decode = with_replay.subcommand(decoding)?;
+    let checking = text_command(
+        alloc,
+        (
+            "check",
+            "Checks a log: whether its transfers make its claims known",
+        ),
+        "pmb check < LOG",
+        helps::CHECK,
+    );
+    let with_check = with_decode.subcommand(checking)?;
     let numbers = number_command(alloc)?;
-    with_decode.subcommand(numbers)
+    with_check.subcommand(numbers)
 }
 
 // The program itself, of which a subcommand is required.

@@ -135,6 +135,30 @@ Status 1 where a line is bad, X1 Syntax or X2 BadHex, or with a line on standard
 X4 Read, X5 Write, X6 Memory. Status 2: give --vout with --values, bad vout, and the same of
 --readings; give --gap with --pages and --times, bad gap.";
 
+/// What the help of `check` shows at its end.
+pub(super) const CHECK: &str = "\
+A log is a trace of what one host sent to one part, with a head before it and claims in it:
+
+  #log 58 2 2                                           address, outputs, passes: a new host
+  B0 05 04 00 21 CD 34 5A                               a write that was acknowledged
+  #failed B0 05 04 00 21 CD 34 5A                       a write that wasn't
+  B0 06 02 00 21 / B1 02 CD 34 B9                       a request, and after / what came back, if anything
+  #holds 0 VOUT_COMMAND 34CD                            a claim: the register holds the word
+  #holds - WRITE_PROTECT 00                             the same of the device's register
+  #commands 0 3300000 to 3301000 uV                     a claim: the output commands a voltage between
+  #commands 0 3300000 to 3301000 uV without VOUT_MIN    the same of a part without this register
+  ## 2026-11-29 station 4                               a note
+
+The transfers are replayed through a host. A claim is accepted where that host knows it by the transfers
+since the head alone: then it is true of every part that gave these answers. The text may have any size.
+
+  $ printf '#log 58 2 2\\nB0 06 02 00 21 / B1 02 CD 34 B9\\n#holds 0 VOUT_COMMAND 34CD\\n' | pmb check
+  accepted: 1 claim, 1 transfer
+
+Otherwise one line says which line isn't accepted and why, and the status is 1. X1 Syntax and X2 BadHex
+say that it is no line of a log; pmb decode --help has the letters F1 to F8 of a packet. X3 TooLong,
+X4 Read, X5 Write and X6 Memory stand on standard error.";
+
 /// What the help of `number` shows at its end.
 pub(super) const NUMBER: &str = "\
 A word is 34CD, without 0x or h. K is in millionths: 3.3 V is 3300000; a negative one is written

@@ -147,6 +147,7 @@ def run_commands(call: Call) -> int:
         call.begin(arguments)
         is_order = getattr(arguments, "is_order", False)
         status = max(status, call.other_model(arguments) or is_order and call.no_part(arguments) or int(arguments.run(arguments)))
+        call.claim()
     return status or (call.ordered.look(call) if are_several(call.commands) else 0)
 
 

@@ -13,6 +13,7 @@ from ..bus.linux import ENDING, BusTrace, Calls
 from ..part import ModelPartBus
 from ..parts import MODEL_BUS, BoardPart
 from ..device import Device
+from ..log import Log
 from ..look import Look, Looks
 from ..models import why_other_model
 from ..rails import ONLY, Rail, Rails
@@ -84,6 +85,7 @@ class Call:
         self.commands, self.kernel, self.words = commands, kernel, ""
         self._places: dict[str, Place] = {}
         self._trace: Trace | None = None
+        self._log: Log | None = None
         self._rails: Rails | None = None
         self.under_way = self.maybe = self.unsaid = ""
         self.settled: str | Callable[[], str] = NOTHING
@@ -98,6 +100,7 @@ class Call:
         self.passes: int = self._one("passes") or PASSES
         self.lacks: tuple[str, ...] = self._one("lacks") or ()
         self.trace_path: str | None = self._one("trace")
+        self._log_path: str | None = self._one("log")
         self.delay: int = self._one("delay") or 0
         self.is_timed = bool(self._all("trace_times"))
         self.busy_timeout: int | None = self._one("busy_timeout")
@@ -208,12 +211,15 @@ class Call:
         if not self._places:
             options = Options(self.passes, self.delay, self.busy_timeout, self.is_forced, self.is_shared, self.kernel)
             self._trace = Trace(self.trace_path, head_of(self.words), self.is_timed)
-            if self._rails is not None and self._rails.is_board:
-                self._places = {part.name: Place(part, limits, options, BusTrace(self._trace, part.bus))
+            is_board = self._rails is not None and self._rails.is_board
+            self._log = Log(self._log_path, self.words, not is_board)
+            if self._rails is not None and is_board:
+                self._places = {part.name: Place(part, limits, options, BusTrace(self._trace, part.bus), log=self._log)
                                 for part, limits in self._rails.made_for()}
             else:
                 only = BoardPart(ONLY, self.bus or "", self.address or MODEL_ADDRESS, self.counted(), "", self.lacks, self._one("ready"), self.protect)
-                self._places = {ONLY: Place(only, self.limits, options, self._trace, self.outputs or max(MODEL_OUTPUTS, self.counted()))}
+                self._places = {ONLY: Place(only, self.limits, options, self._trace, self.outputs or max(MODEL_OUTPUTS, self.counted()),
+                                            self._log)}
         return self._places
 
     @property
@@ -272,12 +278,18 @@ class Call:
             found.why += PROBE_TELLS
         return found
 
+    def claim(self) -> None:
+        """A command has ended: its log, where one is written, claims what is known then."""
+        if self._log is not None:
+            self._log.claim()
+
     def close(self) -> None:
         """Closes the buses that were opened."""
         for each in self._places.values():
             each.close()
-        if self._trace is not None:
-            self._trace.close()
+        for file in (self._trace, self._log):
+            if file is not None:
+                file.close()
 
     # ---- What is said ----
 
@@ -293,8 +305,9 @@ class Call:
         self.say_lines(lines)
         if answer.why:
             complain(f"{answer.command}: {answer.why}")
-        if self._trace is not None:
-            self._trace.raise_fault()
+        for file in (self._trace, self._log):
+            if file is not None:
+                file.raise_fault()
         return answer.status
 
     def where(self) -> dict[str, object]:

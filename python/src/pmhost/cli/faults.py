@@ -37,7 +37,7 @@ A job is a command of pmhost with its options, which orders outputs without limi
 or part and a frame, as part B0 00 01 ED, of which a / behind it says that a repeated start ends it. Each job is carried out,
 whatever became of those before. The status is 0 where each ended well, 1 where not."""
 # The options of a bus that the bus with faults doesn't have.
-OF_A_BUS = ("bus", "address", "trace", "json", "delay", "busy_timeout", "share_bus", "force")
+OF_A_BUS = ("bus", "address", "trace", "log", "json", "delay", "busy_timeout", "share_bus", "force")
 # How many of a hundred transfers a random fault strikes, where no rate is given.
 RATE = 25
 FRAME = re.compile(r"((?:[0-9A-Fa-f]{2} ?)+?)( ?/)?")

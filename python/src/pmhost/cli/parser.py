@@ -50,7 +50,7 @@ MISSING = {"O": "the output", "VOLTAGE": "the voltage, as 3.3V,", "REG": "the re
            "high|low": "high or low", "FILE": "the file", "KIND": "the kind, as sigrok,"}
 
 # The commands of the program pmb.
-PMB = ("replay", "hear", "decode", "number")
+PMB = ("replay", "hear", "decode", "check", "number")
 
 
 def line_of(message: str, program: str) -> str:
@@ -190,6 +190,7 @@ OPTIONS: dict[str, tuple[tuple[str, ...], dict[str, Any]]] = {
     "passes": (("--passes",), {"type": whole(1, 15, "passes"), "metavar": "N", "help": "how often a job is tried, 3 if left out"}),
     "trace": (("--trace",), {"type": file_of, "metavar": "FILE", "help": "appends what went over the wire, for pmb decode"}),
     "trace_times": (("--trace-times",), {"const": True, "help": "with --trace: each transfer has its time in microseconds, for pmb decode --times"}),
+    "log": (("--log",), {"type": file_of, "metavar": "FILE", "help": "appends a log with what is known after each command, for pmb check"}),
     "json": (("--json",), {"const": True, "help": "one object a command"}),
     "delay": (("--delay",), {"type": time_of(10, "delay"), "metavar": "TIME", "help": "how long to wait before each transfer, as 5ms"}),
     "busy_timeout": (("--busy-timeout",), {"type": time_of(60, "busy-timeout"), "metavar": "TIME",
@@ -220,4 +221,4 @@ def bus_options(parser: argparse.ArgumentParser, suffix: str = BEHIND) -> None:
     for name, (flags, words) in OPTIONS.items():
         action = "append_const" if "const" in words else "append"
         added = group.add_argument(*flags, dest=name + suffix, action=action, default=[], **words)
-        completed_by(added, {"bus": (MODEL_BUS,), "trace": FILES}.get(name))
+        completed_by(added, {"bus": (MODEL_BUS,), "trace": FILES, "log": FILES}.get(name))

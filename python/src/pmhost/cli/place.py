@@ -10,6 +10,7 @@ from ..bus.patient import Waits, timeout_of
 from ..part import ModelPartBus
 from ..parts import MODEL_BUS, BoardPart
 from ..device import Device
+from ..log import Log
 from ..survey import answers
 from ..transfers import Transfers
 from ..voltages import of_microvolts
@@ -30,8 +31,8 @@ class Place:
     """The part, with limits of its outputs. `outputs` is how many a model part has."""
 
     def __init__(self, part: BoardPart, limits: dict[int, tuple[int, int]], options: Options, trace: Trace,
-                 outputs: int | None = None) -> None:
-        self.part, self.limits, self._options, self._trace = part, limits, options, trace
+                 outputs: int | None = None, log: Log | None = None) -> None:
+        self.part, self.limits, self._options, self._trace, self._log = part, limits, options, trace, log
         self._outputs = outputs or part.outputs
         self._bus: ModelPartBus | LinuxBus | None = None
         self._pmbus: Device | None = None
@@ -80,6 +81,8 @@ class Place:
         if self._pmbus is None:
             bus, part = self.patient(), self.part
             self._pmbus = Device(bus, part.address, part.outputs, self._options.passes, lacks=part.lacks, looks=None)
+            if self._log is not None:
+                self._log.listen(self._pmbus.host, f"{part.name} bus {part.bus} address {part.address:02X}".strip(), self._pmbus.lacks)
             for output, pair in self.limits.items():
                 self._pmbus.host.set_limits(output, *(of_microvolts(each) for each in pair))
         return self._pmbus

@@ -8,7 +8,7 @@ use Rattle.clap.specs.declared.error.kind.ErrorKind.{ErrorKind}
 use Rattle.clap.specs.declared.error.kind.ErrorKind.TheVariants.{DisplayHelp, DisplayVersion, MissingSubcommand}
 use Rattle.clap.proofs.OnLiterals.{clap_on_literals}
 use Rattle.pm_tool.specs.declared.commandline.choice.Chosen.{Chosen}
-use Rattle.pm_tool.specs.declared.commandline.choice.Chosen.TheVariants.{Hear, Replay, Decode, Number}
+use Rattle.pm_tool.specs.declared.commandline.choice.Chosen.TheVariants.{Hear, Replay, Decode, Check, Number}
 use Rattle.pm_tool.specs.Commandline.{Asks, Given, HasValuesOf, UnlessMemory, number_words, pmb}
 use Rattle.pm_tool.proofs.GivenOptions.{first_text, number_met, number_passes, row}
 use Rattle.pm_tool.proofs.commandline.chosen.Goals as goal
@@ -54,6 +54,7 @@ hear_chosen : (rows : List Row) (chosen : Chosen) → Asks (codes "hear") rows c
 hear_chosen rows Hear asks = refl
 hear_chosen rows Replay asks = apart 104 114 (ap first_byte asks) refl
 hear_chosen rows Decode asks = apart 104 100 (ap first_byte asks) refl
+hear_chosen rows Check asks = apart 104 99 (ap first_byte asks) refl
 hear_chosen rows (Number format word micro) asks = apart 104 110 (ap first_byte asks.0) refl
 
 -- after `replay` alone the parser meets that subcommand, with no options
@@ -71,6 +72,7 @@ replay_chosen : (rows : List Row) (chosen : Chosen) → Asks (codes "replay") ro
 replay_chosen rows Hear asks = apart 114 104 (ap first_byte asks) refl
 replay_chosen rows Replay asks = refl
 replay_chosen rows Decode asks = apart 114 100 (ap first_byte asks) refl
+replay_chosen rows Check asks = apart 114 99 (ap first_byte asks) refl
 replay_chosen rows (Number format word micro) asks = apart 114 110 (ap first_byte asks.0) refl
 
 -- after `decode` alone the parser meets that subcommand, with no options
@@ -88,13 +90,33 @@ decode_chosen : (rows : List Row) (chosen : Chosen) → Asks (codes "decode") ro
 decode_chosen rows Hear asks = apart 100 104 (ap first_byte asks) refl
 decode_chosen rows Replay asks = apart 100 114 (ap first_byte asks) refl
 decode_chosen rows Decode asks = refl
+decode_chosen rows Check asks = apart 100 99 (ap first_byte asks) refl
 decode_chosen rows (Number format word micro) asks = apart 100 110 (ap first_byte asks.0) refl
+
+-- after `check` alone the parser meets that subcommand, with no options
+check_met : (program : Text) → subcommand_of pmb (program ∷ codes "check" ∷ []) ≡ Some (codes "check", [])
+unfolding clap_on_literals
+check_met program = refl
+
+-- the parser finds no fault in `check` alone
+check_passes : (program : Text) → fault_of pmb (program ∷ codes "check" ∷ []) ≡ []
+unfolding clap_on_literals
+check_passes program = refl
+
+-- `check` is chosen where its rows are asked for
+check_chosen : (rows : List Row) (chosen : Chosen) → Asks (codes "check") rows chosen → chosen ≡ Check
+check_chosen rows Hear asks = apart 99 104 (ap first_byte asks) refl
+check_chosen rows Replay asks = apart 99 114 (ap first_byte asks) refl
+check_chosen rows Decode asks = apart 99 100 (ap first_byte asks) refl
+check_chosen rows Check asks = refl
+check_chosen rows (Number format word micro) asks = apart 99 110 (ap first_byte asks.0) refl
 
 -- `number` is chosen if it is met, with the texts that were given for its options
 given_chosen : (given : List Given) (chosen : Chosen) → Asks (codes "number") (map row given) chosen → HasValuesOf given chosen
 given_chosen given Hear asks = apart 110 104 (ap first_byte asks) refl
 given_chosen given Replay asks = apart 110 114 (ap first_byte asks) refl
 given_chosen given Decode asks = apart 110 100 (ap first_byte asks) refl
+given_chosen given Check asks = apart 110 99 (ap first_byte asks) refl
 given_chosen given (Number format word micro) asks = (
   asks.1 ∙ ap (λ o. unwrap_or o []) (first_text (codes "format") given),
   asks.2 ∙ first_text (codes "word") given,
@@ -139,6 +161,14 @@ returns-clause-decode c = λ program e.
     (λ met. Asks met.0 met.1 chosen))) e c.parsed.ensures.named)
     (subst (λ (t : List Text). FailsBy (fault_of pmb t) c.parsed.result) e c.parsed.ensures.kinds)
     (decode_met program) (decode_passes program) (decode_chosen [])
+
+pub returns-clause-check : goal.returns-clause-check
+returns-clause-check c = λ program e.
+    met c.parsed.result (program ∷ codes "check" ∷ []) (λ chosen. chosen ≡ Check)
+    (subst (λ (t : List Text). IfOk c.parsed.result (λ chosen. IsSomeAnd (subcommand_of pmb t)
+    (λ met. Asks met.0 met.1 chosen))) e c.parsed.ensures.named)
+    (subst (λ (t : List Text). FailsBy (fault_of pmb t) c.parsed.result) e c.parsed.ensures.kinds)
+    (check_met program) (check_passes program) (check_chosen [])
 
 pub returns-clause-number : goal.returns-clause-number
 returns-clause-number c = λ program given once e.

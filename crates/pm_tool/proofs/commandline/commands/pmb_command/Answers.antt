@@ -17,11 +17,14 @@ returns c =
     let hear : app_of c.text_command-hearing.result ≡ new_app (codes "hear") = c.text_command-hearing.ensures in
     let replay : app_of c.text_command-replaying.result ≡ new_app (codes "replay") = c.text_command-replaying.ensures in
     let decode : app_of c.text_command-decoding.result ≡ new_app (codes "decode") = c.text_command-decoding.ensures in
+    let check : app_of c.text_command-checking.result ≡ new_app (codes "check") = c.text_command-checking.ensures in
     let numbers : app_of c.in_ok-numbers.numbers ≡ number_app = c.in_ok-numbers.ensures in
     let with_hear = c.in_ok-with_hear.ensures.shape (no_globals _ _ hear refl) ∙ ap₂ with_subcommand top (ap (λ (a : App). a.top) hear) in
     let with_replay = c.in_ok-with_replay.ensures.shape (no_globals _ _ replay refl)
     ∙ ap₂ with_subcommand with_hear (ap (λ (a : App). a.top) replay) in
     let with_decode = c.in_ok-with_decode.ensures.shape (no_globals _ _ decode refl)
     ∙ ap₂ with_subcommand with_replay (ap (λ (a : App). a.top) decode) in
-    IfOk-weaker c.subcommand-4.result _ _ (λ command h. h.shape (no_globals _ _ numbers refl)
-    ∙ ap₂ with_subcommand with_decode (ap (λ (a : App). a.top) numbers)) c.subcommand-4.ensures
+    let with_check = c.in_ok-with_check.ensures.shape (no_globals _ _ check refl)
+    ∙ ap₂ with_subcommand with_decode (ap (λ (a : App). a.top) check) in
+    IfOk-weaker c.subcommand-5.result _ _ (λ command h. h.shape (no_globals _ _ numbers refl)
+    ∙ ap₂ with_subcommand with_check (ap (λ (a : App). a.top) numbers)) c.subcommand-5.ensures

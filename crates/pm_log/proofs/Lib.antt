@@ -1,0 +1,6 @@
+mod EmptyLog
+mod EndLemmas
+mod Follow
+mod Pieces
+mod Pushes
+mod TextLemmas

@@ -1,0 +1,112 @@
+-- A log and the acts that it says: what its lines come to is what `pm_check` says of its acts and claims. Lists of lines and of
+-- acts are newest first. This project's own choice.
+use Rattle.std.specs.Prelude.{◌≡◌, ℕ, true, false, if◌then◌else◌, List, [], ◌∷◌, ◌++◌, reverse, Option, Some, None, IsSomeAnd, option_map, Result, Ok, Err}
+use denote.Ref.{Bor}
+use Rattle.pm_host.specs.declared.host.Told.{Told}
+use Rattle.pm_host.specs.declared.host.Told.TheVariants as told
+use Rattle.pm_host.specs.declared.job.Job.{Job}
+use Rattle.pm_host.specs.Refusals.{is_busy}
+use Rattle.pm_host.specs.Summary.{Summary, start}
+use Rattle.pm_host.specs.Told.{entry_told}
+use Rattle.pm_host.specs.Transcript.{Setup}
+use Rattle.pm_check.specs.declared.act.Act.{Act}
+use Rattle.pm_check.specs.declared.act.Act.TheVariants as act
+use Rattle.pm_check.specs.declared.claim.Claim.{Claim}
+use Rattle.pm_check.specs.declared.fault.CheckFault.TheVariants as check
+use Rattle.pm_check.specs.Log.{Accepts, Checks, all_after}
+use Rattle.pm_log.specs.Jobs.{job_in}
+use Rattle.std.specs.Prelude.{map}
+use Rattle.std.specs.List.{enumerate_from}
+use Rattle.pm_log.specs.Logs.{Known, judged, line_said, nothing}
+use Rattle.pm_log.specs.Texts.{log_of, raw_lines}
+use Rattle.pm_text.specs.declared.scenario.fault.ScenarioFault.{ScenarioFault}
+use Rattle.pm_log.specs.Replays.{fits, is_answer}
+use Rattle.pm_log.specs.declared.fault.LogFault.{LogFault}
+use Rattle.pm_log.specs.declared.log_line.LogLine.{LogLine}
+use Rattle.pm_log.specs.declared.log_line.LogLine.TheVariants.{Note, Head, Claimed, Sent, Failed}
+
+-- ---- the acts of lines
+
+-- what a host was made with, and its acts
+pub record Log : Type 0 where
+  pub setup : Setup
+  pub acts : List Act
+
+-- what a host holds that was told them
+abbrev pub held_by : Log → Summary
+held_by log = all_after (start log.setup) log.acts
+
+-- bytes as an act has them, wherever they stand
+abbrev pub at_hand : List ℕ → Bor (List ℕ)
+at_hand bytes = record { ref_ptr = (0, 0); now = bytes }
+
+-- what came of a packet, as a host is told of it
+abbrev pub told_of : Option (List ℕ) → Told
+told_of (Some bytes) = told.Got (at_hand bytes)
+told_of None = told.Finished true
+
+-- the acts after a restart, which comes where a job is open
+abbrev pub with_restart : Summary → List Act → List Act
+with_restart s before = if is_busy s then act.Restarted ∷ before else before
+
+-- the acts after the first frame of a job that it names; no act is one that names none
+abbrev pub with_job : Summary → Act → Result (Option Job) LogFault → List Act → List Act
+with_job s sent (Ok (Some job)) before = sent ∷ act.Begun job ∷ with_restart s before
+with_job s sent _ before = before
+
+-- the acts after a transfer, for a host that holds this
+abbrev pub with_transfer : Summary → List ℕ → Told → List Act → List Act
+with_transfer s frame came before = if fits s frame (entry_told came) then act.Sent (at_hand frame) came ∷ before
+    else with_job s (act.Sent (at_hand frame) came) (job_in s.setup.addr frame (is_answer (entry_told came))) before
+
+abbrev pub log_told : List ℕ → Told → Log → Log
+log_told frame came log = record log { acts = with_transfer (held_by log) frame came log.acts }
+
+-- the log with one line more
+abbrev pub log_with : Option Log → LogLine → Option Log
+log_with log Note = log
+log_with log (Head addr outputs passes) =
+    Some (record { setup = record { addr = addr; outputs = outputs; passes = passes }; acts = [] })
+log_with log (Claimed claim) = log
+log_with log (Sent parts) = option_map (log_told parts.write (told_of parts.read)) log
+log_with log (Failed write) = option_map (log_told write (told.Finished false)) log
+
+-- the log of lines: since the last head
+abbrev pub log_of_lines : List LogLine → Option Log
+log_of_lines [] = None
+log_of_lines (line ∷ before) = log_with (log_of_lines before) line
+
+-- ---- what lines come to
+
+abbrev pub known_by : Result Known LogFault → LogLine → Result Known LogFault
+known_by (Ok known) line = judged known line
+known_by (Err fault) line = Err fault
+
+abbrev pub known_of : List LogLine → Result Known LogFault
+known_of [] = Ok nothing
+known_of (line ∷ before) = known_by (known_of before) line
+
+-- ---- the law
+
+-- A claim in lines that are accepted is accepted by `check` of the acts of the lines before it; and a claim that isn't known after
+-- lines that are accepted is the one that `check` names.
+pub record LinesAreChecked : Type 0 where
+  pub accepted : (later before : List LogLine) (claim : Claim) (known : Known) → known_of (later ++ Claimed claim ∷ before) ≡ Ok known →
+      IsSomeAnd (log_of_lines before) (λ log. Accepts log.setup (reverse log.acts) (claim ∷ []))
+  pub refused : (before : List LogLine) (claim : Claim) (known : Known) (log : Log) (fault : LogFault) → known_of before ≡ Ok known →
+      log_of_lines before ≡ Some log → judged known (Claimed claim) ≡ Err fault →
+      Checks log.setup (reverse log.acts) (claim ∷ []) (Err (check.Claim 0))
+
+abbrev pub ok_line : LogLine → Result LogLine ScenarioFault
+ok_line line = Ok line
+
+-- The lines of a text that is accepted: each says something, and they come to what is known.
+pub record TextLines (text : List ℕ) (known : Known) : Type 0 where
+  pub lines : List LogLine
+  pub read : map line_said (enumerate_from 1 (raw_lines text)) ≡ map ok_line lines
+  pub come : known_of (reverse lines) ≡ Ok known
+
+-- A text that is accepted is lines that are, and each claim in it is accepted by `check` of the acts of the lines before it.
+pub record LogsAreChecked : Type 0 where
+  pub lines : (text : List ℕ) (known : Known) → log_of text ≡ Ok known → TextLines text known
+  pub claims : LinesAreChecked

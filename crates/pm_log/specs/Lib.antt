@@ -1,0 +1,10 @@
+-- What the crate promises.
+pub mod Holdings
+pub mod Jobs
+pub mod Laws
+pub mod Lines
+pub mod Logs
+pub mod Replays
+pub mod TakenLogs
+pub mod Texts
+pub mod Verdicts

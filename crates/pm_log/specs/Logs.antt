@@ -1,0 +1,135 @@
+-- What is known after the lines of a log, and the first of them that isn't accepted. This project's own choice.
+use Rattle.std.specs.Prelude.{ℕ, ◌+◌, ◌&&◌, Bool, true, false, nat_lt, nat_le, if◌then◌else◌, List, length, Option, Some, None, Result, Ok, Err}
+use Rattle.pm_table.specs.Cell.{is_cell}
+use Rattle.pm_table.specs.declared.cell.Cell.{Cell}
+use Rattle.pm_host.specs.declared.fault.HostFault.{HostFault}
+use Rattle.pm_host.specs.declared.knowledge.Possible.{Possible}
+use Rattle.pm_host.specs.declared.knowledge.Possible.TheVariants.{Any}
+use Rattle.pm_host.specs.Refusals.{setup_fault}
+use Rattle.pm_host.specs.Summary.{Summary, possible_at, start}
+use Rattle.pm_host.specs.Transcript.{Setup, Entry, Finished, Got}
+use Rattle.pm_check.specs.declared.claim.Claim.{Claim}
+use Rattle.pm_check.specs.declared.claim.Claim.TheVariants.{Holds, Commands}
+use Rattle.pm_check.specs.Log.{is_claimed}
+use Rattle.pm_lines.specs.Lines.{Numbered, without_return}
+use Rattle.pm_text.specs.declared.scenario.fault.ScenarioFault.{ScenarioFault}
+use Rattle.pm_text.specs.declared.scenario.fault.ScenarioFault.TheVariants.{Syntax}
+use Rattle.pm_log.specs.Lines.{said}
+use Rattle.pm_log.specs.Replays.{transferred}
+use Rattle.pm_log.specs.declared.checked.Refusal.{Refusal}
+use Rattle.pm_log.specs.declared.fault.LogFault.{LogFault}
+use Rattle.pm_log.specs.declared.fault.LogFault.TheVariants.{Line, NoHead, Address, Setup as NoHost, Word, Voltage}
+use Rattle.pm_log.specs.declared.log_line.LogLine.{LogLine}
+use Rattle.pm_log.specs.declared.log_line.LogLine.TheVariants.{Note, Head, Claimed, Sent, Failed}
+
+-- ---- what is known
+
+-- what the host of the last head holds, and how many claims were accepted and transfers told
+pub record Known : Type 0 where
+  pub host : Option Summary
+  pub claims : ℕ
+  pub transfers : ℕ
+
+abbrev pub nothing : Known
+nothing = record { host = None; claims = 0; transfers = 0 }
+
+-- ---- a head
+
+abbrev pub is_address : ℕ → Bool
+is_address addr = nat_le 0x08 addr && nat_le addr 0x77
+
+abbrev pub begun_with : Known → Option HostFault → Setup → Result Known LogFault
+begun_with known (Some fault) setup = Err (NoHost fault)
+begun_with known None setup = Ok (record known { host = Some (start setup) })
+
+abbrev pub headed : Known → Setup → Result Known LogFault
+headed known setup = if is_address setup.addr then begun_with known (setup_fault setup.outputs setup.passes) setup
+    else Err Address
+
+-- ---- a claim
+
+-- the words that a cell may hold; any, where it isn't there
+abbrev pub left_possible : Summary → Cell → Possible
+left_possible s cell = if is_cell s.setup.outputs cell then possible_at s cell else Any
+
+-- why a claim isn't known
+abbrev pub unknown : Summary → Claim → LogFault
+unknown s (Holds cell word) = Word cell word (left_possible s cell)
+unknown s (Commands output part least most) = Voltage output least most
+
+abbrev pub claimed : Known → Option Summary → Claim → Result Known LogFault
+claimed known None claim = Err NoHead
+claimed known (Some s) claim = if is_claimed s claim then Ok (record known { claims = known.claims + 1 })
+    else Err (unknown s claim)
+
+-- ---- a transfer
+
+abbrev pub one_if : Bool → ℕ
+one_if false = 0
+one_if true = 1
+
+abbrev pub told_with : Known → Result (Summary × Bool) LogFault → Result Known LogFault
+told_with known (Ok (s, is_told)) = Ok (record { host = Some s; claims = known.claims; transfers = known.transfers + one_if is_told })
+told_with known (Err fault) = Err fault
+
+abbrev pub told : Known → Option Summary → List ℕ → Entry → Result Known LogFault
+told known None frame entry = Err NoHead
+told known (Some s) frame entry = told_with known (transferred s frame entry)
+
+-- what came of a packet: an answer, or the acknowledgement of a write
+abbrev pub came_of : Option (List ℕ) → Entry
+came_of (Some bytes) = Got bytes
+came_of None = Finished true
+
+-- ---- a line
+
+-- what is known with one line more, or why it isn't accepted
+abbrev pub judged : Known → LogLine → Result Known LogFault
+judged known Note = Ok known
+judged known (Head addr outputs passes) = headed known (record { addr = addr; outputs = outputs; passes = passes })
+judged known (Claimed claim) = claimed known known.host claim
+judged known (Sent parts) = told known known.host parts.write (came_of parts.read)
+judged known (Failed write) = told known known.host write (Finished false)
+
+abbrev pub read_judged : Known → Result LogLine ScenarioFault → Result Known LogFault
+read_judged known (Ok line) = judged known line
+read_judged known (Err fault) = Err (Line fault)
+
+-- the most bytes that a line may have, with a carriage return
+unfoldable pub max_line : ℕ
+max_line = 4096
+
+-- what a line says by its number and bytes
+abbrev pub line_said : Numbered → Result LogLine ScenarioFault
+line_said line = if nat_lt max_line (length line.1) then Err (Syntax line.0) else said (line.0, without_return line.1)
+
+-- ---- lines one after another
+
+-- how many lines there were, and what is known by them, or the first that isn't accepted
+pub record Checked : Type 0 where
+  pub ended : ℕ
+  pub log : Result Known Refusal
+
+abbrev pub no_line : Checked
+no_line = record { ended = 0; log = Ok nothing }
+
+abbrev pub or_refused : ℕ → Result Known LogFault → Result Known Refusal
+or_refused number (Ok known) = Ok known
+or_refused number (Err fault) = Err (record { line = number; fault = fault })
+
+-- what is known with one line more: nothing changes after the first that isn't accepted
+abbrev pub known_with : Result Known Refusal → Numbered → Result Known Refusal
+known_with (Err refusal) line = Err refusal
+known_with (Ok known) line = or_refused line.0 (read_judged known (line_said line))
+
+unfoldable pub with_line : Checked → List ℕ → Checked
+with_line checked text = record { ended = checked.ended + 1; log = known_with checked.log (checked.ended + 1, text) }
+
+-- a text needs a head
+abbrev pub has_head : ℕ → Result Known Refusal → Option Summary → Result Known Refusal
+has_head ended log None = Err (record { line = ended + 1; fault = NoHead })
+has_head ended log (Some s) = log
+
+abbrev pub at_end : ℕ → Result Known Refusal → Result Known Refusal
+at_end ended (Err refusal) = Err refusal
+at_end ended (Ok known) = has_head ended (Ok known) known.host

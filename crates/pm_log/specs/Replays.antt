@@ -1,0 +1,46 @@
+-- What a transfer of a log tells the host that replays it. This project's own choice.
+use Rattle.std.specs.Prelude.{ℕ, Bool, true, false, ◌&&◌, if◌then◌else◌, List, Option, Some, None, Result, Ok, Err}
+use Rattle.pm_host.specs.declared.fault.HostFault.{HostFault}
+use Rattle.pm_host.specs.declared.job.Job.{Job}
+use Rattle.pm_host.specs.Jobs.{begin_fault}
+use Rattle.pm_host.specs.Refusals.{is_busy, may_come}
+use Rattle.pm_host.specs.Summary.{Summary, next}
+use Rattle.pm_host.specs.Transcript.{Entry, Got, Restarted}
+use Rattle.pm_check.specs.declared.act.Act.TheVariants.{Begun}
+use Rattle.pm_check.specs.Log.{act_next, is_own}
+use Rattle.pm_log.specs.Jobs.{job_in}
+use Rattle.pm_log.specs.declared.fault.LogFault.{LogFault}
+use Rattle.pm_log.specs.declared.fault.LogFault.TheVariants.{NoJob, Refused}
+
+-- the frame is the one that the host sends, and this may come of it
+abbrev pub fits : Summary → List ℕ → Entry → Bool
+fits s frame entry = is_own s frame && may_come s entry
+
+-- the host with no job open: it restarts where one is
+abbrev pub free : Summary → Summary
+free s = if is_busy s then next s Restarted else s
+
+-- what came of the first frame of a job that was begun
+abbrev pub first_told : Summary → List ℕ → Entry → Result (Summary × Bool) LogFault
+first_told s frame entry = if fits s frame entry then Ok (next s entry, true) else Err NoJob
+
+-- a job begins with this frame
+abbrev pub begun_by : Option HostFault → Summary → Job → List ℕ → Entry → Result (Summary × Bool) LogFault
+begun_by (Some fault) s job frame entry = Err (Refused fault)
+begun_by None s job frame entry = first_told (act_next s (Begun job)) frame entry
+
+abbrev pub named_told : Summary → Result (Option Job) LogFault → List ℕ → Entry → Result (Summary × Bool) LogFault
+named_told s (Err fault) frame entry = Err fault
+named_told s (Ok None) frame entry = Ok (s, false)
+named_told s (Ok (Some job)) frame entry = begun_by (begin_fault (free s) job) (free s) job frame entry
+
+-- what came of a request
+abbrev pub is_answer : Entry → Bool
+is_answer (Got bytes) = true
+is_answer _ = false
+
+-- What a host holds after a transfer, and whether it was told of it: as the open job's next frame, or as the first of the job
+-- that the frame names. A read that is none of a job's says nothing to it.
+abbrev pub transferred : Summary → List ℕ → Entry → Result (Summary × Bool) LogFault
+transferred s frame entry = if fits s frame entry then Ok (next s entry, true)
+    else named_told s (job_in s.setup.addr frame (is_answer entry)) frame entry

@@ -1,0 +1,164 @@
+"""Logs: the lines that `pmhost --log` writes, and what `pmb check` says of them."""
+from __future__ import annotations
+
+import contextlib
+import io
+import os
+import subprocess
+import tempfile
+import unittest
+
+from pmhost import cli
+from pmhost.device import Device
+from pmhost.log import HostLog, Log, note_of
+from pmhost.part import ModelPart, ModelPartBus, Output
+
+# `pmb`, where it is there.
+PMB = os.environ.get("PMB")
+READ = "B0 06 02 00 21 / B1 02 CD 34 B9"
+
+
+class Deaf(ModelPartBus):
+    """A bus on which every write gets lost, and after some transfers every answer."""
+
+    left = 1000
+
+    def write(self, frame: bytes) -> bool:
+        return False
+
+    def read(self, request: bytes, count: int) -> bytes:
+        self.left -= 1
+        return super().read(request, count) if self.left >= 0 else b""
+
+
+def logged(bus: ModelPartBus) -> tuple[Device, HostLog, list[str]]:
+    """A device whose host has a log, and its lines."""
+    device, lines = Device(bus, 0x58, 2, 2), []
+    return device, HostLog(device.host, lines.append, device.lacks), lines
+
+
+def run(*words: str) -> int:
+    with contextlib.redirect_stdout(io.StringIO()), contextlib.redirect_stderr(io.StringIO()):
+        return cli.main(list(words))
+
+
+class Lines(unittest.TestCase):
+    def test_a_check_is_a_head_a_read_and_a_claim(self) -> None:
+        device, log, lines = logged(ModelPartBus(ModelPart(0x58, [Output(command=0x34CD)] * 2)))
+        device.check(0)
+        log.claim()
+        self.assertEqual(lines, ["#log 58 2 2", READ, "#holds 0 VOUT_COMMAND 34CD"])
+
+    def test_nothing_new_is_claimed_twice(self) -> None:
+        device, log, lines = logged(ModelPartBus(ModelPart(0x58, [Output(command=0x34CD)] * 2)))
+        device.check(0)
+        log.claim()
+        log.claim()
+        self.assertEqual(len(lines), 3)
+
+    def test_a_lost_write_is_a_failed_one(self) -> None:
+        bus = Deaf(ModelPart(0x58, [Output()] * 2))
+        device, log, lines = logged(bus)
+        with self.assertRaises(Exception):
+            device.order(0, "VOUT_COMMAND", 0x34CD)
+        self.assertEqual(lines[1], "#failed B0 05 04 00 21 CD 34 5A")
+        self.assertEqual(lines[2], "B0 06 02 00 21 / B1 02 00 10 41")
+
+    def test_only_one_possible_word_is_claimed(self) -> None:
+        bus = Deaf(ModelPart(0x58, [Output()] * 2))
+        bus.left = 1
+        device, log, lines = logged(bus)
+        device.check(0)
+        with self.assertRaises(Exception):
+            device.order(0, "VOUT_COMMAND", 0x34CD)
+        self.assertEqual(len(device.host.possible_words(0, "VOUT_COMMAND") or ()), 2)
+        log.claim()
+        self.assertFalse([line for line in lines if line.startswith("#holds")])
+
+    def test_no_answer_is_an_empty_read_part(self) -> None:
+        bus = Deaf(ModelPart(0x58, [Output()] * 2))
+        bus.left = 0
+        device, log, lines = logged(bus)
+        with self.assertRaises(Exception):
+            device.check(0)
+        self.assertEqual(lines, ["#log 58 2 2", "B0 06 02 00 21 /", "B0 06 02 00 21 /"])
+
+    def test_a_restart_of_the_host_is_another_head(self) -> None:
+        device, log, lines = logged(ModelPartBus(ModelPart(0x58, [Output()] * 2)))
+        device.restart()
+        self.assertEqual(lines, ["#log 58 2 2", "#log 58 2 2"])
+
+    def test_frames_that_were_given_up_are_failed_ones(self) -> None:
+        device, log, lines = logged(ModelPartBus(ModelPart(0x58, [Output()] * 2)))
+        device.host.order(0, "VOUT_COMMAND", 0x34CD)
+        device.host.give_up()
+        self.assertEqual(lines[1:], ["#failed B0 05 04 00 21 CD 34 5A", "B0 06 02 00 21 /"] * 2)
+
+    def test_a_copy_of_a_host_tells_nobody(self) -> None:
+        device, log, lines = logged(ModelPartBus(ModelPart(0x58, [Output()] * 2)))
+        other = device.host.copy()
+        other.restart()
+        self.assertEqual(lines, ["#log 58 2 2"])
+
+    def test_a_voltage_names_what_the_part_lacks(self) -> None:
+        device = Device(ModelPartBus(ModelPart(0x58, [Output()] * 2)), 0x58, 2, 2, lacks=("VOUT_MIN",))
+        lines: list[str] = []
+        log = HostLog(device.host, lines.append, device.lacks)
+        device.survey(0)
+        log.claim()
+        self.assertEqual(lines[-1], "#commands 0 1000000 to 1000000 uV without VOUT_MIN")
+
+    def test_a_note_is_one_short_line(self) -> None:
+        self.assertEqual(note_of("a\nb"), "## a\\nb")
+        self.assertLess(len(note_of("x" * 9000)), 4096)
+
+
+class Files(unittest.TestCase):
+    def setUp(self) -> None:
+        folder = tempfile.TemporaryDirectory()
+        self.addCleanup(folder.cleanup)
+        self.path = os.path.join(folder.name, "a.log")
+
+    def read(self) -> str:
+        with open(self.path, encoding="ascii") as file:
+            return file.read()
+
+    def test_a_call_writes_a_log(self) -> None:
+        self.assertEqual(run("-b", "model", "--outputs", "2", "--no-limit", "--log", self.path, "set", "0", "3.3V"), 0)
+        lines = self.read().splitlines()
+        self.assertEqual([line[:3] for line in lines[:4]], ["## ", "## ", "## ", "#lo"])
+        self.assertIn("#holds 0 VOUT_COMMAND 34CD", lines)
+        self.assertEqual(lines[-1], "#commands 0 3300048 to 3300049 uV")
+
+    def test_several_hosts_stand_one_after_another(self) -> None:
+        devices = [Device(ModelPartBus(ModelPart(0x58, [Output()])), 0x58) for _ in range(2)]
+        log = Log(self.path, "words", False)
+        for number, device in enumerate(devices):
+            log.listen(device.host, f"part {number}")
+        for device in (*devices, devices[0]):
+            device.check(0)
+        log.claim()
+        log.close()
+        lines = [line for line in self.read().splitlines() if not line.startswith("##")]
+        self.assertEqual([line.split()[0] for line in lines], ["#log", "B0", "B0", "#holds", "#log", "B0", "#holds"])
+
+    def test_a_file_that_fails_is_told(self) -> None:
+        self.assertEqual(run("-b", "model", "--log", "/nowhere/a.log", "learn", "0"), 2)
+
+    @unittest.skipIf(PMB is None, "PMB names no pmb")
+    def test_a_log_is_accepted(self) -> None:
+        run("-b", "model", "--outputs", "2", "--no-limit", "--log", self.path, "set", "0", "3.3V", "+", "survey", "1", "+", "store")
+        ran = subprocess.run([PMB or "", "check"], input=self.read(), capture_output=True, text=True, check=False)
+        self.assertEqual((ran.returncode, ran.stdout[:10]), (0, "accepted: "), ran.stdout)
+
+    @unittest.skipIf(PMB is None, "PMB names no pmb")
+    def test_a_claim_without_its_read_is_refused(self) -> None:
+        run("-b", "model", "--outputs", "2", "--log", self.path, "read", "0")
+        kept = "".join(line for line in self.read().splitlines(True) if "/ B1 02" not in line)
+        ran = subprocess.run([PMB or "", "check"], input=kept, capture_output=True, text=True, check=False)
+        self.assertEqual(ran.returncode, 1)
+        self.assertIn("0 VOUT_COMMAND isn't known to hold 1000: possible any", ran.stdout)
+
+
+if __name__ == "__main__":
+    unittest.main()

@@ -1,0 +1,289 @@
+#!/usr/bin/env python3
+"""Logs of apply, set and survey under drawn faults, restarts and interruptions, each checked by `pmb check`; and changed ones.
+
+    PMB=.. PMHOST_LIBRARY=.. trials/logs/run.py [--logs 1000] [--changed 20] [--seed 1]
+
+Each log that a call wrote has to be accepted, and each claim in it to be true of the model part: a word was held when the host last read
+its register, and is held where the part hasn't restarted since; a voltage is commanded where the part hasn't restarted in the log. Then each
+bit of each digit of some logs is changed, and each line dropped, doubled and moved: none is accepted with a claim that wasn't so.
+Ends in `N passed, M failed`.
+"""
+from __future__ import annotations
+
+import argparse
+import contextlib
+import io
+import os
+import random
+import subprocess
+import sys
+import tempfile
+import time
+
+sys.path.insert(1, os.path.dirname(os.path.dirname(os.path.abspath(__file__))))
+import paths  # noqa: F401,E402  (it puts the package's folder on the path)
+
+from pmhost import cli, log  # noqa: E402
+from pmhost.bus.linux import NoTransfer, Trace  # noqa: E402
+from pmhost.cli import place  # noqa: E402
+from pmhost.part import ModelPart, ModelPartBus, Output  # noqa: E402
+from pmhost.packets import read_answer, read_request  # noqa: E402
+from pmhost.errors import PmhostError  # noqa: E402
+from pmhost.values import CODES, NAMES  # noqa: E402
+from tally import Tally  # noqa: E402
+
+PMB = os.environ.get("PMB", "pmb")
+VOLTS = ("0.9V", "1V", "1.05V", "1.2V", "3.3V")
+RAILS = """
+[rails.core]
+output = 0
+volts = "{}"
+limits = ["0.8V", "3.5V"]
+[rails.io]
+output = 1
+volts = "{}"
+limits = ["0.8V", "3.5V"]
+"""
+
+
+class Struck(ModelPartBus):
+    """A bus with a model part that drawn faults strike. `truths` has a snapshot of the part's words beside each line of the log."""
+
+    draw = random.Random(0)
+    rate = 0.0
+    is_broken_off = False
+
+    def __init__(self, address: int, outputs: int = 2, trace: str | Trace | None = None) -> None:
+        draw = type(self).draw
+        super().__init__(ModelPart(address, [Output(command=draw.choice((0x1000, 0x34CD, 0x0F00)), operation=draw.choice((0x80, 0x80, 0x00)))
+                                             for _ in range(outputs)]))
+        self.trace = trace if isinstance(trace, Trace) else Trace(trace)
+        self.restarts = 0
+        Struck.last = self
+
+    def _strike(self, kinds: tuple[str, ...]) -> str:
+        draw = type(self).draw
+        if draw.random() < self.rate / 8:
+            self.part.restart()
+            self.restarts += 1
+        if type(self).is_broken_off and draw.random() < 0.04:
+            raise cli.Interrupted
+        return draw.choice(kinds) if draw.random() < self.rate else ""
+
+    def write(self, frame: bytes) -> bool:
+        struck = self._strike(("lost", "unacknowledged", "cut"))
+        if struck == "lost":
+            raise NoTransfer("no acknowledgement")
+        if struck == "cut":
+            super().write(frame[:-2])
+            raise NoTransfer("cut")
+        acked = super().write(frame)
+        if struck == "unacknowledged" or not acked:
+            raise NoTransfer("no acknowledgement")
+        return True
+
+    def read(self, request: bytes, count: int) -> bytes:
+        struck = self._strike(("lost", "late", "bit"))
+        if struck == "lost":
+            return b""
+        answer = super().read(request, count)
+        if struck == "late":
+            return b""
+        if struck == "bit" and answer:
+            at = type(self).draw.randrange(len(answer))
+            return answer[:at] + bytes([answer[at] ^ 1 << type(self).draw.randrange(8)]) + answer[at + 1:]
+        return answer
+
+    def close(self) -> None:
+        self.trace.close()
+
+
+class Truth:
+    """What the part held when the host last had a good answer for a register, and what it holds as a claim is made."""
+
+    def __init__(self) -> None:
+        self.read: dict[tuple[str, str], tuple[int, int]] = {}
+        self.wrong: list[str] = []
+        self.claims = 0
+
+    def heard(self, sending: object, came: bytes | bool) -> None:
+        if isinstance(came, bool) or not came:
+            return
+        bus = Struck.last
+        with contextlib.suppress(PmhostError):
+            asked = read_request(bus.part.address, sending.frame)
+            read_answer(bus.part.address, asked, came)
+            name = NAMES.get(asked.code)
+            if name in CODES:
+                place_of = "-" if name == "WRITE_PROTECT" else str(asked.page)
+                self.read[place_of, name] = (bus.part.word(asked.page or 0, name), bus.restarts)
+
+    def is_so(self, line: str) -> bool:
+        words, bus = line.split(), Struck.last
+        if words[0] == "#holds":
+            word, restarts = self.read[words[1], words[2]]
+            now = bus.part.word(0 if words[1] == "-" else int(words[1]), words[2])
+            return int(words[3], 16) == word and (restarts != bus.restarts or now == word)
+        if words[0] == "#commands" and not bus.restarts:
+            return int(words[2]) <= bus.part.voltage(int(words[1])).microvolts <= int(words[4])
+        return True
+
+
+def hooked(truth: Truth) -> None:
+    """Has the log's writer tell the truth's keeper."""
+    told, init = log.HostLog.told, log.HostLog.__init__
+
+    def told_too(self: log.HostLog, sending: object, came: bytes | bool) -> None:
+        told(self, sending, came)
+        truth.heard(sending, came)
+
+    def init_too(self: log.HostLog, host: object, note: object, lacks: frozenset[str] = frozenset()) -> None:
+        def noted(line: str) -> None:
+            if line.startswith(("#holds", "#commands")):
+                truth.claims += 1
+                if not truth.is_so(line):
+                    truth.wrong.append(line)
+            note(line)
+
+        init(self, host, noted, lacks)
+
+    log.HostLog.told, log.HostLog.__init__ = told_too, init_too
+
+
+def checked(text: bytes) -> tuple[int, str]:
+    """The status of `pmb check`, and its line."""
+    ran = subprocess.run([PMB, "check"], input=text, capture_output=True, timeout=60)
+    return ran.returncode, (ran.stdout + ran.stderr).decode()
+
+
+def words_of(draw: random.Random, rails: str, path: str) -> list[str]:
+    """A drawn call."""
+    bus = ["-b", "model", "--passes", str(draw.randint(1, 3)), "--log", path]
+    if draw.random() < 0.3:
+        return [*bus, draw.choice(("apply", "verify")), rails]
+    bus += ["--outputs", "2", "--no-limit"]
+    found: list[str] = []
+    for _ in range(draw.randint(1, 2)):
+        found += ["+"] * bool(found) + draw.choice((["survey", str(draw.randint(0, 1))], ["set", str(draw.randint(0, 1)), draw.choice(VOLTS)]))
+    return [*bus, *found]
+
+
+def write_log(draw: random.Random, folder: str, number: int, truth: Truth) -> bytes:
+    """One call's log."""
+    path, rails = os.path.join(folder, f"{number}.log"), os.path.join(folder, "rails.toml")
+    with open(rails, "w", encoding="ascii") as file:
+        file.write(RAILS.format(draw.choice(VOLTS), draw.choice(VOLTS)))
+    Struck.draw, Struck.rate, Struck.is_broken_off = draw, draw.choice((0.0, 0.05, 0.2)), draw.random() < 0.2
+    truth.read.clear()
+    with contextlib.redirect_stdout(io.StringIO()), contextlib.redirect_stderr(io.StringIO()):
+        cli.main(words_of(draw, rails, path))
+    with open(path, "rb") as file:
+        return file.read()
+
+
+def changes(lines: list[bytes], draw: random.Random) -> list[tuple[str, list[bytes]]]:
+    """Each bit of each digit changed; each line dropped, doubled, and moved to a drawn place."""
+    found = []
+    for at, line in enumerate(lines):
+        if line.startswith(b"##"):
+            continue
+        start = line.index(b" ") if line.startswith(b"#") else 0
+        for place_of in range(start, len(line)):
+            digit = chr(line[place_of])
+            if digit in "0123456789ABCDEF" and not (line.startswith(b"#") and digit.isalpha() and len(line[place_of - 1:].split(b" ")[0]) > 5):
+                for bit in range(4):
+                    other = b"%X" % (int(digit, 16) ^ 1 << bit)
+                    found.append(("bit", [*lines[:at], line[:place_of] + other + line[place_of + 1:], *lines[at + 1:]]))
+        rest = [*lines[:at], *lines[at + 1:]]
+        to = draw.randrange(len(lines))
+        found += [("dropped", rest), ("doubled", [*lines[:at], line, *lines[at:]]), ("moved", [*rest[:to], line, *rest[to:]])]
+    return found
+
+
+def tally_changes(logs: list[bytes], draw: random.Random, counts: dict[str, list[int]]) -> int:
+    """How many changed logs were accepted with a claim that the log as it was written doesn't have."""
+    false = 0
+    for text in logs:
+        lines = text.splitlines()
+        claims = {line for line in lines if line.startswith((b"#holds", b"#commands"))}
+        for kind, changed in changes(lines, draw):
+            status, _ = checked(b"\n".join(changed) + b"\n")
+            counts.setdefault(kind, [0, 0])[status == 0] += 1
+            if status == 0:
+                made = {line for line in changed if line.startswith((b"#holds", b"#commands"))}
+                false += any(not covers(line, claims) for line in made)
+    return false
+
+
+def covers(line: bytes, claims: set[bytes]) -> bool:
+    """A claim is one that was made, or one of a voltage that is wider than one that was made."""
+    if line in claims:
+        return True
+    words = line.split()
+    return words[0] == b"#commands" and any(
+        int(words[2]) <= int(made[2]) and int(made[4]) <= int(words[4])
+        for made in (claim.split() for claim in claims if claim.startswith(b"#commands")) if made[1] == words[1])
+
+
+def long_log(asked_bytes: int) -> tuple[bool, str]:
+    """A log of so many bytes, in at most 2 MB of memory."""
+    part = b"B0 06 02 00 21 / B1 02 CD 34 B9\n" * 2048
+    with tempfile.TemporaryFile() as file:
+        file.write(b"#log 58 2 2\n")
+        for _ in range(asked_bytes // len(part) + 1):
+            file.write(part)
+        file.write(b"#holds 0 VOUT_COMMAND 34CD\n")
+        file.seek(0)
+        child = subprocess.Popen([PMB, "check"], stdin=file, stdout=subprocess.PIPE)
+        most = 0
+        while child.poll() is None:
+            most = max(most, high_water(child.pid))
+            time.sleep(0.01)
+        line = child.stdout.read().decode() if child.stdout else ""
+    return child.returncode == 0 and 0 < most <= 2048, f"{line.strip()}; at most {most} kB of memory"
+
+
+def high_water(process: int) -> int:
+    """The most memory that a running process had, in kB; 0 where that can't be read."""
+    with contextlib.suppress(OSError), open(f"/proc/{process}/status", encoding="ascii") as file:
+        return next((int(line.split()[1]) for line in file if line.startswith("VmHWM")), 0)
+    return 0
+
+
+def main() -> int:
+    asked = argparse.ArgumentParser()
+    asked.add_argument("--logs", type=int, default=1000)
+    asked.add_argument("--changed", type=int, default=20)
+    asked.add_argument("--seed", type=int, default=1)
+    asked.add_argument("--bytes", type=int, default=100_000_000)
+    given = asked.parse_args()
+    place.ModelBus = Struck
+    truth, draw, tally, logs = Truth(), random.Random(given.seed), Tally(), []
+    hooked(truth)
+    with tempfile.TemporaryDirectory() as folder:
+        for number in range(given.logs):
+            text = write_log(draw, folder, number, truth)
+            status, line = checked(text)
+            tally.tell(f"log {number}", [*truth.wrong, *([line.strip()] if status else [])])
+            truth.wrong.clear()
+            logs.append(text)
+    print(f"{given.logs} logs, {truth.claims} claims")
+    short = sorted((text for text in logs if b"#holds" in text), key=len)[len(logs) // 4:][:given.changed]
+    counts: dict[str, list[int]] = {}
+    false = tally_changes(short, draw, counts)
+    for kind, (refused, taken) in sorted(counts.items()):
+        print(f"{kind}: {refused + taken} changed logs, {refused} refused, {taken} accepted with no other claim than was made")
+    tally.tell("changed logs", [f"{false} accepted with a claim that wasn't so"] if false else [])
+    is_well, words = long_log(given.bytes)
+    print(f"{given.bytes} bytes: {words}")
+    tally.tell("a long log", [] if is_well else [words])
+    rows = [(b"", 1, "line 1: no #log line stands before it\n"), (b"#log 59 2 2\nB0 03 46\n", 1, "line 2: no host sends this packet: F1 NotOurs\n"),
+            (b"#log 58 2 2\n#holds 2 VOUT_COMMAND 34CD\n", 1, "line 2: 2 VOUT_COMMAND isn't known to hold 34CD: possible any\n")]
+    for text, status, line in rows:
+        found = checked(text)
+        tally.tell(repr(text), [] if found == (status, line) else [f"{found}"])
+    return tally.end()
+
+
+if __name__ == "__main__":
+    sys.exit(main())
