@@ -153,10 +153,7 @@ where
         let mut again = Waits { begun: self.clock.now(), patience, next: FIRST_WAIT };
         let mut asked = again;
         let mut ended = self.bus.transaction(address, operations);
-        while ended.as_ref().is_err_and(Unheard::is_unheard)
-            && command != Some(STORE_USER_ALL)
-            && self.has_waited(&mut again)
-        {
+        while ended.as_ref().is_err_and(Unheard::is_unheard) && command != Some(STORE_USER_ALL) && self.has_waited(&mut again) {
             ended = self.bus.transaction(address, operations);
         }
         while self.has_waited(&mut asked) && !self.is_ready(address) {}

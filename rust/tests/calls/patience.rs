@@ -140,12 +140,7 @@ fn a_bus_may_be_borrowed_and_is_given_back() {
 type Told = (Option<u32>, Option<(u8, u8)>);
 
 /// How a job ends, the calls that the bus below saw, and how many milliseconds behind the first one the last came.
-fn carried_out(
-    job: Job,
-    passes: u8,
-    told: Told,
-    does: &'static str,
-) -> (Result<Done, NotDone<NotHeard<Failed>>>, String, u32) {
+fn carried_out(job: Job, passes: u8, told: Told, does: &'static str) -> (Result<Done, NotDone<NotHeard<Failed>>>, String, u32) {
     let time = Time(Rc::new(Kept::new(BEGIN)));
     let below = Scripted { does: does.as_bytes(), time: time.clone(), calls: String::new(), last: BEGIN };
     let bus = Patient::new(below, time);
