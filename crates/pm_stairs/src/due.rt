@@ -38,13 +38,7 @@ impl WordStep {
         match self.act {
             WordAct::Sets(wanted) => {
                 let output = self.output;
-                due_words(next_order_in(
-                    host,
-                    stage,
-                    part,
-                    limits,
-                    &Plan { output, wanted },
-                ))
+                due_words(next_order_in(host, stage, part, limits, &Plan { output, wanted }))
             }
             WordAct::Turns(byte) => due_byte(host, stage, self.output, byte),
         }
