@@ -1,6 +1,6 @@
 -- What is due in a step in words, by what a host knows, and what the stairs make of what the step's course says: this project's
 -- own choice.
-use Rattle.std.specs.Prelude.{ℕ, Bool, true, false, not, ◌&&◌, ◌||◌, ◌==◌, if◌then◌else◌, Option, Some, None, is_none, Result, Ok, Err}
+use Rattle.std.specs.Prelude.{ℕ, Bool, false, not, ◌&&◌, ◌==◌, if◌then◌else◌, Option, Some, None, is_none, Result, Ok, Err}
 use Rattle.pm_table.specs.declared.cell.Cell.{Cell}
 use Rattle.pm_table.specs.declared.cell.Cell.TheVariants.{Out}
 use Rattle.pm_table.specs.declared.reg.Reg.TheVariants.{Operation}
@@ -19,7 +19,7 @@ use Rattle.pm_rail.specs.Known.{known_word}
 use Rattle.pm_rail.specs.Orders.{plan_of}
 use Rattle.pm_rail.specs.Registers.{wants_of}
 use Rattle.pm_course.specs.declared.course_end.CourseEnd.{CourseEnd}
-use Rattle.pm_course.specs.declared.course_end.CourseEnd.TheVariants.{Reached, Refused, Differs, NoFormat, OtherSource, Spent}
+use Rattle.pm_course.specs.declared.course_end.CourseEnd.TheVariants.{Reached}
 use Rattle.pm_course.specs.declared.course_end.CourseNext.{CourseNext}
 use Rattle.pm_course.specs.declared.course_end.CourseNext.TheVariants.{Job, Ended}
 use Rattle.pm_stairs.specs.declared.due.Due.{Due}

@@ -8,7 +8,7 @@ ghost use Rattle.pm_stairs.specs.Due.{due_byte as spec_due_byte, due_now, due_wo
 use crate::step::{WordAct, WordStep, known_in};
 use pm_host::{Stage, State};
 use pm_limits::{Limits, PartRegisters};
-use pm_rail::{PlanFault, PlanOrder, next_order_in};
+use pm_rail::{Plan, PlanFault, PlanOrder, next_order_in};
 use pm_table::{Cell, Reg};
 
 /// What is due in a step.
@@ -36,14 +36,10 @@ impl WordStep {
         ensures { result ≡ due_now part limits.now (held stage host.now) self.now }
     {
         match self.act {
-            WordAct::Sets(words) => due_words(next_order_in(
-                host,
-                stage,
-                part,
-                limits,
-                self.output,
-                &words,
-            )),
+            WordAct::Sets(wanted) => {
+                let output = self.output;
+                due_words(next_order_in(host, stage, part, limits, &Plan { output, wanted }))
+            }
             WordAct::Turns(byte) => due_byte(host, stage, self.output, byte),
         }
     }

@@ -27,7 +27,7 @@ use Rattle.pm_stairs.specs.declared.stairs.Stairs.{Stairs}
 use Rattle.pm_stairs.specs.declared.stairs.Under.{Under}
 use Rattle.pm_stairs.specs.declared.step.Step.{Step}
 use Rattle.pm_stairs.specs.declared.step.WordStep.{WordStep}
-use Rattle.pm_stairs.specs.Due.{asked_for, due_now, ended_for, is_due_order, looking, ordered, said_of}
+use Rattle.pm_stairs.specs.Due.{asked_for, due_now, ended_for, is_due_order, looking, said_of}
 use Rattle.pm_stairs.specs.Stairs.{AsksAhead, Goes, GoesAhead, GoesUnder, SaysStep, ahead_move, begins_now, trying, under_move}
 use Rattle.pm_stairs.specs.Stairs as goes
 use Rattle.pm_stairs.specs.Steps.{noted, step_with}

@@ -1,6 +1,6 @@
 -- A caller that carries out a list of steps by the stairs, over a life: this project's own choice. Lists are newest first, but for the
 -- steps that are ahead, which stand as they come.
-use Rattle.std.specs.Prelude.{◌≡◌, ◌<◌, ℕ, true, false, List, [], ◌∷◌, ◌++◌, Option, Some, None, map}
+use Rattle.std.specs.Prelude.{◌≡◌, ◌<◌, ℕ, false, List, [], ◌∷◌, ◌++◌, Option, Some, None, map}
 use Rattle.pm_table.specs.declared.reg.Reg.{Reg}
 use Rattle.pm_device.specs.declared.config.Config.{Config}
 use Rattle.pm_host.specs.declared.job.Job.{Job as Asked}
@@ -9,8 +9,7 @@ use Rattle.pm_limits.specs.declared.part_registers.PartRegisters.{PartRegisters}
 use Rattle.pm_limits.specs.Guard.{Guarded}
 use Rattle.pm_rail.specs.Registers.{wants_of}
 use Rattle.pm_stairs.specs.declared.stairs.Move.{Move}
-use Rattle.pm_stairs.specs.declared.stairs.Move.TheVariants.{Job, Begins, Passes, Reached, Stops}
-use Rattle.pm_stairs.specs.declared.said.StepEnd.{StepEnd}
+use Rattle.pm_stairs.specs.declared.stairs.Move.TheVariants.{Job, Begins, Passes, Reached}
 use Rattle.pm_stairs.specs.declared.stairs.Stairs.{Stairs}
 use Rattle.pm_stairs.specs.declared.step.Step.{Step}
 use Rattle.pm_stairs.specs.declared.step.WordAct.{WordAct}

@@ -1,4 +1,4 @@
-use Rattle.std.proofs.Common.{◌≡◌, Bool, true, false, ap, refl, sym, subst, ◌∙◌}
+use Rattle.std.proofs.Common.{◌≡◌, Bool, true, false, ap, sym, subst, ◌∙◌}
 use Rattle.pm_limits.specs.Guard.{Guarded}
 use Rattle.pm_course.specs.declared.frame_course.FrameCourse.{FrameCourse}
 use Rattle.pm_stairs.specs.declared.said.Said.{Said}
