@@ -91,7 +91,7 @@ static LOGS: [(&str, &str); 42] = [
         "#log 58 2 2\nB0 10 / B1 00 60\n#holds - WRITE_PROTECT 00\n#holds - WRITE_PROTECT 20\n",
         "line 4: - WRITE_PROTECT isn't known to hold 20: possible 00\n",
     ),
-    // So does a head.
+    // A head begins with a host that knows nothing.
     (
         "#log 58 2 2\nB0 06 02 00 21 / B1 02 CD 34 B9\n#log 58 2 2\n#holds 0 VOUT_COMMAND 34CD\n",
         "line 4: 0 VOUT_COMMAND isn't known to hold 34CD: possible any\n",
