@@ -48,8 +48,8 @@ class Examples(unittest.TestCase):
             part.converter.set((0, CODES[register]), word)
         status, out, err = called([*BUS, "margin", "0", "high"], kernel.FakeKernel(part))
         self.assertEqual((status, out), (1, "margin 0: OPERATION A8 on, margin high confirmed; CUT: the output commands 3.3125V, within "
-                                            "3.135V to 3.465V, delivers 3.3125V; STATUS_WORD 8001 VOUT, NONE_OF_THE_ABOVE, STATUS_VOUT 08 "
-                                            "VOUT_MAX_MIN\n"))
+                                            "3.135V to 3.465V, delivers 3.3125V; STATUS_WORD 8001 VOUT, NONE_OF_THE_ABOVE and STATUS_VOUT "
+                                            "08 VOUT_MAX_MIN\n"))
 
     def test_the_board_with_several_parts(self):
         text = section("board-file", "A board with several parts")

@@ -63,7 +63,7 @@ class Heads(unittest.TestCase):
         self.assertGreater(len(times), 10)
         if pmb := os.environ.get("PMB"):
             told = subprocess.run([pmb, "decode", "--times"], input="\n".join(lines) + "\n", capture_output=True, text=True, check=False)
-            self.assertEqual((told.returncode, "PAGE_PLUS_WRITE" in told.stdout), (0, True), told.stdout + told.stderr)
+            self.assertEqual((told.returncode, " us 58 page 0 VOUT_COMMAND write 10CD\n" in told.stdout), (0, True), told.stdout + told.stderr)
 
     def test_transfers_of_a_board_have_theirs(self):
         lines = self.traced("--trace-times", "verify", self.board)

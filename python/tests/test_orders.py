@@ -86,7 +86,7 @@ class Orders(unittest.TestCase):
         self.assertEqual((status, err, part.seen), (0, "", seen))
         self.assertEqual(self.places(part.lines), ["00 21", "00 24"])
         self.assertIn("core: the output commands 3.350097V, within 3V to 3.6V, delivers 3.350097V; STATUS_WORD 8001 VOUT, "
-                      "NONE_OF_THE_ABOVE, set before this call\n", out)
+                      "NONE_OF_THE_ABOVE (set before this call)\n", out)
 
     def test_a_register_without_an_answer_is_asked_for_again(self):
         part = kernel.Part()

@@ -22,7 +22,8 @@ sys.exit(cli.main(sys.argv[3:], kernel.FakeKernel(kernel.Part(), sys.argv[2].spl
 """
 PART = "-b 7 -a 58 --outputs 2 --no-limit"
 ORDER = f"{PART} word 0 OPERATION 40"
-DONE = "word 0: OPERATION 40 off confirmed; what the output commands isn't known, since its format wasn't learned\n"
+DONE = ("word 0: OPERATION 40 off confirmed; what the output commands isn't known, since its format wasn't learned; the part says that it is "
+        "off\n")
 READ = "read 1: OPERATION 80 on confirmed\n"
 PROBING = "pmhost: probe: the part may note in STATUS_CML that it was asked for what it lacks, and pull SMBALERT#\n"
 PROBED = """probe: PEC yes, PAGE_PLUS yes, 1 output: 0 ULINEAR16 -12

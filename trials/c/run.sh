@@ -105,7 +105,7 @@ lost ok ok lost ok ok|--no-limit /dev/i2c-1 58 0 3300000|0|ended done, confirmed
 |--no-limit /dev/i2c-9 58 0 3300000|2||/dev/i2c-9: No such file or directory: load i2c-dev (modprobe i2c-dev), and look for the bus (ls /dev/i2c-*)
 |--no-limit /dev/i2c-5 58 0 3300000|2||another program drives 5-0058: fuser /dev/i2c-5 names who has the bus open
 |/dev/i2c-5 0x58 store|2||another program drives 5-0058: fuser /dev/i2c-5 names who has the bus open
-count|--no-limit --share-bus /dev/i2c-5 58 0 3300000|0|ended done, confirmed 34CD, 3300048 uV\n4 transfers, 0 ms|
+count|--no-limit --share-bus /dev/i2c-5 58 0 3300000|0|ended done, confirmed 34CD, 3300048 uV\n4 transfers, 10 ms|
 |--no-limit /dev/i2c-5 59 0 3300000|1||learn: 3 of 3 transfers failed, the last: Remote I/O error
 |--no-limit /dev/i2c-5 57 0 3300000|1||learn: 3 of 3 transfers failed, the last: Remote I/O error
 |--no-limit /dev/i2c-6 58 0 3300000|2||a line is held low: address 02, which no part may have, acknowledges
@@ -119,21 +119,24 @@ count|--no-limit --share-bus /dev/i2c-5 58 0 3300000|0|ended done, confirmed 34C
 |--limit=3465000:3135000 /dev/i2c-1 58 0 3300000|2||limit '3465000:3135000': give LEAST:MOST in microvolts, as 3135000:3465000
 |--limit=3.1V:3.5V /dev/i2c-1 58 0 3300000|2||limit '3.1V:3.5V': give LEAST:MOST in microvolts, as 3135000:3465000
 |--limit=3300000 /dev/i2c-1 58 0 3300000|2||limit '3300000': give LEAST:MOST in microvolts, as 3135000:3465000
-count ok ok deaf*40|--no-limit /dev/i2c-1 58 0 3300000|0|ended done, confirmed 34CD, 3300048 uV\n43 transfers, 195 ms|
-count ok ok ones*40|--no-limit /dev/i2c-1 58 0 3300000|0|ended done, confirmed 34CD, 3300048 uV\n43 transfers, 195 ms|
-count ok ok nacked*3|--no-limit /dev/i2c-1 58 0 3300000|0|ended done, confirmed 34CD, 3300048 uV\n7 transfers, 15 ms|
-count ok deaf*40 deaf ones*2|--no-limit /dev/i2c-1 58 0 3300000|0|ended done, confirmed 34CD, 3300048 uV\n46 transfers, 195 ms|
-count ok deaf|--no-limit /dev/i2c-1 58 0 3300000|0|ended done, confirmed 34CD, 3300048 uV\n5 transfers, 5 ms|
-count ok nacked ok ok|--no-limit /dev/i2c-1 58 0 3300000|0|ended done, confirmed 34CD, 3300048 uV\n7 transfers, 0 ms|
+count ok ok deaf*4|--no-limit /dev/i2c-1 58 0 3300000|0|ended done, confirmed 34CD, 3300048 uV\n8 transfers, 200 ms|
+count ok ok deaf*6|--no-limit /dev/i2c-1 58 0 3300000|0|ended done, confirmed 34CD, 3300048 uV\n11 transfers, 210 ms|
+count ok ok ones*4|--no-limit /dev/i2c-1 58 0 3300000|0|ended done, confirmed 34CD, 3300048 uV\n8 transfers, 200 ms|
+count ok ok nacked*3|--no-limit /dev/i2c-1 58 0 3300000|0|ended done, confirmed 34CD, 3300048 uV\n7 transfers, 150 ms|
+count ok deaf*5|--no-limit /dev/i2c-1 58 0 3300000|0|ended done, confirmed 34CD, 3300048 uV\n8 transfers, 200 ms|
+count ok deaf*3 ok ones|--no-limit /dev/i2c-1 58 0 3300000|0|ended done, confirmed 34CD, 3300048 uV\n8 transfers, 100 ms|
+count ok ok deaf*20|--no-limit /dev/i2c-1 58 0 3300000|1|ended unknown, the output may hold the old or the ordered word\n22 transfers, 600 ms|order: 5 of 6 transfers failed, the last: No such device or address; no answer was good
+count ok deaf|--no-limit /dev/i2c-1 58 0 3300000|0|ended done, confirmed 34CD, 3300048 uV\n5 transfers, 20 ms|
+count ok nacked ok ok|--no-limit /dev/i2c-1 58 0 3300000|0|ended done, confirmed 34CD, 3300048 uV\n7 transfers, 20 ms|
 count|--no-limit --patience=0 /dev/i2c-1 58 0 3300000|0|ended done, confirmed 34CD, 3300048 uV\n3 transfers, 0 ms|
 count ok deaf ok deaf ok deaf|--no-limit --patience=0 /dev/i2c-1 58 0 3300000|1|ended differs, confirmed 1000, 1000000 uV\n7 transfers, 0 ms|order: 3 of 6 transfers failed, the last: No such device or address; the write was lost, or the part refused, limited or rounded the word
-count ok ok deaf*8|--no-limit --patience=30 /dev/i2c-1 58 0 3300000|0|ended done, confirmed 34CD, 3300048 uV\n13 transfers, 30 ms|
+count ok ok deaf*8|--no-limit --patience=30 /dev/i2c-1 58 0 3300000|0|ended done, confirmed 34CD, 3300048 uV\n13 transfers, 80 ms|
 ok ok ones*3 ok ones ok ok ones ok ok ones|--no-limit /dev/i2c-1 58 0 3300000|1|ended unknown, the output may hold the old or the ordered word|order: 3 of 6 transfers failed, the last: nothing but FFh; no answer was good
 ones*3|--no-limit /dev/i2c-1 58 0 3300000|1||learn: 3 of 3 transfers failed, the last: nothing but FFh
-count|/dev/i2c-1 58 store|0|store acknowledged\n2 transfers, 0 ms|
-count ok deaf*300|/dev/i2c-1 58 store|0|store acknowledged\n201 transfers, 995 ms|
-count deaf|/dev/i2c-1 58 store|1|store unknown\n2 transfers, 0 ms|store: 1 of 1 transfers failed, the last: No such device or address
-count nacked ones*2|/dev/i2c-1 58 store|1|store unknown\n4 transfers, 10 ms|store: 1 of 1 transfers failed, the last: Remote I/O error
+count|/dev/i2c-1 58 store|0|store acknowledged\n2 transfers, 10 ms|
+count ok deaf*8|/dev/i2c-1 58 store|0|store acknowledged\n10 transfers, 5000 ms|
+count deaf|/dev/i2c-1 58 store|1|store unknown\n2 transfers, 10 ms|store: 1 of 1 transfers failed, the last: No such device or address
+count nacked ones*2|/dev/i2c-1 58 store|1|store unknown\n4 transfers, 70 ms|store: 1 of 1 transfers failed, the last: Remote I/O error
 deaf deaf deaf|--no-limit /dev/i2c-1 58 0 3300000|1||learn: 3 of 3 transfers failed, the last: No such device or address
 |--no-limit /dev/i2c-1 59 0 3300000|1||learn: 3 of 3 transfers failed, the last: Remote I/O error
 |--no-limit /dev/i2c-1 58 1 3300000|1||learn: 3 of 3 transfers failed, the last: Remote I/O error

@@ -74,7 +74,7 @@ JOBS = [
      "word 0: OPERATION 00 acknowledged\npart B0 06 02 00 01 /\nanswer B1 01 00 FA\n" + HELD, ""),
     ("--outputs=1 off 0", 0,
      "off 0\n  B0 05 03 00 01 00 8B  ok: part taken, acknowledged\n  B0 06 02 00 01 read 3  ok: part answer B1 01 00 FA, back B1 01 00 FA\n"
-     "off 0: OPERATION 00 off confirmed; what the output commands isn't known, since its format wasn't learned; the part says that it is off\noutput 0 holds 1000\n", ""),
+     "off 0: OPERATION 00 off confirmed; what the output commands isn't known, since its format wasn't learned\noutput 0 holds 1000\n", ""),
     ("part B1 02 + part B0 21 CD + part b0 fe bb + known 1 + part B0 21 CD 34 38 00 + part B0 05 01 00 21", 1,
      "part B1 02\nsilent\npart B0 21 CD\nrefused K1 Frame F2 Short 3\npart b0 fe bb\nrefused K2 UnsupportedCode\nknown 1\n"
      "1 OPERATION any\n1 VOUT_COMMAND any\n1 VOUT_MAX any\n1 VOUT_MARGIN_HIGH any\n1 VOUT_MARGIN_LOW any\n1 VOUT_MIN any\n"
