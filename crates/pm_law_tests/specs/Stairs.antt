@@ -1,5 +1,5 @@
 -- What steps of several outputs are worth for a caller, of the events of a run.
-use Rattle.std.specs.Prelude.{◌≡◌, ◌⊎◌, ◌<◌, ℕ, Bool, true, false, List, [], ◌∷◌, ◌++◌}
+use Rattle.std.specs.Prelude.{◌≡◌, ◌⊎◌, ◌<◌, ℕ, Bool, true, false, List, [], ◌∷◌, ◌++◌, map}
 use Rattle.pm_table.specs.declared.cell.Cell.{Cell}
 use Rattle.pm_table.specs.declared.reg.Reg.{Reg}
 use Rattle.pm_table.specs.Cell.{IsCell}
@@ -7,11 +7,20 @@ use Rattle.pm_model.specs.Settings.{word_at}
 use Rattle.pm_device.specs.declared.config.Config.{Config}
 use Rattle.pm_host.specs.Refusals.{is_busy}
 use Rattle.pm_limits.specs.declared.part_registers.PartRegisters.{PartRegisters}
+use Rattle.pm_limits.specs.Guard.{Guarded}
+use Rattle.pm_stairs.specs.declared.stairs.Move.TheVariants.{Reached}
+use Rattle.pm_stairs.specs.declared.stairs.Stairs.{Stairs}
+use Rattle.pm_stairs.specs.declared.step.Step.{Step}
+use Rattle.pm_stairs.specs.declared.step.WordStep.{WordStep}
+use Rattle.pm_stairs.specs.Stairs.{Goes}
+use Rattle.pm_stairs.specs.Steps.{step_of}
 use Rattle.pm_world.specs.declared.event.Event.{Event}
 use Rattle.pm_world.specs.Life.{now}
+use Rattle.pm_world.specs.Lived.{IsLived}
 use Rattle.pm_world.specs.Moves.{words_at}
 use Rattle.pm_world.specs.Plans.{held_at}
 use Rattle.pm_stairs_laws.specs.Back.{GoesBack, downs_of}
+use Rattle.pm_stairs_laws.specs.Climb.{IsClimb, IsGuardAt, first, rail_steps}
 use Rattle.pm_stairs_laws.specs.Ordered.{OrdersOnly}
 use Rattle.pm_stairs_laws.specs.Stairs.{AreOver, AreSound, IsStairs, RailStep, start_of}
 
@@ -36,4 +45,14 @@ ComesBack config passes events = (part : PartRegisters) (before stop : List Even
     let downs = downs_of (start_of config passes before) (step ∷ newest) [] [] in
     IsStairs config passes part stop downs events → AreOver config passes part downs events →
     (output : ℕ) (register : Reg) → output < config.count →
+    held_at config passes events output register ≡ held_at config passes before output register
+
+-- a caller that stopped, and went back by the stairs until they said that all is reached
+abbrev pub ClimbsReturn : Config → ℕ → List Event → Type 0
+ClimbsReturn config passes events = (part : PartRegisters) (steps : List Step) (before : List Event) (begun backs : List WordStep)
+    (ahead : List Step) (stairs : Stairs) (stop : List Event) (downs ups : List WordStep) (left : List Step) (back new : Stairs)
+    (g : Guarded) (tries : ℕ) → IsLived config passes stop →
+    IsClimb config passes part steps before begun backs ahead stairs stop → AreSound config passes part before (rail_steps begun) →
+    IsClimb config passes part (map step_of backs) stop downs ups left back events → IsGuardAt config passes part events g →
+    Goes g tries (first left) back Reached new → (output : ℕ) (register : Reg) → output < config.count →
     held_at config passes events output register ≡ held_at config passes before output register

@@ -1,14 +1,17 @@
 //! What steps of several outputs are worth after a run, whatever the events of the run and those of the steps.
 
 ghost use Rattle.std.specs.Prelude.{IfOk, OnSome, reverse};
+ghost use Rattle.pm_stairs_laws.specs.Climb.{ClimbsAreStairs};
+ghost use Rattle.pm_stairs_laws.specs.Due.{MovesAreDue};
 ghost use Rattle.pm_stairs_laws.specs.Followed.{StairsAreFollowed};
 ghost use Rattle.pm_stairs_laws.specs.Stairs.{KeepsStairs};
-ghost use Rattle.pm_law_tests.specs.Stairs.{CellsTake, ComesBack, StopsHaveAWayBack};
+ghost use Rattle.pm_law_tests.specs.Stairs.{CellsTake, ClimbsReturn, ComesBack, StopsHaveAWayBack};
 
 use crate::further::run_all;
 use pm_device::Config;
 use pm_stairs_laws::{
-    cells_take_what_is_ordered, stairs_are_followed, stairs_go_back, stairs_hold_in_lives,
+    cells_take_what_is_ordered, climbs_are_stairs, climbs_come_back, moves_are_due,
+    stairs_are_followed, stairs_go_back, stairs_hold_in_lives,
 };
 use pm_world::{Event, SetupFault, World};
 
@@ -54,4 +57,25 @@ pub fn steps_event_by_event()
     ensures { StairsAreFollowed }
 {
     stairs_are_followed();
+}
+
+/// A caller's own loop asks for what the stairs name, which is due, and so carries out its steps.
+pub fn steps_by_the_stairs()
+    ensures due { MovesAreDue }
+    ensures climbs { ClimbsAreStairs }
+{
+    moves_are_due();
+    climbs_are_stairs();
+}
+
+/// After a run that stopped anywhere and went back by the stairs, each register has its word of before.
+pub fn stairs_that_went_back(
+    c: Config,
+    passes: u8,
+    events: &[Event],
+) -> Result<Option<World>, SetupFault>
+    ensures { IfOk result (λ found. OnSome found (ClimbsReturn c passes (reverse events.now))) }
+{
+    climbs_come_back();
+    run_all(c, passes, events)
 }
