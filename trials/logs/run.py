@@ -35,6 +35,7 @@ from pmhost.values import CODES, NAMES  # noqa: E402
 from tally import Tally  # noqa: E402
 
 PMB = os.environ.get("PMB", "pmb")
+MOST_KB = 2048
 VOLTS = ("0.9V", "1V", "1.05V", "1.2V", "3.3V")
 RAILS = """
 [rails.core]
@@ -54,6 +55,8 @@ class Struck(ModelPartBus):
     draw = random.Random(0)
     rate = 0.0
     is_broken_off = False
+    # How many transfers come through; any number where it's negative.
+    left = -1
 
     def __init__(self, address: int, outputs: int = 2, trace: str | Trace | None = None) -> None:
         draw = type(self).draw
@@ -65,6 +68,9 @@ class Struck(ModelPartBus):
 
     def _strike(self, kinds: tuple[str, ...]) -> str:
         draw = type(self).draw
+        if Struck.left == 0:
+            return "lost"
+        Struck.left -= 1
         if draw.random() < self.rate / 8:
             self.part.restart()
             self.restarts += 1
@@ -260,22 +266,72 @@ def covers(line: bytes, claims: set[bytes]) -> bool:
                for made in (claim.split() for claim in claims) if made[1] == words[1])
 
 
-def long_log(asked_bytes: int) -> tuple[bool, str]:
-    """A log of so many bytes, in at most 2 MB of memory."""
-    part = b"B0 06 02 00 21 / B1 02 CD 34 B9\n" * 2048
+def long_run(head: bytes, part: bytes, tail: bytes, asked_bytes: int) -> tuple[str, int]:
+    """What is written of a text of so many bytes, and the most memory that was taken, in kB."""
     with tempfile.TemporaryFile() as file:
-        file.write(b"#log 58 2 2\n")
+        file.write(head)
         for _ in range(asked_bytes // len(part) + 1):
             file.write(part)
-        file.write(b"#holds 0 VOUT_COMMAND 34CD\n")
+        file.write(tail)
         file.seek(0)
-        child = subprocess.Popen([PMB, "check"], stdin=file, stdout=subprocess.PIPE)
+        child = subprocess.Popen([PMB, "check"], stdin=file, stdout=subprocess.PIPE, stderr=subprocess.STDOUT)
         most = 0
         while child.poll() is None:
             most = max(most, high_water(child.pid))
             time.sleep(0.01)
-        line = child.stdout.read().decode() if child.stdout else ""
-    return child.returncode == 0 and 0 < most <= 2048, f"{line.strip()}; at most {most} kB of memory"
+        return child.stdout.read().decode() if child.stdout else "", most
+
+
+def try_long_ones(asked_bytes: int, tally: Tally) -> None:
+    """A log, and a line, of so many bytes: one line each, in at most 2 MB of memory."""
+    transfer = b"B0 06 02 00 21 / B1 02 CD 34 B9\n"
+    for name, head, part, tail, start in (
+            ("log", b"#log 58 2 2\n", transfer * 2048, b"#holds 0 VOUT_COMMAND 34CD\n", "accepted: 1 claim, "),
+            ("line", b"#log 58 2 2\n", b"B0 " * 20000, b"\n", "line 2: ")):
+        said, most = long_run(head, part, tail, asked_bytes)
+        words = f"{said.strip()}; at most {most} kB of memory"
+        print(f"a {name} of {asked_bytes} bytes: {words}")
+        tally.tell(f"a long {name}", [] if said.startswith(start) and said.count("\n") == 1 and 0 < most <= MOST_KB else [words])
+
+
+def try_small_ones(tally: Tally) -> None:
+    """Logs that aren't accepted: one line each, in at most 2 MB of memory, which are looked at before the log ends."""
+    for name, text, line in (
+            ("an empty log", b"", "line 1: no #log line stands before it\n"),
+            ("a log of another address", b"#log 59 2 2\nB0 03 46\n", "line 2: no host sends this packet: F1 NotOurs\n"),
+            ("a claim of an output that isn't there", b"#log 58 2 2\n#holds 2 VOUT_COMMAND 34CD\n",
+             "line 2: 2 VOUT_COMMAND isn't known to hold 34CD: possible any\n")):
+        with subprocess.Popen([PMB, "check"], stdin=subprocess.PIPE, stdout=subprocess.PIPE, stderr=subprocess.STDOUT) as child:
+            assert child.stdin and child.stdout
+            child.stdin.write(text)
+            child.stdin.flush()
+            time.sleep(0.2)
+            most = high_water(child.pid)
+            child.stdin.close()
+            found = child.stdout.read().decode()
+        print(f"{name}: {found.strip()}; {most} kB of memory")
+        tally.tell(name, [] if (child.returncode, found) == (1, line) and most <= MOST_KB else [f"{found} {most} kB"])
+
+
+def try_halves(folder: str, truth: Truth, tally: Tally) -> None:
+    """Calls of which nothing more comes through after so many transfers: each log is accepted, with claims that are so."""
+    ended, claims = set(), 0
+    for left in range(1, 20):
+        path = os.path.join(folder, f"half{left}.log")
+        words = ["-b", "model", "--passes", "2", "--log", path, "--outputs", "2", "--no-limit", "survey", "0", "+", "set", "0", "1V"]
+        Struck.draw, Struck.rate, Struck.is_broken_off, Struck.left = random.Random(left), 0.0, False, left
+        truth.read.clear()
+        with contextlib.redirect_stdout(io.StringIO()), contextlib.redirect_stderr(io.StringIO()) as said:
+            ended.add(cli.main(words))
+        with open(path, "rb") as file:
+            text = file.read()
+        claims += text.count(b"\n#holds")
+        status, line = checked(text)
+        wrong = [*truth.wrong, *([line] if status else []), *(["a traceback"] if "Traceback" in said.getvalue() else [])]
+        tally.tell(f"a call that failed after {left} transfers", wrong)
+        truth.wrong.clear()
+    Struck.left = -1
+    print(f"calls that failed halfway ended with {sorted(ended)}, and claim {claims} words")
 
 
 def high_water(process: int) -> int:
@@ -302,6 +358,7 @@ def main() -> int:
             tally.tell(f"log {number}", [*truth.wrong, *([line.strip()] if status else [])])
             truth.wrong.clear()
             logs.append((text, told))
+        try_halves(folder, truth, tally)
     print(f"{given.logs} logs, {truth.claims} claims")
     short = spread([it for it in logs if b"#holds" in it[0]], given.changed)
     counts: dict[str, list[int]] = {}
@@ -309,14 +366,8 @@ def main() -> int:
     for kind, (refused, taken) in sorted(counts.items()):
         print(f"{kind}: {refused + taken} changed logs, {refused} refused, {taken} accepted, each claim of which was so")
     tally.tell("changed logs", false)
-    is_well, words = long_log(given.bytes)
-    print(f"{given.bytes} bytes: {words}")
-    tally.tell("a long log", [] if is_well else [words])
-    rows = [(b"", 1, "line 1: no #log line stands before it\n"), (b"#log 59 2 2\nB0 03 46\n", 1, "line 2: no host sends this packet: F1 NotOurs\n"),
-            (b"#log 58 2 2\n#holds 2 VOUT_COMMAND 34CD\n", 1, "line 2: 2 VOUT_COMMAND isn't known to hold 34CD: possible any\n")]
-    for text, status, line in rows:
-        found = checked(text)
-        tally.tell(repr(text), [] if found == (status, line) else [f"{found}"])
+    try_long_ones(given.bytes, tally)
+    try_small_ones(tally)
     return tally.end()
 
 
