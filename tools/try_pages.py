@@ -58,7 +58,8 @@ class Shell:
     """Runs commands at the root, with the program as `pmb` and at its built place, and the package's command as `pmhost`."""
 
     def __init__(self, pmb, folder):
-        self.pmb = pmb
+        # The log of a page, which has to be a new file each time.
+        self.pmb, self.log = pmb, shlex.quote(os.path.join(folder, "board.log"))
         os.symlink(pmb, os.path.join(folder, "pmb"))
         with open(os.path.join(folder, "pmhost"), "w", encoding="utf-8") as file:
             source, python = shlex.quote(f"{program.ROOT}/python/src"), shlex.quote(sys.executable)
@@ -73,7 +74,7 @@ class Shell:
 
 def command_faults(shell, found):
     for command, output in shown(found):
-        ran = shell.run(command)
+        ran = shell.run(command.replace("board.log", shell.log))
         if ran.stdout + ran.stderr != output:
             yield f"$ {command}: it prints {ran.stdout + ran.stderr!r}, and not {output!r}"
 

@@ -5,7 +5,8 @@
 
 Each log that a call wrote has to be accepted, and each claim in it to be true of the model part: a word was held when the host last read
 its register, and is held where the part hasn't restarted since; a voltage is commanded where the part hasn't restarted in the log. Then each
-bit of each digit of some logs is changed, and each line dropped, doubled and moved: none is accepted with a claim that wasn't so.
+bit of each digit of some logs is changed, and each line dropped, doubled and moved: none is accepted with a claim that wasn't so, of a word
+at the last good answer that stands before the claim.
 Ends in `N passed, M failed`.
 """
 from __future__ import annotations
@@ -19,6 +20,7 @@ import subprocess
 import sys
 import tempfile
 import time
+from typing import Iterator
 
 sys.path.insert(1, os.path.dirname(os.path.dirname(os.path.abspath(__file__))))
 import paths  # noqa: F401,E402  (it puts the package's folder on the path)
@@ -33,6 +35,7 @@ from pmhost.values import CODES, NAMES  # noqa: E402
 from tally import Tally  # noqa: E402
 
 PMB = os.environ.get("PMB", "pmb")
+MOST_KB = 2048
 VOLTS = ("0.9V", "1V", "1.05V", "1.2V", "3.3V")
 RAILS = """
 [rails.core]
@@ -47,11 +50,13 @@ limits = ["0.8V", "3.5V"]
 
 
 class Struck(ModelPartBus):
-    """A bus with a model part that drawn faults strike. `truths` has a snapshot of the part's words beside each line of the log."""
+    """A bus with a model part that drawn faults strike."""
 
     draw = random.Random(0)
     rate = 0.0
     is_broken_off = False
+    # How many transfers come through; any number where it's negative.
+    left = -1
 
     def __init__(self, address: int, outputs: int = 2, trace: str | Trace | None = None) -> None:
         draw = type(self).draw
@@ -63,6 +68,9 @@ class Struck(ModelPartBus):
 
     def _strike(self, kinds: tuple[str, ...]) -> str:
         draw = type(self).draw
+        if Struck.left == 0:
+            return "lost"
+        Struck.left -= 1
         if draw.random() < self.rate / 8:
             self.part.restart()
             self.restarts += 1
@@ -98,11 +106,18 @@ class Struck(ModelPartBus):
         self.trace.close()
 
 
+Heard = tuple[str, str, int]
+# A line of a log, with its number in the log as it was written; None where it's changed.
+Line = tuple[int | None, bytes]
+
+
 class Truth:
     """What the part held when the host last had a good answer for a register, and what it holds as a claim is made."""
 
     def __init__(self) -> None:
         self.read: dict[tuple[str, str], tuple[int, int]] = {}
+        # What each line of a log told of a register that it read, and what the part then held.
+        self.lines: list[Heard | None] = []
         self.wrong: list[str] = []
         self.claims = 0
 
@@ -116,7 +131,9 @@ class Truth:
             name = NAMES.get(asked.code)
             if name in CODES:
                 place_of = "-" if name == "WRITE_PROTECT" else str(asked.page)
-                self.read[place_of, name] = (bus.part.word(asked.page or 0, name), bus.restarts)
+                word = bus.part.word(asked.page or 0, name)
+                self.read[place_of, name] = (word, bus.restarts)
+                self.lines[-1] = (place_of, name, word)
 
     def is_so(self, line: str) -> bool:
         words, bus = line.split(), Struck.last
@@ -139,6 +156,7 @@ def hooked(truth: Truth) -> None:
 
     def init_too(self: log.HostLog, host: object, note: object, lacks: frozenset[str] = frozenset()) -> None:
         def noted(line: str) -> None:
+            truth.lines.append(None)
             if line.startswith(("#holds", "#commands")):
                 truth.claims += 1
                 if not truth.is_so(line):
@@ -168,23 +186,26 @@ def words_of(draw: random.Random, rails: str, path: str) -> list[str]:
     return [*bus, *found]
 
 
-def write_log(draw: random.Random, folder: str, number: int, truth: Truth) -> bytes:
-    """One call's log."""
+def write_log(draw: random.Random, folder: str, number: int, truth: Truth) -> tuple[bytes, list[Heard | None]]:
+    """One call's log, and what each of its lines told."""
     path, rails = os.path.join(folder, f"{number}.log"), os.path.join(folder, "rails.toml")
     with open(rails, "w", encoding="ascii") as file:
         file.write(RAILS.format(draw.choice(VOLTS), draw.choice(VOLTS)))
     Struck.draw, Struck.rate, Struck.is_broken_off = draw, draw.choice((0.0, 0.05, 0.2)), draw.random() < 0.2
     truth.read.clear()
+    truth.lines.clear()
     with contextlib.redirect_stdout(io.StringIO()), contextlib.redirect_stderr(io.StringIO()):
         cli.main(words_of(draw, rails, path))
     with open(path, "rb") as file:
-        return file.read()
+        text = file.read()
+    # The notes stand before the head.
+    notes = text.count(b"\n") - len(truth.lines)
+    return text, [*[None] * notes, *truth.lines]
 
 
-def changes(lines: list[bytes], draw: random.Random) -> list[tuple[str, list[bytes]]]:
+def changes(lines: list[Line], draw: random.Random) -> Iterator[tuple[str, list[Line]]]:
     """Each bit of each digit changed; each line dropped, doubled, and moved to a drawn place."""
-    found = []
-    for at, line in enumerate(lines):
+    for at, (_, line) in enumerate(lines):
         if line.startswith(b"##"):
             continue
         start = line.index(b" ") if line.startswith(b"#") else 0
@@ -193,54 +214,124 @@ def changes(lines: list[bytes], draw: random.Random) -> list[tuple[str, list[byt
             if digit in "0123456789ABCDEF" and not (line.startswith(b"#") and digit.isalpha() and len(line[place_of - 1:].split(b" ")[0]) > 5):
                 for bit in range(4):
                     other = b"%X" % (int(digit, 16) ^ 1 << bit)
-                    found.append(("bit", [*lines[:at], line[:place_of] + other + line[place_of + 1:], *lines[at + 1:]]))
+                    yield "bit", [*lines[:at], (None, line[:place_of] + other + line[place_of + 1:]), *lines[at + 1:]]
         rest = [*lines[:at], *lines[at + 1:]]
         to = draw.randrange(len(lines))
-        found += [("dropped", rest), ("doubled", [*lines[:at], line, *lines[at:]]), ("moved", [*rest[:to], line, *rest[to:]])]
+        yield "dropped", rest
+        yield "doubled", [*lines[:at], lines[at], *lines[at:]]
+        yield "moved", [*rest[:to], lines[at], *rest[to:]]
+
+
+def false_claims(lines: list[Line], told: list[Heard | None], claims: set[bytes]) -> list[bytes]:
+    """The claims that weren't so: of another word than the part held at the last good answer before, or of a voltage that wasn't claimed."""
+    held: dict[tuple[str, str], int] = {}
+    found = []
+    for number, line in lines:
+        words = line.decode().split()
+        heard = told[number] if number is not None else None
+        if words[0] == "#log":
+            held.clear()
+        elif words[0] == "#holds" and held.get((words[1], words[2])) != int(words[3], 16):
+            found.append(line)
+        elif words[0] == "#commands" and not covers(line, claims):
+            found.append(line)
+        elif heard:
+            held[heard[:2]] = heard[2]
     return found
 
 
-def tally_changes(logs: list[bytes], draw: random.Random, counts: dict[str, list[int]]) -> int:
-    """How many changed logs were accepted with a claim that the log as it was written doesn't have."""
-    false = 0
-    for text in logs:
-        lines = text.splitlines()
-        claims = {line for line in lines if line.startswith((b"#holds", b"#commands"))}
+def tally_changes(logs: list[tuple[bytes, list[Heard | None]]], draw: random.Random, counts: dict[str, list[int]]) -> list[str]:
+    """The changed logs that were accepted with a claim that wasn't so."""
+    found = []
+    for text, told in logs:
+        lines: list[Line] = list(enumerate(text.splitlines()))
+        claims = {line for _, line in lines if line.startswith(b"#commands")}
         for kind, changed in changes(lines, draw):
-            status, _ = checked(b"\n".join(changed) + b"\n")
+            status, _ = checked(b"\n".join(line for _, line in changed) + b"\n")
             counts.setdefault(kind, [0, 0])[status == 0] += 1
-            if status == 0:
-                made = {line for line in changed if line.startswith((b"#holds", b"#commands"))}
-                false += any(not covers(line, claims) for line in made)
-    return false
+            found += [f"{kind}: {line.decode()}" for line in (false_claims(changed, told, claims) if status == 0 else ())]
+    return found
+
+
+def spread(logs: list[tuple[bytes, list[Heard | None]]], count: int) -> list[tuple[bytes, list[Heard | None]]]:
+    """So many of the logs, from the shortest to the longest."""
+    ordered = sorted(logs, key=lambda log_of: len(log_of[0]))
+    return [ordered[at * (len(ordered) - 1) // max(count - 1, 1)] for at in range(count)] if ordered else []
 
 
 def covers(line: bytes, claims: set[bytes]) -> bool:
-    """A claim is one that was made, or one of a voltage that is wider than one that was made."""
-    if line in claims:
-        return True
+    """A claim of a voltage is one that was made, or is wider than one that was made."""
     words = line.split()
-    return words[0] == b"#commands" and any(
-        int(words[2]) <= int(made[2]) and int(made[4]) <= int(words[4])
-        for made in (claim.split() for claim in claims if claim.startswith(b"#commands")) if made[1] == words[1])
+    return any(int(words[2]) <= int(made[2]) and int(made[4]) <= int(words[4])
+               for made in (claim.split() for claim in claims) if made[1] == words[1])
 
 
-def long_log(asked_bytes: int) -> tuple[bool, str]:
-    """A log of so many bytes, in at most 2 MB of memory."""
-    part = b"B0 06 02 00 21 / B1 02 CD 34 B9\n" * 2048
+def long_run(head: bytes, part: bytes, tail: bytes, asked_bytes: int) -> tuple[str, int]:
+    """What is written of a text of so many bytes, and the most memory that was taken, in kB."""
     with tempfile.TemporaryFile() as file:
-        file.write(b"#log 58 2 2\n")
+        file.write(head)
         for _ in range(asked_bytes // len(part) + 1):
             file.write(part)
-        file.write(b"#holds 0 VOUT_COMMAND 34CD\n")
+        file.write(tail)
         file.seek(0)
-        child = subprocess.Popen([PMB, "check"], stdin=file, stdout=subprocess.PIPE)
+        child = subprocess.Popen([PMB, "check"], stdin=file, stdout=subprocess.PIPE, stderr=subprocess.STDOUT)
         most = 0
         while child.poll() is None:
             most = max(most, high_water(child.pid))
             time.sleep(0.01)
-        line = child.stdout.read().decode() if child.stdout else ""
-    return child.returncode == 0 and 0 < most <= 2048, f"{line.strip()}; at most {most} kB of memory"
+        return child.stdout.read().decode() if child.stdout else "", most
+
+
+def try_long_ones(asked_bytes: int, tally: Tally) -> None:
+    """A log, and a line, of so many bytes: one line each, in at most 2 MB of memory."""
+    transfer = b"B0 06 02 00 21 / B1 02 CD 34 B9\n"
+    for name, head, part, tail, start in (
+            ("log", b"#log 58 2 2\n", transfer * 2048, b"#holds 0 VOUT_COMMAND 34CD\n", "accepted: 1 claim, "),
+            ("line", b"#log 58 2 2\n", b"B0 " * 20000, b"\n", "line 2: ")):
+        said, most = long_run(head, part, tail, asked_bytes)
+        words = f"{said.strip()}; at most {most} kB of memory"
+        print(f"a {name} of {asked_bytes} bytes: {words}")
+        tally.tell(f"a long {name}", [] if said.startswith(start) and said.count("\n") == 1 and 0 < most <= MOST_KB else [words])
+
+
+def try_small_ones(tally: Tally) -> None:
+    """Logs that aren't accepted: one line each, in at most 2 MB of memory, which are looked at before the log ends."""
+    for name, text, line in (
+            ("an empty log", b"", "line 1: no #log line stands before it\n"),
+            ("a log of another address", b"#log 59 2 2\nB0 03 46\n", "line 2: no host sends this packet: F1 NotOurs\n"),
+            ("a claim of an output that isn't there", b"#log 58 2 2\n#holds 2 VOUT_COMMAND 34CD\n",
+             "line 2: 2 VOUT_COMMAND isn't known to hold 34CD: possible any\n")):
+        with subprocess.Popen([PMB, "check"], stdin=subprocess.PIPE, stdout=subprocess.PIPE, stderr=subprocess.STDOUT) as child:
+            assert child.stdin and child.stdout
+            child.stdin.write(text)
+            child.stdin.flush()
+            time.sleep(0.2)
+            most = high_water(child.pid)
+            child.stdin.close()
+            found = child.stdout.read().decode()
+        print(f"{name}: {found.strip()}; {most} kB of memory")
+        tally.tell(name, [] if (child.returncode, found) == (1, line) and most <= MOST_KB else [f"{found} {most} kB"])
+
+
+def try_halves(folder: str, truth: Truth, tally: Tally) -> None:
+    """Calls of which nothing more comes through after so many transfers: each log is accepted, with claims that are so."""
+    ended, claims = set(), 0
+    for left in range(1, 20):
+        path = os.path.join(folder, f"half{left}.log")
+        words = ["-b", "model", "--passes", "2", "--log", path, "--outputs", "2", "--no-limit", "survey", "0", "+", "set", "0", "1V"]
+        Struck.draw, Struck.rate, Struck.is_broken_off, Struck.left = random.Random(left), 0.0, False, left
+        truth.read.clear()
+        with contextlib.redirect_stdout(io.StringIO()), contextlib.redirect_stderr(io.StringIO()) as said:
+            ended.add(cli.main(words))
+        with open(path, "rb") as file:
+            text = file.read()
+        claims += text.count(b"\n#holds")
+        status, line = checked(text)
+        wrong = [*truth.wrong, *([line] if status else []), *(["a traceback"] if "Traceback" in said.getvalue() else [])]
+        tally.tell(f"a call that failed after {left} transfers", wrong)
+        truth.wrong.clear()
+    Struck.left = -1
+    print(f"calls that failed halfway ended with {sorted(ended)}, and claim {claims} words")
 
 
 def high_water(process: int) -> int:
@@ -262,26 +353,21 @@ def main() -> int:
     hooked(truth)
     with tempfile.TemporaryDirectory() as folder:
         for number in range(given.logs):
-            text = write_log(draw, folder, number, truth)
+            text, told = write_log(draw, folder, number, truth)
             status, line = checked(text)
             tally.tell(f"log {number}", [*truth.wrong, *([line.strip()] if status else [])])
             truth.wrong.clear()
-            logs.append(text)
+            logs.append((text, told))
+        try_halves(folder, truth, tally)
     print(f"{given.logs} logs, {truth.claims} claims")
-    short = sorted((text for text in logs if b"#holds" in text), key=len)[len(logs) // 4:][:given.changed]
+    short = spread([it for it in logs if b"#holds" in it[0]], given.changed)
     counts: dict[str, list[int]] = {}
     false = tally_changes(short, draw, counts)
     for kind, (refused, taken) in sorted(counts.items()):
-        print(f"{kind}: {refused + taken} changed logs, {refused} refused, {taken} accepted with no other claim than was made")
-    tally.tell("changed logs", [f"{false} accepted with a claim that wasn't so"] if false else [])
-    is_well, words = long_log(given.bytes)
-    print(f"{given.bytes} bytes: {words}")
-    tally.tell("a long log", [] if is_well else [words])
-    rows = [(b"", 1, "line 1: no #log line stands before it\n"), (b"#log 59 2 2\nB0 03 46\n", 1, "line 2: no host sends this packet: F1 NotOurs\n"),
-            (b"#log 58 2 2\n#holds 2 VOUT_COMMAND 34CD\n", 1, "line 2: 2 VOUT_COMMAND isn't known to hold 34CD: possible any\n")]
-    for text, status, line in rows:
-        found = checked(text)
-        tally.tell(repr(text), [] if found == (status, line) else [f"{found}"])
+        print(f"{kind}: {refused + taken} changed logs, {refused} refused, {taken} accepted, each claim of which was so")
+    tally.tell("changed logs", false)
+    try_long_ones(given.bytes, tally)
+    try_small_ones(tally)
     return tally.end()
 
 
