@@ -166,7 +166,7 @@ END
 # The same of the command pmhost, which makes its own calls of the kernel; \n parts the lines.
 command_rows() {
     cat << 'END'
-ok short1 ok short0 short0 ok ok|-b 1 -a 58 --outputs 1 --no-limit --busy-timeout 0ms set 0 3.3V|0|set 0: VOUT_COMMAND 34CD 3.300048V confirmed; the output commands 3.300048V, without limits|
+ok short1 ok short0 short0 ok ok|-b 1 -a 58 --outputs 1 --no-limit --busy-timeout 0ms set 0 3.3V|0|set 0: VOUT_COMMAND 34CD 3.300048V confirmed; the output commands 3.300048V, without limits, delivers 3.300048V; STATUS_WORD 0002 CML; VOUT_OV_FAULT_LIMIT, VOUT_OV_WARN_LIMIT, VOUT_UV_WARN_LIMIT, VOUT_UV_FAULT_LIMIT gave no good answer, and aren't judged|
 ok short0 short0 short0|-b 1 -a 58 --outputs 1 --busy-timeout 0ms clear 0|1|clear 0: unknown|clear 0: 3 transfers failed, the last: 0 of 1 message went; STATUS_CML 00, STATUS_VOUT 00
 deaf deaf deaf|-b 1 -a 58 learn 0|1|learn 0: unknown|learn 0: 3 transfers failed, the last: No such device or address; STATUS_CML 00, STATUS_VOUT 00
 damaged empty damaged|-b 1 -a 58 learn 0|1|learn 0: unknown|learn 0: 3 answers weren't good: F4 WrongCount; STATUS_CML 00, STATUS_VOUT 00
@@ -178,7 +178,7 @@ ok deaf deaf ok deaf ok|-b 1 -a 58 --outputs 1 --passes 1 clear 0|0|clear 0: ack
 |-b 5 -a 58 probe|2||another program drives 5-0058: fuser /dev/i2c-5 names who has the bus open
 |-b 6 -a 58 probe|2||a line is held low: address 02, which no part may have, acknowledges: clock SCL nine times and send a stop, cycle the supply last
 |-b 5 -a 58 --share-bus learn 0|0|learn 0: learned ULINEAR16 -12|
-count ok ok deaf*40|-b 1 -a 58 --outputs 1 clear 0|0|clear 0: acknowledged\n43 transfers, 195 ms|
+count ok ok deaf*4|-b 1 -a 58 --outputs 1 clear 0|0|clear 0: acknowledged\n8 transfers, 200 ms|
 |-b 9 -a 58 probe|2||/dev/i2c-9: No such file or directory: load i2c-dev (modprobe i2c-dev), and look for the bus (ls /dev/i2c-*)
 END
 }

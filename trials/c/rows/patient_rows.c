@@ -89,7 +89,7 @@ static uint8_t put(void *context, const uint8_t *bytes, uint64_t count) {
 
 /* The answer to a question: CAPABILITY, or the byte of readiness, with its packet error code. */
 static void say(const row *of, const uint8_t *request, char does, uint8_t *answer) {
-    uint8_t frame[4] = {request[0], request[1], (uint8_t)(request[0] | 1), does == 'b' ? 0x20 : 0x60};
+    uint8_t frame[4] = {request[0], request[1], (uint8_t)(request[0] | 1), (uint8_t)(does == 'b' ? 0x20 : 0x60)};
     memcpy(answer, capability, sizeof capability);
     if (of->mask != 0) {
         answer[0] = frame[3];
@@ -137,7 +137,7 @@ static uint8_t begin(pm_host *host, char job) {
 static int is_right(const row *of) {
     pm_host host;
     bus to = {of, 0, 0, 0, 0, (uint32_t)BEGIN, (uint32_t)BEGIN};
-    pm_patient patient = {put, ask, &to, now, wait, of->patience, 0, of->mask != 0 ? 0xEF : 0, of->mask};
+    pm_patient patient = {put, ask, &to, now, wait, of->patience, 0, (uint8_t)(of->mask != 0 ? 0xEF : 0), of->mask};
     pm_step step = {0, 0};
     if (pm_host_new(&host, of->address, 1, of->passes) != PM_OK)
         return 0;

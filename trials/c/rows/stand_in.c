@@ -77,9 +77,10 @@ static const char *mishap_of(int place) {
     return "ok";
 }
 
-/* Lets the converter hear the messages. Whether it answers, or takes the write. */
+/* Lets the converter hear the messages, and READ_VOUT be what VOUT_COMMAND holds. Whether it answers, or takes the write. */
 static int heard(const struct i2c_msg *messages, int reads, pm_part_reply *reply) {
     uint8_t page;
+    uint16_t held;
     uint8_t frame[32] = {(uint8_t)(messages[0].addr << 1)};
     if (messages[0].len > 31)
         return 0;
@@ -87,6 +88,8 @@ static int heard(const struct i2c_msg *messages, int reads, pm_part_reply *reply
     if (pm_part_page(&part, &page) == PM_NO_PART)
         pm_part_new(&part, &config);
     uint8_t answer = pm_part_hear(&part, frame, messages[0].len + 1u, (uint8_t)reads, reply);
+    if (pm_part_word(&part, 0, 0x21, &held) == PM_PART_OK)
+        pm_part_set_reading(&part, 0, 0x8B, held);
     return reads ? answer == PM_HEARD_ANSWERED && reply->length == messages[1].len + 1 : answer == PM_HEARD_TAKEN;
 }
 
