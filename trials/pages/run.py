@@ -7,8 +7,8 @@ README.md and docs/, in its order, a shell for each page.
 FOLDER has libpm_host_c.a, libpm_device_c.a, and the program pmb. A command for the part at address 58 of bus 1
 runs on the model part (`-b model`), an install goes to the user's own folder, `rt lib` and `rt check` and what stands in tools/ and
 trials/ is held by its parse alone, since it takes many minutes: the crate is there, the command is one of rt's, the program answers
---help. --minutes runs `rt try` and `tools/test quick` too. What no test runs (a board's own tools) has to stand on its page in a line
-that begins with "No test runs". Lines that begin with `$` are those of tools/try_pages.py, which compares what they print.
+--help. A block that begins with `#!/bin/sh` is a script, which is run whole. --minutes runs `rt try` and `tools/test quick` too. What
+no test runs (a board's own tools) has to stand on its page in a line that begins with "No test runs". Lines that begin with `$` are those of tools/try_pages.py, which compares what they print.
 
 Each page of which a command was tried counts once, and so does the package's install; the last line is `N passed, M failed`.
 """
@@ -36,6 +36,8 @@ RT = re.compile(r"\(cd crates/(\w+) && rt (lib|check|run|try)\b[^)]*\)")
 # package have these commands on one part, with what they print. The bench for any host ends so where it finds a fault.
 UNLIKE = re.compile(r" verify | survey | torture | margin | on |VOUT_MARGIN")
 SECONDS = 600
+# A script, of which the next words are its name and what it is called with.
+SCRIPT = "#!/bin/sh\n# "
 
 
 def pages():
@@ -48,11 +50,13 @@ def text_of(name):
 
 
 def lines_of(text):
-    """The commands of a page's blocks, each whole, with the files that its blocks of TOML make."""
+    """The commands of a page's blocks, each whole, with the files that its blocks of TOML make, and its scripts."""
     for kind, block in re.findall(r"^```(\w+)\n(.*?)^```", text, re.M | re.S):
         if kind == "toml" and block.startswith("# "):
             name, _, rest = block[2:].partition("\n")
             yield "file", name.split()[0], rest
+        elif kind == "sh" and block.startswith(SCRIPT):
+            yield "script", block.removeprefix(SCRIPT).partition(":")[0], block
         elif kind == "sh" and not re.search(r"^\$ ", block, re.M):
             whole = re.sub(r"(\\|\|)\n +", lambda it: " " if it[1] == "\\" else "| ", block)
             open_line = ""
@@ -87,7 +91,7 @@ class Place:
         path = os.path.join(self.tree, name)
         with open(path, "w", encoding="utf-8") as file:
             file.write(text)
-        os.chmod(path, 0o644)
+        os.chmod(path, 0o755 if text.startswith(SCRIPT) else 0o644)
 
     def shell(self, script):
         around = {"HOME": self.home, "PATH": os.environ["PATH"], "LC_ALL": "C.UTF-8", "CARGO_HOME": os.path.join(self.home, "cargo"),
@@ -131,6 +135,11 @@ def faults(place, name, has_minutes):
         if kind == "file":
             place.write(line, rest)
             continue
+        if kind == "script":
+            place.write(line.split()[0], over_a_model(rest))
+            count += 1
+            script += [f"echo '== {count}'", f"./{line}"]
+            continue
         if NOT_RUN.search(line):
             tool = NOT_RUN.search(line)[0].strip().split("/")[0]
             if tool not in said and NOT_RUN.search(line)[0] not in said:
@@ -173,6 +182,10 @@ def main():
     with tempfile.TemporaryDirectory() as folder:
         os.chmod(folder, 0o755)
         place = Place(folder, how.built)
+        # A page may name a file of another one.
+        for kind, name, rest in (it for page in pages() for it in lines_of(text_of(page))):
+            if kind == "file":
+                place.write(name, rest)
         made = place.shell("python3 -m venv ~/v && ~/v/bin/pip install --quiet ./python")
         tally.tell("pip install ./python", [made.stderr[-300:]] if made.returncode else [])
         for name in how.pages or pages():
