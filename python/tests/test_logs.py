@@ -126,7 +126,8 @@ class Files(unittest.TestCase):
     def test_a_call_writes_a_log(self) -> None:
         self.assertEqual(run("-b", "model", "--outputs", "2", "--no-limit", "--log", self.path, "set", "0", "3.3V"), 0)
         lines = self.read().splitlines()
-        self.assertEqual([line[:3] for line in lines[:4]], ["## ", "## ", "#lo", "B0 "])
+        self.assertRegex(lines[0], r"^## \d{4}-\d\d-\d\dT[\d:.]+Z pmhost \d[\w.]* -b model --outputs 2 --no-limit --log \S+ set 0 3\.3V$")
+        self.assertEqual(lines[1:3], ["## bus model address 58", "#log 58 2 3"])
         self.assertIn("#holds 0 VOUT_COMMAND 34CD", lines)
         self.assertEqual(lines[-1], "#commands 0 3300048 to 3300049 uV")
 
