@@ -6,7 +6,7 @@ use Rattle.pm_device.specs.declared.config.Config.{Config}
 use Rattle.pm_host.specs.declared.job.Job.{Job as Asked}
 use Rattle.pm_host.specs.Summary.{Summary}
 use Rattle.pm_limits.specs.declared.part_registers.PartRegisters.{PartRegisters}
-use Rattle.pm_limits.specs.Bounds.{Bounds}
+use Rattle.pm_limits.specs.declared.output_limits.OutputLimits.{OutputLimits}
 use Rattle.pm_rail.specs.declared.apply_end.ApplyEnd.TheVariants as way
 use Rattle.pm_rail.specs.declared.course.Course.{Course}
 use Rattle.pm_rail.specs.declared.next.Next.TheVariants as said
@@ -46,7 +46,7 @@ module _ (laws : Given) (config : Config) (passes : ℕ) (part : PartRegisters) 
   own-way : (c : FrameCourse) → Same c → with_plan c.course None ≡ c.course
   own-way c same = own-plan c.course None same.plan'
 
-  names : (limits : Option Bounds) (c is : FrameCourse) (later : List Event) (job : Asked) → Same c →
+  names : (limits : OutputLimits) (c is : FrameCourse) (later : List Event) (job : Asked) → Same c →
       IsLived config passes (later ++ before) → SaysNext part limits (at later) c (Job job) is →
       ties.Names laws.followed laws.lives config passes part begun before None limits c is later job
   names limits c is later job same lived said' = by (says.named part limits (at later) c (plain (at later) c same) job is said') where
@@ -54,7 +54,7 @@ module _ (laws : Given) (config : Config) (passes : ℕ) (part : PartRegisters) 
         ties.Names laws.followed laws.lives config passes part begun before None limits c is later job
     by n = names-known laws config passes part begun before None limits c is later job n.formed (planned c n.formed same) same n.named
 
-  reached : (limits : Option Bounds) (c is : FrameCourse) (later : List Event) → Same c →
+  reached : (limits : OutputLimits) (c is : FrameCourse) (later : List Event) → Same c →
       last_end c.end ≡ None → SaysNext part limits (at later) c (Ended Reached) is →
       next_of part limits (at later) c.course ≡ said.Ended way.Reached
   reached limits c is later same on said' =

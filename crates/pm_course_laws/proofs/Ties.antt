@@ -14,7 +14,7 @@ use Rattle.pm_host.specs.Jobs.{accepted_job}
 use Rattle.pm_host.specs.Summary.{Summary, step_of}
 use Rattle.pm_host.specs.Transcript as host
 use Rattle.pm_limits.specs.declared.part_registers.PartRegisters.{PartRegisters}
-use Rattle.pm_limits.specs.Bounds.{Bounds}
+use Rattle.pm_limits.specs.declared.output_limits.OutputLimits.{OutputLimits}
 use Rattle.pm_rail.specs.declared.course.Course.{Course}
 use Rattle.pm_rail.specs.declared.next.Next.{Next as Said}
 use Rattle.pm_rail.specs.declared.next.Next.TheVariants as said
@@ -58,7 +58,7 @@ module _ (followed : LivesAreFollowed) (lives : EventsAreLived) (config : Config
     pub voltages : c.voltages ≡ begun.voltages
 
   -- the job that it says is the one that its way names
-  pub record Names (limits : Option Bounds) (c is : FrameCourse) (later : List Event) (job : Asked) : Type 0 where
+  pub record Names (limits : OutputLimits) (c is : FrameCourse) (later : List Event) (job : Asked) : Type 0 where
     pub next : next_of part limits (at later) (way_of c) ≡ said.Job job
     pub after : way_of is ≡ after_next part limits (at later) (way_of c)
     pub same : Same is
@@ -71,7 +71,7 @@ module _ (followed : LivesAreFollowed) (lives : EventsAreLived) (config : Config
   -- how it stands: its way, and the open job, where that is its own
   pub data Tied : Course → Bool → List Event → Type 0 where
     loose : (x : Course) (later : List Event) → Way x later → Tied x false later
-    opened : (limits : Option Bounds) (x was : Course) (newer older : List Event) (event : Event) (job : Asked) → Way was older →
+    opened : (limits : OutputLimits) (x was : Course) (newer older : List Event) (event : Event) (job : Asked) → Way was older →
         next_of part limits (at older) was ≡ said.Job job → asked_by event ≡ Some job → list_any begins_other newer ≡ false →
         Forgets job (after_next part limits (at older) was) x → Tied x true (newer ++ event ∷ older)
 
@@ -120,7 +120,7 @@ module _ (followed : LivesAreFollowed) (lives : EventsAreLived) (config : Config
 
   -- ---- What is told ----
 
-  asked-named : (limits : Option Bounds) (s : Summary) (was : Course) (job : Asked) → next_of part limits s was ≡ said.Job job →
+  asked-named : (limits : OutputLimits) (s : Summary) (was : Course) (job : Asked) → next_of part limits s was ≡ said.Job job →
       (after_next part limits s was).survey.asked ≡ Some job
   asked-named limits s was job is = ap (λ (n : Said). (naming (renewed part limits s was) n).survey.asked) is
 
@@ -265,7 +265,7 @@ module _ (followed : LivesAreFollowed) (lives : EventsAreLived) (config : Config
       by (JobEnded end) e true m surprised u =
           own-ended end e surprised (forgotten (way_of c) later surprised (calm m surprised u) was.tied)
 
-  pub stands-all : ((limits : Option Bounds) (c is : FrameCourse) (later : List Event) (job : Asked) → Same c →
+  pub stands-all : ((limits : OutputLimits) (c is : FrameCourse) (later : List Event) (job : Asked) → Same c →
       IsLived config passes (later ++ before) → SaysNext part limits (at later) c (Job job) is → Names limits c is later job) →
       (c : FrameCourse) (own : Bool) (later : List Event) → IsLived config passes (later ++ before) →
       IsFrameCourse config passes part begun before c own later → Stands c own later

@@ -14,7 +14,7 @@ use Rattle.pm_host.specs.Refusals.{is_busy}
 use Rattle.pm_host.specs.Summary.{step_of}
 use Rattle.pm_host.specs.Transcript as host
 use Rattle.pm_limits.specs.declared.part_registers.PartRegisters.{PartRegisters}
-use Rattle.pm_limits.specs.Bounds.{Bounds}
+use Rattle.pm_limits.specs.declared.output_limits.OutputLimits.{OutputLimits}
 use Rattle.pm_limits.specs.Guard.{Guarded, LetsBegin, guard_fault, limits_at}
 use Rattle.pm_rail.specs.declared.next.Next.TheVariants as said
 use Rattle.pm_rail.specs.declared.wanted.Wanted.{Wanted}
@@ -59,15 +59,15 @@ goes_on (JobEnded end) = false
 -- frames, restarts of either end, and what others may ask for (`beside`).
 pub data IsFrameCourse (config : Config) (passes : ℕ) (part : PartRegisters) (begun : FrameCourse) (before : List Event) : FrameCourse → Bool → List Event → Type 0 where
   begins : IsFrameCourse config passes part begun before begun false []
-  over : (limits : Option Bounds) (c is : FrameCourse) (own : Bool) (later : List Event) (end : CourseEnd) →
+  over : (limits : OutputLimits) (c is : FrameCourse) (own : Bool) (later : List Event) (end : CourseEnd) →
       IsFrameCourse config passes part begun before c own later →
       SaysNext part limits (now config passes (later ++ before)).host c (Ended end) is →
       IsFrameCourse config passes part begun before is own later
-  refused : (limits : Option Bounds) (c is : FrameCourse) (own : Bool) (later : List Event) (job : Asked) (number : ℕ) →
+  refused : (limits : OutputLimits) (c is : FrameCourse) (own : Bool) (later : List Event) (job : Asked) (number : ℕ) →
       IsFrameCourse config passes part begun before c own later →
       SaysNext part limits (now config passes (later ++ before)).host c (Job job) is →
       IsFrameCourse config passes part begun before (refused_by c number job) own later
-  asks : (limits : Option Bounds) (c is : FrameCourse) (own : Bool) (later : List Event) (event : Event) (job : Asked) →
+  asks : (limits : OutputLimits) (c is : FrameCourse) (own : Bool) (later : List Event) (event : Event) (job : Asked) →
       IsFrameCourse config passes part begun before c own later →
       SaysNext part limits (now config passes (later ++ before)).host c (Job job) is → asked_by event ≡ Some job →
       IsFrameCourse config passes part begun before is true (event ∷ later)
@@ -116,7 +116,7 @@ Means config output words voltages wanted = AreFormed (Some (shape_for config ou
 pub record KeepsFrameCourses (config : Config) (passes : ℕ) (part : PartRegisters) (output : ℕ) (words wanted : Wanted)
     (voltages : Voltages) (tries : ℕ) (c : FrameCourse) (own : Bool) (later before : List Event) : Type 0 where
   pub way : IsCourse config passes part (course_of output wanted tries) before (with_plan c.course (Some wanted)) later
-  pub names : (limits : Option Bounds) (is : FrameCourse) (job : Asked) →
+  pub names : (limits : OutputLimits) (is : FrameCourse) (job : Asked) →
       SaysNext part limits (now config passes (later ++ before)).host c (Job job) is →
       next_of part limits (now config passes (later ++ before)).host (with_plan c.course (Some wanted)) ≡ said.Job job
   pub free : (g : Guarded) (is : FrameCourse) (job : Asked) → g.host ≡ (now config passes (later ++ before)).host → g.registers ≡ part →
@@ -128,11 +128,11 @@ pub record KeepsFrameCourses (config : Config) (passes : ℕ) (part : PartRegist
   pub kept : HoldsMissing part config (now config passes before).device.words output → (register : Reg) →
       wants_of wanted register ≡ None →
       held_at config passes (later ++ before) output register ≡ held_at config passes before output register
-  pub come_true : HoldsMissing part config (now config passes before).device.words output → (limits : Option Bounds) (is : FrameCourse)
+  pub come_true : HoldsMissing part config (now config passes before).device.words output → (limits : OutputLimits) (is : FrameCourse)
       (register : Reg) (word : ℕ) → last_end c.end ≡ None →
       SaysNext part limits (now config passes (later ++ before)).host c (Ended Reached) is → wants_of wanted register ≡ Some word →
       held_at config passes (later ++ before) output register ≡ word
-  pub commanded : HoldsMissing part config (now config passes before).device.words output → (limits : Option Bounds) (is : FrameCourse) →
+  pub commanded : HoldsMissing part config (now config passes before).device.words output → (limits : OutputLimits) (is : FrameCourse) →
       last_end c.end ≡ None → SaysNext part limits (now config passes (later ++ before)).host c (Ended Reached) is →
       commands config passes (later ++ before) output ≡ goal_at config passes output wanted before
   pub untouched : AsksNoOrder config passes output later before → (register : Reg) →
@@ -145,7 +145,7 @@ pub record KeepsFrameCourses (config : Config) (passes : ℕ) (part : PartRegist
 pub record KeepsFrameCoursesOff (config : Config) (passes : ℕ) (part : PartRegisters) (output byte tries : ℕ) (c : FrameCourse)
     (own : Bool) (later before : List Event) : Type 0 where
   pub way : IsCourse config passes part (power_course_of output byte tries) before c.course later
-  pub names : (limits : Option Bounds) (is : FrameCourse) (job : Asked) →
+  pub names : (limits : OutputLimits) (is : FrameCourse) (job : Asked) →
       SaysNext part limits (now config passes (later ++ before)).host c (Job job) is →
       next_of part limits (now config passes (later ++ before)).host c.course ≡ said.Job job
   pub words : (register : Reg) (rest newer older : List Event) → later ≡ rest ++ (newer ++ older) →
@@ -154,7 +154,7 @@ pub record KeepsFrameCoursesOff (config : Config) (passes : ℕ) (part : PartReg
   pub held : (rest newer older : List Event) → later ≡ rest ++ (newer ++ older) →
       IsStep (power_goal_at config passes output byte before)
       (commands config passes (older ++ before) output) (commands config passes ((newer ++ older) ++ before) output)
-  pub come_true : (limits : Option Bounds) (is : FrameCourse) → last_end c.end ≡ None →
+  pub come_true : (limits : OutputLimits) (is : FrameCourse) → last_end c.end ≡ None →
       SaysNext part limits (now config passes (later ++ before)).host c (Ended Reached) is →
       held_at config passes (later ++ before) output Operation ≡ byte
   pub untouched : AsksNoOrder config passes output later before → (register : Reg) →
