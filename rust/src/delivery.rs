@@ -525,6 +525,7 @@ impl Host {
     ///
     /// let mut bus = Part::new(0x58, &[Output::default()], (1, 0, 3))?;
     /// let mut host = Host::new(0x58, 1, 3)?;
+    /// host.no_limits(0)?;
     /// let mut course = Course::voltage(0, Register::VoutCommand, 1_100_000, COURSE_TRIES)?;
     /// let mut delivery = Delivery::new(0, &DeliveryOptions { rounds: 2, ..DeliveryOptions::default() })?;
     /// bus.set_reading(Reading::Vout(0), 0x0000)?;

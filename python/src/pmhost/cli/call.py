@@ -198,7 +198,7 @@ class Call:
     def places(self) -> dict[str, Place]:
         """The parts of the call by their names, none of which was opened before its first use."""
         if not self._places:
-            options = Options(self.passes, self.delay, self.busy_timeout, self.is_forced, self.is_shared, self.kernel)
+            options = Options(self.passes, self.delay, self.busy_timeout, self.is_forced, self.is_shared, self.kernel, self.is_unlimited)
             self._trace = Trace(self.trace_path)
             if self._rails is not None and self._rails.is_board:
                 self._places = {part.name: Place(part, limits, options, BusTrace(self._trace, part.bus))
