@@ -1,5 +1,5 @@
 -- What a course says, case by case.
-use Rattle.std.proofs.Common.{◌≡◌, ℕ, true, false, Option, Some, None, Result, refl, ap, sym, ◌∙◌}
+use Rattle.std.proofs.Common.{◌≡◌, ℕ, true, false, Some, None, Result, refl, ap, sym, ◌∙◌}
 use Rattle.pm_host.specs.Refusals.{is_busy}
 use Rattle.pm_host.specs.Summary.{Summary}
 use Rattle.pm_limits.specs.declared.part_registers.PartRegisters.{PartRegisters}

@@ -1,6 +1,6 @@
 -- What holds of a driver between two calls, what each call of it does, and what is true of it with no event in
 -- sight: this project's own choice.
-use Rattle.std.specs.Prelude.{◌≡◌, ◌<◌, ℕ, true, false, List, [], ◌∷◌, Option, Some, None, IfSome, IsSomeAnd, Result, IfOk, OnOk, OnErr}
+use Rattle.std.specs.Prelude.{◌≡◌, ◌<◌, ℕ, true, false, List, [], ◌∷◌, Some, IfSome, IsSomeAnd, Result, IfOk, OnOk, OnErr}
 use Rattle.std.specs.Result.{result_err}
 use Rattle.pm_table.specs.declared.cell.Cell.{Cell}
 use Rattle.pm_table.specs.declared.cell.Cell.TheVariants.{Out}

@@ -1,5 +1,5 @@
 -- Why limits of a host in a caller's memory aren't narrowed.
-use Rattle.std.proofs.Common.{◌≡◌, ℕ, ℤ, true, [], ◌∷◌, Some, None, ap}
+use Rattle.std.proofs.Common.{◌≡◌, ℕ, ℤ, true, [], ◌∷◌, Some, ap}
 use Rattle.std.specs.Prelude.{nat_lt, slice_index_or}
 use Rattle.pm_table.specs.Rules.{first}
 use Rattle.pm_host.specs.Image.{host_of}

@@ -1,6 +1,6 @@
 -- What stands in a caller's memory, as a function of what it means: a number without a meaning is 0 (of a format
 -- FFh), and so is each behind a count. Two hosts that mean the same are then equal byte for byte. This project's own choice.
-use Rattle.std.specs.Prelude.{◌≡◌, pos, List, map, replicate, Option, Some, None}
+use Rattle.std.specs.Prelude.{◌≡◌, pos, List, map, replicate, Some}
 use Rattle.pm_limits.specs.declared.part_registers.PartRegisters.{PartRegisters}
 use Rattle.pm_limits.specs.declared.output_limits.OutputLimits.{OutputLimits}
 use Rattle.pm_limits.specs.declared.output_limits.OutputLimits.TheVariants.{Unknown, Unlimited, Between}

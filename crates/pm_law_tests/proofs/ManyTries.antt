@@ -1,5 +1,5 @@
 -- How many tries are enough for any plan, and what a survey and a course that goes on come to.
-use Rattle.std.specs.Prelude.{◌≡◌, ◌≤◌, ◌||◌, ℕ, Bool, true, false, if◌then◌else◌, ◌<◌, refl, Option, Some, None, is_none, is_some, IfOk, Result, Ok}
+use Rattle.std.specs.Prelude.{◌≡◌, ◌≤◌, ◌||◌, ℕ, Bool, true, false, if◌then◌else◌, ◌<◌, refl, Some, None, is_none, is_some, IfOk, Result, Ok}
 use Rattle.std.proofs.Common.{arith, subst}
 use Rattle.pm_device.specs.Held.{Held, value_for}
 use Rattle.pm_limits.specs.declared.output_limits.OutputLimits.{OutputLimits}

@@ -1,5 +1,5 @@
 -- A job that a course names takes a try, and is refused by nothing.
-use Rattle.std.specs.Prelude.{true, ◌≡◌, ◌<◌, ◌-◌, ◌==◌, ℕ, false, refl, Option, Some, None, Ok, Err}
+use Rattle.std.specs.Prelude.{true, ◌≡◌, ◌<◌, ◌-◌, ◌==◌, ℕ, false, refl, Some, None, Ok, Err}
 use Rattle.std.proofs.Common.{arith, sym, ◌∙◌, ap, subst}
 use Rattle.std.proofs.lemmas.Bool.Decides.{nat_tests}
 use Rattle.pm_host.specs.declared.job.Job.{Job as Asked}

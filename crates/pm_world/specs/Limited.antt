@@ -1,5 +1,5 @@
 -- What limits of an output are worth over a life: this project's own choice. Lists are newest first.
-use Rattle.std.specs.Prelude.{◌≡◌, ◌⊎◌, ◌<◌, ℕ, true, None, Some, List, [], ◌∷◌, ◌++◌, Option, option_and_then, slice_index_or}
+use Rattle.std.specs.Prelude.{◌≡◌, ◌⊎◌, ◌<◌, ℕ, true, None, Some, List, [], ◌∷◌, ◌++◌, option_and_then, slice_index_or}
 use Rattle.pm_num.specs.Ratio.{Ratio, AtMost, micros}
 use Rattle.pm_table.specs.declared.reg.Reg.{Reg}
 use Rattle.pm_table.specs.declared.reg.Reg.TheVariants.{VoutMax, VoutMin}

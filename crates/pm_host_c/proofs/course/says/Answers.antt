@@ -1,5 +1,5 @@
 use Rattle.std.proofs.Common.{◌≡◌, true, false, subst, rules}
-use Rattle.std.specs.Prelude.{nat_lt, Option}
+use Rattle.std.specs.Prelude.{nat_lt}
 use Rattle.pm_host.specs.Image.{held}
 use Rattle.pm_limits.specs.declared.part_registers.PartRegisters.{PartRegisters}
 use Rattle.pm_limits.specs.declared.output_limits.OutputLimits.{OutputLimits}

@@ -1,4 +1,4 @@
-use Rattle.std.proofs.Common.{◌∙◌, Option, None, ap}
+use Rattle.std.proofs.Common.{◌∙◌, None, ap}
 use Rattle.pm_host.specs.Image.{held}
 use Rattle.pm_limits.specs.Band.{band_at, within_of}
 use Rattle.pm_limits.specs.declared.output_limits.OutputLimits.{OutputLimits}
