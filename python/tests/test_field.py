@@ -13,6 +13,7 @@ from pmhost import Course, Device, Looks, ModelPart, ModelPartBus, NotDelivered,
 
 from . import field_boards
 from .field import ADDRESS, Field, FieldBus
+from .fixtures import free
 from .kernel import FakeKernel
 from .running import ROOT, stored
 from .runs import blocks, called
@@ -158,7 +159,7 @@ class Threads(unittest.TestCase):
     """Several threads use one Device: each call waits until the others have ended."""
 
     def test_four_threads_and_asyncio(self):
-        device, faults = Device(ModelPartBus(ModelPart(ADDRESS, [Output()] * 2)), ADDRESS, outputs=2), []
+        device, faults = free(Device(ModelPartBus(ModelPart(ADDRESS, [Output()] * 2)), ADDRESS, outputs=2)), []
 
         def work(output):
             try:
