@@ -44,7 +44,7 @@ class Linux(unittest.TestCase):
     def test_a_closed_bus_sends_nothing_and_closes_once(self):
         """The number of its file may be another bus's by then."""
         bus = self.bus()
-        pmbus = Device(bus, ADDRESS)
+        pmbus = free(Device(bus, ADDRESS))
         pmbus.learn(0)
         bus.close()
         self.over.opened = 1

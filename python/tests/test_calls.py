@@ -172,8 +172,8 @@ class Names(unittest.TestCase):
         found = refusal(0x24)
         self.assertEqual((type(found), found.letter, found.name, found.number),
                          (pmhost.LimitRefused, "L4", "AboveLimit", 0x24))
-        self.assertEqual([name_of(number) for number in (0, 0x08, 0x28, 0xFF)],
-                         [f"number {number:02X}h" for number in (0, 0x08, 0x28, 0xFF)])
+        self.assertEqual([name_of(number) for number in (0, 0x08, 0x29, 0xFF)],
+                         [f"number {number:02X}h" for number in (0, 0x08, 0x29, 0xFF)])
 
     def test_what_the_package_hands_out_is_there(self):
         for name in pmhost.__all__:

@@ -146,7 +146,7 @@ class Interruptions(unittest.TestCase):
 
     def test_a_host_gives_up_at_each_place(self):
         for passes, told in itertools.product(range(1, 4), range(6)):
-            host = Telling(ADDRESS, 2, passes)
+            host = free(Telling(ADDRESS, 2, passes))
             host.order(1, "VOUT_COMMAND", 0x1234)
             for _ in range(min(told, 2 * passes - 1)):
                 host.read_ended(b"") if host.frame().is_request else host.write_ended(True)

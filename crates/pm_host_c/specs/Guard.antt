@@ -28,7 +28,7 @@ limits_held i = if are_unlimited i then Unlimited
 unfoldable pub limits_kept : GuardImage → List OutputLimits
 limits_kept image = map limits_held image.limits
 
--- of no output are they known
+-- no output has limits that are known
 abbrev pub unknown_limits : List OutputLimits
 unknown_limits = replicate 8 Unknown
 

@@ -47,7 +47,7 @@ pub(super) fn bare(passes: u8) -> GuardImage {
     image
 }
 
-// The same, which are said to have none.
+// A host with two outputs that are said to have no limits.
 pub(super) fn host(passes: u8) -> GuardImage {
     let mut image = bare(passes);
     let _ = no_limits(&mut image, 0);
