@@ -16,7 +16,9 @@ use crate::numbers::{
 };
 use crate::voltages::{put_ceil, put_floor};
 use pm_host::{HostFault, State};
-use pm_limits::{Band, LimitFault, OutputLimits, Within, band_in, narrower_limits, within_limits};
+use pm_limits::{
+    Band, LimitFault, NewLimits, OutputLimits, Within, band_in, narrower_limits, within_limits,
+};
 
 /// The ends of the band of an output's voltage, in whole microvolts, as plain numbers.
 #[repr(C)]
@@ -45,7 +47,12 @@ pub extern "C" fn pm_host_set_limits(host: &mut GuardImage, output: u8, least: i
     }
     let registers = host.registers.registers();
     let old = host.limits(output);
-    match narrower_limits(&host.host.state, stage, registers, &old, output, least, most) {
+    let new = NewLimits {
+        output,
+        least,
+        most,
+    };
+    match narrower_limits(&host.host.state, stage, registers, &old, new) {
         Ok(limits) => {
             host.put_limits(output, &OutputLimits::Between(limits));
             ACCEPTED

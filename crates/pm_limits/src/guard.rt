@@ -28,7 +28,7 @@ ghost use Rattle.pm_limits.specs.Part.{all_registers};
 use crate::band::{Band, band_of};
 use crate::fault::LimitFault;
 use crate::judgement::{
-    judge, judge_word, narrower_limits, ordered_output, output_of, refuse_cell, refuse_ordered,
+    NewLimits, judge, judge_word, narrower_limits, ordered_output, output_of, refuse_cell, refuse_ordered,
     within_limits,
 };
 use crate::limits::Limits;
@@ -213,7 +213,7 @@ impl Guard {
         }
     }
 
-    // The same, borrowed from the guard.
+    // What is said of them, borrowed from the guard.
     #[inline(always)]
     fn kept(&self, output: u8) -> Option<&OutputLimits>
         ensures { option_map_or (λ limits. limits.now) result Unlimited ≡ limits_at self.now output }
@@ -270,7 +270,12 @@ impl Guard {
     {
         let old = self.limits(output);
         let (state, stage) = (self.host.state(), self.host.stage());
-        narrower_limits(state, stage, self.registers, &old, output, least, most)
+        let new = NewLimits {
+            output,
+            least,
+            most,
+        };
+        narrower_limits(state, stage, self.registers, &old, new)
     }
 
     /// Between which voltages an output may be, as [`band_of`] says. The output is there.

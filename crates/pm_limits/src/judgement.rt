@@ -29,6 +29,31 @@ use pm_num::{AnyFormat, Linear11, NumFormat};
 use pm_table::{Cell, Operation, Reg};
 use std::cmp::Ordering;
 
+/// A word for a cell.
+#[derive(Clone, Copy)]
+struct CellWord {
+    cell: Cell,
+    word: u16,
+}
+
+/// A number of microvolts for a cell.
+#[derive(Clone, Copy)]
+struct CellVoltage {
+    cell: Cell,
+    x: i64,
+}
+
+/// Limits that an output is to get, in microvolts.
+#[derive(Clone, Copy, Debug, PartialEq, Eq)]
+pub struct NewLimits {
+    /// The output's number.
+    pub output: u8,
+    /// The least voltage.
+    pub least: i64,
+    /// The most.
+    pub most: i64,
+}
+
 /// What a host is to be asked for in place of this job, whose output has these limits, and whose part these registers:
 /// the same, and of an order in microvolts the order of the nearest word. Or why it isn't asked at all, as
 /// [`crate::Guard::begin`] says. A guard asks its host so; who keeps limits otherwise asks as well, and then begins what
@@ -51,11 +76,13 @@ pub fn judge(
         Job::Order(cell, word) => {
             refuse_ordered(state, stage, registers, cell, word)?;
             if !matches!(limits, OutputLimits::Unlimited) {
-                judge_order(state, stage, registers, limits, cell, word)?;
+                judge_order(state, stage, registers, limits, CellWord { cell, word })?;
             }
             Ok(job)
         }
-        Job::OrderMicro(cell, x) => judge_micro(state, stage, registers, limits, cell, x),
+        Job::OrderMicro(cell, x) => {
+            judge_micro(state, stage, registers, limits, CellVoltage { cell, x })
+        }
         Job::Check(cell) => {
             refuse_missing(state, stage, registers, cell)?;
             Ok(job)
@@ -117,18 +144,17 @@ fn judge_order(
     stage: Option<Stage>,
     registers: PartRegisters,
     limits: &OutputLimits,
-    cell: Cell,
-    word: u16,
+    order: CellWord,
 ) -> Result<(), LimitFault>
     requires sound { IsSound (held stage state.now) }
-    requires there { missing_ordered registers cell word ≡ None }
-    ensures refused { let s = held stage state.now in
-        IfErr result (λ fault. limited_fault registers limits.now s (Job.Order cell word) ≡ Some fault) }
-    ensures passed { let s = held stage state.now in
-        OnOk result (limited_fault registers limits.now s (Job.Order cell word) ≡ of_host (begin_fault s (Job.Order cell word))) }
+    requires there { missing_ordered registers order.cell order.word ≡ None }
+    ensures refused { let s = held stage state.now in let job = Job.Order order.cell order.word in
+        IfErr result (λ fault. limited_fault registers limits.now s job ≡ Some fault) }
+    ensures passed { let s = held stage state.now in let job = Job.Order order.cell order.word in
+        OnOk result (limited_fault registers limits.now s job ≡ of_host (begin_fault s job)) }
 {
-    refuse_cell(state, stage, cell)?;
-    judge_word(state, registers, limits, cell, word)?;
+    refuse_cell(state, stage, order.cell)?;
+    judge_word(state, registers, limits, order.cell, order.word)?;
     Ok(())
 }
 
@@ -139,12 +165,12 @@ fn judge_micro(
     stage: Option<Stage>,
     registers: PartRegisters,
     limits: &OutputLimits,
-    cell: Cell,
-    x: i64,
+    order: CellVoltage,
 ) -> Result<Job, LimitFault>
     requires { IsSound (held stage state.now) }
-    ensures { IsJudged registers limits.now (held stage state.now) (Job.OrderMicro cell x) result }
+    ensures { IsJudged registers limits.now (held stage state.now) (Job.OrderMicro order.cell order.x) result }
 {
+    let CellVoltage { cell, x } = order;
     refuse_missing(state, stage, registers, cell)?;
     refuse_cell(state, stage, cell)?;
     let word = micro_word(state, stage, cell, x)?;
@@ -349,17 +375,15 @@ pub fn narrower_limits(
     stage: Option<Stage>,
     registers: PartRegisters,
     old: &OutputLimits,
-    output: u8,
-    least: i64,
-    most: i64,
+    new: NewLimits,
 ) -> Result<Limits, LimitFault>
     requires { IsSound (held stage state.now) }
-    ensures made { IfOk result (λ limits. limits ≡ record { least = least; most = most }) }
-    ensures fault { result_err result ≡ first (narrower_fault old.now least most
-        ∷ open_fault registers (record { least = least; most = most }) (held stage state.now) output ∷ []) }
+    ensures made { IfOk result (λ limits. limits ≡ record { least = new.least; most = new.most }) }
+    ensures fault { result_err result ≡ first (narrower_fault old.now new.least new.most
+        ∷ open_fault registers (record { least = new.least; most = new.most }) (held stage state.now) new.output ∷ []) }
 {
-    let limits = Limits::narrower(old, least, most)?;
-    refuse_open(state, stage, registers, &limits, output)?;
+    let limits = Limits::narrower(old, new.least, new.most)?;
+    refuse_open(state, stage, registers, &limits, new.output)?;
     Ok(limits)
 }
 
@@ -376,10 +400,10 @@ fn refuse_open(
 {
     match stage {
         Some(Stage::Writes { cell, word, .. }) => {
-            refuse_beyond(state, registers, limits, output, cell, word)
+            refuse_beyond(state, registers, limits, output, CellWord { cell, word })
         }
         Some(Stage::Reads { cell, word, .. }) => {
-            refuse_beyond(state, registers, limits, output, cell, word)
+            refuse_beyond(state, registers, limits, output, CellWord { cell, word })
         }
         _ => Ok(()),
     }
@@ -391,14 +415,13 @@ fn refuse_beyond(
     registers: PartRegisters,
     limits: &Limits,
     output: u8,
-    cell: Cell,
-    word: u16,
+    order: CellWord,
 ) -> Result<(), LimitFault>
-    requires { IsCell 8 cell }
+    requires { IsCell 8 order.cell }
     ensures { let s = held None state.now in
-        result_err result ≡ rule (spec_is_beyond registers limits.now s output (accepted.Order cell word)) (Host Busy) }
+        result_err result ≡ rule (spec_is_beyond registers limits.now s output (accepted.Order order.cell order.word)) (Host Busy) }
 {
-    if is_beyond(state, registers, limits, output, cell, word) {
+    if is_beyond(state, registers, limits, output, order) {
         return Err(LimitFault::Host(HostFault::Busy));
     }
     Ok(())
@@ -410,12 +433,12 @@ fn is_beyond(
     registers: PartRegisters,
     limits: &Limits,
     output: u8,
-    cell: Cell,
-    word: u16,
+    order: CellWord,
 ) -> bool
-    requires { IsCell 8 cell }
-    ensures { result ≡ spec_is_beyond registers limits.now (held None state.now) output (accepted.Order cell word) }
+    requires { IsCell 8 order.cell }
+    ensures { result ≡ spec_is_beyond registers limits.now (held None state.now) output (accepted.Order order.cell order.word) }
 {
     let limits = OutputLimits::Between(*limits);
-    output_of(cell) == output && judge_word(state, registers, &limits, cell, word).is_err()
+    output_of(order.cell) == output
+        && judge_word(state, registers, &limits, order.cell, order.word).is_err()
 }

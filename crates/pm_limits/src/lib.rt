@@ -41,7 +41,7 @@ pub use band::{Band, band_in, band_of, selects_avsbus};
 pub use ends::Side;
 pub use fault::LimitFault;
 pub use guard::{Guard, Within};
-pub use judgement::{judge, narrower_limits, ordered_output, within_limits};
+pub use judgement::{NewLimits, judge, narrower_limits, ordered_output, within_limits};
 pub use laws::{
     bands_are_ends, guarded_orders_are_within, missing_limits_cut_nothing, whole_parts_miss_nothing,
 };

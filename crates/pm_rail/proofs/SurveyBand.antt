@@ -1,7 +1,7 @@
 -- An output has a band once a survey of it has ended by its own rule.
 use Rattle.std.specs.Prelude.{◌≡◌, ◌&&◌, ◌||◌, ◌/◌, ◌%◌, ◌==◌, ℕ, Bool, true, false, not, if◌then◌else◌, refl, List, [], ◌∷◌, Option, Some, None, is_none, option_map}
 use Rattle.std.specs.List.{list_any}
-use Rattle.std.proofs.Common.{sym, ◌∙◌, ap, ap₂}
+use Rattle.std.proofs.Common.{ap, ap₂}
 use Rattle.pm_num.specs.AnyFormat.{Shape}
 use Rattle.pm_table.specs.declared.cell.Cell.TheVariants.{Out}
 use Rattle.pm_table.specs.declared.reg.Reg.TheVariants.{Operation}

@@ -7,7 +7,7 @@ ghost use Rattle.pm_rail.specs.Course.{BeginsNext, after_next, course_of, going_
 use crate::apply_end::{ApplyEnd, StopCause};
 use crate::fault::PlanFault;
 use crate::next::Next;
-use crate::orders::{PlanOrder, next_order_in};
+use crate::orders::{Plan, PlanOrder, next_order_in};
 use crate::refusals::refuse_missing;
 use crate::survey::{Reads, Survey, wanted_of};
 use crate::wanted::Wanted;
@@ -206,7 +206,7 @@ impl Course {
             None if self.survey.plan.is_none() && self.survey.is_done_in(host, part) => Ok(None),
             None => {
                 let wanted = wanted_of(self.survey.plan);
-                next_order_in(host, stage, part, limits, output, &wanted)
+                next_order_in(host, stage, part, limits, &Plan { output, wanted })
             }
             Some(_) if stage.is_some() => Err(PlanFault::Busy),
             Some(byte) => self.power_next(host, part, byte),

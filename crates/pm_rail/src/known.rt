@@ -15,18 +15,22 @@ use pm_limits::PartRegisters;
 use pm_num::AnyFormat;
 use pm_table::{Cell, Reg};
 
+/// The form of an output: which registers its part has, and the format of its voltages.
+#[derive(Clone, Copy)]
+pub(crate) struct OutputForm {
+    /// Which registers the part has.
+    pub registers: PartRegisters,
+    /// The format of the output's voltages.
+    pub format: AnyFormat,
+}
+
 /// The word that a cell is known to hold: the only one that it may hold, where it is one that the cell takes.
-pub(crate) fn known_at(
-    host: &State,
-    part: PartRegisters,
-    format: &AnyFormat,
-    cell: Cell,
-) -> Option<u16>
+pub(crate) fn known_at(host: &State, form: &OutputForm, cell: Cell) -> Option<u16>
     requires { IsCell 8 cell }
-    ensures { result ≡ spec_known_at (cells_of part (shape_of format.now) (held None host.now)) cell }
+    ensures { result ≡ spec_known_at (cells_of form.now.registers (shape_of form.now.format) (held None host.now)) cell }
 {
     match cell {
-        Cell::Out(_, register) => match part.missing_word(format, register) {
+        Cell::Out(_, register) => match form.registers.missing_word(&form.format, register) {
             Some(word) => accepted(cell, word),
             None => known_in(host, cell),
         },
@@ -53,32 +57,27 @@ fn accepted(cell: Cell, word: u16) -> Option<u16>
 }
 
 /// The word of a cell, or 0 where it isn't known.
-pub(crate) fn known_or(host: &State, part: PartRegisters, format: &AnyFormat, cell: Cell) -> u16
+pub(crate) fn known_or(host: &State, form: &OutputForm, cell: Cell) -> u16
     requires { IsCell 8 cell }
-    ensures { result ≡ spec_known_or (cells_of part (shape_of format.now) (held None host.now)) cell }
+    ensures { result ≡ spec_known_or (cells_of form.now.registers (shape_of form.now.format) (held None host.now)) cell }
 {
-    match known_at(host, part, format, cell) {
+    match known_at(host, form, cell) {
         Some(word) => word,
         None => 0,
     }
 }
 
 /// The words that an output's registers are known to hold; 0 for those that aren't known.
-pub(crate) fn known_of(
-    host: &State,
-    part: PartRegisters,
-    format: &AnyFormat,
-    output: u8,
-) -> Registers
+pub(crate) fn known_of(host: &State, form: &OutputForm, output: u8) -> Registers
     requires { output < 8 }
-    ensures { held_by result ≡ spec_known_of (cells_of part (shape_of format.now) (held None host.now)) output }
+    ensures { held_by result ≡ spec_known_of (cells_of form.now.registers (shape_of form.now.format) (held None host.now)) output }
 {
     Registers {
-        operation: known_or(host, part, format, Cell::Out(output, Reg::Operation)),
-        command: known_or(host, part, format, Cell::Out(output, Reg::VoutCommand)),
-        max: known_or(host, part, format, Cell::Out(output, Reg::VoutMax)),
-        margin_high: known_or(host, part, format, Cell::Out(output, Reg::MarginHigh)),
-        margin_low: known_or(host, part, format, Cell::Out(output, Reg::MarginLow)),
-        min: known_or(host, part, format, Cell::Out(output, Reg::VoutMin)),
+        operation: known_or(host, form, Cell::Out(output, Reg::Operation)),
+        command: known_or(host, form, Cell::Out(output, Reg::VoutCommand)),
+        max: known_or(host, form, Cell::Out(output, Reg::VoutMax)),
+        margin_high: known_or(host, form, Cell::Out(output, Reg::MarginHigh)),
+        margin_low: known_or(host, form, Cell::Out(output, Reg::MarginLow)),
+        min: known_or(host, form, Cell::Out(output, Reg::VoutMin)),
     }
 }

@@ -56,7 +56,7 @@ pub use laws::{
     plans_cut_nothing, plans_end, surveys_are_short, surveys_end_known,
 };
 pub use next::Next;
-pub use orders::{PlanOrder, begin_next, next_order, next_order_in};
+pub use orders::{Plan, PlanOrder, begin_next, next_order, next_order_in};
 pub use plan::next_register;
 pub use power::{Power, Rail, Selected, power_in, rail_of, selected_in};
 pub use registers::Registers;

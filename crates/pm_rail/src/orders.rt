@@ -8,15 +8,13 @@ ghost use Rattle.pm_rail.specs.Orders.{Begun, plan_of, planned as spec_planned, 
 ghost use Rattle.pm_rail.specs.Registers.{held_by, wants_of};
 
 use crate::fault::PlanFault;
-use crate::known::known_of;
+use crate::known::{OutputForm, known_of};
 use crate::laws::plans_are_accepted;
 use crate::plan::{goal, next_register};
-use crate::refusals::{refuse, refuse_missing};
-use crate::registers::Registers;
+use crate::refusals::{Settings, refuse, refuse_missing};
 use crate::wanted::Wanted;
 use pm_host::{Stage, State};
 use pm_limits::{Guard, OutputLimits, PartRegisters};
-use pm_num::AnyFormat;
 use pm_table::{Cell, Reg};
 
 /// An order of a plan: a register, and its wanted word.
@@ -47,14 +45,26 @@ pub fn next_order(
 {
     let host = guard.host();
     let limits = guard.limits(output);
+    let plan = Plan {
+        output,
+        wanted: *wanted,
+    };
     next_order_in(
         host.state(),
         host.stage(),
         guard.registers(),
         &limits,
-        output,
-        wanted,
+        &plan,
     )
+}
+
+/// A plan: an output, and the words that are wanted of its registers.
+#[derive(Clone, Copy, Debug, PartialEq, Eq)]
+pub struct Plan {
+    /// The output's number.
+    pub output: u8,
+    /// The words that are wanted.
+    pub wanted: Wanted,
 }
 
 /// The next order, by what is held beside the open job, of a part with these registers and by these limits. The
@@ -64,19 +74,18 @@ pub fn next_order_in(
     stage: Option<Stage>,
     part: PartRegisters,
     limits: &OutputLimits,
-    output: u8,
-    wanted: &Wanted,
+    plan: &Plan,
 ) -> Result<Option<PlanOrder>, PlanFault>
-    requires { output < 8 }
-    ensures { result ≡ plan_of part (state_held stage host.now) limits.now output (wants_of wanted.now) }
+    requires { plan.now.output < 8 }
+    ensures { result ≡ plan_of part (state_held stage host.now) limits.now plan.now.output (wants_of plan.now.wanted) }
 {
     if stage.is_some() {
         return Err(PlanFault::Busy);
     }
-    if let Some(fault) = refuse_missing(part, wanted) {
+    if let Some(fault) = refuse_missing(part, &plan.wanted) {
         return Err(fault);
     }
-    planned_in(host, part, limits, output, wanted)
+    planned_in(host, part, limits, plan)
 }
 
 // The next order in the output's format.
@@ -84,15 +93,20 @@ fn planned_in(
     host: &State,
     part: PartRegisters,
     limits: &OutputLimits,
-    output: u8,
-    wanted: &Wanted,
+    plan: &Plan,
 ) -> Result<Option<PlanOrder>, PlanFault>
-    requires { output < 8 }
+    requires { plan.now.output < 8 }
     ensures { let s = state_held None host.now in
-        result ≡ spec_planned_in part s limits.now output (wants_of wanted.now) (format_at s output) }
+        result ≡ spec_planned_in part s limits.now plan.now.output (wants_of plan.now.wanted) (format_at s plan.now.output) }
 {
-    match host.format(output).format() {
-        Some(format) => planned_by(host, part, limits, output, wanted, &format),
+    match host.format(plan.output).format() {
+        Some(format) => {
+            let form = OutputForm {
+                registers: part,
+                format,
+            };
+            planned_by(host, &form, limits, plan)
+        }
         None => Err(PlanFault::FormatUnknown),
     }
 }
@@ -100,41 +114,43 @@ fn planned_in(
 // The next order in this format.
 fn planned_by(
     host: &State,
-    part: PartRegisters,
+    form: &OutputForm,
     limits: &OutputLimits,
-    output: u8,
-    wanted: &Wanted,
-    format: &AnyFormat,
+    plan: &Plan,
 ) -> Result<Option<PlanOrder>, PlanFault>
-    requires { output < 8 }
+    requires { plan.now.output < 8 }
     ensures { let s = state_held None host.now in
-        result ≡ spec_planned_in part s limits.now output (wants_of wanted.now) (Some (shape_of format.now)) }
+        result ≡ spec_planned_in form.now.registers s limits.now plan.now.output (wants_of plan.now.wanted)
+        (Some (shape_of form.now.format)) }
 {
-    let known = known_of(host, part, format, output);
-    planned(host, part, limits, output, &known, wanted, format)
+    let held = known_of(host, form, plan.output);
+    let settings = Settings {
+        output: plan.output,
+        held,
+        wanted: plan.wanted,
+    };
+    planned(host, form, limits, &settings)
 }
 
 // The next order by the words that are known to be held.
 fn planned(
     host: &State,
-    part: PartRegisters,
+    form: &OutputForm,
     limits: &OutputLimits,
-    output: u8,
-    held: &Registers,
-    wanted: &Wanted,
-    format: &AnyFormat,
+    settings: &Settings,
 ) -> Result<Option<PlanOrder>, PlanFault>
-    requires { output < 8 }
-    ensures { let cells = cells_of part (shape_of format.now) (state_held None host.now) in
-        result ≡ spec_planned cells limits.now output (held_by held.now) (wants_of wanted.now) (any_value format.now) }
+    requires { settings.now.output < 8 }
+    ensures { let cells = cells_of form.now.registers (shape_of form.now.format) (state_held None host.now) in
+        result ≡ spec_planned cells limits.now settings.now.output (held_by settings.now.held) (wants_of settings.now.wanted)
+        (any_value form.now.format) }
 {
-    let next = next_register(format, held, wanted);
-    if let Some(fault) = refuse(host, part, limits, output, held, wanted, format, next) {
+    let next = next_register(&form.format, &settings.held, &settings.wanted);
+    if let Some(fault) = refuse(host, form, limits, settings, next) {
         return Err(fault);
     }
     match next {
         Some(register) => {
-            let word = goal(held, wanted, register);
+            let word = goal(&settings.held, &settings.wanted, register);
             Ok(Some(PlanOrder { register, word }))
         }
         None => Ok(None),

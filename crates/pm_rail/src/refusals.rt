@@ -11,7 +11,7 @@ ghost use Rattle.pm_rail.specs.Plan.{next_register};
 ghost use Rattle.pm_rail.specs.Registers.{held_by, wants_of};
 
 use crate::fault::PlanFault;
-use crate::known::{known_at, known_or};
+use crate::known::{OutputForm, known_at, known_or};
 use crate::plan::goal;
 use crate::registers::Registers;
 use crate::wanted::Wanted;
@@ -21,35 +21,45 @@ use pm_num::{AnyFormat, Frac, NumFormat, micro};
 use pm_table::{Cell, Operation, Reg, is_allowed};
 use std::cmp::Ordering;
 
+/// The settings of an output: the words that its registers are known to hold, and those that are wanted.
+#[derive(Clone, Copy)]
+pub(crate) struct Settings {
+    /// The output's number.
+    pub output: u8,
+    /// The words that its registers hold; 0 where that isn't known.
+    pub held: Registers,
+    /// The words that are wanted.
+    pub wanted: Wanted,
+}
+
 /// L8, L3, L4 and P4 to P7, by the words that are known to be held and the register that is next.
 pub(crate) fn refuse(
     host: &State,
-    part: PartRegisters,
+    form: &OutputForm,
     limits: &OutputLimits,
-    output: u8,
-    held: &Registers,
-    wanted: &Wanted,
-    format: &AnyFormat,
+    settings: &Settings,
     next: Option<Reg>,
 ) -> Option<PlanFault>
-    requires output { output < 8 }
-    requires next { next ≡ next_register (any_value format.now) (held_by held.now) (wants_of wanted.now) }
-    ensures { let cells = cells_of part (shape_of format.now) (state_held None host.now) in
-        result ≡ planned_fault cells limits.now output (held_by held.now) (wants_of wanted.now) (any_value format.now) }
+    requires output { settings.now.output < 8 }
+    requires next { next ≡ next_register (any_value form.now.format) (held_by settings.now.held) (wants_of settings.now.wanted) }
+    ensures { let cells = cells_of form.now.registers (shape_of form.now.format) (state_held None host.now) in
+        result ≡ planned_fault cells limits.now settings.now.output (held_by settings.now.held) (wants_of settings.now.wanted)
+        (any_value form.now.format) }
 {
-    if let Some(fault) = refuse_limits(limits, format, wanted) {
+    let (held, wanted) = (&settings.held, &settings.wanted);
+    if let Some(fault) = refuse_limits(limits, &form.format, wanted) {
         return Some(fault);
     }
-    if let Some(fault) = refuse_unknown(host, part, format, output, held, wanted) {
+    if let Some(fault) = refuse_unknown(host, form, settings) {
         return Some(fault);
     }
-    if next.is_some() && known_at(host, part, format, Cell::Protect).is_none() {
+    if next.is_some() && known_at(host, form, Cell::Protect).is_none() {
         return Some(PlanFault::NotKnown(Cell::Protect));
     }
-    if let Some(fault) = refuse_words(format, held, wanted) {
+    if let Some(fault) = refuse_words(&form.format, held, wanted) {
         return Some(fault);
     }
-    refuse_protected(known_or(host, part, format, Cell::Protect), held, wanted)
+    refuse_protected(known_or(host, form, Cell::Protect), held, wanted)
 }
 
 // L8, L3 and L4.
@@ -186,47 +196,34 @@ fn is_wanted_above(most: &Frac, format: &AnyFormat, wanted: &Wanted, register: R
 }
 
 // P4 for a register.
-fn refuse_unknown(
-    host: &State,
-    part: PartRegisters,
-    format: &AnyFormat,
-    output: u8,
-    held: &Registers,
-    wanted: &Wanted,
-) -> Option<PlanFault>
-    requires { output < 8 }
-    ensures { result ≡ unknown_fault (cells_of part (shape_of format.now) (state_held None host.now)) output (held_by held.now) (wants_of wanted.now) }
+fn refuse_unknown(host: &State, form: &OutputForm, settings: &Settings) -> Option<PlanFault>
+    requires { settings.now.output < 8 }
+    ensures { let cells = cells_of form.now.registers (shape_of form.now.format) (state_held None host.now) in
+        result ≡ unknown_fault cells settings.now.output (held_by settings.now.held) (wants_of settings.now.wanted) }
 {
-    match first_unknown(host, part, format, output, held, wanted) {
-        Some(register) => Some(PlanFault::NotKnown(Cell::Out(output, register))),
+    match first_unknown(host, form, settings) {
+        Some(register) => Some(PlanFault::NotKnown(Cell::Out(settings.output, register))),
         None => None,
     }
 }
 
 // The first register that is needed and isn't known.
-fn first_unknown(
-    host: &State,
-    part: PartRegisters,
-    format: &AnyFormat,
-    output: u8,
-    held: &Registers,
-    wanted: &Wanted,
-) -> Option<Reg>
-    requires { output < 8 }
-    ensures { let cells = cells_of part (shape_of format.now) (state_held None host.now) in
-        result ≡ find (spec_is_unknown cells output (held_by held.now) (wants_of wanted.now)) registers }
+fn first_unknown(host: &State, form: &OutputForm, settings: &Settings) -> Option<Reg>
+    requires { settings.now.output < 8 }
+    ensures { let cells = cells_of form.now.registers (shape_of form.now.format) (state_held None host.now) in
+        result ≡ find (spec_is_unknown cells settings.now.output (held_by settings.now.held) (wants_of settings.now.wanted)) registers }
 {
-    if is_unknown(host, part, format, output, held, wanted, Reg::Operation) {
+    if is_unknown(host, form, settings, Reg::Operation) {
         Some(Reg::Operation)
-    } else if is_unknown(host, part, format, output, held, wanted, Reg::VoutCommand) {
+    } else if is_unknown(host, form, settings, Reg::VoutCommand) {
         Some(Reg::VoutCommand)
-    } else if is_unknown(host, part, format, output, held, wanted, Reg::VoutMax) {
+    } else if is_unknown(host, form, settings, Reg::VoutMax) {
         Some(Reg::VoutMax)
-    } else if is_unknown(host, part, format, output, held, wanted, Reg::MarginHigh) {
+    } else if is_unknown(host, form, settings, Reg::MarginHigh) {
         Some(Reg::MarginHigh)
-    } else if is_unknown(host, part, format, output, held, wanted, Reg::MarginLow) {
+    } else if is_unknown(host, form, settings, Reg::MarginLow) {
         Some(Reg::MarginLow)
-    } else if is_unknown(host, part, format, output, held, wanted, Reg::VoutMin) {
+    } else if is_unknown(host, form, settings, Reg::VoutMin) {
         Some(Reg::VoutMin)
     } else {
         None
@@ -236,19 +233,16 @@ fn first_unknown(
 /// Whether a register is needed and isn't known.
 pub(crate) fn is_unknown(
     host: &State,
-    part: PartRegisters,
-    format: &AnyFormat,
-    output: u8,
-    held: &Registers,
-    wanted: &Wanted,
+    form: &OutputForm,
+    settings: &Settings,
     register: Reg,
 ) -> bool
-    requires { output < 8 }
-    ensures { let cells = cells_of part (shape_of format.now) (state_held None host.now) in
-        result ≡ spec_is_unknown cells output (held_by held.now) (wants_of wanted.now) register }
+    requires { settings.now.output < 8 }
+    ensures { let cells = cells_of form.now.registers (shape_of form.now.format) (state_held None host.now) in
+        result ≡ spec_is_unknown cells settings.now.output (held_by settings.now.held) (wants_of settings.now.wanted) register }
 {
-    is_needed(held, wanted, register)
-        && known_at(host, part, format, Cell::Out(output, register)).is_none()
+    is_needed(&settings.held, &settings.wanted, register)
+        && known_at(host, form, Cell::Out(settings.output, register)).is_none()
 }
 
 /// L7: the first register of which a word is wanted and that the part doesn't have.

@@ -2,18 +2,17 @@ ghost use Rattle.std.specs.Prelude.{◌≡◌, ◌<◌, None, Some, find};
 ghost use Rattle.pm_num.specs.AnyFormat.{shape_of};
 ghost use Rattle.pm_table.specs.Cell.{registers};
 ghost use Rattle.pm_host.specs.Image.{held};
-ghost use Rattle.pm_rail.specs.Known.{cells_of};
+ghost use Rattle.pm_rail.specs.Known.{cells_of, known_of as spec_known_of};
 ghost use Rattle.pm_rail.specs.Registers.{held_by, wants_of};
 ghost use Rattle.pm_rail.specs.Survey.{and_read, asking, due_by as spec_due_by, due_in as spec_due_in, due_job, ended, has_read, is_stuck as spec_is_stuck, is_stuck_by as spec_is_stuck_by, is_surveyed, is_unread as spec_is_unread, next_job, nothing_read, survey_of, wanted_in};
 
-use crate::known::{known_at, known_of};
+use crate::known::{OutputForm, known_at, known_of};
 use crate::missing::{first_unsure, is_stuck_in};
-use crate::refusals::is_needed;
+use crate::refusals::{Settings, is_needed};
 use crate::registers::Registers;
 use crate::wanted::Wanted;
 use pm_host::{Job, JobEnd, State};
 use pm_limits::{Guard, PartRegisters};
-use pm_num::AnyFormat;
 use pm_table::{Cell, Reg};
 
 /// Which cells had a good answer since a survey began.
@@ -225,46 +224,45 @@ impl Survey {
         ensures { result ≡ due_job part self.now (held None host.now) }
     {
         match host.format(self.output).format() {
-            Some(format) => self.due_by(host, part, &format),
+            Some(format) => {
+                let registers = part;
+                self.due_by(host, &OutputForm { registers, format })
+            }
             None => Some(Job::Learn(self.output)),
         }
     }
 
     // What is still to be asked for, in the output's format.
-    fn due_by(&self, host: &State, part: PartRegisters, format: &AnyFormat) -> Option<Job>
+    fn due_by(&self, host: &State, form: &OutputForm) -> Option<Job>
         requires { self.now.output < 8 }
-        ensures { result ≡ spec_due_by part self.now (held None host.now) (Some (shape_of format.now)) }
+        ensures { result ≡ spec_due_by form.now.registers self.now (held None host.now) (Some (shape_of form.now.format)) }
     {
-        let known = known_of(host, part, format, self.output);
-        self.due_in(host, part, format, &known, &wanted_of(self.plan))
+        self.due_in(host, form, &self.settings(host, form))
     }
 
     // What is still to be asked for, by the words that are known and those that are wanted.
-    fn due_in(
-        &self,
-        host: &State,
-        part: PartRegisters,
-        format: &AnyFormat,
-        known: &Registers,
-        wanted: &Wanted,
-    ) -> Option<Job>
-        requires { self.now.output < 8 }
-        ensures { let cells = cells_of part (shape_of format.now) (held None host.now) in
-            result ≡ spec_due_in part self.now cells (held_by known.now) (wants_of wanted.now) }
+    fn due_in(&self, host: &State, form: &OutputForm, settings: &Settings) -> Option<Job>
+        requires there { self.now.output < 8 }
+        requires own { settings.now.output ≡ self.now.output }
+        ensures { let cells = cells_of form.now.registers (shape_of form.now.format) (held None host.now) in
+            result ≡ spec_due_in form.now.registers self.now cells (held_by settings.now.held) (wants_of settings.now.wanted) }
     {
         if !self.learned {
             return Some(Job::Learn(self.output));
         }
-        if let Some(register) = self.read.first_unread(part, known, wanted) {
+        if let Some(register) = self
+            .read
+            .first_unread(form.registers, &settings.held, &settings.wanted)
+        {
             return Some(Job::Check(Cell::Out(self.output, register)));
         }
         if self.plan.is_some() && !self.read.protect {
             return Some(Job::Check(Cell::Protect));
         }
-        if let Some(register) = first_unsure(host, part, format, self.output, known, wanted) {
+        if let Some(register) = first_unsure(host, form, settings) {
             return Some(Job::Check(Cell::Out(self.output, register)));
         }
-        if self.plan.is_some() && known_at(host, part, format, Cell::Protect).is_none() {
+        if self.plan.is_some() && known_at(host, form, Cell::Protect).is_none() {
             return Some(Job::Check(Cell::Protect));
         }
         None
@@ -276,25 +274,35 @@ impl Survey {
         ensures { result ≡ spec_is_stuck part self.now (held None host.now) }
     {
         match host.format(self.output).format() {
-            Some(format) => self.is_stuck_by(host, part, &format),
+            Some(format) => {
+                let registers = part;
+                self.is_stuck_by(host, &OutputForm { registers, format })
+            }
             None => false,
         }
     }
 
     // Whether a register is needed that isn't known and that the part doesn't have, in the output's format.
-    fn is_stuck_by(&self, host: &State, part: PartRegisters, format: &AnyFormat) -> bool
+    fn is_stuck_by(&self, host: &State, form: &OutputForm) -> bool
         requires { self.now.output < 8 }
-        ensures { result ≡ spec_is_stuck_by part self.now (held None host.now) (Some (shape_of format.now)) }
+        ensures { result ≡ spec_is_stuck_by form.now.registers self.now (held None host.now) (Some (shape_of form.now.format)) }
     {
-        let known = known_of(host, part, format, self.output);
-        is_stuck_in(
-            host,
-            part,
-            format,
-            self.output,
-            &known,
-            &wanted_of(self.plan),
-        )
+        is_stuck_in(host, form, &self.settings(host, form))
+    }
+
+    // The words of its output that are known, and those that its plan wants.
+    fn settings(&self, host: &State, form: &OutputForm) -> Settings
+        requires { self.now.output < 8 }
+        ensures output { result.output ≡ self.now.output }
+        ensures held { held_by result.held
+            ≡ spec_known_of (cells_of form.now.registers (shape_of form.now.format) (held None host.now)) self.now.output }
+        ensures wanted { result.wanted ≡ wanted_in self.now.plan }
+    {
+        Settings {
+            output: self.output,
+            held: known_of(host, form, self.output),
+            wanted: wanted_of(self.plan),
+        }
     }
 }
 

@@ -5,9 +5,9 @@ use crate::checks::{equal, is_true};
 use crate::look::Look;
 use pm_device::{Config, OutputStart};
 use pm_host::Job;
-use pm_limits::PartRegisters;
+use pm_limits::{OutputLimits, PartRegisters};
 use pm_num::Frac;
-use pm_rail::{PlanFault, PlanOrder, Survey, Wanted, next_order_in};
+use pm_rail::{Plan, PlanFault, PlanOrder, Survey, Wanted, next_order_in};
 use pm_table::{Cell, Coefficients, Reg};
 use pm_world::{Arrival, Back, Event, SetupFault, World};
 use std::process::Abort;
@@ -362,14 +362,12 @@ fn is_done(survey: &Survey, world: &World) -> bool {
 // The next order of an output's plan, without limits.
 fn plans(world: &World, output: u8, wanted: &Wanted) -> Result<Option<PlanOrder>, PlanFault> {
     let host = world.host();
-    next_order_in(
-        host.state(),
-        host.stage(),
-        PartRegisters::all(),
-        &None,
-        output % 2,
-        wanted,
-    )
+    let plan = Plan {
+        output: output % 2,
+        wanted: *wanted,
+    };
+    let part = PartRegisters::all();
+    next_order_in(host.state(), host.stage(), part, &OutputLimits::Unlimited, &plan)
 }
 
 // One life.

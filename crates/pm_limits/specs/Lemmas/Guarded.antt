@@ -73,7 +73,7 @@ order-judged g cell output register word free is voltage =
     sym (judged-voltage g output register word voltage)
     ∙ ap (λ (c : Cell). judged g.registers (limits_at g (output_of c)) g.host c word) (sym is) ∙ judge
 
--- Nor do they of a job that orders one, as a word or in microvolts, and is let through.
+-- The limits say nothing of a job that orders one, as a word or in microvolts, and is let through.
 job-judged : (g : Guarded) (asked : Job) (output : ℕ) (register : Reg) (word : ℕ) →
     guard_fault g asked ≡ None → accepted_job g.host asked ≡ Some (Order (Out output register) word) →
     is_voltage register ≡ true → voltage_limit (limits_at g output) (format_at g.host output) word ≡ None

@@ -21,7 +21,7 @@ returns c =
     } in
     fun_ext (λ (r : Reg). elim r as
     (λ q. held_by registers q
-    ≡ known_of (cells_of c.args.part (shape_of c.args.format.now) (held None c.args.host.now)) c.args.output q) [
+    ≡ known_of (cells_of c.args.form.now.registers (shape_of c.args.form.now.format) (held None c.args.host.now)) c.args.output q) [
       | Operation ↦ c.known_or.ensures
       | VoutCommand ↦ c.known_or-2.ensures
       | VoutMax ↦ c.known_or-3.ensures

@@ -8,7 +8,9 @@ use Rattle.pm_rail.proofs.orders.planned_by.Goals as goal
 
 pub returns : goal.returns
 returns c =
-    let cells = cells_of c.args.part (shape_of c.args.format.now) (held None c.args.host.now) in
+    let plan = c.args.plan.now in
+    let form = c.args.form.now in
+    let cells = cells_of form.registers (shape_of form.format) (held None c.args.host.now) in
     c.planned.ensures
-    ∙ ap (λ (h : Held). planned cells c.args.limits.now c.args.output h (wants_of c.args.wanted.now) (any_value c.args.format.now))
-    c.known_of-known.ensures
+    ∙ ap (λ (h : Held). planned cells c.args.limits.now plan.output h (wants_of plan.wanted) (any_value form.format))
+    c.known_of-held.ensures

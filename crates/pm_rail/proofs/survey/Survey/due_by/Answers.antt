@@ -9,8 +9,9 @@ use Rattle.pm_rail.proofs.survey.Survey.due_by.Goals as goal
 
 pub returns : goal.returns
 returns c =
-    let cells = cells_of c.args.part (shape_of c.args.format.now) (held None c.args.host.now) in
+    let part = c.args.form.now.registers in
+    let cells = cells_of part (shape_of c.args.form.now.format) (held None c.args.host.now) in
     let v = c.args.self.now in
     c.due_in.ensures
-    ∙ ap (λ (h : Held). due_in c.args.part v cells h (wants_of c.wanted_of.result)) c.known_of-known.ensures
-    ∙ ap (λ (w : Wanted). due_in c.args.part v cells (known_of cells v.output) (wants_of w)) c.wanted_of.ensures
+    ∙ ap (λ (h : Held). due_in part v cells h (wants_of c.settings.result.wanted)) c.settings.ensures.held
+    ∙ ap (λ (w : Wanted). due_in part v cells (known_of cells v.output) (wants_of w)) c.settings.ensures.wanted
