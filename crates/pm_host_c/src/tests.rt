@@ -9,8 +9,8 @@ mod rails;
 
 use self::calls::{
     at_least, at_most, band, check, clear, finished, format, got, host, kept, learn, limits,
-    microvolts, narrow, nearest, new, no_limits, order, order_micro, possible, restart, restart_seen,
-    restore, shown, standing, store, within,
+    microvolts, narrow, nearest, new, no_limits, order, order_micro, possible, restart,
+    restart_seen, restore, shown, standing, store, within,
 };
 use self::checks::{equal, is_true};
 use crate::format_numbers::FormatNumbers;

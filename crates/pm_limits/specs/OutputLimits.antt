@@ -1,7 +1,7 @@
 -- What an output's voltage is limited to, as far as the caller said it: this project's own choice.
 use Rattle.std.specs.Prelude.{Bool, true, false}
 use Rattle.pm_limits.specs.declared.output_limits.OutputLimits.{OutputLimits}
-use Rattle.pm_limits.specs.declared.output_limits.OutputLimits.TheVariants.{Unknown, Unlimited, Between}
+use Rattle.pm_limits.specs.declared.output_limits.OutputLimits.TheVariants.{Unknown, Between}
 use Rattle.pm_limits.specs.Bounds.{Bounds, is_wider}
 
 -- the output has limits

@@ -28,8 +28,8 @@ ghost use Rattle.pm_limits.specs.Part.{all_registers};
 use crate::band::{Band, band_of};
 use crate::fault::LimitFault;
 use crate::judgement::{
-    NewLimits, judge, judge_word, narrower_limits, ordered_output, output_of, refuse_cell, refuse_ordered,
-    within_limits,
+    NewLimits, judge, judge_word, narrower_limits, ordered_output, output_of, refuse_cell,
+    refuse_ordered, within_limits,
 };
 use crate::limits::Limits;
 use crate::output_limits::OutputLimits;

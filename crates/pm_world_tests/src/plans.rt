@@ -367,7 +367,13 @@ fn plans(world: &World, output: u8, wanted: &Wanted) -> Result<Option<PlanOrder>
         wanted: *wanted,
     };
     let part = PartRegisters::all();
-    next_order_in(host.state(), host.stage(), part, &OutputLimits::Unlimited, &plan)
+    next_order_in(
+        host.state(),
+        host.stage(),
+        part,
+        &OutputLimits::Unlimited,
+        &plan,
+    )
 }
 
 // One life.

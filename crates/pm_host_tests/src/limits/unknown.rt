@@ -60,7 +60,10 @@ fn what_would_command_a_voltage_is_refused(rt: HostRuntime) {
         // Other registers and jobs aren't concerned.
         (Job::Order(Cell::Protect, 0x00), None),
         (Job::Check(first(Reg::VoutCommand)), None),
-        (Job::Order(Cell::Out(1, Reg::VoutCommand), 0x34CD), NO_LIMITS),
+        (
+            Job::Order(Cell::Out(1, Reg::VoutCommand), 0x34CD),
+            NO_LIMITS,
+        ),
         (Job::Order(Cell::Out(2, Reg::VoutCommand), 0x34CD), ABSENT),
     ];
     for (at, (job, wanted)) in rows.iter().enumerate() {
@@ -88,8 +91,18 @@ fn limits_or_the_word_that_there_are_none_end_it(rt: HostRuntime) {
     learn(&mut guard, 1, LINEAR, &[]);
     equal(&rt, &guard.no_limits(2).err(), &ABSENT, &1);
     equal(&rt, &guard.no_limits(0), &Ok(()), &2);
-    equal(&rt, &refusal(&mut guard, word(Reg::VoutCommand, 0xFFFF)), &None, &3);
-    equal(&rt, &refusal(&mut guard, word(Reg::Operation, 0x80)), &None, &4);
+    equal(
+        &rt,
+        &refusal(&mut guard, word(Reg::VoutCommand, 0xFFFF)),
+        &None,
+        &3,
+    );
+    equal(
+        &rt,
+        &refusal(&mut guard, word(Reg::Operation, 0x80)),
+        &None,
+        &4,
+    );
     // The other output isn't concerned.
     let other = Job::Order(Cell::Out(1, Reg::VoutCommand), 0x34CD);
     equal(&rt, &refusal(&mut guard, other), &NO_LIMITS, &5);
@@ -98,13 +111,28 @@ fn limits_or_the_word_that_there_are_none_end_it(rt: HostRuntime) {
     // Limits that are given later end it, and stay.
     equal(&rt, &guard.narrow(0, 3_200_000, 3_465_000), &Ok(()), &8);
     let below = Some(LimitFault::BelowLimit);
-    equal(&rt, &refusal(&mut guard, word(Reg::VoutCommand, 13107)), &below, &9);
+    equal(
+        &rt,
+        &refusal(&mut guard, word(Reg::VoutCommand, 13107)),
+        &below,
+        &9,
+    );
     let widened = Some(LimitFault::LimitsWidened);
     equal(&rt, &guard.no_limits(0).err(), &widened, &10);
-    equal(&rt, &refusal(&mut guard, word(Reg::VoutCommand, 13107)), &below, &11);
+    equal(
+        &rt,
+        &refusal(&mut guard, word(Reg::VoutCommand, 13107)),
+        &below,
+        &11,
+    );
     // It may be said while an order is open.
     let mut open = guard_of_none();
-    equal(&rt, &open.begin(word(Reg::VoutCommand, 0x34CD)), &Ok(()), &12);
+    equal(
+        &rt,
+        &open.begin(word(Reg::VoutCommand, 0x34CD)),
+        &Ok(()),
+        &12,
+    );
     equal(&rt, &open.no_limits(0), &Ok(()), &13);
 }
 
