@@ -56,7 +56,7 @@ fn what_would_command_a_voltage_is_refused(rt: HostRuntime) {
         // One that turns it off, and one that isn't taken.
         (word(Reg::Operation, 0x00), None),
         (word(Reg::Operation, 0x40), None),
-        (word(Reg::Operation, 0x01), bad),
+        (word(Reg::Operation, 0xB0), bad),
         // Other registers and jobs aren't concerned.
         (Job::Order(Cell::Protect, 0x00), None),
         (Job::Check(first(Reg::VoutCommand)), None),
