@@ -7,6 +7,7 @@ use Rattle.pm_host.specs.declared.job.Job.{Job as Asked}
 use Rattle.pm_host.specs.Summary.{Summary}
 use Rattle.pm_limits.specs.declared.part_registers.PartRegisters.{PartRegisters}
 use Rattle.pm_limits.specs.declared.output_limits.OutputLimits.{OutputLimits}
+use Rattle.pm_limits.specs.declared.output_limits.OutputLimits.TheVariants.{Unlimited}
 use Rattle.pm_rail.specs.declared.apply_end.ApplyEnd.TheVariants as way
 use Rattle.pm_rail.specs.declared.course.Course.{Course}
 use Rattle.pm_rail.specs.declared.next.Next.TheVariants as said
@@ -37,7 +38,7 @@ module _ (laws : Given) (config : Config) (passes : ℕ) (part : PartRegisters) 
   abbrev Same : FrameCourse → Type 0
   Same c = ties.Same laws.followed laws.lives config passes part begun before None c
 
-  plain : (s : Summary) (c : FrameCourse) → Same c → says.IsPlain part None s c
+  plain : (s : Summary) (c : FrameCourse) → Same c → says.IsPlain part Unlimited s c
   plain s c same = λ j. ap (λ (b : Option ℕ). asked_for s c.course b j) same.byte ∙ rw off refl
 
   planned : (c : FrameCourse) (formed : Wanted) → Same c → planning c.course formed ≡ None

@@ -8,6 +8,7 @@ use Rattle.pm_host.specs.declared.job.Job.{Job as Asked}
 use Rattle.pm_host.specs.Summary.{Summary, format_at}
 use Rattle.pm_limits.specs.declared.part_registers.PartRegisters.{PartRegisters}
 use Rattle.pm_limits.specs.declared.output_limits.OutputLimits.{OutputLimits}
+use Rattle.pm_limits.specs.declared.output_limits.OutputLimits.TheVariants.{Unlimited}
 use Rattle.pm_rail.specs.declared.course.Course.{Course}
 use Rattle.pm_rail.specs.declared.next.Next.TheVariants as said
 use Rattle.pm_rail.specs.declared.wanted.Wanted.{Wanted}
@@ -81,7 +82,7 @@ module _ (laws : Given) (config : Config) (passes : ℕ) (part : PartRegisters) 
   abbrev Same : FrameCourse → Type 0
   Same f = ties.Same laws.followed laws.lives config passes part begun before (Some words) f
 
-  plain : (s : Summary) (f : FrameCourse) → Same f → says.IsPlain part None s f
+  plain : (s : Summary) (f : FrameCourse) → Same f → says.IsPlain part Unlimited s f
   plain s f same = λ j. ap (λ (b : Option ℕ). asked_for s f.course b j) same.byte
 
   -- it knows no format, and its words are those that are wanted as such

@@ -8,6 +8,7 @@ use Rattle.pm_host.specs.declared.job.Job.{Job as Asked}
 use Rattle.pm_host.specs.Summary.{Summary, format_at}
 use Rattle.pm_limits.specs.declared.part_registers.PartRegisters.{PartRegisters}
 use Rattle.pm_limits.specs.declared.output_limits.OutputLimits.{OutputLimits}
+use Rattle.pm_limits.specs.declared.output_limits.OutputLimits.TheVariants.{Unlimited}
 use Rattle.pm_limits.specs.Guard.{Guarded, guard_fault, limits_at}
 use Rattle.pm_rail.specs.declared.apply_end.ApplyEnd.TheVariants as way
 use Rattle.pm_rail.specs.declared.course.Course.{Course}
@@ -48,7 +49,7 @@ module _ (laws : Given) (config : Config) (passes : ℕ) (part : PartRegisters) 
   abbrev Same : FrameCourse → Type 0
   Same c = ties.Same laws.followed laws.lives config passes part begun before (Some wanted) c
 
-  plain : (s : Summary) (c : FrameCourse) → Same c → says.IsPlain part None s c
+  plain : (s : Summary) (c : FrameCourse) → Same c → says.IsPlain part Unlimited s c
   plain s c same = λ j. ap (λ (b : Option ℕ). asked_for s c.course b j) same.byte
 
   -- the words that it goes by: those that are meant, where it knows the format; otherwise it learns that
