@@ -8,7 +8,8 @@ FOLDER has libpm_host_c.a, libpm_device_c.a, and the program pmb. A command for 
 runs on the model part (`-b model`), an install goes to the user's own folder, `rt lib` and `rt check` and what stands in tools/ and
 trials/ is held by its parse alone, since it takes many minutes: the crate is there, the command is one of rt's, the program answers
 --help. A block that begins with `#!/bin/sh` is a script, which is run whole. --minutes runs `rt try` and `tools/test quick` too. What
-no test runs (a board's own tools) has to stand on its page in a line that begins with "No test runs". Lines that begin with `$` are those of tools/try_pages.py, which compares what they print.
+no test runs (a board's own tools) has to stand on its page in a line that begins with "No test runs". Lines that begin with `$` are those
+of tools/try_pages.py, which compares what they print.
 
 Each page of which a command was tried counts once, and so does the package's install; the last line is `N passed, M failed`.
 """
