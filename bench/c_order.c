@@ -230,6 +230,8 @@ int main(int count, char **arguments) {
     }
     table_part part;
     pm_host_new(&host, 0x58, 8, 3);
+    for (uint8_t output = 0; output < 8; output++)
+        pm_host_no_limits(&host, output);
     if (count > 3) {
         long all = atol(arguments[3]);
         int is_direct = !strcmp(arguments[2], "direct");
@@ -269,6 +271,7 @@ int main(int count, char **arguments) {
            ROUNDS, done, 2 * ROUNDS * ORDERS);
     DEEPEST("of nothing", (void)0);
     DEEPEST("new", pm_host_new(&host, 0x58, 8, 3));
+    DEEPEST("no limits", pm_host_no_limits(&host, 0));
     DEEPEST("order", pm_host_order(&host, 0, PM_VOUT_COMMAND, 0x34CD));
     DEEPEST("sending", pm_host_frame(&host, &frame));
     DEEPEST("finished", pm_host_write_ended(&host, 1));

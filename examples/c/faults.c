@@ -122,6 +122,9 @@ int main(int count, char **words) {
         return 1;
     if (pm_host_new(&host, 0x58, OUTPUTS, 3) != PM_OK)
         return 1;
+    for (uint8_t output = 0; output < OUTPUTS; output++)
+        if (pm_host_no_limits(&host, output) != PM_OK)
+            return 1;
     for (long job = 0; job < jobs; job++) {
         pm_sending frame;
         if (begin(&host) != PM_OK) {

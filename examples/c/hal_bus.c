@@ -162,7 +162,8 @@ int main(void) {
         pm_write write = drivers[driver].write;
         pm_read read = drivers[driver].read;
         pm_step learned = {PM_UNKNOWN, 0}, ordered = {PM_UNKNOWN, 0};
-        if (pm_part_new(&bus.part, &config) != PM_PART_OK || pm_host_new(&host, 0x58, 1, 3) != PM_OK)
+        if (pm_part_new(&bus.part, &config) != PM_PART_OK || pm_host_new(&host, 0x58, 1, 3) != PM_OK ||
+            pm_host_no_limits(&host, 0) != PM_OK)
             return 1;
         bus.is_there = 1;
         if (pm_host_learn(&host, 0) == PM_OK)

@@ -18,7 +18,7 @@ int main(void) {
     pm_standing standing;
     if (pm_host_size() != sizeof host || PM_HOST_SIZE != sizeof host || pm_host_version() != PM_HOST_VERSION)
         return 1;
-    if (pm_host_new(&host, 0x58, 2, 2) || pm_host_order(&host, 0, PM_VOUT_COMMAND, 0x34CD))
+    if (pm_host_new(&host, 0x58, 2, 2) || pm_host_no_limits(&host, 0) || pm_host_order(&host, 0, PM_VOUT_COMMAND, 0x34CD))
         return 1;
     do {
         pm_host_frame(&host, &frame);

@@ -119,6 +119,7 @@ export function compare(library, plan) {
     const [quiet, ordered] = [[1, 0x1333], [1, 0x34CD]];
     const [proved, plain] = [new Bus(library, []), new Bus(library, [])];
     const host = new Host(library, ADDRESS, 2, TRIES);
+    host.noLimits(1);
     const page = new PageHost(library);
     provedOrder(host, proved, ...quiet);
     page.order(plain, ...quiet);

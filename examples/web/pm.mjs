@@ -105,6 +105,9 @@ export class Host {
     // Limits of an output in microvolts, or narrower ones: each later order is judged by them.
     setLimits(output, least, most) { this.library.ask("pm_host_set_limits", pointer(this.at), output, BigInt(least), BigInt(most)); }
 
+    // An output has no limits. Without this and without limits an order of its voltage is refused.
+    noLimits(output) { this.library.ask("pm_host_no_limits", pointer(this.at), output); }
+
     // Whether an output's voltage is known to lie within its limits: within, outside or not known.
     limitsState(output) {
         const number = this.library.call("pm_host_limits_state", pointer(this.at), output) & 0xFF;

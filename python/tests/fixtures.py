@@ -55,9 +55,18 @@ class Faulty(ModelPartBus):
                 "long": answer + b"\0"}.get(fate, answer)
 
 
+def free(made):
+    """A host or a device, whose outputs without limits are said to have none."""
+    host = getattr(made, "host", made)
+    for output in range(host.outputs):
+        if host.limits(output) is None:
+            host.no_limits(output)
+    return made
+
+
 def rails(bus_type=ModelPartBus, **named):
-    """A part with two learned rails; output 0 has limits of 3.2 to 3.465 V."""
+    """A part with two learned rails; output 0 has limits of 3.2 to 3.465 V, and output 1 has none."""
     part = ModelPart(ADDRESS, RAILS)
-    pmbus = Device(bus_type(part), ADDRESS, outputs=2, **{"limits": {0: ("3.2V", "3.465V")}, "looks": None, **named})
+    pmbus = free(Device(bus_type(part), ADDRESS, outputs=2, **{"limits": {0: ("3.2V", "3.465V")}, "looks": None, **named}))
     pmbus.learn_all()
     return pmbus

@@ -14,6 +14,7 @@ from pmhost.bus.linux import I2C_FUNCS, I2C_RDWR, I2C_SLAVE, BusTrace, Message, 
 
 from . import kernel
 from .busy import OnesAlone
+from .fixtures import free
 
 ADDRESS = 0x58
 FRAME, REQUEST = bytes.fromhex("B0050400 21CD345A"), bytes.fromhex("B006020021")
@@ -26,7 +27,7 @@ class Linux(unittest.TestCase):
 
     def test_an_order(self):
         with self.bus() as bus:
-            pmbus = Device(bus, ADDRESS, outputs=2)
+            pmbus = free(Device(bus, ADDRESS, outputs=2))
             pmbus.learn(0)
             self.over.mishaps = ["lost", "hung", "short0", "short1"]
             pmbus.order_voltage(0, "3.25V")
@@ -43,7 +44,7 @@ class Linux(unittest.TestCase):
     def test_a_closed_bus_sends_nothing_and_closes_once(self):
         """The number of its file may be another bus's by then."""
         bus = self.bus()
-        pmbus = Device(bus, ADDRESS)
+        pmbus = free(Device(bus, ADDRESS))
         pmbus.learn(0)
         bus.close()
         self.over.opened = 1
@@ -192,7 +193,7 @@ class Smbus2(unittest.TestCase):
 
     def test_an_order(self):
         stand = Smbus2Stand()
-        pmbus = Device(Smbus2Bus(stand), ADDRESS, outputs=2)
+        pmbus = free(Device(Smbus2Bus(stand), ADDRESS, outputs=2))
         pmbus.learn(0)
         stand.bus._kernel.mishaps = ["lost", "deaf", "ok", "ok"]
         pmbus.order_voltage(0, "3.25V")
@@ -219,7 +220,7 @@ class Model(unittest.TestCase):
     def test_an_order_and_its_trace(self):
         with tempfile.NamedTemporaryFile() as file:
             bus = ModelBus(ADDRESS, 2, file.name)
-            Device(bus, ADDRESS, outputs=2).order(1, "VOUT_COMMAND", 0x34CD)
+            free(Device(bus, ADDRESS, outputs=2)).order(1, "VOUT_COMMAND", 0x34CD)
             with self.assertRaisesRegex(NoTransfer, "Remote I/O error"):
                 bus.read(bytes.fromhex("B006020721"), 4)
             bus.close()

@@ -9,12 +9,12 @@ from pmhost import Band, Format, Host, Known, Limits, LINEAR11, Packet, Sending,
 from pmhost import _library
 from pmhost.errors import name_of, refusal
 
-from .fixtures import RAILS, rails
+from .fixtures import RAILS, free, rails
 
 
 class Frames(unittest.TestCase):
     def test_an_order_is_written_and_read_back(self):
-        host = Host(0x58, 2, 2)
+        host = free(Host(0x58, 2, 2))
         host.order(0, "VOUT_COMMAND", 0x34CD)
         self.assertEqual(host.frame(), Sending(bytes.fromhex("B0050400 21CD345A"), False, 0))
         self.assertEqual(host.write_ended(False), Step("next"))
@@ -24,8 +24,30 @@ class Frames(unittest.TestCase):
         self.assertEqual(host.possible_words(0, "VOUT_COMMAND"), (0x34CD,))
         self.assertFalse(host.restart_seen)
 
+    def test_no_voltage_is_ordered_where_no_limits_are_known(self):
+        bus = pmhost.ModelBus(0x58, 2)
+        device = pmhost.Device(bus, 0x58, outputs=2, limits={1: None})
+        device.learn_all()
+        for job in (lambda: device.order(0, "VOUT_COMMAND", 0x34CD), lambda: device.order(0, "VOUT_MIN", 0), lambda: device.order_voltage(0, "3.3V"),
+                    lambda: device.set_voltage(0, "3.3V"), lambda: device.order(0, "OPERATION", 0x80), lambda: device.margin(0, "high"),
+                    lambda: device.apply(0, {"VOUT_COMMAND": 0x34CD})):
+            with self.assertRaises(pmhost.LimitRefused) as it:
+                job()
+            self.assertEqual((it.exception.letter, it.exception.name), ("L8", "NoLimits"))
+        self.assertEqual((device.limits_state(0), device.limits(0)), ("no limits", None))
+        self.assertIs(device.turn_off(0).is_on, False)
+        # Output 1 is said to have none.
+        self.assertEqual((device.set_voltage(1, "3.3V").limits_state, device.limits(1)), ("no limits", None))
+        device.no_limits(0)
+        device.order(0, "VOUT_COMMAND", 0x34CD)
+        device.set_limits(0, "3.2V", "3.465V")
+        with self.assertRaisesRegex(pmhost.LimitRefused, "L6 LimitsWidened"):
+            device.no_limits(0)
+        with self.assertRaisesRegex(pmhost.LimitRefused, "L4 AboveLimit"):
+            device.order(0, "VOUT_COMMAND", 0xFFFF)
+
     def test_a_host_is_copied_and_saved(self):
-        host = Host(0x58)
+        host = free(Host(0x58))
         other = host.copy()
         host.order(0, "OPERATION", 0x80)
         self.assertIsNone(other.frame())
@@ -33,7 +55,7 @@ class Frames(unittest.TestCase):
         self.assertNotEqual(host.save(), other.save())
 
     def test_copies_share_nothing(self):
-        host, part = Host(0x58), pmhost.ModelPart(0x58, [pmhost.Output()])
+        host, part = free(Host(0x58)), pmhost.ModelPart(0x58, [pmhost.Output()])
         other, another = copy.copy(host), copy.copy(part)
         other.order(0, "OPERATION", 0x80)
         another.hear(bytes.fromhex("B0050400 21CD345A"))
@@ -150,8 +172,8 @@ class Names(unittest.TestCase):
         found = refusal(0x24)
         self.assertEqual((type(found), found.letter, found.name, found.number),
                          (pmhost.LimitRefused, "L4", "AboveLimit", 0x24))
-        self.assertEqual([name_of(number) for number in (0, 0x08, 0x28, 0xFF)],
-                         [f"number {number:02X}h" for number in (0, 0x08, 0x28, 0xFF)])
+        self.assertEqual([name_of(number) for number in (0, 0x08, 0x29, 0xFF)],
+                         [f"number {number:02X}h" for number in (0, 0x08, 0x29, 0xFF)])
 
     def test_what_the_package_hands_out_is_there(self):
         for name in pmhost.__all__:

@@ -18,6 +18,7 @@ from pmhost.course import REGISTERS
 from pmhost.errors import name_of
 
 from . import running
+from .fixtures import free
 from .running import ROOT
 
 ROWS = os.path.join(ROOT, "trials", "course", "rows.txt")
@@ -60,7 +61,7 @@ class Row:
         found = Host(0x58, int(self.said("outputs", "1")), int(self.said("passes", "1")), self.lacks)
         if self.limits:
             found.set_limits(0, *self.limits)
-        return found
+        return free(found)
 
     def made_course(self):
         """Its course; a ValueError where what is wanted is beyond the voltages that this package has."""

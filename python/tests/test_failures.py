@@ -4,7 +4,7 @@ import unittest
 
 from pmhost import Device, Host, ModelPart, ModelPartBus, Output, Refused, Unknown
 
-from .fixtures import ADDRESS, RAILS, Recorded, rails
+from .fixtures import ADDRESS, RAILS, Recorded, free, rails
 
 ABSENT = OSError(6, "No such device or address")
 
@@ -38,7 +38,7 @@ class DeadBuses(unittest.TestCase):
                 with self.subTest(name=name, written=written):
                     bus = Answering(written)
                     with self.assertRaises(Unknown) as raised:
-                        call(Device(bus, ADDRESS, passes=3))
+                        call(free(Device(bus, ADDRESS, passes=3)))
                     # A store is sent once.
                     failed, frames = ("1 transfer failed", 1) if name == "store" else ("3 transfers failed", 3)
                     self.assertEqual(str(raised.exception), f"{name} at 58h: no good answer: {failed}, the last: {why}")
@@ -69,7 +69,7 @@ class WrongBuses(unittest.TestCase):
                                (Answering(came="12"), lambda it: it.check(0), "read: bytes are wanted"),
                                (Answering(written=1), lambda it: it.store(), "write: True or False is wanted, and not 1"),
                                (Answering(written=None), lambda it: it.order(0, "VOUT_COMMAND", 1), "write: True or False is wanted")):
-            pmbus = Device(bus, ADDRESS)
+            pmbus = free(Device(bus, ADDRESS))
             with self.subTest(said=said), self.assertRaisesRegex(TypeError, said):
                 job(pmbus)
             self.assertIsNone(pmbus.host.frame())
@@ -113,7 +113,7 @@ class Interruptions(unittest.TestCase):
                     raise KeyboardInterrupt
                 return answer
 
-        pmbus = Device(Broken(ModelPart(ADDRESS, RAILS)), ADDRESS, outputs=2)
+        pmbus = free(Device(Broken(ModelPart(ADDRESS, RAILS)), ADDRESS, outputs=2))
         with self.assertRaises(KeyboardInterrupt):
             job(pmbus)
         return pmbus
@@ -146,7 +146,7 @@ class Interruptions(unittest.TestCase):
 
     def test_a_host_gives_up_at_each_place(self):
         for passes, told in itertools.product(range(1, 4), range(6)):
-            host = Telling(ADDRESS, 2, passes)
+            host = free(Telling(ADDRESS, 2, passes))
             host.order(1, "VOUT_COMMAND", 0x1234)
             for _ in range(min(told, 2 * passes - 1)):
                 host.read_ended(b"") if host.frame().is_request else host.write_ended(True)
@@ -173,13 +173,13 @@ class WordsOnTheWire(unittest.TestCase):
 
     def test_microvolts_reach_the_part_by_no_float(self):
         part = ModelPart(ADDRESS, [Output(mode=0x40, max=0x7FFF, command=0)], coefficients=(1, 0, 6))
-        pmbus = Device(ModelPartBus(part), ADDRESS)
+        pmbus = free(Device(ModelPartBus(part), ADDRESS))
         pmbus.learn(0)
         for micro in (1, 4, 999, 1001, 16_385, 32_766, 32_767):
             pmbus.order_voltage(0, f"0.{micro:06d}V")
             self.assertEqual(part.word(0, "VOUT_COMMAND"), micro)
         part = ModelPart(ADDRESS, [Output(mode=0x40, max=0x7FFF, command=0)], coefficients=(1000, 0, 0))
-        pmbus = Device(ModelPartBus(part), ADDRESS)
+        pmbus = free(Device(ModelPartBus(part), ADDRESS))
         pmbus.learn(0)
         pmbus.host.order_voltage(0, "VOUT_COMMAND", "1001000uV")
         pmbus.run()
@@ -204,7 +204,7 @@ class WordsOnTheWire(unittest.TestCase):
 
     def test_two_outputs_of_two_formats(self):
         part = ModelPart(ADDRESS, [Output(), Output(mode=0x40, max=0x7FFF)], coefficients=(1000, 0, 0))
-        pmbus = Device(ModelPartBus(part), ADDRESS, outputs=2)
+        pmbus = free(Device(ModelPartBus(part), ADDRESS, outputs=2))
         pmbus.learn_all()
         pmbus.order_voltage(0, "1.5V")
         pmbus.order_voltage(1, "1.5V")

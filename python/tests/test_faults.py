@@ -5,13 +5,13 @@ import unittest
 
 from pmhost import Device, Differs, ModelPart, Unknown
 
-from .fixtures import ADDRESS, RAILS, Faulty
+from .fixtures import ADDRESS, RAILS, Faulty, free
 
 FATES = ("ok", "lost", "deaf", "error", "cut", "bit", "long", "acked")
 
 
 def faulty(fates, passes=2):
-    pmbus = Device(Faulty(ModelPart(ADDRESS, RAILS)), ADDRESS, outputs=2, passes=passes)
+    pmbus = free(Device(Faulty(ModelPart(ADDRESS, RAILS)), ADDRESS, outputs=2, passes=passes))
     pmbus.learn_all()
     pmbus.bus.fates = list(fates)
     return pmbus

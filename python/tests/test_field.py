@@ -10,6 +10,7 @@ from pmhost import Device, LimitRefused, Looks, ModelPart, ModelPartBus, NotDeli
 
 from . import field_boards, field_calls
 from .field import ADDRESS, Field, FieldBus
+from .fixtures import free
 from .kernel import FakeKernel
 from .runs import blocks, called
 from .test_runs import Blocks
@@ -130,7 +131,7 @@ class Threads(unittest.TestCase):
     """Several threads use one Device: each call waits until the others have ended."""
 
     def test_four_threads_and_asyncio(self):
-        device, faults = Device(ModelPartBus(ModelPart(ADDRESS, [Output()] * 2)), ADDRESS, outputs=2), []
+        device, faults = free(Device(ModelPartBus(ModelPart(ADDRESS, [Output()] * 2)), ADDRESS, outputs=2)), []
 
         def work(output):
             try:

@@ -33,6 +33,8 @@ class Life:
         for output, pair in enumerate(self.limits):
             if pair:
                 self.host.set_limits(output, *(f"{each}uV" for each in pair))
+            else:
+                self.host.no_limits(output)
 
     def cell(self):
         return PROTECT if self.draw.random() < 0.1 else (self.draw.randrange(self.count), self.draw.choice(REGISTERS))

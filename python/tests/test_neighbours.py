@@ -8,6 +8,7 @@ import unittest
 from pmhost import Host, ModelPart, Output, PartRefused, Refused
 
 from . import plain_model  # noqa: F401
+from .fixtures import free
 from plain.converter import COMMAND, HIGH, LOW, MAX, MIN, OPERATION, PROTECT, REGISTERS, Converter
 from plain.host import ANY, Host as PlainHost
 from plain.packets import name_of
@@ -27,7 +28,7 @@ class Pair:
         words = {OPERATION: 0x80, COMMAND: 0x1000, MAX: 0x4000, HIGH: 0x1100, LOW: 0x0F00, MIN: 0}
         modes, coefficients = [draw.choice((0x14, 0x17, 0x40)) for _ in range(count)], (draw.choice((1, -3)), 5, 0)
         starts = [Output(mode, *(words[code] for code in (OPERATION, COMMAND, MAX, HIGH, LOW, MIN))) for mode in modes]
-        self.part, self.host = ModelPart(address, starts, coefficients), Host(address, count, passes)
+        self.part, self.host = ModelPart(address, starts, coefficients), free(Host(address, count, passes))
         self.plain_part = Converter({"address": address, "count": count, "outputs": [(mode, dict(words)) for mode in modes],
                                      "protect": 0, "coefficients": coefficients, "version": 2})
         self.plain_host = PlainHost(address, count, passes)

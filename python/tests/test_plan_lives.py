@@ -10,6 +10,7 @@ from fractions import Fraction
 from pmhost import Course, Host
 
 from . import plain_model  # noqa: F401
+from .fixtures import free
 from plain.converter import COMMAND, HIGH, LOW, MAX, MIN, OPERATION, Converter, format_of
 from plain.numbers import value_of
 from plain.packets import CODES
@@ -47,7 +48,7 @@ class Life:
         starts = [{OPERATION: draw.choice(BYTES), **{it: draw.choice(WORDS) for it in (COMMAND, MAX, HIGH, LOW, MIN)}} for _ in range(2)]
         self.part = Converter({"address": ADDRESS, "count": 2, "outputs": [(mode, start) for start in starts], "version": 2,
                                "protect": 0x40 if draw.random() < 0.1 else 0, "coefficients": coefficients})
-        self.host = Host(ADDRESS, 2, draw.randint(1, 3))
+        self.host = free(Host(ADDRESS, 2, draw.randint(1, 3)))
         self.ways, self.under_way = [Way(draw, self, output) for output in range(2)], None
 
     # ---- Events ----

@@ -12,6 +12,7 @@ from pmhost.errors import name_of as refusal_of
 from pmhost.values import CODES
 
 from . import plain_model  # noqa: F401
+from .fixtures import free
 from plain.rail import VOLTAGES, WORDS, commands, next_register, planned
 from plain.packets import name_of
 
@@ -40,7 +41,7 @@ class Known:
     """A host of one output, whose part holds these values, and how each read of a course is answered."""
 
     def __init__(self, mode, operation, values):
-        self.host, self.word = Host(ADDRESS, 1, 1), FORMATS[mode]
+        self.host, self.word = free(Host(ADDRESS, 1, 1)), FORMATS[mode]
         self.host.learn(0)
         if answered(self.host, bytes([mode])).kind == "next":
             assert answered(self.host, COEFFICIENTS).kind == "learned"

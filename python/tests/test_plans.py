@@ -8,7 +8,7 @@ from pmhost import Band, Course, CourseEnd, Differs, Host, Job, PlanRefused, Rai
 
 from pmhost.cuts import cuts
 
-from .fixtures import Faulty, Recorded, rails
+from .fixtures import Faulty, Recorded, free, rails
 
 VOLTS = {"VOUT_COMMAND": 0x3500}
 AT_3V3 = RailState(True, Band(Voltage("3300048uV"), Voltage("3300049uV")), "within")
@@ -48,6 +48,7 @@ class Rails(unittest.TestCase):
         self.assertEqual(pmbus.rail(0), AT_3V3)
         self.assertEqual(pmbus.turn_off(0), RailState(False, AT_3V3.band, "within"))
         self.assertEqual(Host(0x58).rail(0), RailState(None, None, "no limits"))
+        self.assertEqual(free(Host(0x58)).rail(0), RailState(None, None, "no limits"))
 
     def test_a_survey_reads_what_decides_and_no_more(self):
         pmbus = recorded()
@@ -125,7 +126,7 @@ class Rails(unittest.TestCase):
     def test_a_survey_is_stuck_at_a_missing_margin(self):
         pmbus = recorded(limits=None)
         pmbus.order(0, "OPERATION", 0xA8)
-        lacking = pmhost.Device(pmbus.bus, 0x58, 2, lacks=("VOUT_MARGIN_HIGH",))
+        lacking = free(pmhost.Device(pmbus.bus, 0x58, 2, lacks=("VOUT_MARGIN_HIGH",)))
         for call in (lambda: lacking.survey(0), lambda: lacking.apply(0, VOLTS)):
             pmbus.bus.frames.clear()
             with self.assertRaises(PlanRefused) as it:
@@ -143,7 +144,7 @@ class Power(unittest.TestCase):
         """Whatever VOUT_MODE is, and where it isn't answered, and where the host knows that byte already."""
         for mode in (0x14, 0x40):
             part = pmhost.ModelPart(0x58, [pmhost.Output(mode=mode, max=0x7FFF)])
-            pmbus = pmhost.Device(Recorded(part), 0x58, looks=None)
+            pmbus = free(pmhost.Device(Recorded(part), 0x58, looks=None))
             pmbus.turn_off(0)
             self.assertEqual((len(pmbus.bus.frames), pmbus.bus.part.is_on(0)), (2, False))
             pmbus.bus.part.hear(bytes.fromhex("B0050300018026")[:-1] + bytes([pmhost.pec(bytes.fromhex("B00503000180"))]))
@@ -362,14 +363,14 @@ class Applies(unittest.TestCase):
         errors.bus.fates = ["bit"] * 99
         with self.assertRaisesRegex(Spent, "this was wrong: F4 WrongCount: look at the bus; 1 answer wasn't good: F4 WrongCount$"):
             errors.survey(0, tries=2)
-        device = pmhost.Device(Answers({0x20: 0x21}), 0x58, looks=None)
+        device = free(pmhost.Device(Answers({0x20: 0x21}), 0x58, looks=None))
         with self.assertRaises(pmhost.NoFormat) as it:
             device.set_voltage(0, "3.3V")
         self.assertEqual((str(it.exception), it.exception.word, device.bus.asked), (
             "set 0 3.3V: VOUT_MODE is 21h, a format that this host doesn't speak: order words and no voltages, by `order`", 0x21, [0x20]))
         with self.assertRaisesRegex(pmhost.OtherSource, "OPERATION is 90h, by which another source may decide the voltage: order"):
             pmhost.Device(Answers({0x20: 0x14, 0x01: 0x90}), 0x58).survey(0)
-        device = pmhost.Device(Answers({0x20: 0x14, 0x01: 0xB0}), 0x58, looks=None)
+        device = free(pmhost.Device(Answers({0x20: 0x14, 0x01: 0xB0}), 0x58, looks=None))
         with self.assertRaises(pmhost.OtherSource) as it:
             device.set_voltage(0, "3.3V")
         self.assertEqual((str(it.exception), it.exception.word, device.bus.asked), (

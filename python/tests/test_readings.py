@@ -10,7 +10,7 @@ from pmhost.readings import KINDS, Reading
 from pmhost.reads import Read, Reads
 from pmhost.status import BITS, names_of
 
-from .fixtures import Recorded
+from .fixtures import Recorded, free
 from .odd_parts import DirectTelemetry, Named, Telemetry
 from .running import ROOT, stored
 from .test_runs import Blocks
@@ -135,7 +135,7 @@ class Values(unittest.TestCase):
     def test_what_the_part_noted(self):
         part = ModelPart(0x58, [Output()], protect=0x80)
         bus = ModelPartBus(part)
-        pmbus = Device(bus, 0x58, passes=1)
+        pmbus = free(Device(bus, 0x58, passes=1))
         pmbus.host.order(0, "VOUT_COMMAND", 0x34CD)
         pmbus.run()
         self.assertEqual(readings.read_notes(bus, 0x58, 0), "STATUS_CML 80 COMMAND, STATUS_VOUT 00")

@@ -117,7 +117,7 @@ CALLS = [
     (lambda p: Host(0x58, 9), ValueError, "outputs: 9 isn't 1 to 8"),
     (lambda p: Host(0x58, 1, 16), ValueError, "passes: 16 isn't 1 to 15"),
     (lambda p: Device(object(), 0x58), TypeError, "has no call write"),
-    (lambda p: Device(p.bus, 0x58, limits={0: "3.3"}), TypeError, "give a least and a most"),
+    (lambda p: Device(p.bus, 0x58, limits={0: "3.3"}), TypeError, "give a least and a most, or None for no limits"),
     (lambda p: Device(p.bus, 0x58, limits={1: ("3V", "4V")}), ValueError, "output: 1 isn't 0 to 0: the host was made with outputs=1"),
     (lambda p: Format("VID"), ValueError, "format: 'VID' isn't one of"),
     (lambda p: Format("DIRECT", m=0), ValueError, "m: 0 is no slope"),

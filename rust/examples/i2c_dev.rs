@@ -92,8 +92,9 @@ fn held_low(bus: &Counted<Board>) -> Option<ExitCode> {
 fn order<B: Bus<Error: Error>>(bus: &mut Counted<B>, address: u8, voltage: &Voltage) -> Result<ExitCode, pmhost::Refusal> {
     let Voltage { output, microvolts, limits } = *voltage;
     let mut host = Host::new(address, output + 1, 3)?;
-    if let Some(limits) = limits {
-        host.set_limits(output, limits)?;
+    match limits {
+        Some(limits) => host.set_limits(output, limits)?,
+        None => host.no_limits(output)?,
     }
     let cell = Cell::Output(output, Register::VoutCommand);
     if let Err(end) = bus.run_job(&mut host, Job::Learn(output)) {

@@ -9,6 +9,7 @@ fn hex(bytes: &[u8]) -> String {
 fn main() -> Result<(), Refusal> {
     let command = Cell::Output(0, Register::VoutCommand);
     let mut host = Host::new(0x58, 2, 2)?;
+    host.no_limits(0)?;
     host.order(command, 0x34CD)?;
     let end = loop {
         let step = match host.frame() {

@@ -43,7 +43,7 @@ impl fmt::Display for AnswerFault {
 pub enum NotReached<E = Infallible> {
     /// Nothing more is ordered, and before the first order nothing was written.
     Refused {
-        /// Why: H3 if another job is open, H4, H5, H6, L2 to L5, L7, N3 to N5 of a voltage that has no word, P4 to P7.
+        /// Why: H3 if another job is open, H4, H5, H6, L2 to L5, L7, L8, N3 to N5 of a voltage that has no word, P4 to P7.
         refusal: Refusal,
         /// The cell that it is about, if it is about one.
         cell: Option<Cell>,
@@ -132,10 +132,11 @@ impl<E: error::Error + 'static> error::Error for NotReached<E> {
 /// may be copied. [`Host::run_course`] carries it out over a bus; with an interrupt, DMA or an async task it is a loop of one's own:
 ///
 /// ```
-/// use pmhost::{Bus, Course, Host, Operation, Output, Part, Register, Sending, COURSE_TRIES};
+/// use pmhost::{Bus, Course, Host, Limits, Operation, Output, Part, Register, Sending, COURSE_TRIES};
 ///
 /// let mut bus = Part::new(0x58, &[Output::default()], (1, 0, 3))?;
 /// let mut host = Host::new(0x58, 1, 3)?;
+/// host.set_limits(0, Limits { least: 3_135_000, most: 3_465_000 })?;
 /// let mut course = Course::voltage(0, Register::VoutCommand, 3_300_000, COURSE_TRIES)?;
 /// loop {
 ///     let _step = match course.frame(&mut host) {
@@ -342,10 +343,11 @@ impl Host {
     /// Carries a course out over a bus, frame after frame.
     ///
     /// ```
-    /// use pmhost::{Band, Course, Host, LimitsState, Output, Part, Power, Register, Selected, Wanted, COURSE_TRIES};
+    /// use pmhost::{Band, Course, Host, Limits, LimitsState, Output, Part, Power, Register, Selected, Wanted, COURSE_TRIES};
     ///
     /// let mut bus = Part::new(0x58, &[Output::default()], (1, 0, 3))?;
     /// let mut host = Host::new(0x58, 1, 3)?;
+    /// host.set_limits(0, Limits { least: 3_135_000, most: 3_465_000 })?;
     /// let wanted = Wanted { command: Some(0x34CD), ..Wanted::default() }; // 3.3 V
     /// host.run_course(&mut Course::words(0, &wanted, COURSE_TRIES)?, &mut bus)?;
     /// let rail = host.rail(0)?;

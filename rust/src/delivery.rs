@@ -341,6 +341,7 @@ impl Host {
     ///
     /// let mut bus = Part::new(0x58, &[Output::default()], (1, 0, 3))?;
     /// let mut host = Host::new(0x58, 1, 3)?;
+    /// host.no_limits(0)?;
     /// let mut course = Course::voltage(0, Register::VoutCommand, 1_100_000, COURSE_TRIES)?;
     /// let options = DeliveryOptions { fault_limits: FaultLimits::Skip, rounds: 2, ..DeliveryOptions::default() };
     /// let mut delivery = Delivery::new(0, &options)?;

@@ -290,6 +290,7 @@ extern "C" {
     pub fn pm_host_new(host: &mut HostImage, address: u8, outputs: u8, passes: u8) -> u8;
     pub fn pm_host_new_with(host: &mut HostImage, address: u8, outputs: u8, passes: u8, registers: &RegistersImage) -> u8;
     pub fn pm_host_set_limits(host: &mut HostImage, output: u8, least: i64, most: i64) -> u8;
+    pub fn pm_host_no_limits(host: &mut HostImage, output: u8) -> u8;
     pub fn pm_host_limits(host: &HostImage, output: u8, limits: &mut LimitsImage) -> u8;
     pub fn pm_host_limits_state(host: &HostImage, output: u8) -> u8;
     pub fn pm_host_band(host: &HostImage, output: u8, band: &mut BandImage) -> u8;

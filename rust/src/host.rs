@@ -233,11 +233,11 @@ pub struct Band {
 #[derive(Clone, Copy, Debug, PartialEq, Eq)]
 #[must_use = "the output may be outside its limits"]
 pub enum LimitsState {
-    /// Its whole band does, or it has no limits.
+    /// Its whole band does, or it was said that it has no limits.
     Yes,
     /// Its whole band lies below them, or above them.
     No,
-    /// What is known doesn't tell.
+    /// What is known doesn't tell, or no limits are known.
     NotKnown,
 }
 
@@ -249,6 +249,7 @@ pub enum LimitsState {
 ///
 /// let mut host = Host::new(0x58, 2, 2)?;
 /// let cell = Cell::Output(0, Register::VoutCommand);
+/// host.no_limits(0)?; // any voltage of output 0
 /// host.order(cell, 0x34CD)?;
 /// let Sending::Write(frame) = host.frame() else { panic!() };
 /// assert_eq!(&*frame, [0xB0, 0x05, 0x04, 0x00, 0x21, 0xCD, 0x34, 0x5A]);
@@ -293,7 +294,8 @@ impl fmt::Debug for Confirmed<'_> {
 // slice's pointer and count are its own. The library wants nothing else, and takes memory of any bytes.
 impl Host {
     /// A host for the device at this address, 08h to 77h, with 1 to 8 outputs; a job has at most 1 to 15 passes. Nothing is
-    /// known, and no output has limits. NoAddress, H1, H2; NoHost if the library is of another version.
+    /// known, no limits either: give each output some, or say by `no_limits` that it has none. NoAddress, H1, H2; NoHost if the
+    /// library is of another version.
     pub fn new(address: u8, outputs: u8, passes: u8) -> Result<Host, Refusal> {
         let mut image = Host::blank()?;
         accepted(unsafe { ffi::pm_host_new(&mut image, address, outputs, passes) })?;
@@ -350,7 +352,13 @@ impl Host {
         accepted(unsafe { ffi::pm_host_set_limits(&mut self.image, output, limits.least, limits.most) })
     }
 
-    /// The limits of an output, if it has any. H4.
+    /// Says that an output has no limits: any voltage may be ordered of it. Without this and without limits an order of a voltage,
+    /// and one of OPERATION that leaves the output on, is refused (L8); turning it off isn't. H4, L6 if it has limits.
+    pub fn no_limits(&mut self, output: u8) -> Result<(), Refusal> {
+        accepted(unsafe { ffi::pm_host_no_limits(&mut self.image, output) })
+    }
+
+    /// The limits of an output, if it was given any. H4.
     pub fn limits(&self, output: u8) -> Result<Option<Limits>, Refusal> {
         let mut found = ffi::LimitsImage::default();
         match accepted(unsafe { ffi::pm_host_limits(&self.image, output, &mut found) }) {
@@ -372,13 +380,13 @@ impl Host {
         Ok(Band { least: found.least, greatest: found.greatest })
     }
 
-    /// Begins an order of a word. H3, H4, L7, L2, L3, L4, H5, L5, H6.
+    /// Begins an order of a word. H3, H4, L7, L8, L2, L3, L4, H5, L5, H6.
     pub fn order(&mut self, cell: Cell, word: u16) -> Result<(), Refusal> {
         let (output, code) = cell.numbers();
         accepted(unsafe { ffi::pm_host_order(&mut self.image, output, code, word) })
     }
 
-    /// Begins an order of the word nearest to microvolts. H3, H4, L7, H5, H7, N5, N3, N4, L3, L4, H6.
+    /// Begins an order of the word nearest to microvolts. H3, H4, L7, H5, H7, N5, N3, N4, L8, L3, L4, H6.
     pub fn order_microvolts(&mut self, cell: Cell, microvolts: i64) -> Result<(), Refusal> {
         let (output, code) = cell.numbers();
         accepted(unsafe { ffi::pm_host_order_microvolts(&mut self.image, output, code, microvolts) })

@@ -79,6 +79,8 @@ refusals! {
     L6LimitsWidened = 0x26,
     /// L7: the part doesn't have the register, or the margin that a byte of OPERATION selects.
     L7MissingRegister = 0x27,
+    /// L8: no limits are known of the output. Give it some, or say by [`Host::no_limits`](crate::Host::no_limits) that it has none.
+    L8NoLimits = 0x28,
     /// F1: bytes of another device, or none.
     F1NotOurs = 0x31,
     /// F2: too few bytes.
@@ -146,7 +148,7 @@ refusals! {
     /// The memory holds no part. Of a part that is made: the linked library's have another size in bytes than this crate's; its
     /// version isn't compared.
     NoPart = 0xE5,
-    /// The output has no limits.
+    /// The output was given no limits.
     NoLimits = 0xE6,
     /// The number has no name.
     NoName = 0xE7,

@@ -66,7 +66,7 @@ def declare(loaded):
     """What the calls answer."""
     for name in ("pm_host_new", "pm_host_order", "pm_host_order_microvolts", "pm_host_check", "pm_host_learn", "pm_host_clear",
                  "pm_host_store", "pm_host_restore", "pm_host_frame", "pm_host_restart", "pm_host_confirmed_word",
-                 "pm_host_possible_words", "pm_host_format", "pm_host_restart_seen", "pm_host_set_limits", "pm_host_limits",
+                 "pm_host_possible_words", "pm_host_format", "pm_host_restart_seen", "pm_host_set_limits", "pm_host_no_limits", "pm_host_limits",
                  "pm_host_limits_state", "pm_host_band", "pm_host_known_cells"):
         getattr(loaded, name).restype = ctypes.c_uint8
     loaded.pm_host_write_ended.restype = loaded.pm_host_read_ended.restype = Step
@@ -99,6 +99,8 @@ class Life:
         self.device = Converter(self.setup)
         self.image = (ctypes.c_uint64 * (loaded.pm_host_size() // 8))()
         self.same("new", loaded.pm_host_new(self.image, ADDRESS, self.count, self.passes), 0)
+        for output in range(self.count):
+            self.same(f"no limits of {output}", loaded.pm_host_no_limits(self.image, output), 0)
         self.limits = [None] * self.count
 
     def cell(self):

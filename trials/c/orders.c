@@ -11,7 +11,7 @@ int main(void) {
     static const uint8_t answer[] = {0xB1, 0x02, 0xCD, 0x34, 0xB9};
     pm_sending frame;
     int done = 0;
-    if (pm_host_new(&host, 0x58, 2, 3) != PM_OK)
+    if (pm_host_new(&host, 0x58, 2, 3) != PM_OK || pm_host_no_limits(&host, 0) != PM_OK)
         return 1;
     for (int i = 0; i < ORDERS; i++) {
         if (pm_host_order(&host, 0, PM_VOUT_COMMAND, 0x34CD) != PM_OK)

@@ -287,7 +287,10 @@ static void exchange(pm_host *host, int is_course) {
 static void limit(pm_host *host) {
     uint8_t output = draw_output();
     int64_t least = draw_microvolts(), most = (int64_t)((uint64_t)least + (uint64_t)draw_microvolts());
-    heard(28, pm_host_set_limits(host, output, draw(4) ? (int64_t)(0 - (uint64_t)least) : least, most), 255);
+    if (draw(2))
+        heard(27, pm_host_no_limits(host, output), 255);
+    else
+        heard(28, pm_host_set_limits(host, output, draw(4) ? (int64_t)(0 - (uint64_t)least) : least, most), 255);
 }
 
 static void names(void) {

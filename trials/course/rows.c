@@ -168,7 +168,7 @@ static int make_host(const char *line, pm_host *host) {
     if (pm_host_new_with(host, ADDRESS, (uint8_t)said(line, "outputs=", 1), (uint8_t)said(line, "passes=", 1), &has) != PM_OK)
         return 0;
     if (!limits)
-        return 1;
+        return pm_host_no_limits(host, 0) == PM_OK;
     char *rest;
     long least = strtol(limits + 7, &rest, 10);
     return pm_host_set_limits(host, 0, least, strtol(rest + 1, NULL, 10)) == PM_OK;

@@ -42,7 +42,10 @@ class Setup:
         return ModelPart(self.address, self.outputs, self.coefficients, self.protect)
 
     def host(self) -> Host:
-        return Host(self.address, len(self.outputs), self.passes)
+        host = Host(self.address, len(self.outputs), self.passes)
+        for output in range(host.outputs):
+            host.no_limits(output)
+        return host
 
     def formats(self) -> tuple[Format, ...]:
         """The format of each output's voltages, as a host learns it of the part."""

@@ -69,6 +69,8 @@ row("an order of a missing output", refusal(() => host.order(2, 0x21, 0)), 0x04)
 row("an answer that nobody asked for", refusal(() => host.readEnded([])), 0xE2);
 row("nothing is sent", host.frame(), null);
 row("any word", host.possibleWords(0, 0x21), null);
+row("an order before limits are known", refusal(() => host.order(0, 0x21, 0x34CD)), 0x28);
+host.noLimits(0);
 host.order(0, 0x21, 0x34CD);
 row("the frame of an order", host.frame().bytes, [0xB0, 0x05, 0x04, 0x00, 0x21, 0xCD, 0x34, 0x5A]);
 row("a second job", refusal(() => host.check(0, 0x21)), 0x03);
@@ -77,6 +79,7 @@ row("the name of a refusal, and none", [library.nameOf(0x24), library.nameOf(0xF
 // Limits of output 0, from 0.9 V to 1.2 V, are kept in the host's memory.
 const [limited, bus] = [new Host(library, 0x58, 2, 3), new Bus(library, [])];
 limited.setLimits(0, 900000, 1200000);
+limited.noLimits(1);
 row("wider limits", refusal(() => limited.setLimits(0, 900000, 1300000)), 0x26);
 row("an order before the format is known", refusal(() => limited.order(0, 0x21, 0x1199)), 0x22);
 limited.learn(0);

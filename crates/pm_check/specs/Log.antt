@@ -22,6 +22,7 @@ use Rattle.pm_check.specs.declared.act.Act.{Act}
 use Rattle.pm_check.specs.declared.act.Act.TheVariants as act
 use Rattle.pm_check.specs.declared.claim.Claim.{Claim}
 use Rattle.pm_check.specs.declared.claim.Claim.TheVariants.{Holds, Commands}
+use Rattle.pm_limits.specs.declared.output_limits.OutputLimits.TheVariants.{Between}
 use Rattle.pm_limits.specs.declared.part_registers.PartRegisters.{PartRegisters}
 use Rattle.pm_limits.specs.Band.{band_at, is_yes, within_of}
 use Rattle.pm_limits.specs.Bounds.{bounds_fault}
@@ -120,7 +121,7 @@ holds_only s cell word = is_only word (possible_at s cell)
 
 abbrev pub commands_within : Summary → PartRegisters → ℕ → ℤ → ℤ → Bool
 commands_within s part output least most = is_none (bounds_fault least most)
-    && is_yes (within_of (Some (record { least = least; most = most })) (band_at part s output))
+    && is_yes (within_of (Between (record { least = least; most = most })) (band_at part s output))
 
 -- the claim is known: what it speaks of is there, and what it says is so by all that is possible
 abbrev pub is_claimed : Summary → Claim → Bool

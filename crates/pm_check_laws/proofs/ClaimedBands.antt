@@ -14,6 +14,7 @@ use Rattle.pm_model.specs.Commanded.{limited, selected_register}
 use Rattle.pm_device.specs.declared.config.Config.{Config}
 use Rattle.pm_device.specs.Held.{shape_for}
 use Rattle.pm_host.specs.Summary.{Summary, format_at, possible_at}
+use Rattle.pm_limits.specs.declared.output_limits.OutputLimits.TheVariants.{Between}
 use Rattle.pm_limits.specs.declared.band.Band.{Band}
 use Rattle.pm_limits.specs.declared.part_registers.PartRegisters.{PartRegisters}
 use Rattle.pm_limits.specs.declared.ends.Side.{Side}
@@ -121,7 +122,7 @@ commands-claimed laws bands formats config passes events log claims at output pa
     go : output < config.count →
         ((output : ℕ) (shape : Shape) → format_at (now config passes events).host output ≡ Some shape → shape ≡ shape_for config output) →
         (b : Option Band) → band_at part (now config passes events).host output ≡ b →
-        is_yes (within_of (Some (record { least = least; most = most })) b) ≡ true →
+        is_yes (within_of (Between (record { least = least; most = most })) b) ≡ true →
         IsWithin (record { least = least; most = most }) (commands config passes events output)
     go here agree None e said = cc
     go here agree (Some band) e said = in-bounds (record { least = least; most = most }) band (commands config passes events output)

@@ -9,6 +9,7 @@ use Rattle.pm_host.specs.Marks.{marks}
 use Rattle.pm_host.specs.Refusals.{IsSetup}
 use Rattle.pm_host.specs.Summary.{Summary}
 use Rattle.pm_host.specs.Transcript.{Setup, Entry}
+use Rattle.pm_limits.specs.declared.output_limits.OutputLimits.TheVariants.{Between}
 use Rattle.pm_limits.specs.declared.band.Band.{Band}
 use Rattle.pm_limits.specs.declared.part_registers.PartRegisters.{PartRegisters}
 use Rattle.pm_limits.specs.declared.fault.LimitFault.{LimitFault}
@@ -73,10 +74,10 @@ open-voltage laws exact config passes events log output part least most spelled 
     = subst (λ (s : Summary). is_claimed s (Commands output part least most) ≡ false) (sym same) unknown in
     let inside : nat_lt output host.setup.outputs ≡ true = subst (λ (n : ℕ). nat_lt output n ≡ true)
     (sym (same-outputs config passes events)) (grind (arith, nat_tests)) in
-    let said : is_yes (within_of (Some bounds) (band_at part host output)) ≡ false
-    = ap (λ (b : Bool). b && is_yes (within_of (Some bounds) (band_at part host output)))
+    let said : is_yes (within_of (Between bounds) (band_at part host output)) ≡ false
+    = ap (λ (b : Bool). b && is_yes (within_of (Between bounds) (band_at part host output)))
     (sym (ap (λ (o : Option LimitFault). is_none o) sound))
-    ∙ (ap (λ (b : Bool). b && (is_none (bounds_fault least most) && is_yes (within_of (Some bounds) (band_at part host output)))) (sym inside) ∙ unclaimed) in
+    ∙ (ap (λ (b : Bool). b && (is_none (bounds_fault least most) && is_yes (within_of (Between bounds) (band_at part host output)))) (sym inside) ∙ unclaimed) in
     go there (subst (λ (es : List Entry). AreOpen (marks setup es)) (sym tells) unwritten)
     (subst (λ (s : Summary). MissingUntold part config s) (sym same) missing)
     (band_at part host output) refl (subst (λ (s : Summary). IsSome (band_at part s output)) (sym same) banded) said
@@ -84,7 +85,7 @@ open-voltage laws exact config passes events log output part least most spelled 
     go : output < config.count → AreOpen (marks (setup_of config passes) (since_restart (life config passes events).entries)) →
         MissingUntold part config (now config passes events).host →
         (b : Option Band) → band_at part (now config passes events).host output ≡ b → IsSome b →
-        is_yes (within_of (Some (record { least = least; most = most })) b) ≡ false →
+        is_yes (within_of (Between (record { least = least; most = most })) b) ≡ false →
         CommandsOther config passes log output (record { least = least; most = most })
     go there unlocked untold None e some said = cc
     go there unlocked untold (Some band) e some said =

@@ -1,9 +1,9 @@
 -- What a course says, case by case.
-use Rattle.std.proofs.Common.{◌≡◌, ℕ, true, false, Option, Some, None, Result, refl, ap, sym, ◌∙◌}
+use Rattle.std.proofs.Common.{◌≡◌, ℕ, true, false, Some, None, Result, refl, ap, sym, ◌∙◌}
 use Rattle.pm_host.specs.Refusals.{is_busy}
 use Rattle.pm_host.specs.Summary.{Summary}
 use Rattle.pm_limits.specs.declared.part_registers.PartRegisters.{PartRegisters}
-use Rattle.pm_limits.specs.Bounds.{Bounds}
+use Rattle.pm_limits.specs.declared.output_limits.OutputLimits.{OutputLimits}
 use Rattle.pm_rail.specs.declared.wanted.Wanted.{Wanted}
 use Rattle.pm_rail.specs.Survey.{wanted_in}
 use Rattle.pm_course.specs.declared.course_end.CourseEnd.{CourseEnd}
@@ -18,7 +18,7 @@ use Rattle.pm_course.specs.Wishes.{AreFormed}
 -- what a course is asked: of a part, within limits, by what the host knows, with words that its wishes have
 pub record Asked : Type 0 where
   pub part : PartRegisters
-  pub limits : Option Bounds
+  pub limits : OutputLimits
   pub s : Summary
   pub c : FrameCourse
   pub words : Result Wanted Refusal

@@ -1,6 +1,6 @@
 -- When a course takes the word that a register holds in the place of what is wanted of it. This project's own choice.
 use Rattle.std.specs.Prelude.{◌≡◌, ℕ, ◌^◌, ℤ, pos, ◌+ℤ◌, ◌-ℤ◌, Bool, true, false, not, ◌&&◌, ◌||◌, ◌==◌, nat_lt, unsigned_abs, if◌then◌else◌, Option}
-use Rattle.std.specs.Prelude.{Some, None, is_some, option_map, option_and_then, unwrap_or, find, [], ◌∷◌, Result, Ok, Err, IfOk}
+use Rattle.std.specs.Prelude.{Some, None, is_some, option_map, unwrap_or, find, [], ◌∷◌, Result, Ok, Err, IfOk}
 use Rattle.std.specs.Result.{result_err}
 use Rattle.pm_num.specs.declared.fault.NumFault.{NumFault}
 use Rattle.pm_num.specs.declared.fault.NumFault.TheVariants.{TooLarge}
@@ -11,7 +11,9 @@ use Rattle.pm_table.specs.declared.reg.Reg.{Reg}
 use Rattle.pm_table.specs.Rules.{first, rule}
 use Rattle.pm_host.specs.Refusals.{is_busy}
 use Rattle.pm_host.specs.Summary.{Summary, format_at, possible_at}
-use Rattle.pm_limits.specs.Bounds.{Bounds, outside_fault}
+use Rattle.pm_limits.specs.Bounds.{outside_fault}
+use Rattle.pm_limits.specs.declared.output_limits.OutputLimits.{OutputLimits}
+use Rattle.pm_limits.specs.declared.output_limits.OutputLimits.TheVariants.{Between}
 use Rattle.pm_limits.specs.FaultWords.{limit_fault_number}
 use Rattle.pm_rail.specs.declared.fault.PlanFault.TheVariants as plan
 use Rattle.pm_rail.specs.declared.wanted.Wanted.{Wanted}
@@ -67,11 +69,11 @@ is_near_aim (Err fault) tolerance value = false
 is_near_aim (Ok x) tolerance value = not (nat_lt (10 ^ 15) (unsigned_abs x)) && is_near x tolerance value
 
 -- why a word isn't taken: P9 where it isn't near, then L3 or L4 by the limits
-abbrev pub limits_refuse : Option Bounds → Ratio → Reg → Option Refusal
-limits_refuse limits value register =
-    option_map (λ fault. refused_at (limit_fault_number fault) register) (option_and_then (λ bounds. outside_fault bounds value) limits)
+abbrev pub limits_refuse : OutputLimits → Ratio → Reg → Option Refusal
+limits_refuse (Between bounds) value register = option_map (λ fault. refused_at (limit_fault_number fault) register) (outside_fault bounds value)
+limits_refuse limits value register = None
 
-abbrev pub near_refusal : Option Bounds → Ratio → Reg → Result ℤ NumFault → ℕ → Option Refusal
+abbrev pub near_refusal : OutputLimits → Ratio → Reg → Result ℤ NumFault → ℕ → Option Refusal
 near_refusal limits value register aim tolerance = first (
     rule (not (is_near_aim aim tolerance value)) (refused_at not_near register) ∷
     limits_refuse limits value register ∷
@@ -118,7 +120,7 @@ word_at s c register = sole (possible_at s (Out c.course.survey.output register)
 
 -- What becomes of a course that is to take a held word: H3 while a job is open, P9 where nothing is wanted, P1 without a format, P4
 -- where the word isn't known; otherwise it is judged.
-pub data Takes (limits : Option Bounds) (s : Summary) (c : FrameCourse) (tolerance : ℕ) : Result FrameCourse Refusal → Type 0 where
+pub data Takes (limits : OutputLimits) (s : Summary) (c : FrameCourse) (tolerance : ℕ) : Result FrameCourse Refusal → Type 0 where
   job_open : is_busy s ≡ true → Takes limits s c tolerance (Err (refusal_of_plan plan.Busy))
   no_plan : is_busy s ≡ false → c.course.survey.plan ≡ None
       → Takes limits s c tolerance (Err (record { number = not_near; register = None }))
@@ -148,7 +150,7 @@ abbrev pub taken_or : FrameCourse → Result FrameCourse Refusal → FrameCourse
 taken_or was (Ok c) = c
 taken_or was (Err refusal) = was
 
-pub record Accepts (limits : Option Bounds) (s : Summary) (old : FrameCourse) (tolerance : ℕ) (result : Result (Unit {0}) Refusal)
+pub record Accepts (limits : OutputLimits) (s : Summary) (old : FrameCourse) (tolerance : ℕ) (result : Result (Unit {0}) Refusal)
     (new : FrameCourse) : Type 0 where
   pub taken : Result FrameCourse Refusal
   pub takes : Takes limits s old tolerance taken

@@ -16,7 +16,7 @@ use Rattle.pm_host.specs.declared.job.Job.TheVariants.{Order, Check}
 use Rattle.pm_host.specs.Refusals.{is_busy}
 use Rattle.pm_host.specs.Summary.{Summary, format_at, possible_at}
 use Rattle.pm_limits.specs.declared.part_registers.PartRegisters.{PartRegisters}
-use Rattle.pm_limits.specs.Bounds.{Bounds}
+use Rattle.pm_limits.specs.declared.output_limits.OutputLimits.{OutputLimits}
 use Rattle.pm_rail.specs.declared.course.Course.{Course}
 use Rattle.pm_rail.specs.declared.fault.PlanFault.TheVariants.{Protected}
 use Rattle.pm_rail.specs.declared.next.Next.{Next}
@@ -144,21 +144,21 @@ saying_next s c after (way.Ended end) = ends c (end_of c.fault end)
 saying_next s c after (way.Job job) = saying_for c after job (asked_for s c.course c.course.byte job)
 
 -- what it says with the words that its wishes have
-abbrev pub saying_planned : PartRegisters → Option Bounds → Summary → FrameCourse → Result Wanted Refusal → Says
+abbrev pub saying_planned : PartRegisters → OutputLimits → Summary → FrameCourse → Result Wanted Refusal → Says
 saying_planned part limits s c (Err refusal) = ends c (Refused refusal)
 saying_planned part limits s c (Ok words) =
     let course = with_plan c.course (planning c.course words) in
     saying_next s c (after_next part limits s course) (next_of part limits s course)
 
-abbrev pub saying_source : PartRegisters → Option Bounds → Summary → FrameCourse → Result Wanted Refusal → Option ℕ → Says
+abbrev pub saying_source : PartRegisters → OutputLimits → Summary → FrameCourse → Result Wanted Refusal → Option ℕ → Says
 saying_source part limits s c words (Some byte) = ends c (OtherSource byte)
 saying_source part limits s c words None = saying_planned part limits s c words
 
-abbrev pub saying_missing : PartRegisters → Option Bounds → Summary → FrameCourse → Result Wanted Refusal → Option Refusal → Says
+abbrev pub saying_missing : PartRegisters → OutputLimits → Summary → FrameCourse → Result Wanted Refusal → Option Refusal → Says
 saying_missing part limits s c words (Some refusal) = ends c (Refused refusal)
 saying_missing part limits s c words None = saying_source part limits s c words (source_of s c.course c.course.byte)
 
-abbrev pub saying_idle : PartRegisters → Option Bounds → Summary → FrameCourse → Result Wanted Refusal → Says
+abbrev pub saying_idle : PartRegisters → OutputLimits → Summary → FrameCourse → Result Wanted Refusal → Says
 saying_idle part limits s c words = if is_busy s then ends c busy_end
     else saying_missing part limits s c words (missing_of part c)
 
@@ -167,16 +167,16 @@ abbrev pub last_end : Option CourseEnd → Option CourseEnd
 last_end None = None
 last_end (Some end) = rule (not (is_open_end end)) end
 
-abbrev pub saying_by : PartRegisters → Option Bounds → Summary → FrameCourse → Result Wanted Refusal → Option CourseEnd → Says
+abbrev pub saying_by : PartRegisters → OutputLimits → Summary → FrameCourse → Result Wanted Refusal → Option CourseEnd → Says
 saying_by part limits s c words (Some end) = ends c end
 saying_by part limits s c words None = saying_idle part limits s c words
 
-abbrev pub saying : PartRegisters → Option Bounds → Summary → FrameCourse → Result Wanted Refusal → Says
+abbrev pub saying : PartRegisters → OutputLimits → Summary → FrameCourse → Result Wanted Refusal → Says
 saying part limits s c words = saying_by part limits s c words (last_end c.end)
 
 -- What a course says next of a part with these registers, within its output's limits, and what it is then: by words that its
 -- wishes have in the format that is known.
-pub record SaysNext (part : PartRegisters) (limits : Option Bounds) (s : Summary) (old : FrameCourse) (result : CourseNext)
+pub record SaysNext (part : PartRegisters) (limits : OutputLimits) (s : Summary) (old : FrameCourse) (result : CourseNext)
     (new : FrameCourse) : Type 0 where
   pub words : Result Wanted Refusal
   pub formed : AreFormed (format_now s old.course) (wanted_in old.course.survey.plan) old.voltages words
@@ -184,6 +184,6 @@ pub record SaysNext (part : PartRegisters) (limits : Option Bounds) (s : Summary
   pub after : new ≡ (saying part limits s old words).after
 
 -- what it would say, of a course that stays as it is
-pub record WouldSay (part : PartRegisters) (limits : Option Bounds) (s : Summary) (c : FrameCourse) (result : CourseNext) : Type 0 where
+pub record WouldSay (part : PartRegisters) (limits : OutputLimits) (s : Summary) (c : FrameCourse) (result : CourseNext) : Type 0 where
   pub after : FrameCourse
   pub says : SaysNext part limits s c result after

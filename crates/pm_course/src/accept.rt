@@ -17,7 +17,7 @@ use crate::voltages::Voltages;
 use crate::wish::Wishes;
 use crate::words::word_for;
 use pm_host::{Stage, State};
-use pm_limits::{Guard, Limits};
+use pm_limits::{Guard, OutputLimits};
 use pm_num::{AnyFormat, Frac, NumFault, NumFormat, micro};
 use pm_rail::{PlanFault, Wanted};
 use pm_table::{Cell, Reg};
@@ -51,7 +51,7 @@ impl FrameCourse {
         &mut self,
         host: &State,
         stage: Option<Stage>,
-        limits: &Option<Limits>,
+        limits: &OutputLimits,
         tolerance: u32,
     ) -> Result<(), Refusal>
         requires { self.old.course.survey.output < 8 }
@@ -71,7 +71,7 @@ impl FrameCourse {
         &self,
         host: &State,
         stage: Option<Stage>,
-        limits: &Option<Limits>,
+        limits: &OutputLimits,
         tolerance: u32,
     ) -> Result<FrameCourse, Refusal>
         requires { self.now.course.survey.output < 8 }
@@ -202,7 +202,7 @@ fn not_near(register: Reg) -> Refusal
 
 // Why a word of this value isn't taken.
 fn near_fault(
-    limits: &Option<Limits>,
+    limits: &OutputLimits,
     value: &Frac,
     register: Reg,
     aim: Result<i64, NumFault>,
@@ -257,10 +257,10 @@ fn volts(microvolts: i128) -> Frac
 }
 
 // L3 or L4 of a register, by the limits.
-fn outside(limits: &Option<Limits>, value: &Frac, register: Reg) -> Option<Refusal>
+fn outside(limits: &OutputLimits, value: &Frac, register: Reg) -> Option<Refusal>
     ensures { result ≡ limits_refuse limits.now value.now register }
 {
-    let Some(limits) = limits else {
+    let OutputLimits::Between(limits) = limits else {
         return None;
     };
     if is_above(&limit(limits.least()), value) {

@@ -13,7 +13,7 @@ use crate::course_end::{CourseEnd, CourseNext, Refusal, code_of};
 use crate::voltages::Voltages;
 use crate::wish::Wishes;
 use pm_host::{Job, Stage, State};
-use pm_limits::{Guard, Limits, PartRegisters};
+use pm_limits::{Guard, OutputLimits, PartRegisters};
 use pm_rail::{ApplyEnd, Course, Next, PlanFault, StopCause, Wanted};
 use pm_table::{Cell, Operation, Reg, is_allowed};
 
@@ -100,7 +100,7 @@ impl FrameCourse {
         host: &State,
         stage: Option<Stage>,
         part: PartRegisters,
-        limits: &Option<Limits>,
+        limits: &OutputLimits,
     ) -> CourseNext
         requires { self.old.course.survey.output < 8 }
         ensures { SaysNext part limits.now (held stage host.now) self.old result self.new }
@@ -129,7 +129,7 @@ impl FrameCourse {
         &mut self,
         host: &State,
         part: PartRegisters,
-        limits: &Option<Limits>,
+        limits: &OutputLimits,
         words: &Wanted,
     ) -> CourseNext
         requires { self.old.course.survey.output < 8 }

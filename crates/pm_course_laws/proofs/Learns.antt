@@ -7,7 +7,7 @@ use Rattle.pm_host.specs.declared.job.Job.TheVariants.{Learn}
 use Rattle.pm_host.specs.Refusals.{is_busy}
 use Rattle.pm_host.specs.Summary.{Summary, format_at}
 use Rattle.pm_limits.specs.declared.part_registers.PartRegisters.{PartRegisters}
-use Rattle.pm_limits.specs.Bounds.{Bounds}
+use Rattle.pm_limits.specs.declared.output_limits.OutputLimits.{OutputLimits}
 use Rattle.pm_rail.specs.declared.apply_end.ApplyEnd.TheVariants.{Reached, Stopped}
 use Rattle.pm_rail.specs.declared.apply_end.StopCause.TheVariants as stop
 use Rattle.pm_rail.specs.declared.course.Course.{Course}
@@ -23,7 +23,7 @@ use Rattle.pm_rail.specs.Registers.{wants_of}
 use Rattle.pm_rail.specs.Survey.{due_by, due_job, is_surveyed, wanted_in}
 use Rattle.pm_course.specs.FrameCourse.{with_plan}
 
-module _ (part : PartRegisters) (limits : Option Bounds) (s : Summary) where
+module _ (part : PartRegisters) (limits : OutputLimits) (s : Summary) where
   -- the format isn't known, or is to be learned again
   abbrev pub IsUnlearned : Course → Type 0
   IsUnlearned c = (c.survey.learned ≡ false) ⊎ (format_at s c.survey.output ≡ None)

@@ -4,7 +4,7 @@ use Rattle.pm_device.specs.declared.config.Config.{Config}
 use Rattle.pm_host.specs.declared.job.Job.{Job as Asked}
 use Rattle.pm_host.specs.Summary.{Summary}
 use Rattle.pm_limits.specs.declared.part_registers.PartRegisters.{PartRegisters}
-use Rattle.pm_limits.specs.Bounds.{Bounds}
+use Rattle.pm_limits.specs.declared.output_limits.OutputLimits.{OutputLimits}
 use Rattle.pm_rail.specs.declared.course.Course.{Course}
 use Rattle.pm_rail.specs.declared.next.Next.{Next as Said}
 use Rattle.pm_rail.specs.declared.next.Next.TheVariants as said
@@ -45,10 +45,10 @@ module _ (laws : Given) (config : Config) (passes : ℕ) (part : PartRegisters) 
   abbrev Same : FrameCourse → Type 0
   Same c = ties.Same laws.followed laws.lives config passes part begun before plan c
 
-  abbrev Names : Option Bounds → FrameCourse → FrameCourse → List Event → Asked → Type 0
+  abbrev Names : OutputLimits → FrameCourse → FrameCourse → List Event → Asked → Type 0
   Names limits c is later job = ties.Names laws.followed laws.lives config passes part begun before plan limits c is later job
 
-  module _ (limits : Option Bounds) (c is : FrameCourse) (later : List Event) (job : Asked) where
+  module _ (limits : OutputLimits) (c is : FrameCourse) (later : List Event) (job : Asked) where
     abbrev aft : Wanted → Course
     aft formed = after_next part limits (at later) (says.way_to part limits (at later) c formed)
 

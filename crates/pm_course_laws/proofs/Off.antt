@@ -6,7 +6,8 @@ use Rattle.pm_device.specs.declared.config.Config.{Config}
 use Rattle.pm_host.specs.declared.job.Job.{Job as Asked}
 use Rattle.pm_host.specs.Summary.{Summary}
 use Rattle.pm_limits.specs.declared.part_registers.PartRegisters.{PartRegisters}
-use Rattle.pm_limits.specs.Bounds.{Bounds}
+use Rattle.pm_limits.specs.declared.output_limits.OutputLimits.{OutputLimits}
+use Rattle.pm_limits.specs.declared.output_limits.OutputLimits.TheVariants.{Unlimited}
 use Rattle.pm_rail.specs.declared.apply_end.ApplyEnd.TheVariants as way
 use Rattle.pm_rail.specs.declared.course.Course.{Course}
 use Rattle.pm_rail.specs.declared.next.Next.TheVariants as said
@@ -37,7 +38,7 @@ module _ (laws : Given) (config : Config) (passes : ℕ) (part : PartRegisters) 
   abbrev Same : FrameCourse → Type 0
   Same c = ties.Same laws.followed laws.lives config passes part begun before None c
 
-  plain : (s : Summary) (c : FrameCourse) → Same c → says.IsPlain part None s c
+  plain : (s : Summary) (c : FrameCourse) → Same c → says.IsPlain part Unlimited s c
   plain s c same = λ j. ap (λ (b : Option ℕ). asked_for s c.course b j) same.byte ∙ rw off refl
 
   planned : (c : FrameCourse) (formed : Wanted) → Same c → planning c.course formed ≡ None
@@ -46,7 +47,7 @@ module _ (laws : Given) (config : Config) (passes : ℕ) (part : PartRegisters) 
   own-way : (c : FrameCourse) → Same c → with_plan c.course None ≡ c.course
   own-way c same = own-plan c.course None same.plan'
 
-  names : (limits : Option Bounds) (c is : FrameCourse) (later : List Event) (job : Asked) → Same c →
+  names : (limits : OutputLimits) (c is : FrameCourse) (later : List Event) (job : Asked) → Same c →
       IsLived config passes (later ++ before) → SaysNext part limits (at later) c (Job job) is →
       ties.Names laws.followed laws.lives config passes part begun before None limits c is later job
   names limits c is later job same lived said' = by (says.named part limits (at later) c (plain (at later) c same) job is said') where
@@ -54,7 +55,7 @@ module _ (laws : Given) (config : Config) (passes : ℕ) (part : PartRegisters) 
         ties.Names laws.followed laws.lives config passes part begun before None limits c is later job
     by n = names-known laws config passes part begun before None limits c is later job n.formed (planned c n.formed same) same n.named
 
-  reached : (limits : Option Bounds) (c is : FrameCourse) (later : List Event) → Same c →
+  reached : (limits : OutputLimits) (c is : FrameCourse) (later : List Event) → Same c →
       last_end c.end ≡ None → SaysNext part limits (at later) c (Ended Reached) is →
       next_of part limits (at later) c.course ≡ said.Ended way.Reached
   reached limits c is later same on said' =

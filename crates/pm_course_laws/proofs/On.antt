@@ -13,7 +13,7 @@ use Rattle.pm_host.specs.declared.job.Job.TheVariants.{Order, OrderMicro, Check,
 use Rattle.pm_host.specs.Jobs.{accepted_job}
 use Rattle.pm_host.specs.Summary.{Summary}
 use Rattle.pm_limits.specs.declared.part_registers.PartRegisters.{PartRegisters}
-use Rattle.pm_limits.specs.Bounds.{Bounds}
+use Rattle.pm_limits.specs.declared.output_limits.OutputLimits.{OutputLimits}
 use Rattle.pm_limits.specs.Part.{has_register}
 use Rattle.pm_rail.specs.declared.apply_end.ApplyEnd.TheVariants as way
 use Rattle.pm_rail.specs.declared.course.Course.{Course}
@@ -136,7 +136,7 @@ module _ (laws : Given) (config : Config) (passes : ℕ) (part : PartRegisters) 
     by None e h = let job-is : Check Protect ≡ job = cc in subst (λ (j : Asked). MaySay s c output byte j) job-is tt
     by (Some protect) e h = allowing protect e (is_allowed protect (register_code Operation)) refl h
 
-  may-say : (limits : Option Bounds) (c is : FrameCourse) (later : List Event) (job : Asked) → Same c →
+  may-say : (limits : OutputLimits) (c is : FrameCourse) (later : List Event) (job : Asked) → Same c →
       SaysNext part limits (at later) c (Job job) is → MaySay (at later) c output byte job
   may-say limits c is later job same said' = by (turns-so (at later) c t.named job same t.asked) where
     all : says.TurnedBy part limits (at later) c said'.words job is
@@ -186,7 +186,7 @@ module _ (laws : Given) (config : Config) (passes : ℕ) (part : PartRegisters) 
       subst (λ (o : Option Asked). IsHad part output (option_and_then (accepted_job (at later)) o))
       (named ∙ ap (λ (j : Asked). Some j) is) had same.output
 
-  leads : (limits : Option Bounds) (c is : FrameCourse) (later : List Event) (event : Event) (job : Asked) → Same c →
+  leads : (limits : OutputLimits) (c is : FrameCourse) (later : List Event) (event : Event) (job : Asked) → Same c →
       IsLived config passes (later ++ before) → ChecksHad config passes part output (event ∷ later) before →
       SaysNext part limits (at later) c (Job job) is → asked_by event ≡ Some job → Leads c is later event job
   leads limits c is later event job same lived had said' asked' = by (turns-so (at later) c t.named job same t.asked) where
@@ -256,7 +256,7 @@ module _ (laws : Given) (config : Config) (passes : ℕ) (part : PartRegisters) 
     by (same-job off is') = plain off is'
     by (other-job turned is') = other is'
 
-  reached : (limits : Option Bounds) (c is : FrameCourse) (later : List Event) → Same c →
+  reached : (limits : OutputLimits) (c is : FrameCourse) (later : List Event) → Same c →
       last_end c.end ≡ None → SaysNext part limits (at later) c (Ended Reached) is →
       next_of part limits (at later) c.course ≡ said.Ended way.Reached
   reached limits c is later same open' said' =

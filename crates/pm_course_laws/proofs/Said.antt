@@ -4,7 +4,7 @@ use Rattle.pm_host.specs.declared.job.Job.{Job as Asked}
 use Rattle.pm_host.specs.Refusals.{is_busy}
 use Rattle.pm_host.specs.Summary.{Summary}
 use Rattle.pm_limits.specs.declared.part_registers.PartRegisters.{PartRegisters}
-use Rattle.pm_limits.specs.Bounds.{Bounds}
+use Rattle.pm_limits.specs.declared.output_limits.OutputLimits.{OutputLimits}
 use Rattle.pm_rail.specs.declared.apply_end.ApplyEnd.TheVariants as way
 use Rattle.pm_rail.specs.declared.apply_end.StopCause.TheVariants as stop
 use Rattle.pm_rail.specs.declared.course.Course.{Course}
@@ -21,7 +21,7 @@ use Rattle.pm_course.specs.Ends.{busy_end}
 use Rattle.std.specs.Prelude.{if◌then◌else◌}
 use Rattle.pm_course.specs.FrameCourse.{Says, SaysNext, ends, saying_by, saying_missing, saying_source, asked_for, asking_for, last_end, missing_of, planning, saying, saying_for, saying_next, saying_planned, source_of, with_plan}
 
-module _ (part : PartRegisters) (limits : Option Bounds) (s : Summary) (c : FrameCourse) where
+module _ (part : PartRegisters) (limits : OutputLimits) (s : Summary) (c : FrameCourse) where
   -- the way by these words
   abbrev pub way_to : Wanted → Course
   way_to formed = with_plan c.course (planning c.course formed)

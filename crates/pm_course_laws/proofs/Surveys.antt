@@ -7,7 +7,8 @@ use Rattle.pm_device.specs.Held.{shape_for}
 use Rattle.pm_host.specs.declared.job.Job.{Job as Asked}
 use Rattle.pm_host.specs.Summary.{Summary, format_at}
 use Rattle.pm_limits.specs.declared.part_registers.PartRegisters.{PartRegisters}
-use Rattle.pm_limits.specs.Bounds.{Bounds}
+use Rattle.pm_limits.specs.declared.output_limits.OutputLimits.{OutputLimits}
+use Rattle.pm_limits.specs.declared.output_limits.OutputLimits.TheVariants.{Unlimited}
 use Rattle.pm_rail.specs.declared.course.Course.{Course}
 use Rattle.pm_rail.specs.declared.next.Next.TheVariants as said
 use Rattle.pm_rail.specs.declared.wanted.Wanted.{Wanted}
@@ -35,7 +36,7 @@ abbrev ok : Wanted → Result Wanted Refusal
 ok w = Ok w
 
 -- a job of a way that is no order reads
-pub way-reads : (part : PartRegisters) (limits : Option Bounds) (s : Summary) (x : Course) (job : Asked) → next_of part limits s x ≡ said.Job job →
+pub way-reads : (part : PartRegisters) (limits : OutputLimits) (s : Summary) (x : Course) (job : Asked) → next_of part limits s x ≡ said.Job job →
     is_order job ≡ false → is_reading job ≡ true
 way-reads part limits s x job is plain = by (named-so (λ (k : Asked). (is_order k ≡ true) ⊎ (is_reading k ≡ true)) part limits s r
     (λ k n. asks-so (λ (y : Asked). (is_order y ≡ true) ⊎ (is_reading y ≡ true)) part r.survey s (inr refl) (λ register has. inr refl) (inr refl) k n)
@@ -54,7 +55,7 @@ pub surveys-order-nothing : (laws : Given) (config : Config) (passes : ℕ) (par
 surveys-order-nothing laws config passes part output tries c own later before lived b =
     orders-nothing laws config passes part (to_survey output tries) before None names reads c own later lived b
   where
-    names : (limits : Option Bounds) (f g : FrameCourse) (l : List Event) (job : Asked) → ties.Same laws.followed laws.lives config passes part (to_survey output tries) before None f → IsLived config passes (l ++ before) →
+    names : (limits : OutputLimits) (f g : FrameCourse) (l : List Event) (job : Asked) → ties.Same laws.followed laws.lives config passes part (to_survey output tries) before None f → IsLived config passes (l ++ before) →
         SaysNext part limits (now config passes (l ++ before)).host f (Job job) g →
         ties.Names laws.followed laws.lives config passes part (to_survey output tries) before None limits f g l job
     names limits f g l job same lived' said' =
@@ -63,7 +64,7 @@ surveys-order-nothing laws config passes part output tries c own later before li
         names-known laws config passes part (to_survey output tries) before None limits f g l job n.formed
         (ap (λ (p : Option Wanted). if is_some p then Some n.formed else None) same.plan') same n.named
 
-    reads : (limits : Option Bounds) (f g : FrameCourse) (l : List Event) (job : Asked) → ties.Same laws.followed laws.lives config passes part (to_survey output tries) before None f → IsLived config passes (l ++ before) →
+    reads : (limits : OutputLimits) (f g : FrameCourse) (l : List Event) (job : Asked) → ties.Same laws.followed laws.lives config passes part (to_survey output tries) before None f → IsLived config passes (l ++ before) →
         SaysNext part limits (now config passes (l ++ before)).host f (Job job) g → is_reading job ≡ true
     reads limits f g l job same lived' said' =
         let next = (names limits f g l job same lived' said').next in
@@ -81,15 +82,15 @@ module _ (laws : Given) (config : Config) (passes : ℕ) (part : PartRegisters) 
   abbrev Same : FrameCourse → Type 0
   Same f = ties.Same laws.followed laws.lives config passes part begun before (Some words) f
 
-  plain : (s : Summary) (f : FrameCourse) → Same f → says.IsPlain part None s f
+  plain : (s : Summary) (f : FrameCourse) → Same f → says.IsPlain part Unlimited s f
   plain s f same = λ j. ap (λ (b : Option ℕ). asked_for s f.course b j) same.byte
 
   -- it knows no format, and its words are those that are wanted as such
-  record Unknown (l : List Event) (limits : Option Bounds) (f : FrameCourse) (formed : Wanted) : Type 0 where
+  record Unknown (l : List Event) (limits : OutputLimits) (f : FrameCourse) (formed : Wanted) : Type 0 where
     pub unlearned : learns.IsUnlearned part limits (at l) (says.way_to part limits (at l) f formed)
     pub formed_is : formed ≡ words
 
-  unknown : (limits : Option Bounds) (l : List Event) (f : FrameCourse) (formed : Wanted) (r : Result Wanted Refusal) → r ≡ Ok formed → Same f →
+  unknown : (limits : OutputLimits) (l : List Event) (f : FrameCourse) (formed : Wanted) (r : Result Wanted Refusal) → r ≡ Ok formed → Same f →
       IsLived config passes (l ++ before) → AreFormed (format_now (at l) f.course) (wanted_in f.course.survey.plan) f.voltages r →
       Unknown l limits f formed
   unknown limits l f formed r r-is same lived are = by f.course.survey.learned refl (format_at (at l) f.course.survey.output) refl where
@@ -122,7 +123,7 @@ module _ (laws : Given) (config : Config) (passes : ℕ) (part : PartRegisters) 
           ∙ (ap (λ (v : Voltages). meant_faults (shape_for config output) v) same.voltages ∙ faults)) in
           cc
 
-  names : (limits : Option Bounds) (f g : FrameCourse) (l : List Event) (job : Asked) → Same f → IsLived config passes (l ++ before) →
+  names : (limits : OutputLimits) (f g : FrameCourse) (l : List Event) (job : Asked) → Same f → IsLived config passes (l ++ before) →
       SaysNext part limits (at l) f (Job job) g → ties.Names laws.followed laws.lives config passes part begun before (Some words) limits f g l job
   names limits f g l job same lived' said' =
       let n = says.named part limits (at l) f (plain (at l) f same) job g said' in
@@ -130,7 +131,7 @@ module _ (laws : Given) (config : Config) (passes : ℕ) (part : PartRegisters) 
       names-known laws config passes part begun before (Some words) limits f g l job n.formed
       (ap (λ (p : Option Wanted). if is_some p then Some n.formed else None) same.plan' ∙ ap (λ (w : Wanted). Some w) u.formed_is) same n.named
 
-  reads : (limits : Option Bounds) (f g : FrameCourse) (l : List Event) (job : Asked) → Same f → IsLived config passes (l ++ before) →
+  reads : (limits : OutputLimits) (f g : FrameCourse) (l : List Event) (job : Asked) → Same f → IsLived config passes (l ++ before) →
       SaysNext part limits (at l) f (Job job) g → is_reading job ≡ true
   reads limits f g l job same lived' said' =
       let n = says.named part limits (at l) f (plain (at l) f same) job g said' in

@@ -14,7 +14,7 @@ use Rattle.pm_host.specs.Jobs.{accepted_job}
 use Rattle.pm_host.specs.Summary.{Summary, step_of}
 use Rattle.pm_host.specs.Transcript as host
 use Rattle.pm_limits.specs.declared.part_registers.PartRegisters.{PartRegisters}
-use Rattle.pm_limits.specs.Bounds.{Bounds}
+use Rattle.pm_limits.specs.declared.output_limits.OutputLimits.{OutputLimits}
 use Rattle.pm_rail.specs.declared.course.Course.{Course}
 use Rattle.pm_rail.specs.declared.next.Next.{Next as Said}
 use Rattle.pm_rail.specs.declared.next.Next.TheVariants as said
@@ -58,7 +58,7 @@ module _ (followed : LivesAreFollowed) (lives : EventsAreLived) (config : Config
     pub voltages : c.voltages ≡ begun.voltages
 
   -- the job that it says is the one that its way names
-  pub record Names (limits : Option Bounds) (c is : FrameCourse) (later : List Event) (job : Asked) : Type 0 where
+  pub record Names (limits : OutputLimits) (c is : FrameCourse) (later : List Event) (job : Asked) : Type 0 where
     pub next : next_of part limits (at later) (way_of c) ≡ said.Job job
     pub after : way_of is ≡ after_next part limits (at later) (way_of c)
     pub same : Same is
@@ -75,11 +75,11 @@ module _ (followed : LivesAreFollowed) (lives : EventsAreLived) (config : Config
     pub same : Same is
     pub opens : Way (way_of c) later → Opens job (way_of is) event later
 
-  asked-named : (limits : Option Bounds) (s : Summary) (was : Course) (job : Asked) → next_of part limits s was ≡ said.Job job →
+  asked-named : (limits : OutputLimits) (s : Summary) (was : Course) (job : Asked) → next_of part limits s was ≡ said.Job job →
       (after_next part limits s was).survey.asked ≡ Some job
   asked-named limits s was job is = ap (λ (n : Said). (naming (renewed part limits s was) n).survey.asked) is
 
-  pub named-leads : (limits : Option Bounds) (c is : FrameCourse) (later : List Event) (event : Event) (job : Asked) →
+  pub named-leads : (limits : OutputLimits) (c is : FrameCourse) (later : List Event) (event : Event) (job : Asked) →
       Names limits c is later job → asked_by event ≡ Some job → Leads c is later event job
   named-leads limits c is later event job n named = record {
     same = n.same;
@@ -283,7 +283,7 @@ module _ (followed : LivesAreFollowed) (lives : EventsAreLived) (config : Config
 
   -- it stands so if each job that it says leads its way on, as long as something holds of the events
   pub stands-by : (May : List Event → Type 0) → ((event : Event) (later : List Event) → May (event ∷ later) → May later) →
-      ((limits : Option Bounds) (c is : FrameCourse) (later : List Event) (event : Event) (job : Asked) → Same c →
+      ((limits : OutputLimits) (c is : FrameCourse) (later : List Event) (event : Event) (job : Asked) → Same c →
       IsLived config passes (later ++ before) → May (event ∷ later) → SaysNext part limits (at later) c (Job job) is →
       asked_by event ≡ Some job → Leads c is later event job) →
       (c : FrameCourse) (own : Bool) (later : List Event) → IsLived config passes (later ++ before) → May later →
@@ -332,7 +332,7 @@ module _ (followed : LivesAreFollowed) (lives : EventsAreLived) (config : Config
         record { same = before'.same; tied = still (way_of f) o l event before'.tied may }
 
   -- it stands so if each job that it says is the one that its way names
-  pub stands-all : ((limits : Option Bounds) (c is : FrameCourse) (later : List Event) (job : Asked) → Same c →
+  pub stands-all : ((limits : OutputLimits) (c is : FrameCourse) (later : List Event) (job : Asked) → Same c →
       IsLived config passes (later ++ before) → SaysNext part limits (at later) c (Job job) is → Names limits c is later job) →
       (c : FrameCourse) (own : Bool) (later : List Event) → IsLived config passes (later ++ before) →
       IsFrameCourse config passes part begun before c own later → Stands c own later

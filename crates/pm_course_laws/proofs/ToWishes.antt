@@ -7,7 +7,8 @@ use Rattle.pm_device.specs.Held.{shape_for}
 use Rattle.pm_host.specs.declared.job.Job.{Job as Asked}
 use Rattle.pm_host.specs.Summary.{Summary, format_at}
 use Rattle.pm_limits.specs.declared.part_registers.PartRegisters.{PartRegisters}
-use Rattle.pm_limits.specs.Bounds.{Bounds}
+use Rattle.pm_limits.specs.declared.output_limits.OutputLimits.{OutputLimits}
+use Rattle.pm_limits.specs.declared.output_limits.OutputLimits.TheVariants.{Unlimited}
 use Rattle.pm_limits.specs.Guard.{Guarded, guard_fault, limits_at}
 use Rattle.pm_rail.specs.declared.apply_end.ApplyEnd.TheVariants as way
 use Rattle.pm_rail.specs.declared.course.Course.{Course}
@@ -48,15 +49,15 @@ module _ (laws : Given) (config : Config) (passes : ℕ) (part : PartRegisters) 
   abbrev Same : FrameCourse → Type 0
   Same c = ties.Same laws.followed laws.lives config passes part begun before (Some wanted) c
 
-  plain : (s : Summary) (c : FrameCourse) → Same c → says.IsPlain part None s c
+  plain : (s : Summary) (c : FrameCourse) → Same c → says.IsPlain part Unlimited s c
   plain s c same = λ j. ap (λ (b : Option ℕ). asked_for s c.course b j) same.byte
 
   -- the words that it goes by: those that are meant, where it knows the format; otherwise it learns that
-  data Knows (limits : Option Bounds) (later : List Event) (c : FrameCourse) (formed : Wanted) : Type 0 where
+  data Knows (limits : OutputLimits) (later : List Event) (c : FrameCourse) (formed : Wanted) : Type 0 where
     knows : planning c.course formed ≡ Some wanted → Knows limits later c formed
     learning : learns.IsUnlearned part limits (at later) (says.way_to part limits (at later) c formed) → Knows limits later c formed
 
-  known : (limits : Option Bounds) (later : List Event) (c : FrameCourse) (formed : Wanted) (r : Result Wanted Refusal) → r ≡ Ok formed →
+  known : (limits : OutputLimits) (later : List Event) (c : FrameCourse) (formed : Wanted) (r : Result Wanted Refusal) → r ≡ Ok formed →
       Same c → IsLived config passes (later ++ before) →
       AreFormed (format_now (at later) c.course) (wanted_in c.course.survey.plan) c.voltages r → Knows limits later c formed
   known limits later c formed r r-is same lived are = by c.course.survey.learned refl (format_at (at later) c.course.survey.output) refl where
@@ -87,7 +88,7 @@ module _ (laws : Given) (config : Config) (passes : ℕ) (part : PartRegisters) 
       planned : planning c.course formed ≡ Some wanted
       planned = ap (λ (p : Option Wanted). if is_some p then Some formed else None) same.plan' ∙ ap (λ (w : Wanted). Some w) formed-is
 
-  names : (limits : Option Bounds) (c is : FrameCourse) (later : List Event) (job : Asked) → Same c →
+  names : (limits : OutputLimits) (c is : FrameCourse) (later : List Event) (job : Asked) → Same c →
       IsLived config passes (later ++ before) → SaysNext part limits (at later) c (Job job) is →
       ties.Names laws.followed laws.lives config passes part begun before (Some wanted) limits c is later job
   names limits c is later job same lived said' =
@@ -107,7 +108,7 @@ module _ (laws : Given) (config : Config) (passes : ℕ) (part : PartRegisters) 
               (none-missing part (shape_for config output) words voltages wanted means.1 there) n.named.next)
 
   -- its way has reached its end where it has
-  reached : (limits : Option Bounds) (c is : FrameCourse) (later : List Event) → Same c → IsLived config passes (later ++ before) →
+  reached : (limits : OutputLimits) (c is : FrameCourse) (later : List Event) → Same c → IsLived config passes (later ++ before) →
       last_end c.end ≡ None → SaysNext part limits (at later) c (Ended Reached) is →
       next_of part limits (at later) (with_plan c.course (Some wanted)) ≡ said.Ended way.Reached
   reached limits c is later same lived on said' =

@@ -10,7 +10,7 @@ use Rattle.pm_host.specs.Jobs.{accepted_job}
 use Rattle.pm_host.specs.Summary.{Summary}
 use Rattle.pm_host.specs.Transcript as host
 use Rattle.pm_limits.specs.declared.part_registers.PartRegisters.{PartRegisters}
-use Rattle.pm_limits.specs.Bounds.{Bounds}
+use Rattle.pm_limits.specs.declared.output_limits.OutputLimits.{OutputLimits}
 use Rattle.pm_rail.specs.declared.wanted.Wanted.{Wanted}
 use Rattle.pm_course.specs.declared.course_end.CourseNext.TheVariants.{Job}
 use Rattle.pm_course.specs.declared.frame_course.FrameCourse.{FrameCourse}
@@ -57,11 +57,11 @@ alone-asked output s event alone = subst (λ (o : Option host.Job). IsNoOrder ou
       go (Some j) h = cc
 
 module _ (laws : Given) (config : Config) (passes : ℕ) (part : PartRegisters) (begun : FrameCourse) (before : List Event) (plan : Option Wanted)
-    (names : (limits : Option Bounds) (c is : FrameCourse) (later : List Event) (job : Asked) →
+    (names : (limits : OutputLimits) (c is : FrameCourse) (later : List Event) (job : Asked) →
     ties.Same laws.followed laws.lives config passes part begun before plan c → IsLived config passes (later ++ before) →
     SaysNext part limits (now config passes (later ++ before)).host c (Job job) is →
     ties.Names laws.followed laws.lives config passes part begun before plan limits c is later job)
-    (reads : (limits : Option Bounds) (c is : FrameCourse) (later : List Event) (job : Asked) →
+    (reads : (limits : OutputLimits) (c is : FrameCourse) (later : List Event) (job : Asked) →
     ties.Same laws.followed laws.lives config passes part begun before plan c → IsLived config passes (later ++ before) →
     SaysNext part limits (now config passes (later ++ before)).host c (Job job) is → is_reading job ≡ true) where
   earlier : (event : Event) (l : List Event) → IsLived config passes (event ∷ l ++ before) → IsLived config passes (l ++ before)

@@ -1,10 +1,10 @@
 -- How READ_VOUT stands beside what an output commands and beside its limits, by exact fractions. This project's own choice.
-use Rattle.std.specs.Prelude.{ℕ, ◌*◌, ℤ, pos, ◌*ℤ◌, ◌-ℤ◌, int_lt, nat_lt, unsigned_abs, not, ◌||◌, if◌then◌else◌, Bool, Option, Some, None}
+use Rattle.std.specs.Prelude.{ℕ, ◌*◌, ℤ, pos, ◌*ℤ◌, ◌-ℤ◌, int_lt, nat_lt, unsigned_abs, ◌||◌, if◌then◌else◌, Bool, Option, Some, None}
 use Rattle.pm_num.specs.AnyFormat.{Shape, shape_value}
 use Rattle.pm_num.specs.Ratio.{Ratio}
 use Rattle.pm_host.specs.Summary.{Summary, format_at}
-use Rattle.pm_limits.specs.Band.{band_at, is_yes, within_of}
-use Rattle.pm_limits.specs.Bounds.{Bounds}
+use Rattle.pm_limits.specs.Band.{band_at, is_no, within_of}
+use Rattle.pm_limits.specs.declared.output_limits.OutputLimits.{OutputLimits}
 use Rattle.pm_limits.specs.declared.band.Band.{Band}
 use Rattle.pm_limits.specs.declared.part_registers.PartRegisters.{PartRegisters}
 use Rattle.pm_delivery.specs.declared.delivery.Delivery.{Delivery}
@@ -36,17 +36,17 @@ abbrev pub alone : Ratio → Band
 alone value = record { least = value; greatest = value }
 
 -- a value beside limits, and beside what the output commands
-abbrev pub reading_of : Option Bounds → ℕ → Ratio → Band → Reading
+abbrev pub reading_of : OutputLimits → ℕ → Ratio → Band → Reading
 reading_of limits within value band =
-    if not (is_yes (within_of limits (Some (alone value)))) then Outside
+    if is_no (within_of limits (Some (alone value))) then Outside
     else (if is_below within value band.least || is_beyond within value band.greatest then Beyond else Right)
 
-abbrev pub reading_by : Option Bounds → Delivery → Option Shape → Option Band → Reading
+abbrev pub reading_by : OutputLimits → Delivery → Option Shape → Option Band → Reading
 reading_by limits d None band = NotKnown
 reading_by limits d (Some shape) None = NotKnown
 reading_by limits d (Some shape) (Some band) = reading_of limits d.within (shape_value shape d.read_vout.word) band
 
 -- how the last good answer of READ_VOUT stands, by what the host knows
-abbrev pub reading_in : PartRegisters → Option Bounds → Summary → Delivery → Reading
+abbrev pub reading_in : PartRegisters → OutputLimits → Summary → Delivery → Reading
 reading_in part limits s d = if is_good d.read_vout
     then reading_by limits d (format_at s d.output) (band_at part s d.output) else NotKnown

@@ -7,7 +7,7 @@ ghost use Rattle.pm_delivery.specs.Reading.{is_below as spec_is_below, is_beyond
 
 use crate::delivery::Delivery;
 use pm_host::State;
-use pm_limits::{Band, Limits, PartRegisters, Within, band_in, within_limits};
+use pm_limits::{Band, OutputLimits, PartRegisters, Within, band_in, within_limits};
 use pm_num::{Frac, NumFormat};
 
 /// How READ_VOUT stands beside what an output commands, and its limits.
@@ -28,9 +28,9 @@ const MOST_WITHIN: u16 = 1000;
 
 impl Delivery {
     /// How READ_VOUT stands, by what the host holds beside its open job. The output's number is below 8.
-    pub fn reading(&self, state: &State, part: PartRegisters, limits: Option<Limits>) -> Reading
+    pub fn reading(&self, state: &State, part: PartRegisters, limits: &OutputLimits) -> Reading
         requires { self.now.output < 8 }
-        ensures value { result ≡ reading_in part limits (held None state.now) self.now }
+        ensures value { result ≡ reading_in part limits.now (held None state.now) self.now }
         ensures good { result ≡ Reading.Right → spec_is_good self.now.read_vout ≡ true }
     {
         if !self.read_vout.is_good() {
@@ -52,14 +52,14 @@ impl Delivery {
 }
 
 // How a reading stands beside limits and a band.
-fn reading_of(limits: Option<Limits>, within: u16, value: &Frac, band: &Band) -> Reading
-    ensures { result ≡ spec_reading_of limits within value.now band.now }
+fn reading_of(limits: &OutputLimits, within: u16, value: &Frac, band: &Band) -> Reading
+    ensures { result ≡ spec_reading_of limits.now within value.now band.now }
 {
     let read = Band {
         least: *value,
         greatest: *value,
     };
-    if within_limits(limits, Some(read)) != Within::Yes {
+    if within_limits(limits, Some(read)) == Within::No {
         Reading::Outside
     } else if is_below(within, value, &band.least) || is_beyond(within, value, &band.greatest) {
         Reading::Beyond

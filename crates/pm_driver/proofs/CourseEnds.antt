@@ -12,7 +12,7 @@ use Rattle.pm_host.specs.declared.job.Job.{Job as Asked}
 use Rattle.pm_host.specs.declared.job.Job.TheVariants.{Order}
 use Rattle.pm_host.specs.declared.job.JobEnd.{JobEnd}
 use Rattle.pm_host.specs.Summary.{format_at}
-use Rattle.pm_limits.specs.Bounds.{Bounds}
+use Rattle.pm_limits.specs.declared.output_limits.OutputLimits.{OutputLimits}
 use Rattle.pm_limits.specs.declared.part_registers.PartRegisters.{PartRegisters}
 use Rattle.pm_limits.specs.Guard.{limits_at}
 use Rattle.pm_rail.specs.declared.apply_end.ApplyEnd.{ApplyEnd}
@@ -64,7 +64,7 @@ module _ (laws : LawsOfSurveys) (end_known : SurveysEndKnown) {B : Type 0} (give
   renewed-way course d on = on-renewed laws end_known gives held restarts jobs is_so all output wanted part fault start extra course d on
 
   -- the order that comes next, once nothing is to be read
-  order-held : (course : Course) (d : Driving B) → Way course d → (limits : Option Bounds) → limits ≡ limits_at d.guard output →
+  order-held : (course : Course) (d : Driving B) → Way course d → (limits : OutputLimits) → limits ≡ limits_at d.guard output →
       due_job d.guard.registers course.survey d.guard.host ≡ None →
       order_next d.guard.registers limits d.guard.host course ≡ answer fault (option_map (order_of (own_words d) wanting) (next_in d))
   order-held course d on limits same free =
@@ -104,7 +104,7 @@ module _ (laws : LawsOfSurveys) (end_known : SurveysEndKnown) {B : Type 0} (give
       (on-wrote laws end_known gives held restarts jobs is_so all output wanted part fault start extra course old new r end on free next
       (subst (λ (j : Asked). Runs gives held restarts j old (Ok end) new) (sym same) runs))
 
-  named-way : (course : Course) (old new : Driving B) (job : Asked) (end : JobEnd) → Way course old → (limits : Option Bounds) →
+  named-way : (course : Course) (old new : Driving B) (job : Asked) (end : JobEnd) → Way course old → (limits : OutputLimits) →
       limits ≡ limits_at old.guard output → says old.guard.registers limits old.guard.host course ≡ Job job →
       Runs gives held restarts job old (Ok end) new → Way (told_of (naming course (Job job)) end) new
   named-way course old new job end on limits same says' runs =
@@ -181,7 +181,7 @@ module _ (laws : LawsOfSurveys) (end_known : SurveysEndKnown) {B : Type 0} (give
       go true empty e = absurd (never-spent course d on empty (λ free'. (unrefused, r, next)) (inr unrefused))
       go false empty e = cc
 
-  end-way : (course : Course) (d : Driving B) (end : ApplyEnd) → Way course d → (limits : Option Bounds) →
+  end-way : (course : Course) (d : Driving B) (end : ApplyEnd) → Way course d → (limits : OutputLimits) →
       limits ≡ limits_at d.guard output → says d.guard.registers limits d.guard.host course ≡ Ended end → EndsSo end d
   end-way course d end on limits same says' =
       go (due_job d.guard.registers course.survey d.guard.host) refl

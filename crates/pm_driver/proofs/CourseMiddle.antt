@@ -24,7 +24,7 @@ use Rattle.pm_host.specs.Refusals.{is_busy}
 use Rattle.pm_host.specs.Sound.{IsSound}
 use Rattle.pm_host.specs.Summary.{Summary, format_at}
 use Rattle.pm_host.specs.Transcript as accepted
-use Rattle.pm_limits.specs.Bounds.{Bounds}
+use Rattle.pm_limits.specs.declared.output_limits.OutputLimits.{OutputLimits}
 use Rattle.pm_limits.specs.Guard.{limits_at}
 use Rattle.pm_world.specs.Life.{life}
 use Rattle.pm_world.specs.Setup.{setup_of}
@@ -125,7 +125,7 @@ module _ (laws : LawsOfSurveys) (transcripts : TranscriptsAreFollowed) {B : Type
     go false e = inl (ap (λ (b : Bool). b || has_at v.read q) (sym e) ∙ sym read-is ∙ is)
 
   -- the course as it is asked
-  far-renewed : (course : Course) (d : Driving B) → (limits : Option Bounds) → Far course d →
+  far-renewed : (course : Course) (d : Driving B) → (limits : OutputLimits) → Far course d →
       Far (renewed d.guard.registers limits d.guard.host course) d
   far-renewed course d limits far = go (is_carried_out d.guard.registers limits d.guard.host course) where
     go : (b : Bool) → Far (if b then once_more course else course) d
@@ -164,7 +164,7 @@ module _ (laws : LawsOfSurveys) (transcripts : TranscriptsAreFollowed) {B : Type
       by q (inr both) = (subst (λ (e : JobEnd). Runs gives held restarts (Check (cell_of output q)) old (Ok e) new) both.1
           (subst (λ (j : Asked). Runs gives held restarts j old (Ok end) new) both.0 runs)).read
 
-  far-named : (course : Course) (old new : Driving B) (job : Asked) (end : JobEnd) (limits : Option Bounds) → Far course old →
+  far-named : (course : Course) (old new : Driving B) (job : Asked) (end : JobEnd) (limits : OutputLimits) → Far course old →
       restarts new.bus ≡ restarts old.bus → Names old.guard.registers limits old.guard.host course job →
       Runs gives held restarts job old (Ok end) new → Far (told_of (naming course (Job job)) end) new
   far-named course old new j end limits far same (reads job asks) runs =

@@ -22,7 +22,8 @@ use Rattle.pm_host.specs.Known.{Known, known_after, known_possible}
 use Rattle.pm_host.specs.Marks.{Good, Put}
 use Rattle.pm_host.specs.Summary.{Summary}
 use Rattle.pm_host.specs.Transcript as accepted
-use Rattle.pm_limits.specs.Bounds.{Bounds}
+use Rattle.pm_limits.specs.declared.output_limits.OutputLimits.{OutputLimits}
+use Rattle.pm_limits.specs.declared.output_limits.OutputLimits.TheVariants.{Unlimited}
 use Rattle.pm_limits.specs.declared.part_registers.PartRegisters.{PartRegisters}
 use Rattle.pm_limits.specs.Guard.{limits_at}
 use Rattle.pm_limits.specs.Part.{has_register, missing_word}
@@ -76,7 +77,7 @@ module _ (laws : LawsOfSurveys) (end_known : SurveysEndKnown) {B : Type 0} (give
   goal = goal_of (words_of start output) wanting
 
   -- what stays of the course, by the limits and by what is held
-  pub record Facts (limits : Option Bounds) (h : Converter) : Type 0 where
+  pub record Facts (limits : OutputLimits) (h : Converter) : Type 0 where
     pub fits : FitsPart part h output wanting
     pub judged : held_fault limits h output wanting ≡ fault
     pub at_end : goal_of (words_of h output) wanting ≡ goal
@@ -121,16 +122,16 @@ module _ (laws : LawsOfSurveys) (end_known : SurveysEndKnown) {B : Type 0} (give
       (next_register (value_for (held d.bus).config output) (of_output (held d.bus).words) wanting))) on.facts.judged
 
   -- what is ordered next is the plan's order
-  pub order-is : (course : Course) (d : Driving B) → On course d → (limits : Option Bounds) → limits ≡ limits_at d.guard output →
+  pub order-is : (course : Course) (d : Driving B) → On course d → (limits : OutputLimits) → limits ≡ limits_at d.guard output →
       order_next d.guard.registers limits d.guard.host course ≡ plan_in output wanted d.guard
   order-is course d on limits same =
       ap (λ (b : Option ℕ). order_by d.guard.registers limits d.guard.host course.survey b) on.byte
       ∙ ap (λ (p : Option Wanted). if is_none p && is_surveyed d.guard.registers course.survey d.guard.host then Ok None
       else plan_of d.guard.registers d.guard.host limits course.survey.output (wants_of (wanted_in p))) on.plan
-      ∙ ap₂ (λ (l : Option Bounds) (o : ℕ). plan_of d.guard.registers d.guard.host l o wanting) same on.own
+      ∙ ap₂ (λ (l : OutputLimits) (o : ℕ). plan_of d.guard.registers d.guard.host l o wanting) same on.own
 
   -- a course that is so far on says what its survey asks for, or orders
-  pub says-is : (course : Course) (d : Driving B) → On course d → (limits : Option Bounds) →
+  pub says-is : (course : Course) (d : Driving B) → On course d → (limits : OutputLimits) →
       says d.guard.registers limits d.guard.host course
       ≡ reading d.guard.registers limits d.guard.host course (due_job d.guard.registers course.survey d.guard.host)
   says-is course d on limits =
@@ -142,7 +143,7 @@ module _ (laws : LawsOfSurveys) (end_known : SurveysEndKnown) {B : Type 0} (give
       (ap₂ (λ (p : PartRegisters) (w : Option Wanted). missing_fault p (wants_of (wanted_in w))) on.part_is on.plan ∙ on.facts.fits.wanted)
 
   -- the converter that holds the same words is the same to a course
-  same-facts : (limits : Option Bounds) (h new : Converter) → new.words ≡ h.words → new.config ≡ h.config → Facts limits h → Facts limits new
+  same-facts : (limits : OutputLimits) (h new : Converter) → new.words ≡ h.words → new.config ≡ h.config → Facts limits h → Facts limits new
   same-facts limits h new words config facts = record {
     fits = same-fits part part new h output output (Some wanted) (Some wanted) refl words config refl refl facts.fits;
     judged = ap₂ (λ (c : Config) (w : Words). judge c w) config words ∙ facts.judged;
@@ -173,8 +174,8 @@ module _ (laws : LawsOfSurveys) (end_known : SurveysEndKnown) {B : Type 0} (give
         byte = on.byte;
         once = on.once;
         part_is = runs.registers ∙ on.part_is;
-        facts = subst (λ (l : Option Bounds). Facts l (held new.bus))
-            (ap (λ (l : List (Option Bounds)). slice_index_or l output None) (sym runs.limits))
+        facts = subst (λ (l : OutputLimits). Facts l (held new.bus))
+            (ap (λ (l : List OutputLimits). slice_index_or l output Unlimited) (sym runs.limits))
             (same-facts (limits_at old.guard output) (held old.bus) (held new.bus) step.words step.config on.facts);
         enough = subst (λ (w : Words). Enough (surveyed_by course.survey job end) (course.ordered || false) new.guard.host step.left w)
             (sym step.words) (go step.left step.less step.tries on.enough);
@@ -283,8 +284,8 @@ module _ (laws : LawsOfSurveys) (end_known : SurveysEndKnown) {B : Type 0} (give
     byte = on.byte;
     once = on.once;
     part_is = runs.registers ∙ on.part_is;
-    facts = subst (λ (l : Option Bounds). Facts l (held new.bus))
-        (ap (λ (l : List (Option Bounds)). slice_index_or l output None) (sym runs.limits)) facts;
+    facts = subst (λ (l : OutputLimits). Facts l (held new.bus))
+        (ap (λ (l : List OutputLimits). slice_index_or l output Unlimited) (sym runs.limits)) facts;
     enough = enough;
     lived = life-on gives held restarts (accepted.Order (Out output r) word) end old new runs.leads on.lived;
     so = is.so;

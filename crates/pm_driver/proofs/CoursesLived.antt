@@ -15,7 +15,7 @@ use Rattle.pm_host.specs.Summary.{Summary}
 use Rattle.pm_host.specs.Transcript.{Job, Accepted, Setup}
 use Rattle.pm_limits.specs.declared.fault.LimitFault.{LimitFault}
 use Rattle.pm_limits.specs.declared.part_registers.PartRegisters.{PartRegisters}
-use Rattle.pm_limits.specs.Bounds.{Bounds}
+use Rattle.pm_limits.specs.declared.output_limits.OutputLimits.{OutputLimits}
 use Rattle.pm_limits.specs.Guard.{Guarded, limits_at}
 use Rattle.pm_model.specs.Settings.{word_at}
 use Rattle.pm_rail.specs.declared.wanted.Wanted.{Wanted}
@@ -95,7 +95,7 @@ record IsNamed (asked' : Asked) : Type 0 where
   pub names : (s : Summary) (j : Job) → accepted_job s asked' ≡ Some j → asked_by (job_event j) ≡ Some asked'
   pub accepts : (s t : Summary) → accepted_job s asked' ≡ accepted_job t asked'
 
-named-job : (part : PartRegisters) (limits : Option Bounds) (s : Summary) (course : Course) (asked' : Asked) →
+named-job : (part : PartRegisters) (limits : OutputLimits) (s : Summary) (course : Course) (asked' : Asked) →
     next_of part limits s course ≡ said.Job asked' → (is_busy s ≡ false) × IsNamed asked'
 named-job part limits s course asked' is =
     let r = renewed part limits s course in
@@ -139,7 +139,7 @@ module _ (config : Config) (passes : ℕ) (part : PartRegisters) (begun : Course
         (option_and_then (accepted_job (now config passes ((older ++ es) ++ before)).host) x)) (sym a) tt)
 
   -- one job more
-  on : (limits : Option Bounds) (course : Course) (es evs : List Event) (asked' : Asked) (j : Job) (end : JobEnd) (old new : Summary)
+  on : (limits : OutputLimits) (course : Course) (es evs : List Event) (asked' : Asked) (j : Job) (end : JobEnd) (old new : Summary)
       (held : Converter) → IsCourse config passes part begun before course es → next_of part limits old course ≡ said.Job asked' →
       IsNamed asked' → accepted_job old asked' ≡ Some j → Ran config passes (es ++ before) evs j end old new held →
       IsCourse config passes part begun before (told_of (after_next part limits old course) end) (evs ++ es)
@@ -181,7 +181,7 @@ module _ (config : Config) (passes : ℕ) (part : PartRegisters) (begun : Course
       go (accepted_job old.guard.host asked') refl runs.leads
       (some-counted gives held restarts end old new (accepted_job old.guard.host asked') runs.leads)
     where
-      limits : Option Bounds
+      limits : OutputLimits
       limits = limits_at old.guard course.survey.output
 
       same : old.guard.registers ≡ part

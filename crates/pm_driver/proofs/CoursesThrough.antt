@@ -1,10 +1,10 @@
 -- Courses over a simulated bus at the end of its plan of faults.
-use Rattle.std.specs.Prelude.{◌≡◌, ◌≤◌, ◌||◌, ℕ, Bool, true, false, refl, if◌then◌else◌, is_none, is_some, Option, Some, None}
+use Rattle.std.specs.Prelude.{◌≡◌, ◌≤◌, ◌||◌, ℕ, Bool, true, false, refl, if◌then◌else◌, is_none, is_some, Some, None}
 use Rattle.std.proofs.Common.{arith}
 use Rattle.pm_table.specs.declared.reg.Reg.{Reg}
 use Rattle.pm_table.specs.declared.reg.Reg.TheVariants.{Operation, VoutCommand, VoutMax, MarginHigh, MarginLow, VoutMin}
 use Rattle.pm_table.specs.Operation.{selected_register}
-use Rattle.pm_limits.specs.Bounds.{Bounds}
+use Rattle.pm_limits.specs.declared.output_limits.OutputLimits.{OutputLimits}
 use Rattle.pm_limits.specs.Part.{all_registers, has_register, missing_word}
 use Rattle.pm_device.specs.Held.{Held, shape_for, value_for}
 use Rattle.pm_rail.specs.declared.fault.PlanFault.TheVariants.{MissingRegister}
@@ -59,7 +59,7 @@ whole-fit held output wants = record {
     never MarginLow w m = cc
     never VoutMin w m = cc
 
-few : (limits : Option Bounds) (held : Held) (output : ℕ) (wants : Wants) (tries : ℕ) → 27 ≤ tries →
+few : (limits : OutputLimits) (held : Held) (output : ℕ) (wants : Wants) (tries : ℕ) → 27 ≤ tries →
     tries_for limits held output wants ≤ tries
 few limits held output wants tries many = go (is_some (held_fault limits held output wants)
     || is_none (next_register (value_for held.config output) (words_of held output) wants))

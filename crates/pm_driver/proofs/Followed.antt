@@ -25,7 +25,7 @@ use Rattle.pm_host.specs.Marks.{Good, goods, read_by}
 use Rattle.pm_rail.specs.Orders.{plan_of}
 use Rattle.pm_rail.specs.Lemmas.Steps.{left, right}
 use Rattle.pm_rail.specs.Registers.{Wants}
-use Rattle.pm_limits.specs.Bounds.{Bounds}
+use Rattle.pm_limits.specs.declared.output_limits.OutputLimits.{OutputLimits}
 use Rattle.pm_limits.specs.declared.part_registers.PartRegisters.{PartRegisters}
 use Rattle.std.specs.Prelude.{Ok}
 use Rattle.pm_world.specs.declared.event.Event.{Event}
@@ -50,7 +50,7 @@ use Rattle.pm_driver.specs.Acts.{Act, AreDone, Began, Called, Looked, MayDo, Rea
 -- the jobs of a plan: its next order by what the host knows, and besides checks and learns
 abbrev pub MayRun : PartRegisters → Summary → ℕ → Wants → Job → Type 0
 MayRun part host output wants (Order (Out other register) word) =
-    (limits : Option Bounds) × (plan_of part host limits output wants ≡ Ok (Some (record { register = register; word = word })))
+    (limits : OutputLimits) × (plan_of part host limits output wants ≡ Ok (Some (record { register = register; word = word })))
 MayRun part host output wants (Check cell) = Unit {0}
 MayRun part host output wants (Learn learned) = Unit {0}
 MayRun part host output wants job = ⊥

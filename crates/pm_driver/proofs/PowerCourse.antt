@@ -26,7 +26,7 @@ use Rattle.pm_host.specs.Marks.{Good, Put}
 use Rattle.pm_host.specs.Possible.{only}
 use Rattle.pm_host.specs.Summary.{possible_at}
 use Rattle.pm_host.specs.Transcript as accepted
-use Rattle.pm_limits.specs.Bounds.{Bounds}
+use Rattle.pm_limits.specs.declared.output_limits.OutputLimits.{OutputLimits}
 use Rattle.pm_limits.specs.declared.part_registers.PartRegisters.{PartRegisters}
 use Rattle.pm_limits.specs.Guard.{limits_at}
 use Rattle.pm_limits.specs.Part.{has_register}
@@ -101,7 +101,7 @@ module _ (laws : LawsOfSurveys) {B : Type 0} (gives : B → Call → B → Type 
     pub so : is_so d.bus ≡ true
 
   -- a course that is so far on says what its survey asks for, or orders the byte
-  pub says-power : (course : Course) (d : Driving B) → OnPower course d → (limits : Option Bounds) →
+  pub says-power : (course : Course) (d : Driving B) → OnPower course d → (limits : OutputLimits) →
       says d.guard.registers limits d.guard.host course
       ≡ reading d.guard.registers limits d.guard.host course (due_job d.guard.registers course.survey d.guard.host)
   says-power course d on limits =
@@ -149,7 +149,7 @@ module _ (laws : LawsOfSurveys) {B : Type 0} (gives : B → Call → B → Type 
   abbrev pub due_order : Bool → Result (Option PlanOrder) PlanFault
   due_order b = if b then Ok None else Ok (Some switch)
 
-  pub order-held : (course : Course) (d : Driving B) → OnPower course d → (limits : Option Bounds) →
+  pub order-held : (course : Course) (d : Driving B) → OnPower course d → (limits : OutputLimits) →
       due_job d.guard.registers course.survey d.guard.host ≡ None →
       order_next d.guard.registers limits d.guard.host course ≡ due_order (words_of (held d.bus) output Operation == byte)
   order-held course d on limits free =

@@ -14,7 +14,7 @@ use Rattle.pm_host.specs.declared.job.Job.{Job as Asked}
 use Rattle.pm_host.specs.declared.job.Job.TheVariants.{Order}
 use Rattle.pm_host.specs.declared.job.JobEnd.{JobEnd}
 use Rattle.pm_host.specs.Summary.{format_at}
-use Rattle.pm_limits.specs.Bounds.{Bounds}
+use Rattle.pm_limits.specs.declared.output_limits.OutputLimits.{OutputLimits}
 use Rattle.pm_limits.specs.Guard.{limits_at}
 use Rattle.pm_limits.specs.Part.{has_register}
 use Rattle.pm_rail.specs.declared.apply_end.ApplyEnd.{ApplyEnd}
@@ -61,7 +61,7 @@ module _ (laws : LawsOfSurveys) {B : Type 0} (gives : B → Call → B → Type 
       renewed-power laws gives held restarts jobs is_so all output byte turns_on first_bus extra chosen_there allowed course d on
 
   -- what is said, once the survey asks for nothing
-  ordered-by : (course : Course) (d : Driving B) → Way course d → (limits : Option Bounds) →
+  ordered-by : (course : Course) (d : Driving B) → Way course d → (limits : OutputLimits) →
       due_job d.guard.registers course.survey d.guard.host ≡ None →
       says d.guard.registers limits d.guard.host course
       ≡ ordering course (if is_byte d then Ok None else Ok (Some (record { register = Operation; word = byte })))
@@ -72,7 +72,7 @@ module _ (laws : LawsOfSurveys) {B : Type 0} (gives : B → Call → B → Type 
       (order-held laws gives held restarts jobs is_so all output byte turns_on first_bus extra chosen_there allowed course d on limits free)
 
   -- what is said while it asks for a job
-  asks-by : (course : Course) (d : Driving B) → Way course d → (limits : Option Bounds) (job : Asked) →
+  asks-by : (course : Course) (d : Driving B) → Way course d → (limits : OutputLimits) (job : Asked) →
       due_job d.guard.registers course.survey d.guard.host ≡ Some job →
       says d.guard.registers limits d.guard.host course ≡ taking course job
   asks-by course d on limits job due =
@@ -84,7 +84,7 @@ module _ (laws : LawsOfSurveys) {B : Type 0} (gives : B → Call → B → Type 
     reads : (course.survey.left == 0) ≡ false → due_job d.guard.registers course.survey d.guard.host ≡ Some job → Named course d job
     orders : due_job d.guard.registers course.survey d.guard.host ≡ None → is_byte d ≡ false → the_switch ≡ job → Named course d job
 
-  pub named : (course : Course) (d : Driving B) (job : Asked) → Way course d → (limits : Option Bounds) →
+  pub named : (course : Course) (d : Driving B) (job : Asked) → Way course d → (limits : OutputLimits) →
       says d.guard.registers limits d.guard.host course ≡ Job job → Named course d job
   named course d job on limits is = go (due_job d.guard.registers course.survey d.guard.host) refl where
     go : (o : Option Asked) → due_job d.guard.registers course.survey d.guard.host ≡ o → Named course d job
@@ -156,7 +156,7 @@ module _ (laws : LawsOfSurveys) {B : Type 0} (gives : B → Call → B → Type 
     go (inr (inl (same, unordered, few))) (inr other) = same-byte (words_of (held d.bus) output Operation) byte same other
     go (inr (inr (other, unordered, kept, few))) which = let zero_left = none in omega arith
 
-  pub end-way : (course : Course) (d : Driving B) (end : ApplyEnd) → Way course d → (limits : Option Bounds) →
+  pub end-way : (course : Course) (d : Driving B) (end : ApplyEnd) → Way course d → (limits : OutputLimits) →
       says d.guard.registers limits d.guard.host course ≡ Ended end → (end ≡ Reached) × (words_of (held d.bus) output Operation ≡ byte)
   end-way course d end on limits is = go (due_job d.guard.registers course.survey d.guard.host) refl where
     some-none : (x : Asked) → ◌≡◌ {A = Option Asked} (Some x) None → ⊥

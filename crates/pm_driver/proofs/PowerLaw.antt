@@ -29,7 +29,8 @@ use Rattle.pm_host.specs.Possible.{has_room, is_listed, only}
 use Rattle.pm_host.specs.Refusals.{is_busy}
 use Rattle.pm_host.specs.Summary.{Summary, format_at, possible_at}
 use Rattle.pm_host.specs.Transcript as accepted
-use Rattle.pm_limits.specs.Bounds.{Bounds}
+use Rattle.pm_limits.specs.declared.output_limits.OutputLimits.{OutputLimits}
+use Rattle.pm_limits.specs.declared.output_limits.OutputLimits.TheVariants.{Unlimited}
 use Rattle.pm_limits.specs.declared.fault.LimitFault.{LimitFault}
 use Rattle.pm_limits.specs.declared.fault.LimitFault.TheVariants.{MissingRegister}
 use Rattle.pm_limits.specs.declared.part_registers.PartRegisters.{PartRegisters}
@@ -112,10 +113,10 @@ on-taken output byte on = go (operation_of byte) refl on where
 -- an order of it is refused by limits alone, where the register is there and OPERATION is known
 free-order : (g : Guarded) (output byte word : ℕ) → is_busy g.host ≡ false → output < g.host.setup.outputs →
     has_register g.registers (selected_register byte) ≡ true → has_on byte ≡ true →
-    possible_at g.host (Out output Operation) ≡ only word → limits_at g output ≡ None →
+    possible_at g.host (Out output Operation) ≡ only word → limits_at g output ≡ Unlimited →
     guard_fault g (Order (Out output Operation) byte) ≡ None
 free-order g output byte word idle here has on known none =
-    ap (λ (l : Option Bounds). guarded_order g.registers l g.host (Out output Operation) byte) none
+    ap (λ (l : OutputLimits). guarded_order g.registers l g.host (Out output Operation) byte) none
     ∙ four-none _ _ _ _ (of_free _ asks) (ap (λ (b : Bool). rule (not b) MissingRegister) has) judged (of_free _ order)
   where
     in_range : nat_lt output g.host.setup.outputs ≡ true
@@ -127,8 +128,8 @@ free-order g output byte word idle here has on known none =
     of_free : (o : Option HostFault) → o ≡ None → of_host o ≡ None
     of_free o e = ap of_host e
 
-    judged : operation_limit g.registers None g.host output byte ≡ None
-    judged = ap (λ (b : Bool). rule (b && false) (unsure_fault (format_at g.host output))) on
+    judged : operation_limit g.registers Unlimited g.host output byte ≡ None
+    judged = ap (λ (b : Bool). rule (b && false) (unsure_fault Unlimited (format_at g.host output))) on
 
     room : has_room byte (only word) ≡ true
     room = or_right (is_listed byte (word ∷ [])) _ refl
@@ -142,7 +143,7 @@ free-order g output byte word idle here has on known none =
         ∙ ap (λ (b : Bool). first (None ∷ rule false BadWord ∷ rule (not b) TooUncertain ∷ [])) room
 
 -- the tries that are left, once it has ended, and once it named a job
-renewed-left : (guard : Guarded) (course : Course) (limits : Option Bounds) →
+renewed-left : (guard : Guarded) (course : Course) (limits : OutputLimits) →
     (renewed guard.registers limits guard.host course).survey.left ≡ course.survey.left
 renewed-left guard course limits = renewed-so (λ (c : Course). c.survey.left ≡ course.survey.left) guard.registers limits guard.host course
     refl refl
@@ -271,7 +272,7 @@ module _ (laws : LawsOfSurveys) {B : Type 0} (gives : B → Call → B → Type 
                 ≡ only (words_of (held new.bus) (renewed new.guard.registers (limits_at new.guard course.survey.output) new.guard.host course).survey.output
                 Operation)) way'.own
                 (operation-only laws gives held restarts jobs is_so all output byte turns_on old (tries - most) chosen_there allowed _ new way' free))
-                (ap (λ (l : List (Option Bounds)). slice_index_or l output None) way'.limits_are ∙ none) in
+                (ap (λ (l : List OutputLimits). slice_index_or l output Unlimited) way'.limits_are ∙ none) in
                 let bad = sym let_through ∙ (ap (guard_fault new.guard) same ∙ refuses) in cc;
             unsent = λ off. let bad = sym off ∙ turns_on in cc;
             words = kept;
@@ -297,7 +298,7 @@ module _ {B : Type 0} (gives : B → Call → B → Type 0) (held : B → Conver
     pub byte_is : course.byte ≡ Some byte
     pub once : course.twice ≡ None
 
-  says-off : (course : Course) (d : Driving B) (limits : Option Bounds) → IsOff course → is_busy d.guard.host ≡ false →
+  says-off : (course : Course) (d : Driving B) (limits : OutputLimits) → IsOff course → is_busy d.guard.host ≡ false →
       says d.guard.registers limits d.guard.host course ≡ turning_off course byte
   says-off course d limits off quiet =
       ap (λ (b : Bool). if b then Ended (Stopped (Refused plan.Busy)) else going d.guard.registers limits d.guard.host course course.twice) quiet

@@ -9,7 +9,8 @@ use Rattle.pm_host.specs.Jobs.{accepted_job}
 use Rattle.pm_host.specs.Summary.{Summary}
 use Rattle.pm_host.specs.Transcript as host
 use Rattle.pm_limits.specs.declared.part_registers.PartRegisters.{PartRegisters}
-use Rattle.pm_limits.specs.Bounds.{Bounds}
+use Rattle.pm_limits.specs.declared.output_limits.OutputLimits.{OutputLimits}
+use Rattle.pm_limits.specs.declared.output_limits.OutputLimits.TheVariants.{Unlimited}
 use Rattle.pm_limits.specs.Guard.{Guarded, limits_at}
 use Rattle.pm_rail.specs.declared.course.Course.{Course}
 use Rattle.pm_rail.specs.declared.next.Next.TheVariants as said
@@ -50,7 +51,7 @@ keeps-more held restarts ordered old middle new first second =
       limits = second.limits ∙ first.limits;
       rises = omega arith;
       within = λ output bounds narrow lived. second.within output bounds
-          (λ was. subst (λ limits. AreAsNarrow (slice_index_or limits output None) bounds) (sym first.limits) (narrow was))
+          (λ was. subst (λ limits. AreAsNarrow (slice_index_or limits output Unlimited) bounds) (sym first.limits) (narrow was))
           (first.within output bounds narrow lived);
       stays = λ same cell since. second.stays (omega arith) cell (first.stays (omega arith) cell since);
     }
@@ -92,7 +93,7 @@ survey-keeps gives held restarts begun first v last (more earlier job end middle
 -- ---- a course orders words of its own output alone
 
 -- what a course to an output names orders no word of a voltage of another output
-named-own : (part : PartRegisters) (limits : Option Bounds) (s : Summary) (course : Course) (job : Job) →
+named-own : (part : PartRegisters) (limits : OutputLimits) (s : Summary) (course : Course) (job : Job) →
     next_of part limits s course ≡ said.Job job → (output : ℕ) → OrdersFor output job → output ≡ course.survey.output
 named-own part limits s course job is output orders =
     let r = renewed part limits s course in

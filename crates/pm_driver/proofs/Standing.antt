@@ -24,6 +24,8 @@ use Rattle.pm_host.specs.Transcript as host
 use Rattle.pm_limits.specs.declared.band.Band.{Band}
 use Rattle.pm_limits.specs.Band.{HasDens, InBand, Known, band_at, band_with, band_within, end_with, known_of}
 use Rattle.pm_limits.specs.Band.{may_select_avsbus, operation_end, operations, reach, within_of, word_end}
+use Rattle.pm_limits.specs.declared.output_limits.OutputLimits.{OutputLimits}
+use Rattle.pm_limits.specs.declared.output_limits.OutputLimits.TheVariants.{Between}
 use Rattle.pm_limits.specs.Bounds.{Bounds, IsWithin}
 use Rattle.pm_limits.specs.declared.ends.Side.{Side}
 use Rattle.pm_limits.specs.declared.ends.Side.TheVariants.{Lowest, Highest}
@@ -222,13 +224,13 @@ known-dens laws guard held output there has shape is =
 
 pub standing-within : LawsOfLives → BandsAreHeld → (guard : Guarded) (held : Held) (output : ℕ) (bounds : Bounds) →
     output < guard.host.setup.outputs →
-    BandStandsIn guard held output → limits_at guard output ≡ Some bounds →
+    BandStandsIn guard held output → limits_at guard output ≡ Between bounds →
     within_of (limits_at guard output) (band_at guard.registers guard.host output) ≡ Yes →
     IsWithin bounds (commanded_in held.config held output)
 standing-within laws law guard held output bounds there stands limits says =
     go (band_at guard.registers guard.host output) refl
-    (subst (λ (o : Option Bounds). within_of o (band_at guard.registers guard.host output) ≡ Yes) limits says) where
-      go : (band : Option Band) → band_at guard.registers guard.host output ≡ band → within_of (Some bounds) band ≡ Yes →
+    (subst (λ (o : OutputLimits). within_of o (band_at guard.registers guard.host output) ≡ Yes) limits says) where
+      go : (band : Option Band) → band_at guard.registers guard.host output ≡ band → within_of (Between bounds) band ≡ Yes →
           IsWithin bounds (commanded_in held.config held output)
       go None is said = cc
       go (Some band) is said = in-limits bounds band (commanded_in held.config held output)

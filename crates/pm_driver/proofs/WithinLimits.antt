@@ -24,6 +24,8 @@ use Rattle.pm_host.specs.Refusals.{cell_fault, job_fault, micro_word, order_faul
 use Rattle.pm_host.specs.Summary.{Summary, format_at, next as host_next, start as host_start}
 use Rattle.pm_host.specs.Transcript as host
 use Rattle.pm_limits.specs.declared.part_registers.PartRegisters.{PartRegisters}
+use Rattle.pm_limits.specs.declared.output_limits.OutputLimits.{OutputLimits}
+use Rattle.pm_limits.specs.declared.output_limits.OutputLimits.TheVariants.{Unknown, Unlimited, Between}
 use Rattle.pm_limits.specs.Bounds.{Bounds, IsWithin, is_wider}
 use Rattle.pm_limits.specs.Guard.{Guarded, LetsBegin, guard_fault, guarded_order, judged, limits_at, missing_cell, missing_ordered}
 use Rattle.pm_limits.specs.Guard.{of_host, word_fault}
@@ -65,7 +67,7 @@ host-none None h = refl
 host-none (Some f) h = cc
 
 -- an order that a guard doesn't refuse isn't refused by its host
-order-free : (part : PartRegisters) (limits : Option Bounds) (s : Summary) (cell : Cell) (word : ℕ) →
+order-free : (part : PartRegisters) (limits : OutputLimits) (s : Summary) (cell : Cell) (word : ℕ) →
     guarded_order part limits s cell word ≡ None → order_fault s cell word ≡ None
 order-free part limits s cell word free =
     host-none (order_fault s cell word) (first-none (of_host (order_fault s cell word)) None
@@ -113,7 +115,7 @@ guard-begun g middle asked begins = record {
 -- ---- words within limits
 
 -- limits that are as narrow
-narrower : (own bounds : Bounds) (value : Ratio) → is_wider (Some bounds) own ≡ false → IsWithin own value → IsWithin bounds value
+narrower : (own bounds : Bounds) (value : Ratio) → is_wider bounds own ≡ false → IsWithin own value → IsWithin bounds value
 narrower own bounds value narrow within =
     go (int_lt own.least bounds.least) (int_lt bounds.most own.most) refl refl narrow
   where
@@ -129,12 +131,13 @@ narrower own bounds value narrow within =
     }
 
 -- a word within an output's own limits in a known format lies within any limits that those are as narrow as
-all-narrower : (limits : Option Bounds) (bounds : Bounds) (shape : Option Shape) (word : ℕ) → AreAsNarrow limits bounds →
-    ((own : Bounds) → limits ≡ Some own → IsSomeAnd shape (λ s. IsWithin own (shape_value s word))) →
+all-narrower : (limits : OutputLimits) (bounds : Bounds) (shape : Option Shape) (word : ℕ) → AreAsNarrow limits bounds →
+    ((own : Bounds) → limits ≡ Between own → IsSomeAnd shape (λ s. IsWithin own (shape_value s word))) →
     IsSomeAnd shape (λ s. IsWithin bounds (shape_value s word))
-all-narrower None bounds shape word narrow within = absurd narrow
-all-narrower (Some own) bounds None word narrow within = absurd (within own refl)
-all-narrower (Some own) bounds (Some shape) word narrow within = narrower own bounds (shape_value shape word) narrow (within own refl)
+all-narrower Unknown bounds shape word narrow within = absurd narrow
+all-narrower Unlimited bounds shape word narrow within = absurd narrow
+all-narrower (Between own) bounds None word narrow within = absurd (within own refl)
+all-narrower (Between own) bounds (Some shape) word narrow within = narrower own bounds (shape_value shape word) narrow (within own refl)
 
 -- whatever host takes the job as an order of a voltage of the output, the word has a value within these limits
 abbrev JobWithin : Config → ℕ → Bounds → Job → Type 0

@@ -10,6 +10,7 @@ use Rattle.pm_host.specs.declared.knowledge.Possible.{Possible}
 use Rattle.pm_host.specs.declared.knowledge.Possible.TheVariants.{Any, Words}
 use Rattle.pm_host.specs.Summary.{Summary, possible_at}
 use Rattle.pm_host.specs.Transcript as accepted
+use Rattle.pm_limits.specs.declared.output_limits.OutputLimits.TheVariants.{Between}
 use Rattle.pm_limits.specs.declared.band.Band.{Band}
 use Rattle.pm_limits.specs.declared.guard.Within.TheVariants.{Yes}
 use Rattle.pm_limits.specs.Band.{InBand, band_at, decides, within_of}
@@ -62,7 +63,7 @@ pub record BandsStand : Type 0 where
       BandStandsIn guard held output → band_at guard.registers guard.host output ≡ Some band →
       InBand band (commanded_in held.config held output)
   pub within : (guard : Guarded) (held : Held) (output : ℕ) (bounds : Bounds) → output < guard.host.setup.outputs →
-      BandStandsIn guard held output → limits_at guard output ≡ Some bounds →
+      BandStandsIn guard held output → limits_at guard output ≡ Between bounds →
       within_of (limits_at guard output) (band_at guard.registers guard.host output) ≡ Yes →
       IsWithin bounds (commanded_in held.config held output)
 

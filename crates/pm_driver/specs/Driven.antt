@@ -1,6 +1,6 @@
 -- What holds of a driver between two calls, what each call of it does, and what is true of it with no event in
 -- sight: this project's own choice.
-use Rattle.std.specs.Prelude.{◌≡◌, ◌<◌, ℕ, true, false, List, [], ◌∷◌, Option, Some, None, IfSome, IsSomeAnd, Result, IfOk, OnOk, OnErr}
+use Rattle.std.specs.Prelude.{◌≡◌, ◌<◌, ℕ, true, false, List, [], ◌∷◌, Some, IfSome, IsSomeAnd, Result, IfOk, OnOk, OnErr}
 use Rattle.std.specs.Result.{result_err}
 use Rattle.pm_table.specs.declared.cell.Cell.{Cell}
 use Rattle.pm_table.specs.declared.cell.Cell.TheVariants.{Out}
@@ -20,6 +20,8 @@ use Rattle.pm_host.specs.declared.knowledge.Standing.TheVariants.{Confirmed}
 use Rattle.pm_host.specs.Possible.{is_possible}
 use Rattle.pm_host.specs.Summary.{Summary, possible_at, standing_at, start}
 use Rattle.pm_limits.specs.declared.fault.LimitFault.{LimitFault}
+use Rattle.pm_limits.specs.declared.output_limits.OutputLimits.{OutputLimits}
+use Rattle.pm_limits.specs.declared.output_limits.OutputLimits.TheVariants.{Between}
 use Rattle.pm_limits.specs.Bounds.{Bounds, IsWithin, is_wider}
 use Rattle.pm_limits.specs.Guard.{Guarded, guard_fault, limits_at}
 use Rattle.pm_world.specs.declared.event.Event.{Event}
@@ -65,9 +67,9 @@ pub record HasNoRestartSince (cell : Cell) (host : Summary) (held : Held) : Type
   pub since : restarted_since has.config has.passes cell has.events ≡ false
 
 -- an output's limits let through nothing that these don't
-abbrev pub AreAsNarrow : Option Bounds → Bounds → Type 0
-AreAsNarrow None bounds = ⊥
-AreAsNarrow (Some own) bounds = is_wider (Some bounds) own ≡ false
+abbrev pub AreAsNarrow : OutputLimits → Bounds → Type 0
+AreAsNarrow (Between own) bounds = is_wider bounds own ≡ false
+AreAsNarrow limits bounds = ⊥
 
 -- A part as it is, whatever came before: made soundly, by numbers that are those of bytes, with words held and stored that its
 -- cells accept. What it starts with, PAGE, the readings and the latched status bits are any.

@@ -10,7 +10,7 @@ use Rattle.pm_model.specs.Settings.{word_at}
 use Rattle.pm_device.specs.Held.{Held, value_for}
 use Rattle.pm_host.specs.Refusals.{is_busy}
 use Rattle.pm_limits.specs.declared.part_registers.PartRegisters.{PartRegisters}
-use Rattle.pm_limits.specs.Bounds.{Bounds}
+use Rattle.pm_limits.specs.declared.output_limits.OutputLimits.{OutputLimits}
 use Rattle.pm_limits.specs.Guard.{limits_at}
 use Rattle.pm_limits.specs.Part.{all_registers, has_register}
 use Rattle.pm_rail.specs.declared.apply_end.ApplyEnd.{ApplyEnd}
@@ -40,7 +40,7 @@ words_of held output register = word_at held.words (Out output register)
 -- Why a plan to these words is refused, by the words that the converter holds: a wanted word lies outside the output's limits; a
 -- wanted word or the selected one is below VOUT_MIN or above VOUT_MAX once the plan is carried out; or WRITE_PROTECT doesn't
 -- allow a register that is to get another word.
-abbrev pub held_fault : Option Bounds → Held → ℕ → Wants → Option PlanFault
+abbrev pub held_fault : OutputLimits → Held → ℕ → Wants → Option PlanFault
 held_fault limits held output wants = first (
     limits_fault limits (value_for held.config output) wants ∷
     words_fault (value_for held.config output) (words_of held output) wants ∷
@@ -68,7 +68,7 @@ UndisturbedSurveysEnd {B = B} gives held restarts = (is_so : B → Bool) → Are
 
 -- How many tries are enough: where the plan is refused, or each register has its wanted word, a survey of 14 jobs; and
 -- otherwise one, five orders and one more survey of 8 jobs, since at most one answer of all surprises.
-abbrev pub tries_for : Option Bounds → Held → ℕ → Wants → ℕ
+abbrev pub tries_for : OutputLimits → Held → ℕ → Wants → ℕ
 tries_for limits held output wants =
     if is_some (held_fault limits held output wants)
     || is_none (next_register (value_for held.config output) (words_of held output) wants) then 14 else 27

@@ -1,5 +1,5 @@
 -- How a course to a byte of OPERATION ends over a bus that disturbs nothing: this project's own choice.
-use Rattle.std.specs.Prelude.{◌≡◌, ◌≢◌, ◌<◌, ◌≤◌, ◌+◌, ◌==◌, ℕ, Bool, true, false, if◌then◌else◌, Some, None, Result, Ok, Err}
+use Rattle.std.specs.Prelude.{◌≡◌, ◌≢◌, ◌<◌, ◌≤◌, ◌+◌, ◌==◌, ℕ, Bool, true, false, if◌then◌else◌, Some, Result, Ok, Err}
 use Rattle.pm_table.specs.declared.cell.Cell.{Cell}
 use Rattle.pm_table.specs.declared.cell.Cell.TheVariants.{Out, Protect}
 use Rattle.pm_table.specs.declared.reg.Reg.TheVariants.{Operation}
@@ -12,6 +12,7 @@ use Rattle.pm_device.specs.Held.{Held, value_for}
 use Rattle.pm_host.specs.declared.job.Job.TheVariants.{Order}
 use Rattle.pm_host.specs.Refusals.{is_busy}
 use Rattle.pm_limits.specs.declared.fault.LimitFault.{LimitFault}
+use Rattle.pm_limits.specs.declared.output_limits.OutputLimits.TheVariants.{Unlimited}
 use Rattle.pm_limits.specs.Guard.{guard_fault, limits_at}
 use Rattle.pm_limits.specs.Part.{has_register}
 use Rattle.pm_rail.specs.declared.apply_end.ApplyEnd.{ApplyEnd}
@@ -39,7 +40,7 @@ pub record IsSwitched {B : Type 0} (held : B → Held) (is_so : B → Bool) (out
 -- by its limits alone, and one that is turned off before anything was sent.
 pub record IsHeld {B : Type 0} (held : B → Held) (is_so : B → Bool) (output byte : ℕ) (old : Driving B) (fault : LimitFault) (new : Driving B) : Type 0 where
   pub fault_is : guard_fault new.guard (Order (Out output Operation) byte) ≡ Some fault
-  pub limits : has_on byte ≡ true → limits_at old.guard output ≢ None
+  pub limits : has_on byte ≡ true → limits_at old.guard output ≢ Unlimited
   pub unsent : has_on byte ≡ false → new ≡ old
   pub words : (held new.bus).words ≡ (held old.bus).words
   pub so : is_so new.bus ≡ true

@@ -5,8 +5,9 @@ ghost use Rattle.pm_host.specs.declared.command.Command.TheVariants as command;
 ghost use Rattle.pm_host.specs.Frames.{frames_left};
 ghost use Rattle.pm_host.specs.Summary.{Summary};
 ghost use Rattle.pm_table.specs.declared.cell.Cell.{Cell as Place};
+ghost use Rattle.pm_limits.specs.declared.output_limits.OutputLimits.TheVariants.{Unlimited};
 ghost use Rattle.pm_limits.specs.Bounds.{Bounds};
-ghost use Rattle.pm_limits.specs.Guard.{narrow_fault, narrowed};
+ghost use Rattle.pm_limits.specs.Guard.{narrow_fault, narrowed, unlimited, unlimited_fault};
 ghost use Rattle.pm_limits.specs.Part.{all_registers};
 ghost use Rattle.pm_driver.specs.Acts.{IsNoWrite, Renewed};
 ghost use Rattle.pm_driver.specs.Driven.{HasLifeWithin, HasNoRestartSince, IsTrueOf, MayBegin, PartWithin, Runs, driven};
@@ -48,7 +49,7 @@ impl<B: Bus> Driver<B> {
     /// A driver of a new host without limits, which is otherwise as [`guarded`](Driver::guarded).
     pub fn new(host: Host, bus: B) -> Driver<B>
         requires { MayBegin host (B.held bus) }
-        ensures guard { result.guard ≡ record { host = host; limits = replicate 8 None; registers = all_registers } }
+        ensures guard { result.guard ≡ record { host = host; limits = replicate 8 Unlimited; registers = all_registers } }
         ensures bus { result.bus ≡ bus }
         ensures within { (was : Summary) (output : ℕ) (bounds : Bounds) → was.setup ≡ host.setup →
             HasLifeWithin output bounds was (B.held bus) → HasLifeWithin output bounds host (B.held bus) }
@@ -217,6 +218,15 @@ impl<B: Bus> Driver<B> {
         ensures err { OnErr result (self.new ≡ self.old) }
     {
         self.guard.narrow(output, least, most)
+    }
+
+    /// Says that an output has no limits, as [`Guard::no_limits`].
+    pub fn no_limits(&mut self, output: u8) -> Result<(), LimitFault>
+        ensures fault { result_err result ≡ unlimited_fault self.old.guard output }
+        ensures ok { OnOk result (self.new ≡ record self.old { guard = unlimited self.old.guard output }) }
+        ensures err { OnErr result (self.new ≡ self.old) }
+    {
+        self.guard.no_limits(output)
     }
 
     /// The host, for what it says of the cells.

@@ -21,7 +21,7 @@
  * host of another version. It looks at the mark, the version, the setup and the stage of the open job, 13 of
  * the 2,064 bytes, and while an order is open at what is known of its cell; at nothing else. So most damage
  * isn't noticed: of flipped bits and overwritten bytes about 0.4 %. Damaged memory that still reads as a
- * host is safe to use, and what it says may be wrong; its limits may be others, or read as none. Keep it from others.
+ * host is safe to use, and what it says may be wrong; its limits may be others, or unknown. Keep it from others.
  *
  * What stands in a pm_host is a function of what it holds: two hosts that were made and used the same are equal byte for
  * byte. It holds no pointer, so it may be copied, and kept over a sleep or a warm reset. Who keeps one
@@ -88,6 +88,7 @@ enum {
     PM_L5_NOT_KNOWN_WITHIN = 0x25, /* this byte leaves the output on, and it isn't known to be within its limits */
     PM_L6_LIMITS_WIDENED = 0x26,  /* the new limits let through what the old ones don't */
     PM_L7_MISSING_REGISTER = 0x27, /* the part doesn't have the register, or the margin that a byte of OPERATION selects */
+    PM_L8_NO_LIMITS = 0x28,       /* no limits are known of the output: pm_host_set_limits, or pm_host_no_limits */
     PM_P1_FORMAT_UNKNOWN = 0x61,  /* P1, P4 to P7: why a course or a plan gives no order. The output's format isn't learned */
     PM_P4_NOT_KNOWN = 0x64,       /* what a register or WRITE_PROTECT holds isn't known: check it */
     PM_P5_BELOW_MIN = 0x65,       /* a word will be below VOUT_MIN as that will be */
@@ -100,7 +101,7 @@ enum {
     PM_OTHER_FRAME = 0xE2,        /* no frame of this kind is being sent */
     PM_NO_ADDRESS = 0xE3,         /* no address from 08h to 77h: 58h, say, and not the byte B0h that begins a write */
     PM_NO_PACKET = 0xE4,          /* no packet has these numbers */
-    PM_NO_LIMITS = 0xE6,          /* the output has no limits */
+    PM_NO_LIMITS = 0xE6,          /* the output was given no limits */
     PM_NO_NAME = 0xE7,            /* the number has no name */
     PM_NO_COURSE = 0xE9,          /* the memory holds no course of this version, or none to which a voltage can be added */
     PM_NO_BAND = 0xEB,            /* OPERATION may be a byte that hands the output's voltage to AVSBus */
@@ -339,8 +340,8 @@ uint64_t pm_delivery_size(void);
 uint16_t pm_delivery_version(void);
 
 /* Makes a host, whatever stood in the memory, for the device at this address, 08h to 77h, which has this
- * many outputs, 1 to 8; a job has at most this many passes or tries, 1 to 15. Nothing is known, and no output has
- * limits. PM_NO_ADDRESS, H1, H2, the first that applies. */
+ * many outputs, 1 to 8; a job has at most this many passes or tries, 1 to 15. Nothing is known, no limits either: give each
+ * output some, or say by pm_host_no_limits that it has none. PM_NO_ADDRESS, H1, H2, the first that applies. */
 PM_MUST_USE
 uint8_t pm_host_new(pm_host *host, uint8_t address, uint8_t outputs, uint8_t passes);
 
@@ -360,12 +361,18 @@ uint8_t pm_host_new_with(pm_host *host, uint8_t address, uint8_t outputs, uint8_
 PM_MUST_USE
 uint8_t pm_host_set_limits(pm_host *host, uint8_t output, int64_t least, int64_t most);
 
-/* The limits of an output. PM_NO_HOST, H4, PM_NO_LIMITS; then nothing is written. */
+/* Says that an output has no limits: any voltage may be ordered of it. Without this and without limits an order of a voltage, and one of
+ * OPERATION that leaves the output on, is refused (L8); turning it off isn't. pm_host_restart keeps it. PM_NO_HOST, H4, L6 if it has
+ * limits. */
+PM_MUST_USE
+uint8_t pm_host_no_limits(pm_host *host, uint8_t output);
+
+/* The limits of an output. PM_NO_HOST, H4, PM_NO_LIMITS if it was given none; then nothing is written. */
 uint8_t pm_host_limits(const pm_host *host, uint8_t output, pm_limits *limits);
 
 /* Whether an output's voltage lies within its limits, by the words that its registers may hold: PM_WITHIN if its
- * whole band does or it has none, PM_OUTSIDE if the whole band lies below them or above them, otherwise
- * PM_NOT_KNOWN. PM_NO_HOST, H4. */
+ * whole band does or it was said that it has none, PM_OUTSIDE if the whole band lies below them or above them, otherwise
+ * PM_NOT_KNOWN, as if no limits are known. PM_NO_HOST, H4. */
 enum { PM_WITHIN = 0x91, PM_OUTSIDE = 0x92, PM_NOT_KNOWN = 0x93 };
 uint8_t pm_host_limits_state(const pm_host *host, uint8_t output);
 
@@ -376,14 +383,14 @@ uint8_t pm_host_limits_state(const pm_host *host, uint8_t output);
 uint8_t pm_host_band(const pm_host *host, uint8_t output, pm_band *band);
 
 /* Begins an order: at most `passes` times the word is written once and read back once. It ends as
- * PM_DONE, PM_DIFFERS or PM_UNKNOWN. PM_NO_HOST, PM_NO_CELL, H3, H4, L7, then by the output's limits L2, L3 or L4,
- * then H5, L2 or L5 of OPERATION, H6. */
+ * PM_DONE, PM_DIFFERS or PM_UNKNOWN. PM_NO_HOST, PM_NO_CELL, H3, H4, L7, then by the output's limits L8, L2, L3 or L4,
+ * then H5, L8, L2 or L5 of OPERATION, H6. */
 PM_MUST_USE
 uint8_t pm_host_order(pm_host *host, uint8_t output, uint8_t code, uint16_t word);
 
 /* Begins an order of the word nearest to a number of microvolts, in the format that the last learn of the
- * output found. PM_NO_HOST, PM_NO_CELL, H3, H4, L7, H5, H7, N5, N3 or N4, then L3 or L4 by the value of that word,
- * H6. */
+ * output found. PM_NO_HOST, PM_NO_CELL, H3, H4, L7, H5, H7, N5, N3 or N4, then L8, L3 or L4 by the value of that
+ * word, H6. */
 PM_MUST_USE
 uint8_t pm_host_order_microvolts(pm_host *host, uint8_t output, uint8_t code, int64_t microvolts);
 
@@ -468,7 +475,7 @@ uint8_t pm_course_microvolts(pm_course *course, uint8_t output, uint8_t code, in
 
 /* To a byte of OPERATION. One that turns the output off is ordered at once, whatever is known: that is the first frame, nothing is
  * read before it, and neither format, limits nor WRITE_PROTECT stand in its way. One that leaves it on is ordered after a survey
- * and reads of WRITE_PROTECT and of the register that it selects, by its limits (L5). */
+ * and reads of WRITE_PROTECT and of the register that it selects, by its limits (L8, L5). */
 PM_MUST_USE
 uint8_t pm_course_power(pm_course *course, uint8_t output, uint8_t byte, uint16_t tries);
 

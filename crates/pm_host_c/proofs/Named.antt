@@ -17,7 +17,7 @@ use Rattle.pm_device.specs.declared.config_fault.ConfigFault.TheVariants as setu
 use Rattle.pm_device.specs.FaultWords.{config_fault_number, config_fault_words, device_fault_number, device_fault_words}
 use Rattle.pm_limits.specs.declared.fault.LimitFault.{LimitFault}
 use Rattle.pm_limits.specs.declared.fault.LimitFault.TheVariants.{LimitsInverted, BelowLimit, AboveLimit, NotKnownWithin, LimitsWidened}
-use Rattle.pm_limits.specs.declared.fault.LimitFault.TheVariants.{MissingRegister}
+use Rattle.pm_limits.specs.declared.fault.LimitFault.TheVariants.{MissingRegister, NoLimits}
 use Rattle.pm_limits.specs.declared.fault.LimitFault.TheVariants.{Host}
 use Rattle.pm_limits.specs.declared.fault.LimitFault.TheVariants as limits
 use Rattle.pm_limits.specs.FaultWords.{limit_fault_number, limit_fault_words}
@@ -54,6 +54,7 @@ limit AboveLimit = refl
 limit NotKnownWithin = refl
 limit LimitsWidened = refl
 limit MissingRegister = refl
+limit NoLimits = refl
 
 -- under its number each fault of a frame, at whatever place, has its own words
 pub frame : (fault : FrameFault) → refusal_words (frame_fault_number fault) ≡ Some (frame_fault_words fault)
@@ -97,6 +98,7 @@ pub planned : (fault : PlanFault) → refusal_words (plan_fault_number fault) �
 planned plan.Busy = refl
 planned (plan.MissingRegister register) = refl
 planned plan.FormatUnknown = refl
+planned (plan.NoLimits register) = refl
 planned (plan.BelowLimit register) = refl
 planned (plan.AboveLimit register) = refl
 planned (plan.NotKnown cell) = refl

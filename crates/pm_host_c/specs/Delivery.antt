@@ -9,7 +9,8 @@ use Rattle.pm_host.specs.declared.fault.HostFault.TheVariants.{FormatUnknown, Un
 use Rattle.pm_host.specs.FaultWords.{host_fault_number}
 use Rattle.pm_host.specs.Image.{held, host_of}
 use Rattle.pm_host.specs.Summary.{Summary, format_at, possible_at}
-use Rattle.pm_limits.specs.Bounds.{Bounds}
+use Rattle.pm_limits.specs.declared.output_limits.OutputLimits.{OutputLimits}
+use Rattle.pm_limits.specs.declared.output_limits.OutputLimits.TheVariants.{Unlimited}
 use Rattle.pm_rail.specs.declared.power.Power.{Power}
 use Rattle.pm_rail.specs.Rail.{power_of}
 use Rattle.pm_delivery.specs.declared.beyond.Judgement.{Judgement}
@@ -73,8 +74,8 @@ asked_number host i = if not (is_some (host_of host.host)) then no_host
 abbrev pub idle : GuardImage → Summary
 idle host = held None host.host.state
 
-abbrev pub limits_of : GuardImage → ℕ → Option Bounds
-limits_of host output = slice_index_or (limits_kept host) output None
+abbrev pub limits_of : GuardImage → ℕ → OutputLimits
+limits_of host output = slice_index_or (limits_kept host) output Unlimited
 
 -- whether the output is on, how the last reading stands, what is due, and what the rail does
 abbrev pub power_at : GuardImage → Delivery → Power

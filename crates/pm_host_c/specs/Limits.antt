@@ -1,5 +1,5 @@
 -- What the calls of limits and of the band answer, by the definitions of pm_limits.
-use Rattle.std.specs.Prelude.{ℕ, ℤ, ◌||◌, nat_lt, if◌then◌else◌, Option, Some, None, is_none}
+use Rattle.std.specs.Prelude.{ℕ, ℤ, ◌||◌, nat_lt, if◌then◌else◌, Option, Some, None}
 use Rattle.pm_num.specs.AnyFormat.{Shape}
 use Rattle.pm_num.specs.declared.fault.NumFault.TheVariants.{TooLarge}
 use Rattle.pm_host.specs.declared.fault.HostFault.TheVariants.{FormatUnknown, UnknownOutput}
@@ -8,7 +8,8 @@ use Rattle.pm_limits.specs.declared.band.Band.{Band}
 use Rattle.pm_limits.specs.declared.guard.Within.{Within}
 use Rattle.pm_limits.specs.declared.guard.Within.TheVariants.{Yes, No, NotKnown}
 use Rattle.pm_limits.specs.Band.{band_at, within_of}
-use Rattle.pm_limits.specs.Guard.{Guarded, limits_at, narrow_fault}
+use Rattle.pm_limits.specs.Guard.{Guarded, limits_at, narrow_fault, unlimited_fault}
+use Rattle.pm_limits.specs.OutputLimits.{is_limited}
 use Rattle.pm_host_c.specs.declared.limits.BandImage.{BandImage}
 use Rattle.pm_host_c.specs.Numbers.{accepted, limit_outcome, no_band_there, no_host, no_limits_there, within_no, within_not_known}
 use Rattle.pm_host_c.specs.Numbers.{within_yes}
@@ -21,12 +22,17 @@ abbrev pub narrow_number : Option Guarded → ℕ → ℤ → ℤ → ℕ
 narrow_number None output least most = no_host
 narrow_number (Some g) output least most = limit_outcome (narrow_fault g output least most)
 
+-- an output is said to have none
+abbrev pub unlimited_number : Option Guarded → ℕ → ℕ
+unlimited_number None output = no_host
+unlimited_number (Some g) output = limit_outcome (unlimited_fault g output)
+
 -- limits are asked
 abbrev pub limits_number : Option Guarded → ℕ → ℕ
 limits_number None output = no_host
 limits_number (Some g) output =
     if nat_lt output g.host.setup.outputs
-    then (if is_none (limits_at g output) then no_limits_there else accepted)
+    then (if is_limited (limits_at g output) then accepted else no_limits_there)
     else host_fault_number UnknownOutput
 
 -- whether an output's voltage lies within its limits

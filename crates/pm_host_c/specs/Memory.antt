@@ -1,8 +1,9 @@
 -- What stands in a caller's memory, as a function of what it means: a number without a meaning is 0 (of a format
 -- FFh), and so is each behind a count. Two hosts that mean the same are then equal byte for byte. This project's own choice.
-use Rattle.std.specs.Prelude.{◌≡◌, pos, List, map, replicate, Option, Some, None}
+use Rattle.std.specs.Prelude.{◌≡◌, pos, List, map, replicate, Some}
 use Rattle.pm_limits.specs.declared.part_registers.PartRegisters.{PartRegisters}
-use Rattle.pm_limits.specs.Bounds.{Bounds}
+use Rattle.pm_limits.specs.declared.output_limits.OutputLimits.{OutputLimits}
+use Rattle.pm_limits.specs.declared.output_limits.OutputLimits.TheVariants.{Unknown, Unlimited, Between}
 use Rattle.pm_limits.specs.Guard.{Guarded}
 use Rattle.pm_host.specs.Memory.{image_of, IsImage}
 use Rattle.pm_host_c.specs.declared.guard_image.GuardImage.{GuardImage}
@@ -11,10 +12,11 @@ use Rattle.pm_host_c.specs.declared.guard_image.RegistersImage.{RegistersImage}
 use Rattle.pm_host_c.specs.Guard.{guard_of, limits_held, registers_held}
 use Rattle.pm_host_c.specs.Numbers.{flag}
 
--- the limits of an output; a least above the most where it has none
-abbrev pub limits_image : Option Bounds → LimitsImage
-limits_image None = record { least = pos 1; most = pos 0 }
-limits_image (Some l) = record { least = l.least; most = l.most }
+-- the limits of an output; a least above the most where none are known, and where it has none
+abbrev pub limits_image : OutputLimits → LimitsImage
+limits_image Unknown = record { least = pos 1; most = pos 0 }
+limits_image Unlimited = record { least = pos 2; most = pos 0 }
+limits_image (Between l) = record { least = l.least; most = l.most }
 
 -- those of each output are written so
 abbrev pub AreLimits : List LimitsImage → Type 0

@@ -33,7 +33,7 @@ use Rattle.pm_delivery.specs.declared.question.Question.TheVariants.{OvFaultLimi
 use Rattle.pm_delivery.specs.FaultWords.{delivery_fault_number, delivery_fault_words}
 use Rattle.pm_limits.specs.declared.fault.LimitFault.{LimitFault}
 use Rattle.pm_limits.specs.declared.fault.LimitFault.TheVariants.{LimitsInverted, BelowLimit, AboveLimit, NotKnownWithin, LimitsWidened}
-use Rattle.pm_limits.specs.declared.fault.LimitFault.TheVariants.{MissingRegister, Host}
+use Rattle.pm_limits.specs.declared.fault.LimitFault.TheVariants.{MissingRegister, NoLimits, Host}
 use Rattle.pm_limits.specs.declared.fault.LimitFault.TheVariants as limits
 use Rattle.pm_limits.specs.FaultWords.{limit_fault_number, limit_fault_words}
 use Rattle.pm_host_c.specs.declared.names.NameImage.{NameImage}
@@ -46,7 +46,7 @@ limit_faults =
     Host OutputCount ∷ Host Passes ∷ Host Busy ∷ Host UnknownOutput ∷ Host BadWord ∷ Host TooUncertain
     ∷ Host host.FormatUnknown ∷ Host (Num ZeroSlope) ∷ Host (Num ExponentRange) ∷ Host (Num BelowLeast)
     ∷ Host (Num AboveGreatest) ∷ Host (Num TooLarge) ∷ LimitsInverted ∷ limits.FormatUnknown ∷ BelowLimit
-    ∷ AboveLimit ∷ NotKnownWithin ∷ LimitsWidened ∷ MissingRegister ∷ []
+    ∷ AboveLimit ∷ NotKnownWithin ∷ LimitsWidened ∷ MissingRegister ∷ NoLimits ∷ []
 
 -- every fault of a frame, at some place
 abbrev pub frame_faults : List FrameFault
@@ -65,7 +65,7 @@ config_faults =
     config.OutputCount ∷ config.BadStart Protect ∷ config.Address ∷ config.BadMode 0 VidMode
     ∷ config.BadCoefficients ZeroSlope ∷ []
 
--- every refusal of a plan of its own, P4 to P7 for some cell; H3 is the host's, L3, L4 and L7 the limits'
+-- every refusal of a plan of its own, P4 to P7 for some cell; H3 is the host's, L3, L4, L7 and L8 the limits'
 abbrev pub plan_faults : List PlanFault
 plan_faults =
     plan.FormatUnknown ∷ plan.NotKnown Protect ∷ plan.BelowMin VoutCommand ∷ plan.AboveMax VoutCommand ∷ plan.Protected VoutCommand ∷ []

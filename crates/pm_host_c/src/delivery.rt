@@ -195,6 +195,6 @@ pub(crate) fn reading(delivery: &Delivery, host: &GuardImage) -> Reading
     delivery.reading(
         &host.host.state,
         host.registers.registers(),
-        host.limits(delivery.output),
+        &host.limits(delivery.output),
     )
 }

@@ -1,10 +1,11 @@
-ghost use Rattle.std.specs.Prelude.{◌≡◌, ◌<◌, map, slice_index_or, slice_set, Some, None};
-ghost use Rattle.pm_host_c.specs.Guard.{job_limits, limits_held, limits_kept, no_limits, registers_held};
+ghost use Rattle.std.specs.Prelude.{◌≡◌, ◌<◌, map, slice_index_or, slice_set};
+ghost use Rattle.pm_host_c.specs.Guard.{job_limits, limits_held, limits_kept, registers_held, unknown_limits};
 ghost use Rattle.pm_host_c.specs.Memory.{limits_image, registers_image, AreLimits, IsMemory};
 ghost use Rattle.pm_host.specs.Memory.{IsImage};
+ghost use Rattle.pm_limits.specs.declared.output_limits.OutputLimits.TheVariants.{Unlimited};
 
 use pm_host::{HostImage, Job};
-use pm_limits::{Limits, PartRegisters, ordered_output};
+use pm_limits::{Limits, OutputLimits, PartRegisters, ordered_output};
 
 /// How many outputs a device has at most.
 pub const OUTPUTS: usize = 8;
@@ -67,7 +68,7 @@ impl RegistersImage {
 }
 
 /// The limits of an output's voltage, in microvolts, as plain numbers. Numbers that are no limits, as a least above
-/// the most, say that it has none.
+/// the most, say that none are known; 2 and 0 say that it has none.
 #[repr(C)]
 #[derive(Clone, Copy, Debug)]
 pub struct LimitsImage {
@@ -78,29 +79,38 @@ pub struct LimitsImage {
 }
 
 impl LimitsImage {
-    /// None.
-    const NONE: LimitsImage = LimitsImage { least: 1, most: 0 };
+    // None are known.
+    const UNKNOWN: LimitsImage = LimitsImage { least: 1, most: 0 };
 
-    /// The image of these limits.
-    pub(crate) fn of(limits: &Limits) -> LimitsImage
-        ensures held { limits_held result ≡ Some limits.now }
-        ensures written { result ≡ limits_image (Some limits.now) }
+    // There are none.
+    const UNLIMITED: LimitsImage = LimitsImage { least: 2, most: 0 };
+
+    /// The image of what is said of limits.
+    pub(crate) fn of(limits: &OutputLimits) -> LimitsImage
+        ensures held { limits_held result ≡ limits.now }
+        ensures written { result ≡ limits_image limits.now }
     {
-        LimitsImage {
-            least: limits.least(),
-            most: limits.most(),
+        match limits {
+            OutputLimits::Unknown => LimitsImage::UNKNOWN,
+            OutputLimits::Unlimited => LimitsImage::UNLIMITED,
+            OutputLimits::Between(limits) => LimitsImage {
+                least: limits.least(),
+                most: limits.most(),
+            },
         }
     }
 
     /// What the numbers mean.
-    pub(crate) fn limits(&self) -> Option<Limits>
+    pub(crate) fn limits(&self) -> OutputLimits
         ensures { result ≡ limits_held self.now }
     {
-        // The usual numbers are those of no limits.
-        if self.most < self.least {
-            return None;
+        if self.least == LimitsImage::UNLIMITED.least && self.most == LimitsImage::UNLIMITED.most {
+            return OutputLimits::Unlimited;
         }
-        Limits::new(self.least, self.most).ok()
+        match Limits::new(self.least, self.most) {
+            Ok(limits) => OutputLimits::Between(limits),
+            Err(_) => OutputLimits::Unknown,
+        }
     }
 }
 
@@ -116,47 +126,47 @@ impl GuardImage {
         }
     }
 
-    /// The part has these registers, and no output has limits.
+    /// The part has these registers, and no limits are known.
     #[tactic(auto, unfolding(crate::specs::Guard::limits_kept))]
     pub(crate) fn free(&mut self, registers: PartRegisters)
-        ensures free { limits_kept self.new ≡ no_limits }
+        ensures free { limits_kept self.new ≡ unknown_limits }
         ensures registers { registers_held self.new.registers ≡ registers }
         ensures host { self.new.host ≡ self.old.host }
         ensures written { IsImage self.old.host → IsMemory self.new }
     {
         self.registers = RegistersImage::of(registers);
         self.unused = [0; 3];
-        self.limits.fill(LimitsImage::NONE);
+        self.limits.fill(LimitsImage::UNKNOWN);
     }
 
-    /// The limits of an output, where it has any; one that isn't there has none.
+    /// What is said of an output's limits; one that isn't there has none.
     #[tactic(auto, unfolding(crate::specs::Guard::limits_kept))]
-    pub(crate) fn limits(&self, output: u8) -> Option<Limits>
-        ensures { result ≡ slice_index_or (limits_kept self.now) output None }
+    pub(crate) fn limits(&self, output: u8) -> OutputLimits
+        ensures { result ≡ slice_index_or (limits_kept self.now) output Unlimited }
     {
         let place = usize::from(output);
         if place < OUTPUTS {
             self.limits[place].limits()
         } else {
-            None
+            OutputLimits::Unlimited
         }
     }
 
     /// The limits by which a job is judged.
-    pub(crate) fn limits_for(&self, job: Job) -> Option<Limits>
+    pub(crate) fn limits_for(&self, job: Job) -> OutputLimits
         ensures { result ≡ job_limits (limits_kept self.now) job }
     {
         match ordered_output(job) {
             Some(output) => self.limits(output),
-            None => None,
+            None => OutputLimits::Unlimited,
         }
     }
 
-    /// Gives an output limits.
+    /// Keeps what is said of an output's limits.
     #[tactic(auto, unfolding(crate::specs::Guard::limits_kept))]
-    pub(crate) fn put_limits(&mut self, output: u8, limits: &Limits)
+    pub(crate) fn put_limits(&mut self, output: u8, limits: &OutputLimits)
         requires { output < 8 }
-        ensures limits { limits_kept self.new ≡ slice_set (limits_kept self.old) output (Some limits.now) }
+        ensures limits { limits_kept self.new ≡ slice_set (limits_kept self.old) output limits.now }
         ensures registers { self.new.registers ≡ self.old.registers }
         ensures host { self.new.host ≡ self.old.host }
         ensures written { IsMemory self.old → IsMemory self.new }
@@ -165,7 +175,7 @@ impl GuardImage {
     }
 }
 
-// Gives an output limits.
+// Keeps an output's limits.
 fn put(all: &mut [LimitsImage; OUTPUTS], output: u8, limits: LimitsImage)
     requires { output < 8 }
     ensures held { map limits_held all.new ≡ slice_set (map limits_held all.old) output (limits_held limits) }

@@ -11,7 +11,7 @@ ghost use Rattle.pm_host.specs.Summary.{start};
 ghost use Rattle.pm_host.specs.Transcript.{Setup, Restarted};
 ghost use Rattle.pm_limits.specs.Guard.{limited_fault, of_host};
 ghost use Rattle.pm_limits.specs.Part.{all_registers};
-ghost use Rattle.pm_host_c.specs.Guard.{guard_of, no_limits, registers_held};
+ghost use Rattle.pm_host_c.specs.Guard.{guard_of, registers_held, unknown_limits};
 ghost use Rattle.pm_host_c.specs.Memory.{IsMemory};
 ghost use Rattle.pm_host_c.specs.Sizes.{host_size, library_version};
 ghost use Rattle.pm_host_c.specs.Host.{new_number, memory_number, after, job_begun, BeginsJob};
@@ -19,7 +19,7 @@ ghost use Rattle.pm_host_c.specs.Host.{new_number, memory_number, after, job_beg
 use crate::guard_image::{GuardImage, RegistersImage};
 use crate::numbers::{ACCEPTED, NO_ADDRESS, NO_CELL, NO_HOST};
 use pm_host::{Command, HostImage, Job, Stage, State};
-use pm_limits::{LimitFault, Limits, PartRegisters, judge};
+use pm_limits::{LimitFault, OutputLimits, PartRegisters, judge};
 use pm_table::{Code, address_ok, cell_of};
 use std::mem::size_of;
 
@@ -51,12 +51,12 @@ pub extern "C" fn pm_host_version() -> u16
 }
 
 /// Makes a host for the device at this address, which has this many outputs, each with every register; a job has at most
-/// this many passes or tries. No output has limits. E3h, H1, H2.
+/// this many passes or tries. No limits are known of its outputs. E3h, H1, H2.
 #[unsafe(no_mangle)]
 pub extern "C" fn pm_host_new(host: &mut GuardImage, address: u8, outputs: u8, passes: u8) -> u8
     ensures number { result ≡ new_number address outputs passes }
     ensures begun { let setup : Setup = record { addr = address; outputs = outputs; passes = passes } in
-        result ≡ 0 → guard_of host.new ≡ Some (record { host = start setup; limits = no_limits; registers = all_registers }) }
+        result ≡ 0 → guard_of host.new ≡ Some (record { host = start setup; limits = unknown_limits; registers = all_registers }) }
     ensures written { result ≡ 0 → IsMemory host.new }
     ensures refused { result ≢ 0 → host.new ≡ host.old }
 {
@@ -75,7 +75,7 @@ pub extern "C" fn pm_host_new_with(
     ensures number { result ≡ new_number address outputs passes }
     ensures begun { let setup : Setup = record { addr = address; outputs = outputs; passes = passes } in
         result ≡ 0 → guard_of host.new
-        ≡ Some (record { host = start setup; limits = no_limits; registers = registers_held registers.now }) }
+        ≡ Some (record { host = start setup; limits = unknown_limits; registers = registers_held registers.now }) }
     ensures written { result ≡ 0 → IsMemory host.new }
     ensures refused { result ≢ 0 → host.new ≡ host.old }
 {
@@ -92,7 +92,7 @@ fn start_with(
 ) -> u8
     ensures number { result ≡ new_number address outputs passes }
     ensures begun { let setup : Setup = record { addr = address; outputs = outputs; passes = passes } in
-        result ≡ 0 → guard_of host.new ≡ Some (record { host = start setup; limits = no_limits; registers = registers }) }
+        result ≡ 0 → guard_of host.new ≡ Some (record { host = start setup; limits = unknown_limits; registers = registers }) }
     ensures written { result ≡ 0 → IsMemory host.new }
     ensures refused { result ≢ 0 → host.new ≡ host.old }
 {
@@ -121,7 +121,7 @@ pub(crate) fn begin(host: &mut GuardImage, job: Option<Job>) -> u8
     };
     let limits = host.limits_for(job);
     let registers = host.registers.registers();
-    match begin_within(&mut host.host.state, stage, registers, limits, job) {
+    match begin_within(&mut host.host.state, stage, registers, &limits, job) {
         Ok(stage) => {
             host.host.write_stage(Some(stage));
             ACCEPTED
@@ -136,12 +136,12 @@ fn begin_within(
     state: &mut State,
     stage: Option<Stage>,
     registers: PartRegisters,
-    limits: Option<Limits>,
+    limits: &OutputLimits,
     job: Job,
 ) -> Result<Stage, LimitFault>
     requires sound { IsSound (held stage state.old) }
     ensures sound { IfOk result (λ at. IsSound (held (Some at) state.new)) }
-    ensures fault { result_err result ≡ limited_fault registers limits (held stage state.old) job }
+    ensures fault { result_err result ≡ limited_fault registers limits.now (held stage state.old) job }
     ensures ok { IfOk result (λ at. Some (held (Some at) state.new) ≡ job_begun (Some (held stage state.old)) (Some job)) }
     ensures err { OnErr result (state.new ≡ state.old) }
     ensures written { IsState state.old → IsState state.new }
@@ -166,7 +166,7 @@ fn begin_asked(state: &mut State, stage: Option<Stage>, job: Job) -> Result<Stag
     }
 }
 
-/// Begins an order. E0h, E1h, H3, H4, L7, then by the output's limits L2, L3 or L4, then H5, L2 or L5 and H6.
+/// Begins an order. E0h, E1h, H3, H4, L7, then by the output's limits L8, L2, L3 or L4, then H5, L8, L2 or L5 and H6.
 #[unsafe(no_mangle)]
 pub extern "C" fn pm_host_order(host: &mut GuardImage, output: u8, code: u8, word: u16) -> u8
     ensures { let job = option_map (λ cell. Job.Order cell word) (cell_at code output) in
@@ -177,7 +177,7 @@ pub extern "C" fn pm_host_order(host: &mut GuardImage, output: u8, code: u8, wor
 }
 
 /// Begins an order of the word nearest to a number of microvolts, in the format that was learned for
-/// the output. E0h, E1h, H3, H4, L7, H5, H7, N5, N3 or N4, L3 or L4, H6.
+/// the output. E0h, E1h, H3, H4, L7, H5, H7, N5, N3 or N4, L8, L3 or L4, H6.
 #[unsafe(no_mangle)]
 pub extern "C" fn pm_host_order_microvolts(
     host: &mut GuardImage,

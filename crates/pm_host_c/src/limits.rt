@@ -4,10 +4,11 @@ ghost use Rattle.std.specs.Prelude.{◌≡◌, ◌≢◌, ◌<◌, slice_index_o
 ghost use Rattle.pm_host.specs.Image.{held};
 ghost use Rattle.pm_host.specs.Summary.{format_at};
 ghost use Rattle.pm_limits.specs.Band.{band_at, within_of};
-ghost use Rattle.pm_limits.specs.Guard.{limits_at, narrowed};
+ghost use Rattle.pm_limits.specs.declared.output_limits.OutputLimits.TheVariants.{Unlimited};
+ghost use Rattle.pm_limits.specs.Guard.{limits_at, narrowed, unlimited};
 ghost use Rattle.pm_host_c.specs.Guard.{guard_of, limits_held, limits_kept, registers_held};
 ghost use Rattle.pm_host_c.specs.Memory.{IsMemory};
-ghost use Rattle.pm_host_c.specs.Limits.{band_number, ends_in, ends_number, limits_number, narrow_number, no_band_number, within_number, within_word, IsBand, IsEnds};
+ghost use Rattle.pm_host_c.specs.Limits.{band_number, ends_in, ends_number, limits_number, narrow_number, no_band_number, unlimited_number, within_number, within_word, IsBand, IsEnds};
 
 use crate::guard_image::{GuardImage, LimitsImage};
 use crate::numbers::{
@@ -15,7 +16,9 @@ use crate::numbers::{
 };
 use crate::voltages::{put_ceil, put_floor};
 use pm_host::{HostFault, State};
-use pm_limits::{Band, NewLimits, Within, band_in, narrower_limits, within_limits};
+use pm_limits::{
+    Band, LimitFault, NewLimits, OutputLimits, Within, band_in, narrower_limits, within_limits,
+};
 
 /// The ends of the band of an output's voltage, in whole microvolts, as plain numbers.
 #[repr(C)]
@@ -27,7 +30,7 @@ pub struct BandImage {
     pub greatest: i64,
 }
 
-/// Gives an output narrower limits; an output without limits takes any. E0h, H4, N5, L1, L6, then H3 where an order of the
+/// Gives an output narrower limits; an output without any takes these. E0h, H4, N5, L1, L6, then H3 where an order of the
 /// output is open that these would refuse.
 #[unsafe(no_mangle)]
 pub extern "C" fn pm_host_set_limits(host: &mut GuardImage, output: u8, least: i64, most: i64) -> u8
@@ -49,16 +52,37 @@ pub extern "C" fn pm_host_set_limits(host: &mut GuardImage, output: u8, least: i
         least,
         most,
     };
-    match narrower_limits(&host.host.state, stage, registers, old, new) {
+    match narrower_limits(&host.host.state, stage, registers, &old, new) {
         Ok(limits) => {
-            host.put_limits(output, &limits);
+            host.put_limits(output, &OutputLimits::Between(limits));
             ACCEPTED
         }
         Err(fault) => fault.number(),
     }
 }
 
-/// The limits of an output. E0h, H4, E6h where it has none.
+/// Says that an output has no limits, so that they refuse none of its orders. E0h, H4, L6 where it has limits.
+#[unsafe(no_mangle)]
+pub extern "C" fn pm_host_no_limits(host: &mut GuardImage, output: u8) -> u8
+    ensures number { result ≡ unlimited_number (guard_of host.old) output }
+    ensures said { result ≡ 0 → guard_of host.new ≡ option_map (λ g. unlimited g output) (guard_of host.old) }
+    ensures written { IsMemory host.old → IsMemory host.new }
+    ensures refused { result ≢ 0 → host.new ≡ host.old }
+{
+    if host.host.read_stage().is_err() {
+        return NO_HOST;
+    }
+    if host.host.state.outputs <= output {
+        return HostFault::UnknownOutput.number();
+    }
+    if host.limits(output).is_limited() {
+        return LimitFault::LimitsWidened.number();
+    }
+    host.put_limits(output, &OutputLimits::Unlimited);
+    ACCEPTED
+}
+
+/// The limits of an output. E0h, H4, E6h where it was given none.
 #[unsafe(no_mangle)]
 pub extern "C" fn pm_host_limits(host: &GuardImage, output: u8, limits: &mut LimitsImage) -> u8
     ensures number { result ≡ limits_number (guard_of host.now) output }
@@ -73,16 +97,16 @@ pub extern "C" fn pm_host_limits(host: &GuardImage, output: u8, limits: &mut Lim
         return HostFault::UnknownOutput.number();
     }
     match host.limits(output) {
-        Some(found) => {
+        found @ OutputLimits::Between(_) => {
             *limits = LimitsImage::of(&found);
             ACCEPTED
         }
-        None => NO_LIMITS,
+        _ => NO_LIMITS,
     }
 }
 
 /// Whether an output's voltage lies within its limits, by the words that its registers may hold: 91h where it does or
-/// the output has none, 92h where its whole band lies below them or above them, otherwise 93h. E0h, H4.
+/// the output is said to have none, 92h where its whole band lies below them or above them, otherwise 93h. E0h, H4.
 #[unsafe(no_mangle)]
 pub extern "C" fn pm_host_limits_state(host: &GuardImage, output: u8) -> u8
     ensures { result ≡ within_number (guard_of host.now) output }
@@ -100,9 +124,9 @@ pub extern "C" fn pm_host_limits_state(host: &GuardImage, output: u8) -> u8
 fn within_in(host: &GuardImage, output: u8) -> Within
     requires { output < 8 }
     ensures { let band = band_at (registers_held host.now.registers) (held None host.now.host.state) output in
-        result ≡ within_of (slice_index_or (limits_kept host.now) output None) band }
+        result ≡ within_of (slice_index_or (limits_kept host.now) output Unlimited) band }
 {
-    within_limits(host.limits(output), known_band(host, output))
+    within_limits(&host.limits(output), known_band(host, output))
 }
 
 /// The number of an answer.

@@ -128,6 +128,7 @@ fn words_of_limit(number: u8) -> Option<&'static str>
         0x25 => LimitFault::NotKnownWithin,
         0x26 => LimitFault::LimitsWidened,
         0x27 => LimitFault::MissingRegister,
+        0x28 => LimitFault::NoLimits,
         _ => return None,
     };
     Some(fault.words())

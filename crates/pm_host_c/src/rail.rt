@@ -19,7 +19,7 @@ use pm_rail::{Power, Selected, power_in, selected_in};
 pub struct RailImage {
     /// 1 where it is on, 2 where it is off, 0 where that isn't known.
     pub power: u8,
-    /// 91h where its band lies within its limits or it has none, 92h where it lies below or above them, otherwise 93h.
+    /// 91h where its band lies within its limits or it is said to have none, 92h where it lies below or above them, otherwise 93h.
     pub within: u8,
     /// 0 where its band is told; otherwise why it isn't, H7, EBh or N5.
     pub band: u8,
@@ -63,7 +63,7 @@ fn rail_in(host: &GuardImage, output: u8) -> RailImage
     let band = put_known(&host.host.state, output, &known, &mut ends);
     RailImage {
         power: of_power(power_in(&host.host.state, output)),
-        within: of_within(within_limits(host.limits(output), known)),
+        within: of_within(within_limits(&host.limits(output), known)),
         band,
         selected: of_selected(selected_in(&host.host.state, output)),
         unused: [0; 4],

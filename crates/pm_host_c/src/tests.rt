@@ -10,8 +10,8 @@ mod rails;
 
 use self::calls::{
     at_least, at_most, band, check, clear, finished, format, got, host, kept, learn, limits,
-    microvolts, narrow, nearest, new, order, order_micro, possible, restart, restart_seen, restore,
-    shown, standing, store, within,
+    microvolts, narrow, nearest, new, no_limits, order, order_micro, possible, restart,
+    restart_seen, restore, shown, standing, store, within,
 };
 use self::checks::{equal, is_true};
 use crate::format_numbers::FormatNumbers;
@@ -185,11 +185,12 @@ fn is_refused(image: &mut GuardImage) -> bool {
         format(image, 0).0,
         restart_seen(image),
         narrow(image, 0, 0, 1),
+        no_limits(image, 0),
         limits(image, 0).0,
         within(image, 0),
         band(image, 0).0,
     ];
-    begun == [0xE0; 16]
+    begun == [0xE0; 17]
         && shown(image, &[]) == (0, 0, 0, true)
         && finished(image, 1) == (0xE0, 0)
         && got(image, &[]) == (0xE0, 0)

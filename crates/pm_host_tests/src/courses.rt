@@ -6,7 +6,7 @@ use self::part::{Exchange, Part, Run, carried};
 use crate::checks::equal;
 use pm_course::{AnswerFault, CourseEnd, FrameCourse, Refusal, Wish, Wishes};
 use pm_host::Host;
-use pm_limits::{Guard, PartRegisters};
+use pm_limits::{Guard, OutputLimits, PartRegisters};
 use pm_table::{Code, Reg};
 use std::process::Abort;
 
@@ -465,7 +465,7 @@ fn a_missing_register_is_refused_at_once(rt: HostRuntime) {
         vout_min: false,
         ..PartRegisters::all()
     };
-    match Guard::of_part(0x58, 1, 2, [None; 8], lacks) {
+    match Guard::of_part(0x58, 1, 2, [OutputLimits::Unlimited; 8], lacks) {
         Ok(mut guard) => {
             let wish = volts(Reg::VoutMin, 500_000);
             let run = carried(wish, &mut guard, &mut whole(), 400);
@@ -473,6 +473,36 @@ fn a_missing_register_is_refused_at_once(rt: HostRuntime) {
             equal(&rt, &(run.end, run.frames), &(end, 0), &1);
         }
         Err(fault) => panic!(rt; "{fault}"),
+    }
+}
+
+#[test]
+fn nothing_but_off_is_ordered_where_no_limits_are_known(rt: HostRuntime) {
+    // A course, the register and the number by which it is refused, 0 where it has reached its end, and its writes.
+    let rows = [
+        (volts(Reg::VoutCommand, 1_200_000), 0x21, 0x28, 0),
+        (volts(Reg::VoutMin, 500_000), 0x2B, 0x28, 0),
+        (FrameCourse::power(0, 0x94, 60), 0x01, 0x28, 0),
+        (FrameCourse::power(0, 0x00, 60), 0x01, 0, 1),
+    ];
+    for (course, code, number, writes) in &rows {
+        match Guard::new(0x58, 1, 2, [OutputLimits::Unknown; 8]) {
+            Ok(mut guard) => {
+                let run = carried(*course, &mut guard, &mut whole(), 400);
+                let end = if *number == 0 {
+                    CourseEnd::Reached
+                } else {
+                    refused(*number, Some(*code))
+                };
+                equal(&rt, &run.end, &Some(end), code);
+                equal(&rt, &run.writes, writes, code);
+                // Once it is said that there are none, each is carried out.
+                equal(&rt, &guard.no_limits(0).is_ok(), &true, code);
+                let run = carried(*course, &mut guard, &mut whole(), 400);
+                equal(&rt, &run.end, &Some(CourseEnd::Reached), code);
+            }
+            Err(fault) => panic!(rt; "{fault}"),
+        }
     }
 }
 

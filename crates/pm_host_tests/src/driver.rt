@@ -10,7 +10,7 @@ use pm_device::Converter;
 use pm_device_tests::{BASE, FIRST};
 use pm_driver::{Bus, DeadBus, Fault, Retrying, SimulatedBus, carry_out, driver_over};
 use pm_host::{Host, HostFault, JobEnd, Standing};
-use pm_limits::{Guard, LimitFault};
+use pm_limits::{Guard, LimitFault, OutputLimits};
 use pm_table::{Cell, Reg};
 use pm_world::{Arrival, Back};
 
@@ -205,7 +205,7 @@ fn limits_refuse_before_a_frame_is_sent(rt: HostRuntime) {
                 &11,
             );
             equal(&rt, &driver.order(SWITCH, 0x00), &Ok(JobEnd::Done), &12);
-            equal(&rt, &driver.guard().limits(1).is_some(), &false, &13);
+            equal(&rt, &driver.guard().limits(1).is_limited(), &false, &13);
         }
         None => panic!(rt; "refused"),
     }
@@ -248,7 +248,7 @@ fn buses_of_other_kinds_carry_a_job_out(rt: HostRuntime) {
 fn an_idle_host_sends_nothing(rt: HostRuntime) {
     match (
         Converter::new(BASE),
-        Guard::new(BASE.addr, BASE.count, 2, [None; 8]),
+        Guard::new(BASE.addr, BASE.count, 2, [OutputLimits::Unknown; 8]),
     ) {
         (Ok(device), Ok(mut guard)) => {
             let plan = [whole()];

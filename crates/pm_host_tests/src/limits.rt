@@ -7,11 +7,12 @@ mod parts;
 mod plans;
 mod rails;
 mod surveys;
+mod unknown;
 
 use self::guards::{LINEAR, first, guard, learn, refusal};
 use crate::checks::equal;
 use pm_host::{HostFault, Job};
-use pm_limits::{Guard, LimitFault, Limits};
+use pm_limits::{Guard, LimitFault, Limits, OutputLimits};
 use pm_num::NumFault;
 use pm_table::Reg;
 use std::alloc::AllocError;
@@ -49,8 +50,8 @@ fn limits_are_in_order_and_in_range(rt: HostRuntime) {
 // The limits of an output, in microvolts.
 fn limits_of(guard: &Guard, output: u8) -> Option<(i64, i64)> {
     match guard.limits(output) {
-        Some(limits) => Some((limits.least(), limits.most())),
-        None => None,
+        OutputLimits::Between(limits) => Some((limits.least(), limits.most())),
+        _ => None,
     }
 }
 
@@ -108,7 +109,8 @@ fn a_narrowing_holds_from_then_on(rt: HostRuntime) {
 
 // The example of the root, word for word.
 fn guarded() -> Result<Guard, LimitFault> {
-    let mut guard = Guard::new(0x58, 1, 2, [None; 8]).map_err(LimitFault::Host)?;
+    let limits = [OutputLimits::Unknown; 8];
+    let mut guard = Guard::new(0x58, 1, 2, limits).map_err(LimitFault::Host)?;
     guard.narrow(0, 3_200_000, 3_465_000)?;
     Ok(guard)
 }
@@ -122,7 +124,7 @@ fn the_example_of_the_root_runs(rt: HostRuntime) {
     equal(&rt, &limits, &Some((3_200_000, 3_465_000)), &1);
 }
 
-static LIMITS: [(LimitFault, &str); 8] = [
+static LIMITS: [(LimitFault, &str); 9] = [
     (LimitFault::LimitsInverted, "L1 LimitsInverted"),
     (LimitFault::FormatUnknown, "L2 FormatUnknown"),
     (LimitFault::BelowLimit, "L3 BelowLimit"),
@@ -130,6 +132,7 @@ static LIMITS: [(LimitFault, &str); 8] = [
     (LimitFault::NotKnownWithin, "L5 NotKnownWithin"),
     (LimitFault::LimitsWidened, "L6 LimitsWidened"),
     (LimitFault::MissingRegister, "L7 MissingRegister"),
+    (LimitFault::NoLimits, "L8 NoLimits"),
     (LimitFault::Host(HostFault::Busy), "H3 Busy"),
 ];
 

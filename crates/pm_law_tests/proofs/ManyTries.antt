@@ -1,8 +1,8 @@
 -- How many tries are enough for any plan, and what a survey and a course that goes on come to.
-use Rattle.std.specs.Prelude.{◌≡◌, ◌≤◌, ◌||◌, ℕ, Bool, true, false, if◌then◌else◌, ◌<◌, refl, Option, Some, None, is_none, is_some, IfOk, Result, Ok}
+use Rattle.std.specs.Prelude.{◌≡◌, ◌≤◌, ◌||◌, ℕ, Bool, true, false, if◌then◌else◌, ◌<◌, refl, Some, None, is_none, is_some, IfOk, Result, Ok}
 use Rattle.std.proofs.Common.{arith, subst}
 use Rattle.pm_device.specs.Held.{Held, value_for}
-use Rattle.pm_limits.specs.Bounds.{Bounds}
+use Rattle.pm_limits.specs.declared.output_limits.OutputLimits.{OutputLimits}
 use Rattle.pm_rail.specs.Plan.{next_register}
 use Rattle.pm_rail.specs.Registers.{Wants, wants_of}
 use Rattle.pm_host.specs.Refusals.{is_busy}
@@ -21,7 +21,7 @@ use Rattle.pm_driver.specs.Rails.{SurveysTo}
 use Rattle.pm_driver.specs.Undisturbed.{AreUndisturbed}
 use Rattle.pm_driver.specs.UndisturbedCourses.{CoursesEndOnceUndisturbed, EndsBy, FitsPart, UndisturbedSurveysEnd, held_fault, tries_for, words_of}
 
-pub many : (limits : Option Bounds) (held : Held) (output : ℕ) (wants : Wants) → tries_for limits held output wants ≤ 27
+pub many : (limits : OutputLimits) (held : Held) (output : ℕ) (wants : Wants) → tries_for limits held output wants ≤ 27
 many limits held output wants = go (is_some (held_fault limits held output wants)
     || is_none (next_register (value_for held.config output) (words_of held output) wants))
   where

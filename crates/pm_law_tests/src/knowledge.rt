@@ -20,6 +20,8 @@ ghost use Rattle.pm_limits.specs.declared.part_registers.PartRegisters.{PartRegi
 ghost use Rattle.pm_limits.specs.declared.ends.Side.{Side};
 ghost use Rattle.pm_limits.specs.declared.ends.Side.TheVariants.{Lowest};
 ghost use Rattle.pm_limits.specs.Band.{Known, decides, end_with, operations};
+ghost use Rattle.pm_limits.specs.declared.output_limits.OutputLimits.{OutputLimits};
+ghost use Rattle.pm_limits.specs.declared.output_limits.OutputLimits.TheVariants.{Unlimited, Between};
 ghost use Rattle.pm_limits.specs.Bounds.{Bounds};
 ghost use Rattle.pm_limits.specs.Ends.{Reaches, format_end};
 ghost use Rattle.pm_rail.specs.Laws.{would_be_cut};
@@ -99,8 +101,8 @@ pub fn a_band_that_stays_within(
     output: u8,
 ) -> Result<Option<World>, SetupFault>
     requires { output < c.count }
-    ensures { IfOk result (λ found. OnSome found ((part : PartRegisters) (bounds : Bounds) (limits : List (Option Bounds)) →
-        slice_index_or limits output None ≡ Some bounds → is_busy (now c passes (reverse events.now)).host ≡ false →
+    ensures { IfOk result (λ found. OnSome found ((part : PartRegisters) (bounds : Bounds) (limits : List OutputLimits) →
+        slice_index_or limits output Unlimited ≡ Between bounds → is_busy (now c passes (reverse events.now)).host ≡ false →
         IsFresh c passes (reverse events.now) → AreSteady (more.now ∷ []) →
         StaysGuarded c passes part limits output bounds (more.now ∷ []) (reverse events.now) →
         is_within c passes part (reverse events.now) output bounds ≡ true →

@@ -3,6 +3,7 @@
 ghost use Rattle.std.specs.Prelude.{◌≡◌, ◌<◌, Option, Some, Ok, true};
 ghost use Rattle.pm_device.specs.Held.{Held};
 ghost use Rattle.pm_host.specs.Summary.{Summary};
+ghost use Rattle.pm_limits.specs.declared.output_limits.OutputLimits.TheVariants.{Between};
 ghost use Rattle.pm_limits.specs.Bounds.{Bounds, IsWithin};
 ghost use Rattle.pm_limits.specs.Guard.{limits_at};
 ghost use Rattle.pm_rail.specs.Survey.{nothing_read};
@@ -22,7 +23,7 @@ pub fn a_voltage_within<B: Bus>(driver: &Driver<B>, output: u8) -> bool
     ghost bounds: { Bounds }
     requires there { output < driver.now.guard.host.setup.outputs }
     requires stands { BandStandsIn driver.now.guard (B.held driver.now.bus) output }
-    requires limits { limits_at driver.now.guard output ≡ Some bounds }
+    requires limits { limits_at driver.now.guard output ≡ Between bounds }
     ensures { result ≡ true → IsWithin bounds (commanded_in (B.held driver.now.bus).config (B.held driver.now.bus) output) }
 {
     // law: what an output commands lies within limits where the guard says so
@@ -55,7 +56,7 @@ pub fn a_rail_is_within<B: Bus>(driver: &mut Driver<B>, output: u8) -> bool
     ghost bounds: { Bounds }
     requires there { output < driver.old.guard.host.setup.outputs }
     requires whole { driver.old.guard.registers ≡ all_registers }
-    requires limits { limits_at driver.old.guard output ≡ Some bounds }
+    requires limits { limits_at driver.old.guard output ≡ Between bounds }
     ensures { result ≡ true → HasLife driver.old.guard.host (B.held driver.old.bus) → B.restarts driver.new.bus ≡ B.restarts driver.old.bus → AreShort (B.held driver.new.bus).words output →
         IsWithin bounds (commanded_in (B.held driver.new.bus).config (B.held driver.new.bus) output) }
 {

@@ -1,4 +1,4 @@
--- An order for an output without limits is refused exactly where the host refuses it.
+-- An order for an output that is said to have no limits is refused exactly where the host refuses it.
 use Rattle.std.proofs.Common.{◌≡◌, ℕ, Bool, true, false, ◌&&◌, Option, Some, None, [], ◌∷◌, refl}
 use Rattle.pm_table.specs.declared.cell.Cell.{Cell}
 use Rattle.pm_table.specs.declared.cell.Cell.TheVariants.{Out, Protect}
@@ -11,6 +11,7 @@ use Rattle.pm_host.specs.Jobs.{begin_fault}
 use Rattle.pm_host.specs.Refusals.{cell_fault}
 use Rattle.pm_host.specs.Summary.{Summary, format_at}
 use Rattle.pm_limits.specs.declared.fault.LimitFault.{LimitFault}
+use Rattle.pm_limits.specs.declared.output_limits.OutputLimits.TheVariants.{Unlimited}
 use Rattle.pm_limits.specs.declared.part_registers.PartRegisters.{PartRegisters}
 use Rattle.pm_limits.specs.Guard.{judged, limited_fault, missing_ordered, of_host, unsure_fault}
 
@@ -20,8 +21,8 @@ never true fault = refl
 never false fault = refl
 
 -- nothing is judged
-free : (registers : PartRegisters) (s : Summary) (cell : Cell) (word : ℕ) → judged registers None s cell word ≡ None
-free registers s (Out output Operation) word = never (has_on word) (unsure_fault (format_at s output))
+free : (registers : PartRegisters) (s : Summary) (cell : Cell) (word : ℕ) → judged registers Unlimited s cell word ≡ None
+free registers s (Out output Operation) word = never (has_on word) (unsure_fault Unlimited (format_at s output))
 free registers s (Out output register) word = refl
 free registers s Protect word = refl
 
@@ -33,8 +34,8 @@ once None (Some b) c = refl
 once None None (Some c) = refl
 once None None None = refl
 
--- an order whose output has no limits, of a register that the part has, is refused exactly where the host refuses it,
+-- an order whose output is said to have no limits, of a register that the part has, is refused exactly where the host refuses it,
 -- and for the same fault
 pub unlimited : (registers : PartRegisters) (s : Summary) (cell : Cell) (word : ℕ) → missing_ordered registers cell word ≡ None →
-    limited_fault registers None s (Order cell word) ≡ of_host (begin_fault s (Order cell word))
+    limited_fault registers Unlimited s (Order cell word) ≡ of_host (begin_fault s (Order cell word))
 unlimited registers s cell word there = rw (there, free registers s cell word) (once (cell_fault s cell) _ _)

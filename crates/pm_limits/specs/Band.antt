@@ -20,6 +20,8 @@ use Rattle.pm_limits.specs.declared.ends.Side.{Side}
 use Rattle.pm_limits.specs.declared.ends.Side.TheVariants.{Lowest, Highest}
 use Rattle.pm_limits.specs.declared.guard.Within.{Within}
 use Rattle.pm_limits.specs.declared.guard.Within.TheVariants.{Yes, No, NotKnown}
+use Rattle.pm_limits.specs.declared.output_limits.OutputLimits.{OutputLimits}
+use Rattle.pm_limits.specs.declared.output_limits.OutputLimits.TheVariants.{Unknown, Unlimited, Between}
 use Rattle.pm_limits.specs.Bounds.{Bounds}
 use Rattle.pm_limits.specs.Ends.{end_of, farthest_of}
 use Rattle.pm_limits.specs.Part.{missing_word}
@@ -117,15 +119,20 @@ band_within bounds band =
     else (if is_above (micros bounds.least) band.greatest || is_above band.least (micros bounds.most) then No
     else NotKnown)
 
--- everything is within no limits, and of an unknown band nothing is known
-abbrev pub within_of : Option Bounds → Option Band → Within
-within_of None band = Yes
-within_of (Some bounds) None = NotKnown
-within_of (Some bounds) (Some band) = band_within bounds band
+-- everything is within no limits, and of unknown limits and of an unknown band nothing is known
+abbrev pub within_of : OutputLimits → Option Band → Within
+within_of Unknown band = NotKnown
+within_of Unlimited band = Yes
+within_of (Between bounds) None = NotKnown
+within_of (Between bounds) (Some band) = band_within bounds band
 
 abbrev pub is_yes : Within → Bool
 is_yes Yes = true
 is_yes _ = false
+
+abbrev pub is_no : Within → Bool
+is_no No = true
+is_no _ = false
 
 -- the registers that a band rests on: OPERATION, both limits, and those that a byte of OPERATION may select
 abbrev pub is_selected : List ℕ → Reg → Bool

@@ -1,5 +1,5 @@
 -- The limits of an output's voltage, in whole microvolts. This project's own choice.
-use Rattle.std.specs.Prelude.{◌^◌, ◌≤◌, ◌≤ℤ◌, ℤ, unsigned_abs, int_lt, nat_lt, Bool, false, ◌||◌, if◌then◌else◌, Option, Some, None}
+use Rattle.std.specs.Prelude.{◌^◌, ◌≤◌, ◌≤ℤ◌, ℤ, unsigned_abs, int_lt, nat_lt, Bool, ◌||◌, if◌then◌else◌, Option, Some, None}
 use Rattle.pm_num.specs.declared.fault.NumFault.TheVariants.{TooLarge}
 use Rattle.pm_num.specs.Ratio.{Ratio, IsBetween, is_above, micros}
 use Rattle.pm_host.specs.declared.fault.HostFault.TheVariants.{Num}
@@ -41,7 +41,6 @@ place_fault (Some Less) = Some BelowLimit
 place_fault (Some Equal) = None
 place_fault (Some Greater) = Some AboveLimit
 
--- limits let through what others don't; where there are none, none do
-abbrev pub is_wider : Option Bounds → Bounds → Bool
-is_wider None bounds = false
-is_wider (Some old) bounds = int_lt bounds.least old.least || int_lt old.most bounds.most
+-- limits let through what others don't
+abbrev pub is_wider : Bounds → Bounds → Bool
+is_wider old bounds = int_lt bounds.least old.least || int_lt old.most bounds.most

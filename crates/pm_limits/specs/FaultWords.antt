@@ -4,7 +4,7 @@ use Rattle.std.specs.Prelude.{ℕ, List, codes}
 use Rattle.pm_host.specs.FaultWords.{host_fault_number, host_fault_words}
 use Rattle.pm_limits.specs.declared.fault.LimitFault.{LimitFault}
 use Rattle.pm_limits.specs.declared.fault.LimitFault.TheVariants.{Host, LimitsInverted, FormatUnknown, BelowLimit, AboveLimit}
-use Rattle.pm_limits.specs.declared.fault.LimitFault.TheVariants.{NotKnownWithin, LimitsWidened, MissingRegister}
+use Rattle.pm_limits.specs.declared.fault.LimitFault.TheVariants.{NotKnownWithin, LimitsWidened, MissingRegister, NoLimits}
 
 -- a refusal of the host is told as that
 abbrev pub limit_fault_words : LimitFault → List ℕ
@@ -15,6 +15,7 @@ limit_fault_words AboveLimit = codes "L4 AboveLimit"
 limit_fault_words NotKnownWithin = codes "L5 NotKnownWithin"
 limit_fault_words LimitsWidened = codes "L6 LimitsWidened"
 limit_fault_words MissingRegister = codes "L7 MissingRegister"
+limit_fault_words NoLimits = codes "L8 NoLimits"
 limit_fault_words (Host fault) = host_fault_words fault
 
 -- the number of a fault as `pmhost.h` has it, which no other fault has
@@ -26,4 +27,5 @@ limit_fault_number AboveLimit = 0x24
 limit_fault_number NotKnownWithin = 0x25
 limit_fault_number LimitsWidened = 0x26
 limit_fault_number MissingRegister = 0x27
+limit_fault_number NoLimits = 0x28
 limit_fault_number (Host fault) = host_fault_number fault

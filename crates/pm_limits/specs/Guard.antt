@@ -22,43 +22,49 @@ use Rattle.pm_host.specs.Refusals.{cell_fault, micro_word, order_fault, range_fa
 use Rattle.pm_host.specs.Summary.{Summary, format_at, next}
 use Rattle.pm_host.specs.Transcript as accepted
 use Rattle.pm_limits.specs.declared.fault.LimitFault.{LimitFault}
-use Rattle.pm_limits.specs.declared.fault.LimitFault.TheVariants.{Host, FormatUnknown, NotKnownWithin, LimitsWidened, MissingRegister}
+use Rattle.pm_limits.specs.declared.fault.LimitFault.TheVariants.{Host, FormatUnknown, NotKnownWithin, LimitsWidened, MissingRegister, NoLimits}
+use Rattle.pm_limits.specs.declared.output_limits.OutputLimits.{OutputLimits}
+use Rattle.pm_limits.specs.declared.output_limits.OutputLimits.TheVariants.{Unknown, Unlimited, Between}
 use Rattle.pm_limits.specs.declared.part_registers.PartRegisters.{PartRegisters}
 use Rattle.pm_limits.specs.Band.{band_on, is_yes, within_of}
-use Rattle.pm_limits.specs.Bounds.{Bounds, bounds_fault, is_wider, outside_fault}
+use Rattle.pm_limits.specs.Bounds.{Bounds, bounds_fault, outside_fault}
+use Rattle.pm_limits.specs.OutputLimits.{are_wider, is_limited}
 use Rattle.pm_limits.specs.Part.{has_register}
 
--- the host, the limits of each output, where it has any, and which registers the part has
+-- the host, what is said of the limits of each output, and which registers the part has
 pub record Guarded : Type 0 where
   pub host : Summary
-  pub limits : List (Option Bounds)
+  pub limits : List OutputLimits
   pub registers : PartRegisters
 
-abbrev pub limits_at : Guarded → ℕ → Option Bounds
-limits_at g output = slice_index_or g.limits output None
+abbrev pub limits_at : Guarded → ℕ → OutputLimits
+limits_at g output = slice_index_or g.limits output Unlimited
 
 -- a refusal of the host's own
 abbrev pub of_host : Option HostFault → Option LimitFault
 of_host fault = option_map (λ f. Host f) fault
 
--- L2 where an output has limits and its format isn't known, otherwise L3 or L4 by the value of the word
-abbrev pub voltage_limit : Option Bounds → Option Shape → ℕ → Option LimitFault
-voltage_limit None shape word = None
-voltage_limit (Some bounds) None word = Some FormatUnknown
-voltage_limit (Some bounds) (Some shape) word = outside_fault bounds (shape_value shape word)
+-- L8 where no limits are known of an output; where it has limits L2 if its format isn't known, otherwise L3 or L4 by the
+-- value of the word
+abbrev pub voltage_limit : OutputLimits → Option Shape → ℕ → Option LimitFault
+voltage_limit Unknown shape word = Some NoLimits
+voltage_limit Unlimited shape word = None
+voltage_limit (Between bounds) None word = Some FormatUnknown
+voltage_limit (Between bounds) (Some shape) word = outside_fault bounds (shape_value shape word)
 
--- why a band isn't known to lie within limits: L2 where the format isn't known, otherwise L5
-abbrev pub unsure_fault : Option Shape → LimitFault
-unsure_fault None = FormatUnknown
-unsure_fault (Some shape) = NotKnownWithin
+-- why a band isn't known to lie within limits: L8 where no limits are known, L2 where the format isn't known, otherwise L5
+abbrev pub unsure_fault : OutputLimits → Option Shape → LimitFault
+unsure_fault Unknown shape = NoLimits
+unsure_fault limits None = FormatUnknown
+unsure_fault limits (Some shape) = NotKnownWithin
 
--- L2 or L5 for a byte that leaves the output on, unless the band with this byte lies within the limits
-abbrev pub operation_limit : PartRegisters → Option Bounds → Summary → ℕ → ℕ → Option LimitFault
+-- L8, L2 or L5 for a byte that leaves the output on, unless the band with this byte lies within the limits
+abbrev pub operation_limit : PartRegisters → OutputLimits → Summary → ℕ → ℕ → Option LimitFault
 operation_limit registers limits s output byte =
-    rule (has_on byte && not (is_yes (within_of limits (band_on registers s output byte)))) (unsure_fault (format_at s output))
+    rule (has_on byte && not (is_yes (within_of limits (band_on registers s output byte)))) (unsure_fault limits (format_at s output))
 
 -- what the limits of a cell's output say of a word for it
-abbrev pub judged : PartRegisters → Option Bounds → Summary → Cell → ℕ → Option LimitFault
+abbrev pub judged : PartRegisters → OutputLimits → Summary → Cell → ℕ → Option LimitFault
 judged registers limits s (Out output Operation) byte = operation_limit registers limits s output byte
 judged registers limits s (Out output register) word = voltage_limit limits (format_at s output) word
 judged registers limits s Protect word = None
@@ -73,9 +79,9 @@ abbrev pub missing_ordered : PartRegisters → Cell → ℕ → Option LimitFaul
 missing_ordered registers (Out output Operation) byte = missing_cell registers (Out output (selected_register byte))
 missing_ordered registers cell word = missing_cell registers cell
 
--- Why an order is refused: H3, H4, L7, then what the limits say, then H5 and H6. L2 and L5 are said of accepted bytes
--- of OPERATION alone, so after H5.
-abbrev pub guarded_order : PartRegisters → Option Bounds → Summary → Cell → ℕ → Option LimitFault
+-- Why an order is refused: H3, H4, L7, then what the limits say, then H5 and H6. L8, L2 and L5 are said of accepted
+-- bytes of OPERATION alone, so after H5.
+abbrev pub guarded_order : PartRegisters → OutputLimits → Summary → Cell → ℕ → Option LimitFault
 guarded_order registers limits s cell word = first (
     of_host (cell_fault s cell) ∷
     missing_ordered registers cell word ∷
@@ -91,9 +97,9 @@ word_fault s cell x = first (
     of_host (option_and_then (λ shape. range_fault shape x) (format_at s (output_of cell))) ∷
     [])
 
--- In microvolts: H3, H4, L7, H5, H7, then N5, N3, N4, then what an order of the nearest word is refused for, L3, L4
+-- In microvolts: H3, H4, L7, H5, H7, then N5, N3, N4, then what an order of the nearest word is refused for, L8, L3, L4
 -- and H6.
-abbrev pub guarded_micro : PartRegisters → Option Bounds → Summary → Cell → ℤ → Option LimitFault
+abbrev pub guarded_micro : PartRegisters → OutputLimits → Summary → Cell → ℤ → Option LimitFault
 guarded_micro registers limits s cell x = first (
     of_host (cell_fault s cell) ∷
     missing_cell registers cell ∷
@@ -109,7 +115,7 @@ guarded_check registers s cell = first (
     [])
 
 -- why a job is refused whose output has these limits; a learn and a command as the host refuses it
-abbrev pub limited_fault : PartRegisters → Option Bounds → Summary → Job → Option LimitFault
+abbrev pub limited_fault : PartRegisters → OutputLimits → Summary → Job → Option LimitFault
 limited_fault registers limits s (Order cell word) = guarded_order registers limits s cell word
 limited_fault registers limits s (OrderMicro cell x) = guarded_micro registers limits s cell x
 limited_fault registers limits s (Check cell) = guarded_check registers s cell
@@ -121,15 +127,15 @@ ordered_output (Order cell word) = Some (output_of cell)
 ordered_output (OrderMicro cell x) = Some (output_of cell)
 ordered_output job = None
 
-abbrev pub limits_for : Guarded → Job → Option Bounds
-limits_for g job = option_and_then (limits_at g) (ordered_output job)
+abbrev pub limits_for : Guarded → Job → OutputLimits
+limits_for g job = option_map_or (limits_at g) (ordered_output job) Unlimited
 
 abbrev pub guard_fault : Guarded → Job → Option LimitFault
 guard_fault g job = limited_fault g.registers (limits_for g job) g.host job
 
 -- How a job is judged before the host is asked: it is refused, or the host is asked for another that means the same
 -- and that it refuses for all that is left.
-pub record IsJudged (registers : PartRegisters) (limits : Option Bounds) (s : Summary) (job : Job)
+pub record IsJudged (registers : PartRegisters) (limits : OutputLimits) (s : Summary) (job : Job)
     (result : Result Job LimitFault) : Type 0 where
   pub refused : IfErr result (λ fault. limited_fault registers limits s job ≡ Some fault)
   pub passed : IfOk result (λ asked. limited_fault registers limits s job ≡ of_host (begin_fault s asked))
@@ -158,16 +164,16 @@ abbrev pub LetsBegin : Guarded → Job → Result (Unit {0}) LimitFault → Guar
 LetsBegin old job result new = BeginsUnless (guard_fault old job) old job result new
 
 -- why an output's limits can't be narrowed: N5, L1, then L6 where the new ones let through what the old ones don't
-abbrev pub narrower_fault : Option Bounds → ℤ → ℤ → Option LimitFault
+abbrev pub narrower_fault : OutputLimits → ℤ → ℤ → Option LimitFault
 narrower_fault old least most = first (
     bounds_fault least most ∷
-    rule (is_wider old (record { least = least; most = most })) LimitsWidened ∷
+    rule (are_wider old (record { least = least; most = most })) LimitsWidened ∷
     [])
 
 -- an order of a word for this output that these limits refuse
 abbrev pub is_beyond : PartRegisters → Bounds → Summary → ℕ → accepted.Job → Bool
 is_beyond registers bounds s output (accepted.Order cell word) =
-    output_of cell == output && is_some (judged registers (Some bounds) s cell word)
+    output_of cell == output && is_some (judged registers (Between bounds) s cell word)
 is_beyond registers bounds s output job = false
 
 -- H3 where such an order is open: its frame may be sent again
@@ -186,4 +192,15 @@ narrow_fault g output least most = first (
 -- the guard with other limits for an output
 abbrev pub narrowed : Guarded → ℕ → ℤ → ℤ → Guarded
 narrowed g output least most =
-    record g { limits = slice_set g.limits output (Some (record { least = least; most = most })) }
+    record g { limits = slice_set g.limits output (Between (record { least = least; most = most })) }
+
+-- why it isn't said that an output has no limits: H4 where it isn't there, L6 where it has some
+abbrev pub unlimited_fault : Guarded → ℕ → Option LimitFault
+unlimited_fault g output = first (
+    rule (not (nat_lt output g.host.setup.outputs)) (Host UnknownOutput) ∷
+    rule (is_limited (limits_at g output)) LimitsWidened ∷
+    [])
+
+-- the guard once it was said that an output has none
+abbrev pub unlimited : Guarded → ℕ → Guarded
+unlimited g output = record g { limits = slice_set g.limits output Unlimited }

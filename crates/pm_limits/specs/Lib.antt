@@ -7,4 +7,5 @@ pub mod FaultWords
 pub mod Guard
 pub mod Laws
 pub mod OutputEnds
+pub mod OutputLimits
 pub mod Lemmas

@@ -23,6 +23,9 @@ pub enum LimitFault {
     LimitsWidened,
     /// L7: the part doesn't have the register, or the margin that the byte of OPERATION selects.
     MissingRegister,
+    /// L8: no limits are known of the output: of an order of a voltage, and of one of OPERATION that leaves the output on.
+    /// Give it limits, or say that it has none.
+    NoLimits,
     /// H1 to H7 or N3 to N5: the host's own refusal, or N5 where a limit is beyond 10^15.
     Host(HostFault),
 }
@@ -43,11 +46,12 @@ impl LimitFault {
             LimitFault::NotKnownWithin => "L5 NotKnownWithin",
             LimitFault::LimitsWidened => "L6 LimitsWidened",
             LimitFault::MissingRegister => "L7 MissingRegister",
+            LimitFault::NoLimits => "L8 NoLimits",
             LimitFault::Host(fault) => fault.words(),
         }
     }
 
-    /// The number of the fault as `pmhost.h` has it, 21h to 27h; a refusal of the host has its own.
+    /// The number of the fault as `pmhost.h` has it, 21h to 28h; a refusal of the host has its own.
     pub fn number(self) -> u8
         ensures number { result ≡ limit_fault_number self }
         ensures some { result ≢ 0 }
@@ -60,6 +64,7 @@ impl LimitFault {
             LimitFault::NotKnownWithin => 0x25,
             LimitFault::LimitsWidened => 0x26,
             LimitFault::MissingRegister => 0x27,
+            LimitFault::NoLimits => 0x28,
             LimitFault::Host(fault) => fault.number(),
         }
     }

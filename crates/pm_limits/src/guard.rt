@@ -3,15 +3,17 @@ mod calls;
 /// Whether an output's voltage lies within its limits, by what is known.
 #[derive(Clone, Copy, Debug, PartialEq, Eq)]
 pub enum Within {
-    /// The whole band lies within the limits, or the output has none.
+    /// The whole band lies within the limits, or the output is said to have none.
     Yes,
     /// The whole band lies below the limits, or above them.
     No,
-    /// The band lies partly within, or there is none: the format isn't known, or a byte of AVSBus is possible for OPERATION.
+    /// The band lies partly within, or there is none: the format isn't known, or a byte of AVSBus is possible for OPERATION. Or no
+    /// limits are known.
     NotKnown,
 }
 
-ghost use Rattle.std.specs.Prelude.{◌≡◌, ◌<◌, Some, None, IfOk, OnOk, OnErr, [], ◌∷◌, option_map, replicate, slice_set};
+ghost use Rattle.std.specs.Prelude.{◌≡◌, ◌<◌, IfOk, OnOk, OnErr, [], ◌∷◌, replicate, slice_set};
+ghost use Rattle.std.specs.Option.{option_map_or};
 ghost use Rattle.std.specs.Result.{result_err};
 ghost use Rattle.pm_table.specs.Address.{IsAddress};
 ghost use Rattle.pm_table.specs.Rules.{first};
@@ -19,7 +21,8 @@ ghost use Rattle.pm_host.specs.Refusals.{IsSetup, setup_fault};
 ghost use Rattle.pm_host.specs.Summary.{start};
 ghost use Rattle.pm_host.specs.Transcript.{Setup};
 ghost use Rattle.pm_limits.specs.Band.{band_at, within_of};
-ghost use Rattle.pm_limits.specs.Guard.{LetsBegin, limits_at, limits_for as spec_limits_for, narrow_fault, narrowed, narrower_fault, open_fault};
+ghost use Rattle.pm_limits.specs.declared.output_limits.OutputLimits.TheVariants.{Unlimited};
+ghost use Rattle.pm_limits.specs.Guard.{LetsBegin, limits_at, limits_for as spec_limits_for, narrow_fault, narrowed, narrower_fault, open_fault, unlimited, unlimited_fault};
 ghost use Rattle.pm_limits.specs.Part.{all_registers};
 
 use crate::band::{Band, band_of};
@@ -29,6 +32,7 @@ use crate::judgement::{
     refuse_ordered, within_limits,
 };
 use crate::limits::Limits;
+use crate::output_limits::OutputLimits;
 use crate::part_registers::PartRegisters;
 use pm_host::{Host, HostFault, Job};
 use pm_table::Cell;
@@ -42,8 +46,9 @@ const OUTPUTS: usize = 8;
 /// It has the host's calls, which do what they do there. For an output with limits it also refuses an order
 /// of a voltage, VOUT_COMMAND, VOUT_MAX, VOUT_MIN or a margin, whose word stands for a value outside them, in
 /// the exact fraction of the word that would be sent; and an order of OPERATION that leaves the output on,
-/// unless the band with that byte lies within the limits. Turning an output off is never refused by a limit,
-/// and an output without limits is as at a host.
+/// unless the band with that byte lies within the limits. It refuses both for an output of which no limits are known: neither
+/// were any given, nor was it said that there are none. Turning an output off is never refused by a limit, and an output that
+/// is said to have none is as at a host.
 ///
 /// It is told once which registers the part has. It refuses a job on another, and an order of OPERATION that selects
 /// a missing margin.
@@ -53,7 +58,7 @@ const OUTPUTS: usize = 8;
 #[derive(Debug, Drop)]
 pub struct Guard {
     host: Host,
-    limits: [Option<Limits>; OUTPUTS],
+    limits: [OutputLimits; OUTPUTS],
     registers: PartRegisters,
 }
 
@@ -68,13 +73,13 @@ impl Model for Guard {
 }
 
 impl Guard {
-    /// A guard whose host is as [`Host::new`] makes it, with the limits of each output; those of outputs that
+    /// A guard whose host is as [`Host::new`] makes it, with what is said of the limits of each output; those of outputs that
     /// aren't there mean nothing. The part has every register. H1 and H2 as there.
     pub fn new(
         addr: u8,
         outputs: u8,
         passes: u8,
-        limits: [Option<Limits>; 8],
+        limits: [OutputLimits; 8],
     ) -> Result<Guard, HostFault>
         requires { IsAddress addr }
         ensures made { let setup : Setup = record { addr = addr; outputs = outputs; passes = passes } in
@@ -90,7 +95,7 @@ impl Guard {
         addr: u8,
         outputs: u8,
         passes: u8,
-        limits: [Option<Limits>; 8],
+        limits: [OutputLimits; 8],
         registers: PartRegisters,
     ) -> Result<Guard, HostFault>
         requires { IsAddress addr }
@@ -109,14 +114,14 @@ impl Guard {
         }
     }
 
-    /// A host as a guard without limits, whose part has every register: it does what the host does. Limits that it is given later are as those
-    /// that are narrowed: what was ordered before stays possible.
+    /// A host as a guard of outputs that have no limits, whose part has every register: it does what the host does. Limits that it is
+    /// given later are as those that are narrowed: what was ordered before stays possible.
     pub fn over(host: Host) -> Guard
-        ensures { result ≡ record { host = host; limits = replicate 8 None; registers = all_registers } }
+        ensures { result ≡ record { host = host; limits = replicate 8 Unlimited; registers = all_registers } }
     {
         Guard {
             host,
-            limits: [None; OUTPUTS],
+            limits: [OutputLimits::Unlimited; OUTPUTS],
             registers: PartRegisters::all(),
         }
     }
@@ -131,10 +136,10 @@ impl Guard {
     /// Begins a job, as [`Host::begin`], or refuses it. A refusal changes nothing.
     ///
     /// An order of a word is refused, in this order, with H3, H4, L7 where the part doesn't have the register or the
-    /// margin that a byte of OPERATION selects, then by the limits, L2 where the format isn't known, L3 below them and
-    /// L4 above them, then H5, L2 or L5 for OPERATION, and H6. An order in microvolts with H3, H4, L7, H5, H7, N5, N3,
-    /// N4, then L3 and L4, by the value of the nearest word, and H6. A check with H3, H4 and L7. Every other job is
-    /// refused as the host refuses it.
+    /// margin that a byte of OPERATION selects, then by the limits, L8 where none are known, L2 where the format isn't known, L3
+    /// below them and L4 above them, then H5, L8, L2 or L5 for a byte of OPERATION that leaves the output on, and H6. An order in
+    /// microvolts with H3, H4, L7, H5, H7, N5, N3, N4, then L8, L3 and L4, by the value of the nearest word, and H6. A check with
+    /// H3, H4 and L7. Every other job is refused as the host refuses it.
     pub fn begin(&mut self, job: Job) -> Result<(), LimitFault>
         ensures { LetsBegin self.old job result self.new }
     {
@@ -156,9 +161,12 @@ impl Guard {
             cell,
             word,
         )?;
-        if let Some(limits) = self.limits_at(output_of(cell)) {
-            refuse_cell(self.host.state(), self.host.stage(), cell)?;
-            judge_word(self.host.state(), self.registers, limits, cell, word)?;
+        match self.kept(output_of(cell)) {
+            None | Some(OutputLimits::Unlimited) => {}
+            Some(limits) => {
+                refuse_cell(self.host.state(), self.host.stage(), cell)?;
+                judge_word(self.host.state(), self.registers, limits, cell, word)?;
+            }
         }
         match self.host.order(cell, word) {
             Ok(()) => Ok(()),
@@ -176,7 +184,7 @@ impl Guard {
             self.host.state(),
             self.host.stage(),
             self.registers,
-            limits,
+            &limits,
             job,
         )?;
         match self.host.begin(asked) {
@@ -186,37 +194,34 @@ impl Guard {
     }
 
     // The limits of the output whose cell a job orders.
-    fn limits_for(&self, job: Job) -> Option<Limits>
+    fn limits_for(&self, job: Job) -> OutputLimits
         ensures { result ≡ spec_limits_for self.now job }
     {
         match ordered_output(job) {
             Some(output) => self.limits(output),
-            None => None,
+            None => OutputLimits::Unlimited,
         }
     }
 
-    /// The limits of an output, where it has any.
-    pub fn limits(&self, output: u8) -> Option<Limits>
+    /// What is said of an output's limits. One that isn't there has none.
+    pub fn limits(&self, output: u8) -> OutputLimits
         ensures { result ≡ limits_at self.now output }
     {
-        match self.limits_at(output) {
-            Some(limits) => Some(*limits),
-            None => None,
+        match self.kept(output) {
+            Some(limits) => *limits,
+            None => OutputLimits::Unlimited,
         }
     }
 
-    // The limits of an output, borrowed from the guard.
+    // What is said of them, borrowed from the guard.
     #[inline(always)]
-    fn limits_at(&self, output: u8) -> Option<&Limits>
-        ensures { option_map (λ limits. limits.now) result ≡ limits_at self.now output }
+    fn kept(&self, output: u8) -> Option<&OutputLimits>
+        ensures { option_map_or (λ limits. limits.now) result Unlimited ≡ limits_at self.now output }
     {
-        match self.limits.get(usize::from(output)) {
-            Some(limits) => limits.as_ref(),
-            None => None,
-        }
+        self.limits.get(usize::from(output))
     }
 
-    /// Gives an output narrower limits of these microvolts; an output without limits takes any. H4 where the output
+    /// Gives an output narrower limits of these microvolts; an output without any takes these. H4 where the output
     /// isn't there, N5 where a limit is beyond 10^15 in size, L1 where the least is above the most, L6 where the
     /// output has limits and these let through what those don't, H3 where an order of the output is open that these
     /// refuse, since its frame may be sent again; then nothing changes.
@@ -233,11 +238,28 @@ impl Guard {
         }
         match self.narrower(output, least, most) {
             Ok(limits) => {
-                put(&mut self.limits, output, limits);
+                put(&mut self.limits, output, OutputLimits::Between(limits));
                 Ok(())
             }
             Err(fault) => Err(fault),
         }
+    }
+
+    /// Says that an output has no limits: its orders are then refused for the host's reasons alone. H4 where it isn't
+    /// there, L6 where it has limits; then nothing changes. Limits that are given later end it.
+    pub fn no_limits(&mut self, output: u8) -> Result<(), LimitFault>
+        ensures fault { result_err result ≡ unlimited_fault self.old output }
+        ensures ok { OnOk result (self.new ≡ unlimited self.old output) }
+        ensures err { OnErr result (self.new ≡ self.old) }
+    {
+        if output >= self.host.outputs() {
+            return Err(LimitFault::Host(HostFault::UnknownOutput));
+        }
+        if self.limits(output).is_limited() {
+            return Err(LimitFault::LimitsWidened);
+        }
+        put(&mut self.limits, output, OutputLimits::Unlimited);
+        Ok(())
     }
 
     // The narrower limits of an output, or why it takes none.
@@ -253,7 +275,7 @@ impl Guard {
             least,
             most,
         };
-        narrower_limits(state, stage, self.registers, old, new)
+        narrower_limits(state, stage, self.registers, &old, new)
     }
 
     /// Between which voltages an output may be, as [`band_of`] says. The output is there.
@@ -265,7 +287,7 @@ impl Guard {
     }
 
     /// Whether an output's voltage lies within its limits, by the words that its registers may hold: `Yes` where its
-    /// whole band does or it has no limits, `No` where the whole band lies below the limits or above them,
+    /// whole band does or it is said to have no limits, `No` where the whole band lies below the limits or above them,
     /// otherwise `NotKnown`. The output is there.
     ///
     /// The limits hold for good where each word lies within them that the registers of the output, and the device's user
@@ -275,17 +297,17 @@ impl Guard {
         requires { output < self.now.host.setup.outputs }
         ensures { result ≡ within_of (limits_at self.now output) (band_at self.now.registers self.now.host output) }
     {
-        within_limits(self.limits(output), self.band(output))
+        within_limits(&self.limits(output), self.band(output))
     }
 }
 
 // Gives an output limits.
 #[tactic(auto, using(std::proofs::lemmas::List::set_past))]
-fn put(all: &mut [Option<Limits>], output: u8, limits: Limits)
-    ensures { all.new ≡ slice_set all.old output (Some limits) }
+fn put(all: &mut [OutputLimits], output: u8, limits: OutputLimits)
+    ensures { all.new ≡ slice_set all.old output limits }
 {
     let place = usize::from(output);
     if place < all.len() {
-        all[place] = Some(limits);
+        all[place] = limits;
     }
 }

@@ -12,6 +12,7 @@ ghost use Rattle.pm_host.specs.Summary.{format_at};
 ghost use Rattle.pm_host.specs.Transcript as accepted;
 ghost use Rattle.pm_limits.specs.Band.{within_of};
 ghost use Rattle.pm_limits.specs.declared.fault.LimitFault.TheVariants.{Host};
+ghost use Rattle.pm_limits.specs.declared.output_limits.OutputLimits.TheVariants.{Between};
 ghost use Rattle.pm_host.specs.declared.fault.HostFault.TheVariants.{Busy};
 ghost use Rattle.pm_limits.specs.Bounds.{outside_fault, place_fault};
 ghost use Rattle.pm_limits.specs.Guard.{IsJudged, is_beyond as spec_is_beyond, judged, limited_fault, missing_cell, missing_ordered, narrower_fault, of_host, open_fault, operation_limit, ordered_output as spec_ordered_output, unsure_fault, voltage_limit, word_fault};
@@ -21,6 +22,7 @@ use crate::ends::format_in;
 use crate::fault::LimitFault;
 use crate::guard::Within;
 use crate::limits::Limits;
+use crate::output_limits::OutputLimits;
 use crate::part_registers::PartRegisters;
 use pm_host::{HostFault, Job, Stage, State, nearest_word};
 use pm_num::{AnyFormat, Linear11, NumFormat};
@@ -56,7 +58,7 @@ pub struct NewLimits {
 /// the same, and of an order in microvolts the order of the nearest word. Or why it isn't asked at all, as
 /// [`crate::Guard::begin`] says. A guard asks its host so; who keeps limits otherwise asks as well, and then begins what
 /// is answered.
-// Of an order of a word for an output without limits it is asked alone whether the register is there: the host refuses
+// Of an order of a word for an output that is said to have no limits it is asked alone whether the register is there: the host refuses
 // it for all else that a guard does.
 #[inline(always)]
 #[tactic(auto, using(crate::proofs::Unlimited::unlimited))]
@@ -64,16 +66,16 @@ pub fn judge(
     state: &State,
     stage: Option<Stage>,
     registers: PartRegisters,
-    limits: Option<Limits>,
+    limits: &OutputLimits,
     job: Job,
 ) -> Result<Job, LimitFault>
     requires { IsSound (held stage state.now) }
-    ensures { IsJudged registers limits (held stage state.now) job result }
+    ensures { IsJudged registers limits.now (held stage state.now) job result }
 {
     match job {
         Job::Order(cell, word) => {
             refuse_ordered(state, stage, registers, cell, word)?;
-            if let Some(limits) = limits {
+            if !matches!(limits, OutputLimits::Unlimited) {
                 judge_order(state, stage, registers, limits, CellWord { cell, word })?;
             }
             Ok(job)
@@ -141,18 +143,18 @@ fn judge_order(
     state: &State,
     stage: Option<Stage>,
     registers: PartRegisters,
-    limits: Limits,
+    limits: &OutputLimits,
     order: CellWord,
 ) -> Result<(), LimitFault>
     requires sound { IsSound (held stage state.now) }
     requires there { missing_ordered registers order.cell order.word ≡ None }
     ensures refused { let s = held stage state.now in let job = Job.Order order.cell order.word in
-        IfErr result (λ fault. limited_fault registers (Some limits) s job ≡ Some fault) }
+        IfErr result (λ fault. limited_fault registers limits.now s job ≡ Some fault) }
     ensures passed { let s = held stage state.now in let job = Job.Order order.cell order.word in
-        OnOk result (limited_fault registers (Some limits) s job ≡ of_host (begin_fault s job)) }
+        OnOk result (limited_fault registers limits.now s job ≡ of_host (begin_fault s job)) }
 {
     refuse_cell(state, stage, order.cell)?;
-    judge_word(state, registers, &limits, order.cell, order.word)?;
+    judge_word(state, registers, limits, order.cell, order.word)?;
     Ok(())
 }
 
@@ -162,20 +164,18 @@ fn judge_micro(
     state: &State,
     stage: Option<Stage>,
     registers: PartRegisters,
-    limits: Option<Limits>,
+    limits: &OutputLimits,
     order: CellVoltage,
 ) -> Result<Job, LimitFault>
     requires { IsSound (held stage state.now) }
-    ensures { IsJudged registers limits (held stage state.now) (Job.OrderMicro order.cell order.x) result }
+    ensures { IsJudged registers limits.now (held stage state.now) (Job.OrderMicro order.cell order.x) result }
 {
     let CellVoltage { cell, x } = order;
     refuse_missing(state, stage, registers, cell)?;
     refuse_cell(state, stage, cell)?;
     let word = micro_word(state, stage, cell, x)?;
     refuse_ordered(state, stage, registers, cell, word)?;
-    if let Some(limits) = limits {
-        judge_word(state, registers, &limits, cell, word)?;
-    }
+    judge_word(state, registers, limits, cell, word)?;
     Ok(Job::Order(cell, word))
 }
 
@@ -200,14 +200,14 @@ pub(crate) fn output_of(cell: Cell) -> u8
     }
 }
 
-/// Whether a band lies within limits; any does where there are none.
-pub fn within_limits(limits: Option<Limits>, band: Option<Band>) -> Within
-    ensures { result ≡ within_of limits band }
+/// Whether a band lies within limits; any does where there are none, and of unknown ones nothing is known.
+pub fn within_limits(limits: &OutputLimits, band: Option<Band>) -> Within
+    ensures { result ≡ within_of limits.now band }
 {
     match (limits, band) {
-        (None, _) => Within::Yes,
-        (Some(limits), Some(band)) => limits.within(&band),
-        (Some(_), None) => Within::NotKnown,
+        (OutputLimits::Unlimited, _) => Within::Yes,
+        (OutputLimits::Between(limits), Some(band)) => limits.within(&band),
+        _ => Within::NotKnown,
     }
 }
 
@@ -256,12 +256,12 @@ fn micro_word(state: &State, stage: Option<Stage>, cell: Cell, x: i64) -> Result
 pub(crate) fn judge_word(
     state: &State,
     registers: PartRegisters,
-    limits: &Limits,
+    limits: &OutputLimits,
     cell: Cell,
     word: u16,
 ) -> Result<(), LimitFault>
     requires { IsCell 8 cell }
-    ensures { result_err result ≡ judged registers (Some limits.now) (held None state.now) cell word }
+    ensures { result_err result ≡ judged registers limits.now (held None state.now) cell word }
 {
     match cell {
         Cell::Out(output, Reg::Operation) => {
@@ -274,10 +274,20 @@ pub(crate) fn judge_word(
 
 // Refuses a voltage beyond limits.
 #[inline(always)]
-fn judge_voltage(state: &State, limits: &Limits, output: u8, word: u16) -> Result<(), LimitFault>
+fn judge_voltage(
+    state: &State,
+    limits: &OutputLimits,
+    output: u8,
+    word: u16,
+) -> Result<(), LimitFault>
     requires { output < 8 }
-    ensures { result_err result ≡ voltage_limit (Some limits.now) (format_at (held None state.now) output) word }
+    ensures { result_err result ≡ voltage_limit limits.now (format_at (held None state.now) output) word }
 {
+    let limits = match limits {
+        OutputLimits::Unknown => return Err(LimitFault::NoLimits),
+        OutputLimits::Unlimited => return Ok(()),
+        OutputLimits::Between(limits) => limits,
+    };
     match place_of(state, limits, output, word) {
         Some(Ordering::Less) => Err(LimitFault::BelowLimit),
         Some(Ordering::Equal) => Ok(()),
@@ -291,7 +301,7 @@ fn judge_voltage(state: &State, limits: &Limits, output: u8, word: u16) -> Resul
 #[inline(never)]
 fn place_of(state: &State, limits: &Limits, output: u8, word: u16) -> Option<Ordering>
     requires { output < 8 }
-    ensures { place_fault result ≡ voltage_limit (Some limits.now) (format_at (held None state.now) output) word }
+    ensures { place_fault result ≡ voltage_limit (Between limits.now) (format_at (held None state.now) output) word }
 {
     match format_in(state, output) {
         Some(AnyFormat::Linear11) => Some(place_in(&Linear11, limits, word)),
@@ -314,26 +324,27 @@ fn place_in<F: NumFormat>(format: &F, limits: &Limits, word: u16) -> Ordering
 fn judge_operation(
     state: &State,
     registers: PartRegisters,
-    limits: &Limits,
+    limits: &OutputLimits,
     output: u8,
     byte: u16,
 ) -> Result<(), LimitFault>
     requires { output < 8 }
-    ensures { result_err result ≡ operation_limit registers (Some limits.now) (held None state.now) output byte }
+    ensures { result_err result ≡ operation_limit registers limits.now (held None state.now) output byte }
 {
     if may_command_beyond(state, registers, limits, output, byte) {
-        return Err(unsure(state, output));
+        return Err(unsure(state, limits, output));
     }
     Ok(())
 }
 
 // Why a band isn't known to lie within limits.
 #[inline(never)]
-fn unsure(state: &State, output: u8) -> LimitFault
+fn unsure(state: &State, limits: &OutputLimits, output: u8) -> LimitFault
     requires { output < 8 }
-    ensures { result ≡ unsure_fault (format_at (held None state.now) output) }
+    ensures { result ≡ unsure_fault limits.now (format_at (held None state.now) output) }
 {
     match format_in(state, output) {
+        _ if !limits.are_known() => LimitFault::NoLimits,
         Some(_) => LimitFault::NotKnownWithin,
         None => LimitFault::FormatUnknown,
     }
@@ -345,16 +356,16 @@ fn unsure(state: &State, output: u8) -> LimitFault
 fn may_command_beyond(
     state: &State,
     registers: PartRegisters,
-    limits: &Limits,
+    limits: &OutputLimits,
     output: u8,
     byte: u16,
 ) -> bool
     requires { output < 8 }
     ensures { let s = held None state.now in
-        rule result (unsure_fault (format_at s output)) ≡ operation_limit registers (Some limits.now) s output byte }
+        rule result (unsure_fault limits.now (format_at s output)) ≡ operation_limit registers limits.now s output byte }
 {
     Operation::has_on(byte)
-        && within_limits(Some(*limits), band_on(state, registers, output, byte)) != Within::Yes
+        && within_limits(limits, band_on(state, registers, output, byte)) != Within::Yes
 }
 
 /// Limits of these microvolts in the place of those that an output has, or of none, as [`crate::Guard::narrow`] says: N5,
@@ -363,12 +374,12 @@ pub fn narrower_limits(
     state: &State,
     stage: Option<Stage>,
     registers: PartRegisters,
-    old: Option<Limits>,
+    old: &OutputLimits,
     new: NewLimits,
 ) -> Result<Limits, LimitFault>
     requires { IsSound (held stage state.now) }
     ensures made { IfOk result (λ limits. limits ≡ record { least = new.least; most = new.most }) }
-    ensures fault { result_err result ≡ first (narrower_fault old new.least new.most
+    ensures fault { result_err result ≡ first (narrower_fault old.now new.least new.most
         ∷ open_fault registers (record { least = new.least; most = new.most }) (held stage state.now) new.output ∷ []) }
 {
     let limits = Limits::narrower(old, new.least, new.most)?;
@@ -427,6 +438,7 @@ fn is_beyond(
     requires { IsCell 8 order.cell }
     ensures { result ≡ spec_is_beyond registers limits.now (held None state.now) output (accepted.Order order.cell order.word) }
 {
+    let limits = OutputLimits::Between(*limits);
     output_of(order.cell) == output
-        && judge_word(state, registers, limits, order.cell, order.word).is_err()
+        && judge_word(state, registers, &limits, order.cell, order.word).is_err()
 }

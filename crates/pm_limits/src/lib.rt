@@ -2,7 +2,8 @@
 //!
 //! A [`Guard`] is a host that refuses orders beyond an output's [`Limits`]: a voltage whose word stands for
 //! a value outside them, and a byte of OPERATION that leaves the output on while what it would command isn't
-//! known to lie within. [`band_of`] says between which voltages an output may be by what a host knows, as
+//! known to lie within. An output of which no limits are known is ordered no voltage: say that it has none by
+//! [`Guard::no_limits`]. [`band_of`] says between which voltages an output may be by what a host knows, as
 //! exact fractions; no narrower band is true where the possible words are exact
 //! (`possible_words_are_exact` of `pm_world`).
 //!
@@ -16,7 +17,8 @@
 //!
 //! ```
 //! fn guarded() -> Result<Guard, LimitFault> {
-//!     let mut guard = Guard::new(0x58, 1, 2, [None; 8]).map_err(LimitFault::Host)?;
+//!     let limits = [OutputLimits::Unknown; 8];
+//!     let mut guard = Guard::new(0x58, 1, 2, limits).map_err(LimitFault::Host)?;
 //!     guard.narrow(0, 3_200_000, 3_465_000)?;
 //!     Ok(guard)
 //! }
@@ -32,6 +34,7 @@ mod guard;
 mod judgement;
 mod laws;
 mod limits;
+mod output_limits;
 mod part_registers;
 
 pub use band::{Band, band_in, band_of, selects_avsbus};
@@ -43,4 +46,5 @@ pub use laws::{
     bands_are_ends, guarded_orders_are_within, missing_limits_cut_nothing, whole_parts_miss_nothing,
 };
 pub use limits::Limits;
+pub use output_limits::OutputLimits;
 pub use part_registers::PartRegisters;

@@ -8,6 +8,7 @@ ghost use Rattle.pm_limits.specs.Guard.{narrower_fault};
 use crate::band::Band;
 use crate::fault::LimitFault;
 use crate::guard::Within;
+use crate::output_limits::OutputLimits;
 use pm_host::HostFault;
 use pm_num::{Frac, NumFault, micro};
 use std::cmp::Ordering;
@@ -69,22 +70,22 @@ impl Limits {
         self.most
     }
 
-    /// Limits of these microvolts in the place of others, or of none. N5 and L1 as for new ones, then L6 where these
+    /// Limits of these microvolts in the place of those that an output has, or of none. N5 and L1 as for new ones, then L6 where these
     /// let through what those don't.
-    pub fn narrower(old: Option<Limits>, least: i64, most: i64) -> Result<Limits, LimitFault>
+    pub fn narrower(old: &OutputLimits, least: i64, most: i64) -> Result<Limits, LimitFault>
         ensures made { IfOk result (λ limits. limits ≡ record { least = least; most = most }) }
-        ensures fault { result_err result ≡ narrower_fault old least most }
+        ensures fault { result_err result ≡ narrower_fault old.now least most }
     {
         let limits = Limits::new(least, most)?;
         match old {
-            Some(old) if limits.is_wider(&old) => Err(LimitFault::LimitsWidened),
+            OutputLimits::Between(old) if limits.is_wider(old) => Err(LimitFault::LimitsWidened),
             _ => Ok(limits),
         }
     }
 
     // Whether they let through what others don't.
     fn is_wider(&self, old: &Limits) -> bool
-        ensures { result ≡ is_wider (Some old.now) self.now }
+        ensures { result ≡ is_wider old.now self.now }
     {
         self.least < old.least || old.most < self.most
     }

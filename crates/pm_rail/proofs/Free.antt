@@ -1,5 +1,5 @@
 -- A job that a course names takes a try, and is refused by nothing.
-use Rattle.std.specs.Prelude.{true, ◌≡◌, ◌<◌, ◌-◌, ◌==◌, ℕ, false, refl, Option, Some, None, Ok, Err}
+use Rattle.std.specs.Prelude.{true, ◌≡◌, ◌<◌, ◌-◌, ◌==◌, ℕ, false, refl, Some, None, Ok, Err}
 use Rattle.std.proofs.Common.{arith, sym, ◌∙◌, ap, subst}
 use Rattle.std.proofs.lemmas.Bool.Decides.{nat_tests}
 use Rattle.pm_host.specs.declared.job.Job.{Job as Asked}
@@ -7,7 +7,7 @@ use Rattle.pm_host.specs.declared.job.JobEnd.{JobEnd}
 use Rattle.pm_host.specs.Refusals.{is_busy}
 use Rattle.pm_host.specs.Summary.{Summary}
 use Rattle.pm_limits.specs.declared.part_registers.PartRegisters.{PartRegisters}
-use Rattle.pm_limits.specs.Bounds.{Bounds}
+use Rattle.pm_limits.specs.declared.output_limits.OutputLimits.{OutputLimits}
 use Rattle.pm_limits.specs.Guard.{Guarded, guard_fault, limits_at}
 use Rattle.pm_rail.specs.declared.apply_end.ApplyEnd.TheVariants.{Reached}
 use Rattle.pm_rail.specs.Laws.{PlansAreAccepted}
@@ -26,7 +26,7 @@ some-left : (left : ℕ) → (left == 0) ≡ false → 0 < left
 some-left left h = grind (arith, nat_tests)
 
 -- a job that is named finds a try
-says-left : (part : PartRegisters) (limits : Option Bounds) (s : Summary) (course : Course) (job : Asked) →
+says-left : (part : PartRegisters) (limits : OutputLimits) (s : Summary) (course : Course) (job : Asked) →
     says part limits s course ≡ Job job → 0 < course.survey.left
 says-left part limits s course job is = go (said part limits s course) is where
   go : {n : Next} → Said part limits s course n → n ≡ Job job → 0 < course.survey.left
@@ -39,7 +39,7 @@ says-left part limits s course job is = go (said part limits s course) is where
   go (says-order (Ok None) idle n o) e = cc
   go (says-order (Ok (Some order)) idle n o) e = some-left course.survey.left (taken course _ job e).0
 
-pub takes : (part : PartRegisters) (limits : Option Bounds) (s : Summary) (course : Course) (job : Asked) →
+pub takes : (part : PartRegisters) (limits : OutputLimits) (s : Summary) (course : Course) (job : Asked) →
     next_of part limits s course ≡ Job job → (after_next part limits s course).survey.left < course.survey.left
 takes part limits s course job is =
     let r = renewed part limits s course in
@@ -57,7 +57,7 @@ pub free : PlansAreAccepted → (g : Guarded) (course : Course) (job : Asked) �
     course.survey.output < g.host.setup.outputs →
     next_of g.registers (limits_at g course.survey.output) g.host course ≡ Job job → guard_fault g job ≡ None
 free accepted g course job words there is = by named.1 where
-  limits : Option Bounds
+  limits : OutputLimits
   limits = limits_at g course.survey.output
 
   r : Course
@@ -80,7 +80,7 @@ free accepted g course job words there is = by named.1 where
 
 -- ---- Of one to nothing ----
 
-pub reads-only : (part : PartRegisters) (limits : Option Bounds) (s : Summary) (course : Course) (job : Asked) → course.byte ≡ None →
+pub reads-only : (part : PartRegisters) (limits : OutputLimits) (s : Summary) (course : Course) (job : Asked) → course.byte ≡ None →
     course.survey.plan ≡ None → next_of part limits s course ≡ Job job → is_order job ≡ false
 reads-only part limits s course job words nothing is =
     let r = renewed part limits s course in
@@ -89,7 +89,7 @@ reads-only part limits s course job words nothing is =
     asks-so (λ (j : Asked). is_order j ≡ false) part r.survey s refl (λ register has. refl) refl job
     (says-read part limits s r words' nothing' job is)
 
-pub reached-surveyed : (part : PartRegisters) (limits : Option Bounds) (s : Summary) (course : Course) → course.byte ≡ None →
+pub reached-surveyed : (part : PartRegisters) (limits : OutputLimits) (s : Summary) (course : Course) → course.byte ≡ None →
     next_of part limits s course ≡ Ended Reached → is_surveyed part (after_next part limits s course).survey s ≡ true
 reached-surveyed part limits s course words is =
     let r = renewed part limits s course in

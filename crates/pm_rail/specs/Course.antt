@@ -13,7 +13,7 @@ use Rattle.pm_host.specs.Refusals.{is_busy}
 use Rattle.pm_host.specs.Summary.{Summary, possible_at}
 use Rattle.pm_limits.specs.declared.part_registers.PartRegisters.{PartRegisters}
 use Rattle.pm_limits.specs.declared.fault.LimitFault.{LimitFault}
-use Rattle.pm_limits.specs.Bounds.{Bounds}
+use Rattle.pm_limits.specs.declared.output_limits.OutputLimits.{OutputLimits}
 use Rattle.pm_limits.specs.Guard.{Guarded, LetsBegin, guard_fault, limits_at}
 use Rattle.pm_rail.specs.declared.fault.PlanFault.{PlanFault}
 use Rattle.pm_rail.specs.declared.fault.PlanFault.TheVariants.{Busy, NotKnown}
@@ -76,12 +76,12 @@ power_next part s v byte = if is_operation_known s v.output byte then (if is_sur
     else Err (NotKnown (Out v.output (selected_register byte)))) else Ok (Some (record { register = Operation; word = byte }))
 
 -- What is ordered next by what the host knows: the next order of the plan, or OPERATION; and nothing where nothing is wanted.
-abbrev pub order_by : PartRegisters → Option Bounds → Summary → Survey → Option ℕ → Result (Option PlanOrder) PlanFault
+abbrev pub order_by : PartRegisters → OutputLimits → Summary → Survey → Option ℕ → Result (Option PlanOrder) PlanFault
 order_by part limits s v None = if is_none v.plan && is_surveyed part v s then Ok None
     else plan_of part s limits v.output (wants_of (wanted_in v.plan))
 order_by part limits s v (Some byte) = if is_busy s then Err Busy else power_next part s v byte
 
-abbrev pub order_next : PartRegisters → Option Bounds → Summary → Course → Result (Option PlanOrder) PlanFault
+abbrev pub order_next : PartRegisters → OutputLimits → Summary → Course → Result (Option PlanOrder) PlanFault
 order_next part limits s course = order_by part limits s course.survey course.byte
 
 -- no order is left
@@ -91,7 +91,7 @@ is_last order = false
 
 -- Something was ordered since the survey began, which has ended by its own rule, and no order is left: then all is read
 -- once more, by a new survey with the tries that are left.
-abbrev pub is_carried_out : PartRegisters → Option Bounds → Summary → Course → Bool
+abbrev pub is_carried_out : PartRegisters → OutputLimits → Summary → Course → Bool
 is_carried_out part limits s course = course.ordered
     && (is_none course.twice && (is_surveyed part course.survey s && is_last (order_next part limits s course)))
 
@@ -101,7 +101,7 @@ once_more course = record course {
   ordered = false;
 }
 
-abbrev pub renewed : PartRegisters → Option Bounds → Summary → Course → Course
+abbrev pub renewed : PartRegisters → OutputLimits → Summary → Course → Course
 renewed part limits s course = if is_carried_out part limits s course then once_more course else course
 
 -- the job that is due, which takes a try
@@ -115,12 +115,12 @@ ordering course (Ok None) = Ended Reached
 ordering course (Ok (Some order)) = taking course (Order (Out course.survey.output order.register) order.word)
 
 -- what the survey asks for comes first
-abbrev pub reading : PartRegisters → Option Bounds → Summary → Course → Option Asked → Next
+abbrev pub reading : PartRegisters → OutputLimits → Summary → Course → Option Asked → Next
 reading part limits s course (Some job) = taking course job
 reading part limits s course None = ordering course (order_next part limits s course)
 
 -- A word that is wanted of a register that the part doesn't have is refused before anything is read.
-abbrev pub reading_for : PartRegisters → Option Bounds → Summary → Course → Option PlanFault → Next
+abbrev pub reading_for : PartRegisters → OutputLimits → Summary → Course → Option PlanFault → Next
 reading_for part limits s course (Some fault) = Ended (Stopped (Refused fault))
 reading_for part limits s course None = reading part limits s course (due_job part course.survey s)
 
@@ -129,20 +129,20 @@ reading_for part limits s course None = reading part limits s course (due_job pa
 abbrev pub turning_off : Course → ℕ → Next
 turning_off course byte = if course.done then Ended Reached else taking course (Order (Out course.survey.output Operation) byte)
 
-abbrev pub going_to : PartRegisters → Option Bounds → Summary → Course → Option ℕ → Next
+abbrev pub going_to : PartRegisters → OutputLimits → Summary → Course → Option ℕ → Next
 going_to part limits s course None =
     reading_for part limits s course (missing_fault part (wants_of (wanted_in course.survey.plan)))
 going_to part limits s course (Some byte) = if has_on byte then reading part limits s course (due_job part course.survey s)
     else turning_off course byte
 
 -- an order that differed a second time ends it
-abbrev pub going : PartRegisters → Option Bounds → Summary → Course → Option Differing → Next
+abbrev pub going : PartRegisters → OutputLimits → Summary → Course → Option Differing → Next
 going part limits s course (Some differs) = Ended (Stopped (Differs differs.register differs.word))
 going part limits s course None = going_to part limits s course course.byte
 
 -- What a course says to do next, by what the host knows of a part with these registers and within the output's limits. Where
 -- a job is open it has ended with H3, and goes on once that job is over.
-abbrev pub says : PartRegisters → Option Bounds → Summary → Course → Next
+abbrev pub says : PartRegisters → OutputLimits → Summary → Course → Next
 says part limits s course = if is_busy s then Ended (Stopped (Refused Busy)) else going part limits s course course.twice
 
 -- the course once it said so: a job that it named takes a try
@@ -155,10 +155,10 @@ naming course (Job job) = record course { survey = asking course.survey (Some jo
 naming course (Ended end) = course
 
 -- both, of the course as it is asked
-abbrev pub next_of : PartRegisters → Option Bounds → Summary → Course → Next
+abbrev pub next_of : PartRegisters → OutputLimits → Summary → Course → Next
 next_of part limits s course = says part limits s (renewed part limits s course)
 
-abbrev pub after_next : PartRegisters → Option Bounds → Summary → Course → Course
+abbrev pub after_next : PartRegisters → OutputLimits → Summary → Course → Course
 after_next part limits s course = naming (renewed part limits s course) (next_of part limits s course)
 
 -- An order ended so: it was read back as it was given; or it differs, the second time where one of the same register differed

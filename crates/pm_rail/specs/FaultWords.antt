@@ -7,13 +7,14 @@ use Rattle.pm_limits.specs.declared.fault.LimitFault.TheVariants as limit
 use Rattle.pm_limits.specs.FaultWords.{limit_fault_number, limit_fault_words}
 use Rattle.pm_rail.specs.declared.fault.PlanFault.{PlanFault}
 use Rattle.pm_rail.specs.declared.fault.PlanFault.TheVariants.{Busy, MissingRegister, FormatUnknown, BelowLimit, AboveLimit, NotKnown}
-use Rattle.pm_rail.specs.declared.fault.PlanFault.TheVariants.{BelowMin, AboveMax, Protected}
+use Rattle.pm_rail.specs.declared.fault.PlanFault.TheVariants.{BelowMin, AboveMax, NoLimits, Protected}
 
--- an open job is told as by the host; a register that the part doesn't have, and a word beyond the limits, as by a guard
+-- an open job is told as by the host; a register that the part doesn't have, and what the limits say, as by a guard
 abbrev pub plan_fault_words : PlanFault → List ℕ
 plan_fault_words Busy = host_fault_words host.Busy
 plan_fault_words (MissingRegister register) = limit_fault_words limit.MissingRegister
 plan_fault_words FormatUnknown = codes "P1 FormatUnknown"
+plan_fault_words (NoLimits register) = limit_fault_words limit.NoLimits
 plan_fault_words (BelowLimit register) = limit_fault_words limit.BelowLimit
 plan_fault_words (AboveLimit register) = limit_fault_words limit.AboveLimit
 plan_fault_words (NotKnown cell) = codes "P4 NotKnown"
@@ -26,6 +27,7 @@ abbrev pub plan_fault_number : PlanFault → ℕ
 plan_fault_number Busy = host_fault_number host.Busy
 plan_fault_number (MissingRegister register) = limit_fault_number limit.MissingRegister
 plan_fault_number FormatUnknown = 0x61
+plan_fault_number (NoLimits register) = limit_fault_number limit.NoLimits
 plan_fault_number (BelowLimit register) = limit_fault_number limit.BelowLimit
 plan_fault_number (AboveLimit register) = limit_fault_number limit.AboveLimit
 plan_fault_number (NotKnown cell) = 0x64
@@ -38,6 +40,7 @@ abbrev pub plan_fault_code : PlanFault → Option ℕ
 plan_fault_code Busy = None
 plan_fault_code (MissingRegister register) = Some (register_code register)
 plan_fault_code FormatUnknown = None
+plan_fault_code (NoLimits register) = Some (register_code register)
 plan_fault_code (BelowLimit register) = Some (register_code register)
 plan_fault_code (AboveLimit register) = Some (register_code register)
 plan_fault_code (NotKnown cell) = Some (cell_code cell)

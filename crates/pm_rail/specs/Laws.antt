@@ -15,7 +15,7 @@ use Rattle.pm_host.specs.Possible.{is_possible}
 use Rattle.pm_host.specs.Summary.{Summary, format_at, possible_at}
 use Rattle.pm_limits.specs.declared.part_registers.PartRegisters.{PartRegisters}
 use Rattle.pm_limits.specs.Band.{band_at}
-use Rattle.pm_limits.specs.Bounds.{Bounds}
+use Rattle.pm_limits.specs.declared.output_limits.OutputLimits.{OutputLimits}
 use Rattle.pm_limits.specs.Guard.{Guarded, guard_fault, limits_at}
 use Rattle.pm_limits.specs.Part.{all_registers, has_register}
 use Rattle.pm_rail.specs.declared.course.Course.{Course}
@@ -86,16 +86,16 @@ MayHold part s output wants held = (shape : Shape) → format_at s output ≡ So
 -- ones these are: the next order is theirs (`next`), the output isn't cut by the words at the end (`uncut`), and where
 -- no order is left each wanted word is held (`done`). By these the other laws speak of what a plan answers.
 pub record PlansAreOfWhatIsHeld : Type 0 where
-  pub next : (part : PartRegisters) (s : Summary) (limits : Option Bounds) (output : ℕ) (wants : Wants) (order : Option PlanOrder)
+  pub next : (part : PartRegisters) (s : Summary) (limits : OutputLimits) (output : ℕ) (wants : Wants) (order : Option PlanOrder)
       (held : Held) →
       wants Operation ≡ None → MayHold part s output wants held → plan_of part s limits output wants ≡ Ok order →
       IsSomeAnd (format_at s output)
       (λ shape. option_map (order_of held wants) (next_register (shape_value shape) held wants) ≡ order)
-  pub uncut : (part : PartRegisters) (s : Summary) (limits : Option Bounds) (output : ℕ) (wants : Wants) (order : Option PlanOrder)
+  pub uncut : (part : PartRegisters) (s : Summary) (limits : OutputLimits) (output : ℕ) (wants : Wants) (order : Option PlanOrder)
       (held : Held) →
       wants Operation ≡ None → MayHold part s output wants held → plan_of part s limits output wants ≡ Ok order →
       IsSomeAnd (format_at s output) (λ shape. is_cut_by (shape_value shape) (goal_of held wants) ≡ false)
-  pub done : (part : PartRegisters) (s : Summary) (limits : Option Bounds) (output : ℕ) (wants : Wants) (held : Held)
+  pub done : (part : PartRegisters) (s : Summary) (limits : OutputLimits) (output : ℕ) (wants : Wants) (held : Held)
       (register : Reg) (word : ℕ) →
       wants Operation ≡ None → MayHold part s output wants held → plan_of part s limits output wants ≡ Ok None →
       wants register ≡ Some word → held register ≡ word
@@ -139,12 +139,12 @@ pub record SurveysEndKnown : Type 0 where
 -- nor by its host (`free`). One to nothing names no order (`reads`). Where one to words or to nothing has reached its end, its
 -- survey has ended by its own rule (`surveyed`), of which `SurveysEndKnown` speaks.
 pub record CoursesEnd : Type 0 where
-  pub takes : (part : PartRegisters) (limits : Option Bounds) (s : Summary) (course : Course) (job : Asked) →
+  pub takes : (part : PartRegisters) (limits : OutputLimits) (s : Summary) (course : Course) (job : Asked) →
       next_of part limits s course ≡ Job job → (after_next part limits s course).survey.left < course.survey.left
   pub told : (course : Course) (end : JobEnd) → (told_of course end).survey.left ≡ course.survey.left
   pub free : (g : Guarded) (course : Course) (job : Asked) → course.byte ≡ None → course.survey.output < g.host.setup.outputs →
       next_of g.registers (limits_at g course.survey.output) g.host course ≡ Job job → guard_fault g job ≡ None
-  pub reads : (part : PartRegisters) (limits : Option Bounds) (s : Summary) (course : Course) (job : Asked) → course.byte ≡ None →
+  pub reads : (part : PartRegisters) (limits : OutputLimits) (s : Summary) (course : Course) (job : Asked) → course.byte ≡ None →
       course.survey.plan ≡ None → next_of part limits s course ≡ Job job → is_order job ≡ false
-  pub surveyed : (part : PartRegisters) (limits : Option Bounds) (s : Summary) (course : Course) → course.byte ≡ None →
+  pub surveyed : (part : PartRegisters) (limits : OutputLimits) (s : Summary) (course : Course) → course.byte ≡ None →
       next_of part limits s course ≡ Ended Reached → is_surveyed part (after_next part limits s course).survey s ≡ true

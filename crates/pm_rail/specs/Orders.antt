@@ -4,7 +4,8 @@ use Rattle.std.specs.Prelude.{is_some, option_map, Result, Ok, Err}
 use Rattle.std.specs.Option.{option_map_or, option_or}
 use Rattle.pm_num.specs.AnyFormat.{Shape, shape_value}
 use Rattle.pm_num.specs.Ratio.{Ratio, is_above, micros}
-use Rattle.pm_limits.specs.Bounds.{Bounds}
+use Rattle.pm_limits.specs.declared.output_limits.OutputLimits.{OutputLimits}
+use Rattle.pm_limits.specs.declared.output_limits.OutputLimits.TheVariants.{Unknown, Unlimited, Between}
 use Rattle.pm_table.specs.declared.cell.Cell.TheVariants.{Out, Protect}
 use Rattle.pm_table.specs.declared.reg.Reg.{Reg}
 use Rattle.pm_table.specs.declared.reg.Reg.TheVariants.{Operation, VoutCommand, VoutMax, MarginHigh, MarginLow, VoutMin}
@@ -21,7 +22,7 @@ use Rattle.pm_limits.specs.Guard.{Guarded}
 use Rattle.pm_limits.specs.Part.{has_register}
 use Rattle.pm_rail.specs.declared.fault.PlanFault.{PlanFault}
 use Rattle.pm_rail.specs.declared.fault.PlanFault.TheVariants.{Busy, MissingRegister, FormatUnknown, BelowLimit, AboveLimit, NotKnown}
-use Rattle.pm_rail.specs.declared.fault.PlanFault.TheVariants.{BelowMin, AboveMax, Protected}
+use Rattle.pm_rail.specs.declared.fault.PlanFault.TheVariants.{BelowMin, AboveMax, NoLimits, Protected}
 use Rattle.pm_rail.specs.declared.orders.PlanOrder.{PlanOrder}
 use Rattle.pm_rail.specs.Known.{Cells, cells_of, known_at, known_of, known_or}
 use Rattle.pm_rail.specs.Plan.{goal_of, is_due, next_register}
@@ -64,9 +65,14 @@ below_fault least value wants = first_of voltages (λ register. BelowLimit regis
 abbrev pub above_fault : Ratio → Scale → Wants → Option PlanFault
 above_fault most value wants = first_of voltages (λ register. AboveLimit register) (is_wanted_above most value wants)
 
-abbrev pub limits_fault : Option Bounds → Scale → Wants → Option PlanFault
-limits_fault None value wants = None
-limits_fault (Some bounds) value wants =
+-- L8 for a wanted word where no limits of the output are known
+abbrev pub is_wanted : Wants → Reg → Bool
+is_wanted wants register = is_some (wants register)
+
+abbrev pub limits_fault : OutputLimits → Scale → Wants → Option PlanFault
+limits_fault Unknown value wants = first_of voltages (λ register. NoLimits register) (is_wanted wants)
+limits_fault Unlimited value wants = None
+limits_fault (Between bounds) value wants =
     option_or (below_fault (micros bounds.least) value wants) (above_fault (micros bounds.most) value wants)
 
 -- P4 for a register that is needed and isn't known
@@ -116,8 +122,8 @@ answer (Some fault) x = Err fault
 abbrev pub order_of : Held → Wants → Reg → PlanOrder
 order_of held wants register = record { register = register; word = goal_of held wants register }
 
--- L3 and L4 by what is wanted alone, then P4, P5, P6 and P7
-abbrev pub planned_fault : Cells → Option Bounds → ℕ → Held → Wants → Scale → Option PlanFault
+-- L8, L3 and L4 by what is wanted alone, then P4, P5, P6 and P7
+abbrev pub planned_fault : Cells → OutputLimits → ℕ → Held → Wants → Scale → Option PlanFault
 planned_fault cells limits output held wants value = first (
     limits_fault limits value wants ∷
     unknown_fault cells output held wants ∷
@@ -127,12 +133,12 @@ planned_fault cells limits output held wants value = first (
     [])
 
 -- The next order by the words that are known to be held. None where each register has its wanted word.
-abbrev pub planned : Cells → Option Bounds → ℕ → Held → Wants → Scale → Result (Option PlanOrder) PlanFault
+abbrev pub planned : Cells → OutputLimits → ℕ → Held → Wants → Scale → Result (Option PlanOrder) PlanFault
 planned cells limits output held wants value = answer (planned_fault cells limits output held wants value)
     (option_map (order_of held wants) (next_register value held wants))
 
 -- P1 before these
-abbrev pub planned_in : PartRegisters → Summary → Option Bounds → ℕ → Wants → Option Shape → Result (Option PlanOrder) PlanFault
+abbrev pub planned_in : PartRegisters → Summary → OutputLimits → ℕ → Wants → Option Shape → Result (Option PlanOrder) PlanFault
 planned_in part s limits output wants None = Err FormatUnknown
 planned_in part s limits output wants (Some shape) =
     let cells = cells_of part shape s in
@@ -152,7 +158,7 @@ unless (Some fault) result = Err fault
 
 -- The next order of an output with these limits, by what a host knows of a part with these registers; H3 before all
 -- where a job is open, then L7.
-abbrev pub plan_of : PartRegisters → Summary → Option Bounds → ℕ → Wants → Result (Option PlanOrder) PlanFault
+abbrev pub plan_of : PartRegisters → Summary → OutputLimits → ℕ → Wants → Result (Option PlanOrder) PlanFault
 plan_of part s limits output wants = if is_busy s then Err Busy
     else unless (missing_fault part wants) (planned_in part s limits output wants (format_at s output))
 

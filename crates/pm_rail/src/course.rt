@@ -12,7 +12,7 @@ use crate::refusals::refuse_missing;
 use crate::survey::{Reads, Survey, wanted_of};
 use crate::wanted::Wanted;
 use pm_host::{Job, JobEnd, Stage, State};
-use pm_limits::{Guard, LimitFault, Limits, PartRegisters};
+use pm_limits::{Guard, LimitFault, OutputLimits, PartRegisters};
 use pm_table::{Cell, Operation, Reg};
 
 /// An order of a register that differed, and the word that was read.
@@ -105,7 +105,7 @@ impl Course {
         host: &State,
         stage: Option<Stage>,
         part: PartRegisters,
-        limits: &Option<Limits>,
+        limits: &OutputLimits,
     ) -> Next
         requires { self.old.survey.output < 8 }
         ensures says { result ≡ next_of part limits.now (held stage host.now) self.old }
@@ -124,7 +124,7 @@ impl Course {
     }
 
     /// Asks what is next and begins it, so that nothing comes in between. The guard refuses no job of a way to wanted words, by
-    /// `courses_end`; an order of OPERATION it may refuse, with L2, L5, L7 or H5, which changes nothing.
+    /// `courses_end`; an order of OPERATION it may refuse, with L2, L5, L7, L8 or H5, which changes nothing.
     pub fn begin(&mut self, guard: &mut Guard) -> Result<Next, LimitFault>
         requires { self.old.survey.output < guard.old.host.setup.outputs }
         ensures begins { BeginsNext guard.old self.old guard.new result self.new }
@@ -171,7 +171,7 @@ impl Course {
         host: &State,
         stage: Option<Stage>,
         part: PartRegisters,
-        limits: &Option<Limits>,
+        limits: &OutputLimits,
     ) -> bool
         requires { self.now.survey.output < 8 }
         ensures { result ≡ spec_is_carried_out part limits.now (held stage host.now) self.now }
@@ -196,7 +196,7 @@ impl Course {
         host: &State,
         stage: Option<Stage>,
         part: PartRegisters,
-        limits: &Option<Limits>,
+        limits: &OutputLimits,
     ) -> Result<Option<PlanOrder>, PlanFault>
         requires { self.now.survey.output < 8 }
         ensures { result ≡ spec_order_next part limits.now (held stage host.now) self.now }
@@ -244,7 +244,7 @@ impl Course {
         host: &State,
         stage: Option<Stage>,
         part: PartRegisters,
-        limits: &Option<Limits>,
+        limits: &OutputLimits,
     ) -> Next
         requires { self.now.survey.output < 8 }
         ensures { result ≡ spec_says part limits.now (held stage host.now) self.now }
@@ -259,7 +259,7 @@ impl Course {
     }
 
     // What the course says while no order differed a second time, and no job is open.
-    fn going(&self, host: &State, part: PartRegisters, limits: &Option<Limits>) -> Next
+    fn going(&self, host: &State, part: PartRegisters, limits: &OutputLimits) -> Next
         requires { self.now.survey.output < 8 }
         ensures { result ≡ going_to part limits.now (held None host.now) self.now self.now.byte }
     {
@@ -278,7 +278,7 @@ impl Course {
     }
 
     // What the survey asks for, or the next order.
-    fn reading(&self, host: &State, part: PartRegisters, limits: &Option<Limits>) -> Next
+    fn reading(&self, host: &State, part: PartRegisters, limits: &OutputLimits) -> Next
         requires { self.now.survey.output < 8 }
         ensures { let s = held None host.now in
             result ≡ reading part limits.now s self.now (due_job part self.now.survey s) }

@@ -16,6 +16,8 @@ pub enum PlanFault {
     MissingRegister(Reg),
     /// P1: the format of the output's voltages wasn't learned since the host started. Learn it.
     FormatUnknown,
+    /// L8: a word is wanted of this register, and no limits of the output are known. Give it limits, or say that it has none.
+    NoLimits(Reg),
     /// L3: the word that is wanted of this register is below the output's limits.
     BelowLimit(Reg),
     /// L4: the word that is wanted of this register is above the output's limits.
@@ -42,6 +44,7 @@ impl PlanFault {
             PlanFault::Busy => HostFault::Busy.words(),
             PlanFault::MissingRegister(_) => LimitFault::MissingRegister.words(),
             PlanFault::FormatUnknown => "P1 FormatUnknown",
+            PlanFault::NoLimits(_) => LimitFault::NoLimits.words(),
             PlanFault::BelowLimit(_) => LimitFault::BelowLimit.words(),
             PlanFault::AboveLimit(_) => LimitFault::AboveLimit.words(),
             PlanFault::NotKnown(_) => "P4 NotKnown",
@@ -51,7 +54,7 @@ impl PlanFault {
         }
     }
 
-    /// The number of the fault as `pmhost.h` has it, 61h and 64h to 67h; H3, L3, L4 and L7 have their own.
+    /// The number of the fault as `pmhost.h` has it, 61h and 64h to 67h; H3, L3, L4, L7 and L8 have their own.
     pub fn number(self) -> u8
         ensures number { result ≡ plan_fault_number self }
         ensures some { result ≢ 0 }
@@ -60,6 +63,7 @@ impl PlanFault {
             PlanFault::Busy => HostFault::Busy.number(),
             PlanFault::MissingRegister(_) => LimitFault::MissingRegister.number(),
             PlanFault::FormatUnknown => 0x61,
+            PlanFault::NoLimits(_) => LimitFault::NoLimits.number(),
             PlanFault::BelowLimit(_) => LimitFault::BelowLimit.number(),
             PlanFault::AboveLimit(_) => LimitFault::AboveLimit.number(),
             PlanFault::NotKnown(_) => 0x64,
@@ -77,6 +81,7 @@ impl PlanFault {
             PlanFault::Busy | PlanFault::FormatUnknown => None,
             PlanFault::NotKnown(cell) => Some(cell.code()),
             PlanFault::MissingRegister(register)
+            | PlanFault::NoLimits(register)
             | PlanFault::BelowLimit(register)
             | PlanFault::AboveLimit(register)
             | PlanFault::BelowMin(register)

@@ -16,7 +16,7 @@
 //!
 //! ```
 //! fn asked() -> Result<(Option<PlanFault>, Option<Job>), HostFault> {
-//!     let guard = Guard::new(0x58, 1, 2, [None; 8])?;
+//!     let guard = Guard::new(0x58, 1, 2, [OutputLimits::Unknown; 8])?;
 //!     let wanted = Wanted {
 //!         command: Some(0x34CD), // 3.3 V where VOUT_MODE says ULINEAR16 with the exponent -12
 //!         max: Some(0x3770),

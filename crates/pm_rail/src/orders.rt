@@ -14,7 +14,7 @@ use crate::plan::{goal, next_register};
 use crate::refusals::{Settings, refuse, refuse_missing};
 use crate::wanted::Wanted;
 use pm_host::{Stage, State};
-use pm_limits::{Guard, Limits, PartRegisters};
+use pm_limits::{Guard, OutputLimits, PartRegisters};
 use pm_table::{Cell, Reg};
 
 /// An order of a plan: a register, and its wanted word.
@@ -30,8 +30,8 @@ pub struct PlanOrder {
 /// register has its wanted word. The output is there.
 ///
 /// Refused, of several the first: H3 where a job is open; L7 where a word is wanted of a register that the part doesn't
-/// have; P1 where the output's format isn't learned; L3 and L4 where
-/// a wanted word lies below or above the output's limits; P4 where OPERATION, the register that it selects, VOUT_MAX,
+/// have; P1 where the output's format isn't learned; L8 where a word is wanted and no limits of the output are known; L3 and L4
+/// where a wanted word lies below or above the output's limits; P4 where OPERATION, the register that it selects, VOUT_MAX,
 /// VOUT_MIN or one of which a word is wanted isn't known, and WRITE_PROTECT where an order is due; P5 and P6 where a
 /// wanted word or the selected one will be below VOUT_MIN or above VOUT_MAX; P7 where WRITE_PROTECT doesn't allow each
 /// order that is still to come.
@@ -73,7 +73,7 @@ pub fn next_order_in(
     host: &State,
     stage: Option<Stage>,
     part: PartRegisters,
-    limits: &Option<Limits>,
+    limits: &OutputLimits,
     plan: &Plan,
 ) -> Result<Option<PlanOrder>, PlanFault>
     requires { plan.now.output < 8 }
@@ -92,7 +92,7 @@ pub fn next_order_in(
 fn planned_in(
     host: &State,
     part: PartRegisters,
-    limits: &Option<Limits>,
+    limits: &OutputLimits,
     plan: &Plan,
 ) -> Result<Option<PlanOrder>, PlanFault>
     requires { plan.now.output < 8 }
@@ -115,7 +115,7 @@ fn planned_in(
 fn planned_by(
     host: &State,
     form: &OutputForm,
-    limits: &Option<Limits>,
+    limits: &OutputLimits,
     plan: &Plan,
 ) -> Result<Option<PlanOrder>, PlanFault>
     requires { plan.now.output < 8 }
@@ -136,7 +136,7 @@ fn planned_by(
 fn planned(
     host: &State,
     form: &OutputForm,
-    limits: &Option<Limits>,
+    limits: &OutputLimits,
     settings: &Settings,
 ) -> Result<Option<PlanOrder>, PlanFault>
     requires { settings.now.output < 8 }

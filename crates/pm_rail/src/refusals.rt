@@ -6,7 +6,7 @@ ghost use Rattle.pm_num.specs.Ratio.{is_above as spec_is_above, micros};
 ghost use Rattle.pm_table.specs.Cell.{registers};
 ghost use Rattle.pm_host.specs.Image.{held as state_held};
 ghost use Rattle.pm_rail.specs.Known.{cells_of};
-ghost use Rattle.pm_rail.specs.Orders.{above_fault, below_fault, is_above_max as spec_is_above_max, is_below_min as spec_is_below_min, is_meant as spec_is_meant, is_unknown as spec_is_unknown, is_wanted_missing as spec_is_wanted_missing, missing_fault, is_needed as spec_is_needed, is_protected as spec_is_protected, is_wanted_above as spec_is_wanted_above, is_wanted_below as spec_is_wanted_below, limits_fault, planned_fault, protection_fault, unknown_fault, words_fault};
+ghost use Rattle.pm_rail.specs.Orders.{above_fault, below_fault, is_above_max as spec_is_above_max, is_below_min as spec_is_below_min, is_meant as spec_is_meant, is_unknown as spec_is_unknown, is_wanted_missing as spec_is_wanted_missing, missing_fault, is_needed as spec_is_needed, is_protected as spec_is_protected, first_of, is_wanted as spec_is_wanted, is_wanted_above as spec_is_wanted_above, is_wanted_below as spec_is_wanted_below, limits_fault, voltages, planned_fault, protection_fault, unknown_fault, words_fault};
 ghost use Rattle.pm_rail.specs.Plan.{next_register};
 ghost use Rattle.pm_rail.specs.Registers.{held_by, wants_of};
 
@@ -16,7 +16,7 @@ use crate::plan::goal;
 use crate::registers::Registers;
 use crate::wanted::Wanted;
 use pm_host::State;
-use pm_limits::{Limits, PartRegisters};
+use pm_limits::{Limits, OutputLimits, PartRegisters};
 use pm_num::{AnyFormat, Frac, NumFormat, micro};
 use pm_table::{Cell, Operation, Reg, is_allowed};
 use std::cmp::Ordering;
@@ -32,11 +32,11 @@ pub(crate) struct Settings {
     pub wanted: Wanted,
 }
 
-/// L3, L4 and P4 to P7, by the words that are known to be held and the register that is next.
+/// L8, L3, L4 and P4 to P7, by the words that are known to be held and the register that is next.
 pub(crate) fn refuse(
     host: &State,
     form: &OutputForm,
-    limits: &Option<Limits>,
+    limits: &OutputLimits,
     settings: &Settings,
     next: Option<Reg>,
 ) -> Option<PlanFault>
@@ -62,17 +62,44 @@ pub(crate) fn refuse(
     refuse_protected(known_or(host, form, Cell::Protect), held, wanted)
 }
 
-// L3 and L4.
-fn refuse_limits(limits: &Option<Limits>, format: &AnyFormat, wanted: &Wanted) -> Option<PlanFault>
+// L8, L3 and L4.
+fn refuse_limits(limits: &OutputLimits, format: &AnyFormat, wanted: &Wanted) -> Option<PlanFault>
     ensures { result ≡ limits_fault limits.now (any_value format.now) (wants_of wanted.now) }
 {
     match limits {
-        Some(limits) => {
+        OutputLimits::Between(limits) => {
             let ends = ends_of(limits);
             refuse_below(&ends.least, format, wanted).or(refuse_above(&ends.most, format, wanted))
         }
-        None => None,
+        OutputLimits::Unknown => refuse_wanted(wanted),
+        OutputLimits::Unlimited => None,
     }
+}
+
+// L8: the first register of which a word is wanted.
+fn refuse_wanted(wanted: &Wanted) -> Option<PlanFault>
+    ensures { result ≡ first_of voltages (λ register. PlanFault.NoLimits register) (spec_is_wanted (wants_of wanted.now)) }
+{
+    if is_wanted(wanted, Reg::VoutCommand) {
+        Some(PlanFault::NoLimits(Reg::VoutCommand))
+    } else if is_wanted(wanted, Reg::VoutMax) {
+        Some(PlanFault::NoLimits(Reg::VoutMax))
+    } else if is_wanted(wanted, Reg::MarginHigh) {
+        Some(PlanFault::NoLimits(Reg::MarginHigh))
+    } else if is_wanted(wanted, Reg::MarginLow) {
+        Some(PlanFault::NoLimits(Reg::MarginLow))
+    } else if is_wanted(wanted, Reg::VoutMin) {
+        Some(PlanFault::NoLimits(Reg::VoutMin))
+    } else {
+        None
+    }
+}
+
+// Whether a word is wanted of the register.
+fn is_wanted(wanted: &Wanted, register: Reg) -> bool
+    ensures { result ≡ spec_is_wanted (wants_of wanted.now) register }
+{
+    wanted.word(register).is_some()
 }
 
 // L3: the first register of which a lower word is wanted.

@@ -11,7 +11,7 @@ use Rattle.pm_host.specs.declared.job.Job.TheVariants.{Order, OrderMicro, Check,
 use Rattle.pm_host.specs.Refusals.{is_busy}
 use Rattle.pm_host.specs.Summary.{Summary, possible_at}
 use Rattle.pm_limits.specs.declared.part_registers.PartRegisters.{PartRegisters}
-use Rattle.pm_limits.specs.Bounds.{Bounds}
+use Rattle.pm_limits.specs.declared.output_limits.OutputLimits.{OutputLimits}
 use Rattle.pm_rail.specs.declared.fault.PlanFault.{PlanFault}
 use Rattle.pm_rail.specs.declared.orders.PlanOrder.{PlanOrder}
 use Rattle.pm_rail.specs.Course.{is_last, is_operation_known}
@@ -47,11 +47,11 @@ due_byte s output byte = record {
   lacks = rule (is_none (known_word (Out output Operation) (possible_at s (Out output Operation)))) (Out output Operation);
 }
 
-abbrev pub due_of : PartRegisters → Option Bounds → Summary → ℕ → WordAct → Due
+abbrev pub due_of : PartRegisters → OutputLimits → Summary → ℕ → WordAct → Due
 due_of part limits s output (Sets words) = due_words (plan_of part s limits output (wants_of words))
 due_of part limits s output (Turns byte) = due_byte s output byte
 
-abbrev pub due_now : PartRegisters → Option Bounds → Summary → WordStep → Due
+abbrev pub due_now : PartRegisters → OutputLimits → Summary → WordStep → Due
 due_now part limits s step = due_of part limits s step.output step.act
 
 -- a job is the order that is due

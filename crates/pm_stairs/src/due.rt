@@ -7,7 +7,7 @@ ghost use Rattle.pm_stairs.specs.Due.{due_byte as spec_due_byte, due_now, due_wo
 
 use crate::step::{WordAct, WordStep, known_in};
 use pm_host::{Stage, State};
-use pm_limits::{Limits, PartRegisters};
+use pm_limits::{OutputLimits, PartRegisters};
 use pm_rail::{Plan, PlanFault, PlanOrder, next_order_in};
 use pm_table::{Cell, Reg};
 
@@ -30,7 +30,7 @@ impl WordStep {
         host: &State,
         stage: Option<Stage>,
         part: PartRegisters,
-        limits: &Option<Limits>,
+        limits: &OutputLimits,
     ) -> Due
         requires { self.now.output < 8 }
         ensures { result ≡ due_now part limits.now (held stage host.now) self.now }

@@ -18,7 +18,7 @@ use Rattle.pm_host.specs.Refusals.{is_busy}
 use Rattle.pm_host.specs.Summary.{Summary, possible_at}
 use Rattle.pm_host.specs.Transcript as host
 use Rattle.pm_limits.specs.declared.part_registers.PartRegisters.{PartRegisters}
-use Rattle.pm_limits.specs.Bounds.{Bounds}
+use Rattle.pm_limits.specs.declared.output_limits.OutputLimits.{OutputLimits}
 use Rattle.pm_limits.specs.Guard.{Guarded}
 use Rattle.pm_rail.specs.declared.fault.PlanFault.{PlanFault}
 use Rattle.pm_rail.specs.declared.orders.PlanOrder.{PlanOrder}
@@ -82,7 +82,7 @@ module _ (config : Config) (passes : ℕ) (part : PartRegisters) (events : List 
   abbrev s : Summary
   s = (now config passes events).host
 
-  next-order : (limits : Option Bounds) (output : ℕ) (a : WordAct) (order : PlanOrder) →
+  next-order : (limits : OutputLimits) (output : ℕ) (a : WordAct) (order : PlanOrder) →
       (due_of part limits s output a).order ≡ Some order → IsNextOrder config passes part output (deed_of a) events order.register order.word
   next-order limits output (act.Sets words) order is = (limits, plan-some (plan_of part s limits output (wants_of words)) order is)
   next-order limits output (act.Turns byte) order is = (byte-order (is_busy s) byte order is).1
@@ -99,20 +99,20 @@ module _ (config : Config) (passes : ℕ) (part : PartRegisters) (events : List 
   may-read (OrderMicro cell x) is = cc
   may-read (Send command) is = cc
 
-  over-act : (limits : Option Bounds) (output : ℕ) (a : WordAct) → (due_of part limits s output a).over ≡ true →
+  over-act : (limits : OutputLimits) (output : ℕ) (a : WordAct) → (due_of part limits s output a).over ≡ true →
       IsOver config passes part output (deed_of a) events
   over-act limits output (act.Sets words) is = (limits, last-none (plan_of part s limits output (wants_of words)) is)
   over-act limits output (act.Turns byte) is =
       byte-over (is_busy s) (known_word (Out output Operation) (possible_at s (Out output Operation))) byte is
 
   -- the plan of a step that begins has an answer, and OPERATION is known
-  IsAnswered : Option Bounds → ℕ → WordAct → Type 0
+  IsAnswered : OutputLimits → ℕ → WordAct → Type 0
   IsAnswered limits output (act.Sets words) = (order : Option PlanOrder) × (plan_of part s limits output (wants_of words) ≡ Ok order)
   IsAnswered limits output (act.Turns byte) = (is_busy s ≡ false)
       × (known_word (Out output Operation) (possible_at s (Out output Operation))
       ≡ Some (unwrap_or (known_word (Out output Operation) (possible_at s (Out output Operation))) 0))
 
-  answered-order : (limits lacking : Option Bounds) (output : ℕ) (a : WordAct) (order : PlanOrder) →
+  answered-order : (limits lacking : OutputLimits) (output : ℕ) (a : WordAct) (order : PlanOrder) →
       (due_of part limits s output a).order ≡ Some order → (due_of part lacking s output a).lacks ≡ None → IsAnswered limits output a
   unfolding IsAnswered
   answered-order limits lacking output (act.Sets words) order is lacks =
@@ -122,7 +122,7 @@ module _ (config : Config) (passes : ℕ) (part : PartRegisters) (events : List 
     known-some (known_word (Out output Operation) (possible_at s (Out output Operation))) (Out output Operation) lacks,
   )
 
-  answered-over : (limits : Option Bounds) (output : ℕ) (a : WordAct) → (due_of part limits s output a).over ≡ true →
+  answered-over : (limits : OutputLimits) (output : ℕ) (a : WordAct) → (due_of part limits s output a).over ≡ true →
       IsAnswered limits output a
   unfolding IsAnswered
   answered-over limits output (act.Sets words) is = (None, last-none (plan_of part s limits output (wants_of words)) is)
@@ -130,7 +130,7 @@ module _ (config : Config) (passes : ℕ) (part : PartRegisters) (events : List 
       let over = byte-over (is_busy s) (known_word (Out output Operation) (possible_at s (Out output Operation))) byte is in
       (over.0, over.1 ∙ ap (λ (o : Option ℕ). Some (unwrap_or o 0)) (sym over.1))
 
-  answered-idle : (limits : Option Bounds) (output : ℕ) (a : WordAct) → IsAnswered limits output a → is_busy s ≡ false
+  answered-idle : (limits : OutputLimits) (output : ℕ) (a : WordAct) → IsAnswered limits output a → is_busy s ≡ false
   unfolding IsAnswered
   answered-idle limits output (act.Sets words) is = (is-planned part s limits output (wants_of words) is.0 is.1).idle
   answered-idle limits output (act.Turns byte) is = is.0
@@ -143,7 +143,7 @@ module _ (config : Config) (passes : ℕ) (part : PartRegisters) (events : List 
   word-back output register old None known = refl
   word-back output register old (Some word) known = known word refl
 
-  noted-back : (before : List Event) (done : List RailStep) (limits : Option Bounds) (output : ℕ) (a : WordAct) →
+  noted-back : (before : List Event) (done : List RailStep) (limits : OutputLimits) (output : ℕ) (a : WordAct) →
       IsAnswered limits output a → IsKnownFrom config passes part before done output (deed_of a) events →
       deed_of (act_back s output a) ≡ back_of (stair_of (start_of config passes before) done output) (deed_of a)
   unfolding IsAnswered
@@ -279,7 +279,7 @@ module _ (lives : EventsAreLived) (follow : StairsAreFollowed) (due : MovesAreDu
   done-over [] events is idle = idle
   done-over (step ∷ begun) events is idle = over-act config passes part events is.0 step.output step.act is.1
 
-  begin-more : (limits : Option Bounds) (begun backs : List WordStep) (ahead : List Step) (wishes : Step) (stairs new : Stairs)
+  begin-more : (limits : OutputLimits) (begun backs : List WordStep) (ahead : List Step) (wishes : Step) (stairs new : Stairs)
       (events : List Event) (step : WordStep) →
       Holds begun backs (wishes ∷ ahead) stairs events → IsDone part (host_at events) (step_under stairs) →
       IsAnswered config passes part events limits step.output step.act → IsFirst (Some wishes) step → step_under new ≡ Some step →

@@ -14,7 +14,7 @@ use Rattle.pm_host.specs.Possible.{only}
 use Rattle.pm_host.specs.Summary.{Summary, possible_at}
 use Rattle.pm_host.specs.Transcript as host
 use Rattle.pm_limits.specs.declared.part_registers.PartRegisters.{PartRegisters}
-use Rattle.pm_limits.specs.Bounds.{Bounds}
+use Rattle.pm_limits.specs.declared.output_limits.OutputLimits.{OutputLimits}
 use Rattle.pm_rail.specs.declared.orders.PlanOrder.{PlanOrder}
 use Rattle.pm_rail.specs.Known.{Cells, cells_of, known_of, known_word}
 use Rattle.pm_rail.specs.Lemmas.Known.{IsPlanned, is-planned, known-all, known-held, wanted-needed}
@@ -82,7 +82,7 @@ module _ (laws : Below) (config : Config) (passes : ℕ) (part : PartRegisters) 
       listed : possible_at s cell ≡ Any → ⊥
       listed any = let bad = sym (ap (λ (p : Possible). is_none (known_word cell p)) any) ∙ some in cc
 
-  known-plan : (limits : Option Bounds) (order : Option PlanOrder) (wants : Wants) (register : Reg) (word : ℕ) →
+  known-plan : (limits : OutputLimits) (order : Option PlanOrder) (wants : Wants) (register : Reg) (word : ℕ) →
       IsReadFor config passes output (Sets wants) (held_at config passes events output) events →
       plan_of part s limits output wants ≡ Ok order → wants register ≡ Some word →
       known_word (Out output register) (possible_at s (Out output register)) ≡ Some (held_at config passes events output register)

@@ -5,7 +5,7 @@ use Rattle.pm_host.specs.declared.job.Job.{Job as Asked}
 use Rattle.pm_host.specs.declared.job.Job.TheVariants.{Order, Check, Learn, OrderMicro, Send}
 use Rattle.pm_host.specs.Summary.{Summary}
 use Rattle.pm_limits.specs.declared.part_registers.PartRegisters.{PartRegisters}
-use Rattle.pm_limits.specs.Bounds.{Bounds}
+use Rattle.pm_limits.specs.declared.output_limits.OutputLimits.{OutputLimits}
 use Rattle.pm_limits.specs.Guard.{Guarded}
 use Rattle.pm_rail.specs.declared.orders.PlanOrder.{PlanOrder}
 use Rattle.pm_rail.specs.declared.wanted.Wanted.{Wanted}
@@ -33,7 +33,7 @@ is_read (Send command) = false
 
 -- the job is the order that is due in a step, within some limits
 pub record IsDueOrder (part : PartRegisters) (s : Summary) (step : WordStep) (job : Asked) : Type 0 where
-  pub limits : Option Bounds
+  pub limits : OutputLimits
   pub order : PlanOrder
   pub due : (due_now part limits s step).order ≡ Some order
   pub is_job : job ≡ Order (Out step.output order.register) order.word
@@ -41,11 +41,11 @@ pub record IsDueOrder (part : PartRegisters) (s : Summary) (step : WordStep) (jo
 -- The step is over; nothing is asked where none is under way.
 abbrev pub IsDone : PartRegisters → Summary → Option WordStep → Type 0
 IsDone part s None = Unit {0}
-IsDone part s (Some step) = (limits : Option Bounds) × ((due_now part limits s step).over ≡ true)
+IsDone part s (Some step) = (limits : OutputLimits) × ((due_now part limits s step).over ≡ true)
 
 -- the step may begin: what it changes is known
 abbrev pub LacksNone : PartRegisters → Summary → WordStep → Type 0
-LacksNone part s step = (limits : Option Bounds) × ((due_now part limits s step).lacks ≡ None)
+LacksNone part s step = (limits : OutputLimits) × ((due_now part limits s step).lacks ≡ None)
 
 -- a step in words is this one: its words where it has some, and otherwise words of its wishes
 abbrev pub IsOf : Step → WordStep → Type 0

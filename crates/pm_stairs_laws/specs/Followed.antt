@@ -10,7 +10,7 @@ use Rattle.pm_host.specs.Refusals.{is_busy}
 use Rattle.pm_host.specs.Summary.{possible_at}
 use Rattle.pm_host.specs.Transcript as host
 use Rattle.pm_limits.specs.declared.part_registers.PartRegisters.{PartRegisters}
-use Rattle.pm_limits.specs.Bounds.{Bounds}
+use Rattle.pm_limits.specs.declared.output_limits.OutputLimits.{OutputLimits}
 use Rattle.pm_rail.specs.declared.orders.PlanOrder.{PlanOrder}
 use Rattle.pm_rail.specs.Known.{known_word}
 use Rattle.pm_rail.specs.Orders.{plan_of}
@@ -24,7 +24,7 @@ use Rattle.pm_stairs_laws.specs.Stairs.{AreOver, AreSound, Deed, IsStairs, MayRe
 
 -- an order that a deed has next, by what the host knows now
 abbrev pub IsNextOrder : Config → ℕ → PartRegisters → ℕ → Deed → List Event → Reg → ℕ → Type 0
-IsNextOrder config passes part output (Sets wants) events register word = (limits : Option Bounds)
+IsNextOrder config passes part output (Sets wants) events register word = (limits : OutputLimits)
     × (plan_of part (now config passes events).host limits output wants ≡ Ok (Some (record { register = register; word = word })))
 IsNextOrder config passes part output (Turns byte) events register word = (register ≡ Operation) × (word ≡ byte)
 
@@ -38,7 +38,7 @@ MayNext config passes part output deed events job = Unit {0}
 -- what is known of an output where a step begins: of each word that is wanted the old one, and of OPERATION the old byte
 abbrev pub IsKnownFrom : Config → ℕ → PartRegisters → List Event → List RailStep → ℕ → Deed → List Event → Type 0
 IsKnownFrom config passes part before done output (Sets wants) events =
-    (limits : Option Bounds) (order : Option PlanOrder) (register : Reg) (word : ℕ) →
+    (limits : OutputLimits) (order : Option PlanOrder) (register : Reg) (word : ℕ) →
     plan_of part (now config passes events).host limits output wants ≡ Ok order → wants register ≡ Some word →
     known_word (Out output register) (possible_at (now config passes events).host (Out output register))
     ≡ Some (stair_of (start_of config passes before) done output register)

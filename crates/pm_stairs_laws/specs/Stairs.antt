@@ -15,7 +15,7 @@ use Rattle.pm_host.specs.Refusals.{is_busy}
 use Rattle.pm_host.specs.Summary.{possible_at}
 use Rattle.pm_host.specs.Transcript as host
 use Rattle.pm_limits.specs.declared.part_registers.PartRegisters.{PartRegisters}
-use Rattle.pm_limits.specs.Bounds.{Bounds}
+use Rattle.pm_limits.specs.declared.output_limits.OutputLimits.{OutputLimits}
 use Rattle.pm_rail.specs.Known.{known_word}
 use Rattle.pm_rail.specs.Orders.{is_needed, plan_of}
 use Rattle.pm_rail.specs.Plan.{commands_by, goal_of, put}
@@ -119,7 +119,7 @@ IsAtRest config passes (event ∷ later) before =
 -- OPERATION is known to hold the byte
 abbrev pub IsOver : Config → ℕ → PartRegisters → ℕ → Deed → List Event → Type 0
 IsOver config passes part output (Sets wants) events =
-    (limits : Option Bounds) × (plan_of part (now config passes events).host limits output wants ≡ Ok None)
+    (limits : OutputLimits) × (plan_of part (now config passes events).host limits output wants ≡ Ok None)
 IsOver config passes part output (Turns byte) events =
     (is_busy (now config passes events).host ≡ false)
     × (known_word (Out output Operation) (possible_at (now config passes events).host (Out output Operation)) ≡ Some byte)

@@ -10,7 +10,7 @@ use Rattle.pm_device.specs.declared.config.Config.{Config}
 use Rattle.pm_device.specs.Held.{value_for}
 use Rattle.pm_host.specs.Summary.{Summary}
 use Rattle.pm_limits.specs.declared.part_registers.PartRegisters.{PartRegisters}
-use Rattle.pm_limits.specs.Bounds.{Bounds}
+use Rattle.pm_limits.specs.declared.output_limits.OutputLimits.{OutputLimits}
 use Rattle.pm_rail.specs.declared.wanted.Wanted.{Wanted}
 use Rattle.pm_rail.specs.Laws.{IsStep}
 use Rattle.pm_rail.specs.Orders.{plan_of}
@@ -159,7 +159,7 @@ module _ (laws : Given) (config : Config) (passes : ℕ) (part : PartRegisters) 
       ∙ ap (λ (o : Option ℕ). unwrap_or o (held_at config passes before output register)) none
 
   -- each wanted word is held, if the course has ended `Reached`
-  pub comes-true : (limits : Option Bounds) (course : Course) (es : List Event) → IsLived config passes (es ++ before) →
+  pub comes-true : (limits : OutputLimits) (course : Course) (es : List Event) → IsLived config passes (es ++ before) →
       list_any restarts_converter es ≡ false → Way course es → next_of part limits (at es) course ≡ said.Ended Reached →
       (register : Reg) (word : ℕ) → wants register ≡ Some word → held_at config passes (es ++ before) output register ≡ word
   comes-true limits course es lived steady way reached register word wanted' =
@@ -191,7 +191,7 @@ module _ (laws : Given) (config : Config) (passes : ℕ) (part : PartRegisters) 
       holds (inr o) = (laws.plans.keeps config passes (es ++ before) spelled lived).missing part output wants o.newer (o.later ++ before)
           (moment es o.newer o.later o.is) here refl o.idle o.since (ways.holds-missing laws config passes part output wanted before spelled here missing o.later o.stays) o.follows
 
-  pub commands-goal : (limits : Option Bounds) (course : Course) (es : List Event) → IsLived config passes (es ++ before) →
+  pub commands-goal : (limits : OutputLimits) (course : Course) (es : List Event) → IsLived config passes (es ++ before) →
       list_any restarts_converter es ≡ false → Way course es → next_of part limits (at es) course ≡ said.Ended Reached →
       commands config passes (es ++ before) output ≡ goal_at config passes output wanted before
   commands-goal limits course es lived steady way reached =

@@ -17,7 +17,7 @@ use Rattle.pm_device.specs.Held.{value_for}
 use Rattle.pm_host.specs.Possible.{is_possible}
 use Rattle.pm_host.specs.Summary.{Summary, possible_at}
 use Rattle.pm_limits.specs.declared.part_registers.PartRegisters.{PartRegisters}
-use Rattle.pm_limits.specs.Bounds.{Bounds}
+use Rattle.pm_limits.specs.declared.output_limits.OutputLimits.{OutputLimits}
 use Rattle.pm_rail.specs.Known.{known_word}
 use Rattle.pm_rail.specs.Laws.{IsStep}
 use Rattle.pm_rail.specs.Lemmas.Known.{known-held}
@@ -133,7 +133,7 @@ module _ (laws : Given) (possible : PossibleWordsAreHeld) (config : Config) (pas
         (put (held_at config passes before output) Operation byte) (at-goal (newer ++ later) kept' p.1))
 
   -- OPERATION holds the byte, if the course has ended `Reached`
-  pub comes-true : (limits : Option Bounds) (course : Course) (es : List Event) → IsLived config passes (es ++ before) →
+  pub comes-true : (limits : OutputLimits) (course : Course) (es : List Event) → IsLived config passes (es ++ before) →
       list_any restarts_converter es ≡ false → Way course es → next_of part limits (at es) course ≡ said.Ended Reached →
       held_at config passes (es ++ before) output Operation ≡ byte
   comes-true limits course es lived steady was reached = elim (power-reached part limits (at es) r byte way.power reached) [

@@ -17,7 +17,7 @@ use Rattle.pm_host.specs.Refusals.{is_busy}
 use Rattle.pm_host.specs.Summary.{Summary}
 use Rattle.pm_host.specs.Transcript as host
 use Rattle.pm_limits.specs.declared.part_registers.PartRegisters.{PartRegisters}
-use Rattle.pm_limits.specs.Bounds.{Bounds}
+use Rattle.pm_limits.specs.declared.output_limits.OutputLimits.{OutputLimits}
 use Rattle.pm_rail.specs.declared.survey.Survey.{Survey}
 use Rattle.pm_rail.specs.declared.wanted.Wanted.{Wanted}
 use Rattle.pm_rail.specs.Orders.{plan_of}
@@ -82,7 +82,7 @@ module _ (laws : Given) (config : Config) (passes : ℕ) (part : PartRegisters) 
       (subst (λ (p : Option Wanted). IsReadSince config passes course.survey.output (wants_of (wanted_in p)) (es ++ before)) plan since)
 
   -- a new survey
-  pub way-renewed : (limits : Option Bounds) (course : Course) (es : List Event) → Way course es → Way (renewed part limits (at es) course) es
+  pub way-renewed : (limits : OutputLimits) (course : Course) (es : List Event) → Way course es → Way (renewed part limits (at es) course) es
   way-renewed limits course es way = record {
     own = renewed-so (λ (c : Course). c.survey.output ≡ output) part limits (at es) course way.own way.own;
     plan = renewed-so (λ (c : Course). c.survey.plan ≡ Some wanted) part limits (at es) course way.plan way.plan;
@@ -112,13 +112,13 @@ module _ (laws : Given) (config : Config) (passes : ℕ) (part : PartRegisters) 
 
   -- What a job is that a course names at a moment: its survey still reads and asks for it, or the plan is followed and it is
   -- one that may be asked for.
-  data Comes (limits : Option Bounds) (course : Course) (es : List Event) (asked' : Asked) : Type 0 where
+  data Comes (limits : OutputLimits) (course : Course) (es : List Event) (asked' : Asked) : Type 0 where
     still : Reading course es → next_job part course.survey (at es) ≡ Some asked' → IsRead asked' →
         Comes limits course es asked'
     now-on : Ordering es → ((event : Event) → asked_by event ≡ Some asked' →
         IsFine es (asked (now config passes (es ++ before)) event)) → Comes limits course es asked'
 
-  comes : (limits : Option Bounds) (course : Course) (es : List Event) (asked' : Asked) → Way course es →
+  comes : (limits : OutputLimits) (course : Course) (es : List Event) (asked' : Asked) → Way course es →
       IsLived config passes (es ++ before) → list_any restarts_converter es ≡ false →
       says_of part limits (at es) course ≡ said.Job asked' → Comes limits course es asked'
   comes limits course es asked' way lived steady is = by named.1 way.phase where
@@ -152,7 +152,7 @@ module _ (laws : Given) (config : Config) (passes : ℕ) (part : PartRegisters) 
           ∙ (sym (ap (λ (p : Option Wanted). plan_of part (at es) limits course.survey.output (wants_of (wanted_in p))) way.plan) ∙ plan)
 
   -- the course that named a job
-  named-is : (limits : Option Bounds) (course : Course) (s : Summary) (asked' : Asked) → next_of part limits s course ≡ said.Job asked' →
+  named-is : (limits : OutputLimits) (course : Course) (s : Summary) (asked' : Asked) → next_of part limits s course ≡ said.Job asked' →
       after_next part limits s course ≡ naming (renewed part limits s course) (said.Job asked')
   named-is limits course s asked' is = ap (λ (n : Said). naming (renewed part limits s course) n) is
 
@@ -168,7 +168,7 @@ module _ (laws : Given) (config : Config) (passes : ℕ) (part : PartRegisters) 
   }
 
   -- it says something
-  way-says : (limits : Option Bounds) (course : Course) (es : List Event) → Way course es → IsLived config passes (es ++ before) →
+  way-says : (limits : OutputLimits) (course : Course) (es : List Event) → Way course es → IsLived config passes (es ++ before) →
       list_any restarts_converter es ≡ false → Way (after_next part limits (at es) course) es
   way-says limits course es way lived steady = go (next_of part limits (at es) course) refl where
     r : Course
@@ -191,7 +191,7 @@ module _ (laws : Given) (config : Config) (passes : ℕ) (part : PartRegisters) 
     }
 
   -- the host is asked for the job that it named
-  way-asks : (limits : Option Bounds) (course : Course) (es : List Event) (event : Event) (j : Asked) → Way course es →
+  way-asks : (limits : OutputLimits) (course : Course) (es : List Event) (event : Event) (j : Asked) → Way course es →
       IsLived config passes (event ∷ es ++ before) → list_any restarts_converter (event ∷ es) ≡ false →
       next_of part limits (at es) course ≡ said.Job j → asked_by event ≡ Some j →
       Way (after_next part limits (at es) course) (event ∷ es)
@@ -218,7 +218,7 @@ module _ (laws : Given) (config : Config) (passes : ℕ) (part : PartRegisters) 
       phase (now-on ordering fine) = inr (ways.ordering-more laws config passes part output wanted before spelled here missing es event ordering parts.0 (fine event named))
 
   -- a course that is told how its job ended goes on its way
-  way-tells : (limits : Option Bounds) (course : Course) (newer es : List Event) (event : Event) (j : Asked) (end : JobEnd) →
+  way-tells : (limits : OutputLimits) (course : Course) (newer es : List Event) (event : Event) (j : Asked) (end : JobEnd) →
       Way course es → IsLived config passes ((newer ++ event ∷ es) ++ before) →
       list_any restarts_converter (newer ++ event ∷ es) ≡ false →
       next_of part limits (at es) course ≡ said.Job j → asked_by event ≡ Some j → list_any begins_other newer ≡ false →

@@ -15,7 +15,7 @@ use Rattle.pm_host.specs.Refusals.{is_busy}
 use Rattle.pm_host.specs.Summary.{Summary}
 use Rattle.pm_host.specs.Transcript as host
 use Rattle.pm_limits.specs.declared.part_registers.PartRegisters.{PartRegisters}
-use Rattle.pm_limits.specs.Bounds.{Bounds}
+use Rattle.pm_limits.specs.declared.output_limits.OutputLimits.{OutputLimits}
 use Rattle.pm_rail.specs.declared.course.Course.{Course}
 use Rattle.pm_rail.specs.declared.next.Next.{Next as Said}
 use Rattle.pm_rail.specs.declared.next.Next.TheVariants as said
@@ -38,7 +38,7 @@ use Rattle.pm_world.proofs.Lives.{IsLived, earlier, lived-before}
 use Rattle.pm_world.proofs.Moves.{moves-so}
 
 -- what a course names is of its output
-after-output : (part : PartRegisters) (limits : Option Bounds) (s : Summary) (course : Course) →
+after-output : (part : PartRegisters) (limits : OutputLimits) (s : Summary) (course : Course) →
     (after_next part limits s course).survey.output ≡ course.survey.output
 after-output part limits s course = go (next_of part limits s course)
     ∙ renewed-so (λ (c : Course). c.survey.output ≡ course.survey.output) part limits s course refl refl
@@ -101,7 +101,7 @@ module _ (laws : Below) (config : Config) (passes : ℕ) (part : PartRegisters) 
       (beside-none (at (newer ++ es)) event other.0)
 
   -- a job that a course names and asks for, and that is no order, is one that others may ask for too
-  named-may : (limits : Option Bounds) (course : Course) (es : List Event) (event : Event) (j : Asked) →
+  named-may : (limits : OutputLimits) (course : Course) (es : List Event) (event : Event) (j : Asked) →
       course.survey.output ≡ output → next_of part limits (at es).host course ≡ said.Job j → asked_by event ≡ Some j →
       IsNoOrder output (asked (at es) event) → IsBeside part output (asked (at es) event)
   named-may limits course es event j own is named none =
@@ -137,7 +137,7 @@ module _ (laws : Below) (config : Config) (passes : ℕ) (part : PartRegisters) 
     by k e may' = subst (λ (o : Option Asked). IsBeside part output (option_and_then (accepted_job (at es).host) o)) (sym e)
         (may' (subst (λ (o : Option Asked). IsNoOrder output (option_and_then (accepted_job (at es).host) o)) e none))
 
-  else-output : (limits : Option Bounds) (course : Course) (es : List Event) → course.survey.output ≡ output →
+  else-output : (limits : OutputLimits) (course : Course) (es : List Event) → course.survey.output ≡ output →
       (renewed part limits (at es).host course).survey.output ≡ output
   else-output limits course es own = renewed-so (λ (c : Course). c.survey.output ≡ output) part limits (at es).host course own own
 

@@ -15,7 +15,7 @@ use Rattle.pm_host.specs.Refusals.{is_busy}
 use Rattle.pm_host.specs.Summary.{Summary}
 use Rattle.pm_host.specs.Transcript as host
 use Rattle.pm_limits.specs.declared.part_registers.PartRegisters.{PartRegisters}
-use Rattle.pm_limits.specs.Bounds.{Bounds}
+use Rattle.pm_limits.specs.declared.output_limits.OutputLimits.{OutputLimits}
 use Rattle.pm_rail.specs.declared.orders.PlanOrder.{PlanOrder}
 use Rattle.pm_rail.specs.declared.wanted.Wanted.{Wanted}
 use Rattle.pm_rail.specs.Orders.{plan_of}
@@ -92,7 +92,7 @@ module _ (laws : Given) (config : Config) (passes : ℕ) (part : PartRegisters) 
 
   -- the jobs that may be asked for at a moment: those of others, and the plan's next order
   abbrev pub IsFine : List Event → Option host.Job → Type 0
-  IsFine es o = IsBeside part output o ⊎ ((limits : Option Bounds) × (order : PlanOrder)
+  IsFine es o = IsBeside part output o ⊎ ((limits : OutputLimits) × (order : PlanOrder)
       × (o ≡ Some (host.Order (Out output order.register) order.word)) × (plan_of part (at es) limits output wants ≡ Ok (Some order)))
 
   words-stay : (es : List Event) (event : Event) → IsLived config passes (event ∷ es ++ before) → restarts_converter event ≡ false →

@@ -36,6 +36,8 @@ use Rattle.pm_host.specs.Summary.{format_at}
 use Rattle.pm_host.specs.Transcript as host
 use Rattle.pm_limits.specs.Band.{HasDens}
 use Rattle.pm_limits.specs.declared.part_registers.PartRegisters.{PartRegisters}
+use Rattle.pm_limits.specs.declared.output_limits.OutputLimits.{OutputLimits}
+use Rattle.pm_limits.specs.declared.output_limits.OutputLimits.TheVariants.{Unlimited, Between}
 use Rattle.pm_limits.specs.Bounds.{Bounds, IsWithin}
 use Rattle.pm_limits.specs.Guard.{Guarded, guard_fault}
 use Rattle.pm_limits.specs.Lemmas.Cuts.{Cut, cut-greatest, cut-least}
@@ -251,7 +253,7 @@ stays-kept config passes output bounds later before own all register word voltag
       go (inr within) = word-within register bounds (value_for config output word) within
 
 -- a guard lets each event of a guarded life through
-guarded-at : (config : Config) (passes : ℕ) (part : PartRegisters) (limits : List (Option Bounds)) (later : List Event) (event : Event)
+guarded-at : (config : Config) (passes : ℕ) (part : PartRegisters) (limits : List OutputLimits) (later : List Event) (event : Event)
     (before : List Event) →
     AreGuarded config passes part limits (later ++ event ∷ before) →
     option_and_then (guard_fault (record { host = (now config passes before).host; limits = limits; registers = part }))
@@ -263,7 +265,7 @@ guarded-at config passes part limits (newer ∷ later) event before all = guarde
 pub ordered-within : (g : Guarded) (asked : Option Job) (output : ℕ) (register : Reg) (word : ℕ) (bounds : Bounds) →
     option_and_then (guard_fault g) asked ≡ None →
     option_and_then (accepted_job g.host) asked ≡ Some (host.Order (Out output register) word) →
-    is_voltage register ≡ true → slice_index_or g.limits output None ≡ Some bounds →
+    is_voltage register ≡ true → slice_index_or g.limits output Unlimited ≡ Between bounds →
     IsSomeAnd (format_at g.host output) (λ shape. IsWithin bounds (shape_value shape word))
 ordered-within g None output register word bounds free is voltage limits = cc
 ordered-within g (Some job) output register word bounds free is voltage limits =
@@ -271,8 +273,8 @@ ordered-within g (Some job) output register word bounds free is voltage limits =
 
 -- an own word is the start word or lies within the guard's limits if each job went through the guard
 stays-ordered : Below → {config : Config} {passes : ℕ} {events : List Event} → IsLived config passes events → IsSpelled config →
-    (output : ℕ) (bounds : Bounds) (part : PartRegisters) (limits : List (Option Bounds)) → output < config.count →
-    slice_index_or limits output None ≡ Some bounds → AreGuarded config passes part limits events →
+    (output : ℕ) (bounds : Bounds) (part : PartRegisters) (limits : List OutputLimits) → output < config.count →
+    slice_index_or limits output Unlimited ≡ Between bounds → AreGuarded config passes part limits events →
     (register : Reg) (word : ℕ) → is_voltage register ≡ true → IsOwnWord config passes events (Out output register) word →
     (word ≡ start_word config (Out output register)) ⊎ IsWithin bounds (value_for config output word)
 stays-ordered laws lived spelled output bounds part limits here are all register word voltage (inl start) = inl start
@@ -291,8 +293,8 @@ stays-ordered laws {config = config} {passes = passes} {events = events} lived s
 
 -- limits allow an output's own words where they allow its start words and each job went through a guard with them
 stays-guarded : Below → {config : Config} {passes : ℕ} {events : List Event} → IsLived config passes events → IsSpelled config →
-    (output : ℕ) (bounds : Bounds) (part : PartRegisters) (limits : List (Option Bounds)) → output < config.count →
-    slice_index_or limits output None ≡ Some bounds → AreGuarded config passes part limits events →
+    (output : ℕ) (bounds : Bounds) (part : PartRegisters) (limits : List OutputLimits) → output < config.count →
+    slice_index_or limits output Unlimited ≡ Between bounds → AreGuarded config passes part limits events →
     StartsWithin config output bounds → OwnWithin config passes events output bounds
 stays-guarded laws {config = config} lived spelled output bounds part limits here are all starts register word voltage is =
     go (stays-ordered laws lived spelled output bounds part limits here are all register word voltage is) where

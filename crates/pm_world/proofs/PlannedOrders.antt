@@ -15,7 +15,7 @@ use Rattle.pm_host.specs.declared.knowledge.Possible.{Possible}
 use Rattle.pm_host.specs.Possible.{is_possible, only}
 use Rattle.pm_host.specs.Summary.{Summary, format_at, possible_at}
 use Rattle.pm_limits.specs.declared.part_registers.PartRegisters.{PartRegisters}
-use Rattle.pm_limits.specs.Bounds.{Bounds}
+use Rattle.pm_limits.specs.declared.output_limits.OutputLimits.{OutputLimits}
 use Rattle.pm_limits.specs.Part.{has_register, missing_word}
 use Rattle.pm_rail.specs.declared.orders.PlanOrder.{PlanOrder}
 use Rattle.pm_rail.specs.Known.{Cells, cells_of, known_at, known_of, known_word}
@@ -73,7 +73,7 @@ wanted-is None held differs = absurd (differs refl)
 wanted-is (Some word) held differs = refl
 
 module _ (laws : Below) (plans : Plans) {config : Config} {passes : ℕ} {events : List Event} (part : PartRegisters)
-    (limits : Option Bounds) (output : ℕ) (wants : Wants) (order : Option PlanOrder) (lived : IsLived config passes events)
+    (limits : OutputLimits) (output : ℕ) (wants : Wants) (order : Option PlanOrder) (lived : IsLived config passes events)
     (spelled : IsSpelled config) (here : output < config.count) (none : wants Operation ≡ None)
     (since : IsReadSince config passes output wants events)
     (missing : HoldsMissing part config (now config passes events).device.words output)

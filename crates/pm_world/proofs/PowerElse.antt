@@ -18,7 +18,7 @@ use Rattle.pm_host.specs.Refusals.{is_busy}
 use Rattle.pm_host.specs.Summary.{Summary}
 use Rattle.pm_host.specs.Transcript as host
 use Rattle.pm_limits.specs.declared.part_registers.PartRegisters.{PartRegisters}
-use Rattle.pm_limits.specs.Bounds.{Bounds}
+use Rattle.pm_limits.specs.declared.output_limits.OutputLimits.{OutputLimits}
 use Rattle.pm_rail.specs.Survey.{asking, ended}
 use Rattle.pm_rail.specs.declared.course.Course.{Course}
 use Rattle.pm_rail.specs.declared.next.Next.TheVariants as said
@@ -79,7 +79,7 @@ module _ (laws : Given) (possible : PossibleWordsAreHeld) (config : Config) (pas
     done = was.done;
   }
 
-  way-asks-else : (limits : Option Bounds) (course : Course) (es : List Event) (event : Event) (left : ℕ) (ordered' : Bool) (j : Asked) →
+  way-asks-else : (limits : OutputLimits) (course : Course) (es : List Event) (event : Event) (left : ℕ) (ordered' : Bool) (j : Asked) →
       Way course es → IsLived config passes (event ∷ es ++ before) → restarts_converter event ≡ false →
       IsElse part course.survey.output byte j → asked_by event ≡ Some j →
       Way (asking_else (renewed part limits (at es) course) j left ordered') (event ∷ es)
@@ -92,7 +92,7 @@ module _ (laws : Given) (possible : PossibleWordsAreHeld) (config : Config) (pas
       r : Course
       r = renewed part limits (at es) course
 
-  way-tells-else : (limits : Option Bounds) (course : Course) (newer es : List Event) (event : Event) (left : ℕ) (ordered' : Bool)
+  way-tells-else : (limits : OutputLimits) (course : Course) (newer es : List Event) (event : Event) (left : ℕ) (ordered' : Bool)
       (j : Asked)
       (end : JobEnd) → Way course es → IsLived config passes ((newer ++ event ∷ es) ++ before) →
       list_any restarts_converter newer ≡ false → restarts_converter event ≡ false →

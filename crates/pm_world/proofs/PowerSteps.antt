@@ -24,7 +24,7 @@ use Rattle.pm_host.specs.Refusals.{is_busy}
 use Rattle.pm_host.specs.Summary.{Summary}
 use Rattle.pm_host.specs.Transcript as host
 use Rattle.pm_limits.specs.declared.part_registers.PartRegisters.{PartRegisters}
-use Rattle.pm_limits.specs.Bounds.{Bounds}
+use Rattle.pm_limits.specs.declared.output_limits.OutputLimits.{OutputLimits}
 use Rattle.pm_limits.specs.Part.{has_register}
 use Rattle.pm_rail.specs.declared.survey.Survey.{Survey}
 use Rattle.pm_rail.specs.Registers.{Held}
@@ -170,7 +170,7 @@ module _ (laws : Given) (possible : PossibleWordsAreHeld) (config : Config) (pas
 
   -- ---- What it is asked ----
 
-  pub way-renewed : (limits : Option Bounds) (course : Course) (es : List Event) → Way course es → IsLived config passes (es ++ before) →
+  pub way-renewed : (limits : OutputLimits) (course : Course) (es : List Event) → Way course es → IsLived config passes (es ++ before) →
       Way (renewed part limits (at es) course) es
   way-renewed limits course es was lived = renewed-so (λ (c : Course). Way c es) part limits (at es) course was (record {
     own = was.own;
@@ -237,18 +237,18 @@ module _ (laws : Given) (possible : PossibleWordsAreHeld) (config : Config) (pas
   named-own course es _ event own orders e = inr (ap (λ (o : Option Asked). option_and_then (accepted_job (at es)) o) e
       ∙ ap (λ (o : ℕ). Some (host.Order (Out o Operation) byte)) own)
 
-  pub named-is : (limits : Option Bounds) (course : Course) (s : Summary) (n : Said) → next_of part limits s course ≡ n →
+  pub named-is : (limits : OutputLimits) (course : Course) (s : Summary) (n : Said) → next_of part limits s course ≡ n →
       after_next part limits s course ≡ naming (renewed part limits s course) n
   named-is limits course s n is = ap (λ (x : Said). naming (renewed part limits s course) x) is
 
-  pub way-says : (limits : Option Bounds) (course : Course) (es : List Event) → Way course es → IsLived config passes (es ++ before) →
+  pub way-says : (limits : OutputLimits) (course : Course) (es : List Event) → Way course es → IsLived config passes (es ++ before) →
       Way (after_next part limits (at es) course) es
   way-says limits course es was lived = go (next_of part limits (at es) course) where
     go : (n : Said) → Way (naming (renewed part limits (at es) course) n) es
     go (said.Ended end) = way-renewed limits course es was lived
     go (said.Job j) = way-named (renewed part limits (at es) course) es j (way-renewed limits course es was lived)
 
-  pub way-asks : (limits : Option Bounds) (course : Course) (es : List Event) (event : Event) (j : Asked) → Way course es →
+  pub way-asks : (limits : OutputLimits) (course : Course) (es : List Event) (event : Event) (j : Asked) → Way course es →
       IsLived config passes (event ∷ es ++ before) → restarts_converter event ≡ false →
       next_of part limits (at es) course ≡ said.Job j → asked_by event ≡ Some j →
       Way (naming (renewed part limits (at es) course) (said.Job j)) (event ∷ es)
@@ -262,7 +262,7 @@ module _ (laws : Given) (possible : PossibleWordsAreHeld) (config : Config) (pas
       way : Way r es
       way = way-renewed limits course es was (earlier lived)
 
-  pub way-tells : (limits : Option Bounds) (course : Course) (newer es : List Event) (event : Event) (j : Asked) (end : JobEnd) →
+  pub way-tells : (limits : OutputLimits) (course : Course) (newer es : List Event) (event : Event) (j : Asked) (end : JobEnd) →
       Way course es → IsLived config passes ((newer ++ event ∷ es) ++ before) →
       list_any restarts_converter newer ≡ false → restarts_converter event ≡ false →
       next_of part limits (at es) course ≡ said.Job j → asked_by event ≡ Some j → list_any begins_other newer ≡ false →

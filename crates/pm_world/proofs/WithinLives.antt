@@ -43,6 +43,8 @@ use Rattle.pm_limits.specs.Band.{operation_end, operations, within_of, word_end}
 use Rattle.pm_limits.specs.Part.{missing_word}
 use Rattle.pm_limits.specs.declared.part_registers.PartRegisters.{PartRegisters}
 use Rattle.pm_limits.specs.declared.band.Band.{Band}
+use Rattle.pm_limits.specs.declared.output_limits.OutputLimits.{OutputLimits}
+use Rattle.pm_limits.specs.declared.output_limits.OutputLimits.TheVariants.{Unlimited, Between}
 use Rattle.pm_limits.specs.Bounds.{Bounds, IsWithin}
 use Rattle.pm_limits.specs.Ends.{candidates, farthest_of}
 use Rattle.pm_limits.specs.Guard.{Guarded, guard_fault, of_host}
@@ -217,7 +219,7 @@ known-marks laws config passes part events output lived here = fun_ext (λ (regi
 -- within limits with a byte, and with those that OPERATION may be
 yes-with : (shape : Shape) (bounds : Bounds) (known : Shape → Known) (bytes : List ℕ) (format : Option Shape) → HasDens shape →
     ((found : Shape) → format ≡ Some found → found ≡ shape) →
-    is_yes (within_of (Some bounds) (option_map (λ s. band_with s (known s) bytes) format)) ≡ true →
+    is_yes (within_of (Between bounds) (option_map (λ s. band_with s (known s) bytes) format)) ≡ true →
     IsInside shape bounds (known shape) bytes
 yes-with shape bounds known bytes None dens agree said = cc
 yes-with shape bounds known bytes (Some found) dens agree said =
@@ -227,20 +229,20 @@ yes-with shape bounds known bytes (Some found) dens agree said =
 with-yes : (shape : Shape) (bounds : Bounds) (known : Shape → Known) (bytes : List ℕ) (format : Option Shape) → IsSome format →
     ((found : Shape) → format ≡ Some found → found ≡ shape) →
     is_yes (band_within bounds (band_with shape (known shape) bytes)) ≡ true →
-    is_yes (within_of (Some bounds) (option_map (λ s. band_with s (known s) bytes) format)) ≡ true
+    is_yes (within_of (Between bounds) (option_map (λ s. band_with s (known s) bytes) format)) ≡ true
 with-yes shape bounds known bytes None some agree said = let bad : false ≡ true = some in cc
 with-yes shape bounds known bytes (Some found) some agree said =
     subst (λ (s : Shape). is_yes (band_within bounds (band_with s (known s) bytes)) ≡ true) (sym (agree found refl)) said
 
 format-there : (bounds : Bounds) (known : Shape → Known) (bytes : List ℕ) (format : Option Shape) →
-    is_yes (within_of (Some bounds) (option_map (λ s. band_with s (known s) bytes) format)) ≡ true → IsSome format
+    is_yes (within_of (Between bounds) (option_map (λ s. band_with s (known s) bytes) format)) ≡ true → IsSome format
 format-there bounds known bytes None said = cc
 format-there bounds known bytes (Some found) said = refl
 
 -- a band that is given is one of the output's own registers
 here-parts : (bounds : Bounds) (elsewhere : Bool) (band : Option Band) →
-    is_yes (within_of (Some bounds) (cond elsewhere None band)) ≡ true →
-    (elsewhere ≡ false) × (is_yes (within_of (Some bounds) band) ≡ true)
+    is_yes (within_of (Between bounds) (cond elsewhere None band)) ≡ true →
+    (elsewhere ≡ false) × (is_yes (within_of (Between bounds) band) ≡ true)
 here-parts bounds true band said = cc
 here-parts bounds false band said = (refl, said)
 
@@ -269,9 +271,9 @@ not-micro : (g : Guarded) (output : ℕ) (x : ℤ) → guard_fault g (job.OrderM
 not-micro g output x free = some-fault (of_host (cell_fault g.host (Out output Operation))) (Host BadWord) free
 
 module _ (laws : Below) (guards : GuardedOrdersAreWithin) (config : Config) (passes : ℕ) (part : PartRegisters) (output : ℕ)
-    (bounds : Bounds) (limits' : List (Option Bounds)) (before : List Event) (event : Event) (numbers : IsOfBytes config)
+    (bounds : Bounds) (limits' : List OutputLimits) (before : List Event) (event : Event) (numbers : IsOfBytes config)
     (lived : IsLived config passes (event ∷ before)) (carry : CarryBytes before) (here : output < config.count)
-    (are : slice_index_or limits' output None ≡ Some bounds)
+    (are : slice_index_or limits' output Unlimited ≡ Between bounds)
     (steady : (restarts_host event || restarts_converter event) ≡ false) (fresh : IsFresh config passes before)
     (guarded : option_and_then (guard_fault (record { host = (now config passes before).host; limits = limits'; registers = part }))
     (asked_by event) ≡ None)
@@ -322,7 +324,7 @@ module _ (laws : Below) (guards : GuardedOrdersAreWithin) (config : Config) (pas
         registers = part;
       }) (job.Order cell w) ≡ None)
       same_word free) in
-      ap (λ (w : Within). is_yes w) (ap (λ (o : Option Bounds). within_of o (band_on part
+      ap (λ (w : Within). is_yes w) (ap (λ (o : OutputLimits). within_of o (band_on part
       (now config passes before).host output byte)) (sym are)
       ∙ guards.on (record { host = (now config passes before).host; limits = limits'; registers = part }) output byte free' on)
   operation-within (Some (job.OrderMicro cell x)) byte free is on =
@@ -453,12 +455,12 @@ module _ (laws : Below) (guards : GuardedOrdersAreWithin) (config : Config) (pas
 -- ---- A life ----
 
 module _ (laws : Below) (guards : GuardedOrdersAreWithin) (config : Config) (passes : ℕ) (part : PartRegisters) (output : ℕ)
-    (bounds : Bounds) (limits' : List (Option Bounds)) (before : List Event) (numbers : IsOfBytes config)
-    (here : output < config.count) (are : slice_index_or limits' output None ≡ Some bounds)
+    (bounds : Bounds) (limits' : List OutputLimits) (before : List Event) (numbers : IsOfBytes config)
+    (here : output < config.count) (are : slice_index_or limits' output Unlimited ≡ Between bounds)
     (idle : is_busy (now config passes before).host ≡ false)
     (fresh : IsFresh config passes before) (said : is_within config passes part before output bounds ≡ true) where
   own-said : (may_select_avsbus (possible_at (now config passes before).host (Out output Operation)) ≡ false)
-      × (is_yes (within_of (Some bounds) (option_map (λ s. band_with s (limits.known_of part s (now config passes before).host output)
+      × (is_yes (within_of (Between bounds) (option_map (λ s. band_with s (limits.known_of part s (now config passes before).host output)
       (operations (possible_at (now config passes before).host (Out output Operation)))) (format_at
       (now config passes before).host output)))
       ≡ true)
@@ -516,7 +518,7 @@ module _ (laws : Below) (guards : GuardedOrdersAreWithin) (config : Config) (pas
       (operations (raw_by (marks_at config passes (later ++ before)) output Operation)))
       (sym (known-marks laws config passes part (later ++ before) output lived here)) stays.inside) in
       let here' : may_select_avsbus possible ≡ false = ap (λ (p : Possible). may_select_avsbus p) operation ∙ stays.here in
-      ap (λ (b : Bool). is_yes (within_of (Some bounds) (cond b None
+      ap (λ (b : Bool). is_yes (within_of (Between bounds) (cond b None
       (option_map (λ f. band_with f (limits.known_of part f s output) (operations possible)) (format_at s output))))) here'
       ∙ with-yes (shape_for config output) bounds (λ f. limits.known_of part f s output) (operations possible) (format_at s output)
       (format-stays laws config passes later before output lived (quiet later steady)

@@ -14,7 +14,7 @@ use Rattle.pm_host.specs.declared.job.JobEnd.{JobEnd}
 use Rattle.pm_host.specs.Refusals.{is_busy}
 use Rattle.pm_host.specs.Transcript as host
 use Rattle.pm_limits.specs.declared.part_registers.PartRegisters.{PartRegisters}
-use Rattle.pm_limits.specs.Bounds.{Bounds}
+use Rattle.pm_limits.specs.declared.output_limits.OutputLimits.{OutputLimits}
 use Rattle.pm_limits.specs.Part.{has_register}
 use Rattle.pm_rail.specs.declared.wanted.Wanted.{Wanted}
 use Rattle.pm_rail.specs.Laws.{IsStep}
@@ -70,27 +70,27 @@ pub data IsCourse (config : Config) (passes : ℕ) (part : PartRegisters) (begun
       IsCourse config passes part begun before course later →
       IsBeside part begun.survey.output (asked (now config passes (later ++ before)) event) →
       IsCourse config passes part begun before course (event ∷ later)
-  says : (limits : Option Bounds) (course : Course) (later : List Event) →
+  says : (limits : OutputLimits) (course : Course) (later : List Event) →
       IsCourse config passes part begun before course later →
       IsCourse config passes part begun before (after_next part limits (now config passes (later ++ before)).host course) later
-  asks : (limits : Option Bounds) (course : Course) (later : List Event) (event : Event) (job : Asked) →
+  asks : (limits : OutputLimits) (course : Course) (later : List Event) (event : Event) (job : Asked) →
       IsCourse config passes part begun before course later →
       next_of part limits (now config passes (later ++ before)).host course ≡ Job job → asked_by event ≡ Some job →
       IsCourse config passes part begun before (after_next part limits (now config passes (later ++ before)).host course)
       (event ∷ later)
-  tells : (limits : Option Bounds) (course : Course) (newer later : List Event) (event : Event) (job : Asked) (end : JobEnd) →
+  tells : (limits : OutputLimits) (course : Course) (newer later : List Event) (event : Event) (job : Asked) (end : JobEnd) →
       IsCourse config passes part begun before course later →
       next_of part limits (now config passes (later ++ before)).host course ≡ Job job → asked_by event ≡ Some job →
       list_any begins_other newer ≡ false →
       (now config passes ((newer ++ event ∷ later) ++ before)).end ≡ Some end →
       IsCourse config passes part begun before
       (told_of (after_next part limits (now config passes (later ++ before)).host course) end) (newer ++ event ∷ later)
-  asks_else : (limits : Option Bounds) (course : Course) (later : List Event) (event : Event) (byte left : ℕ) (ordered : Bool) (job : Asked) →
+  asks_else : (limits : OutputLimits) (course : Course) (later : List Event) (event : Event) (byte left : ℕ) (ordered : Bool) (job : Asked) →
       IsCourse config passes part begun before course later → course.byte ≡ Some byte →
       IsElse part course.survey.output byte job → asked_by event ≡ Some job →
       IsCourse config passes part begun before
       (asking_else (renewed part limits (now config passes (later ++ before)).host course) job left ordered) (event ∷ later)
-  tells_else : (limits : Option Bounds) (course : Course) (newer later : List Event) (event : Event) (byte left : ℕ) (ordered : Bool)
+  tells_else : (limits : OutputLimits) (course : Course) (newer later : List Event) (event : Event) (byte left : ℕ) (ordered : Bool)
       (job : Asked) (end : JobEnd) → IsCourse config passes part begun before course later → course.byte ≡ Some byte →
       IsElse part course.survey.output byte job → asked_by event ≡ Some job → list_any begins_other newer ≡ false →
       (now config passes ((newer ++ event ∷ later) ++ before)).end ≡ Some end →
@@ -131,7 +131,7 @@ pub record KeepsCourses (config : Config) (passes : ℕ) (events : List Event) :
       HoldsMissing part config (now config passes before).device.words output →
       IsStep (goal_at config passes output wanted before)
       (commands config passes (later ++ before) output) (commands config passes ((newer ++ later) ++ before) output)
-  pub come_true : (part : PartRegisters) (limits : Option Bounds) (output : ℕ) (wanted : Wanted) (tries : ℕ) (course : Course)
+  pub come_true : (part : PartRegisters) (limits : OutputLimits) (output : ℕ) (wanted : Wanted) (tries : ℕ) (course : Course)
       (register : Reg) (word : ℕ) (later before : List Event) → events ≡ later ++ before →
       Begins config passes part (course_of output wanted tries) course later before →
       HoldsMissing part config (now config passes before).device.words output →
@@ -142,7 +142,7 @@ pub record KeepsCourses (config : Config) (passes : ℕ) (events : List Event) :
       Begins config passes part (course_of output wanted tries) course later before →
       HoldsMissing part config (now config passes before).device.words output → wants_of wanted register ≡ None →
       held_at config passes events output register ≡ held_at config passes before output register
-  pub commanded : (part : PartRegisters) (limits : Option Bounds) (output : ℕ) (wanted : Wanted) (tries : ℕ) (course : Course)
+  pub commanded : (part : PartRegisters) (limits : OutputLimits) (output : ℕ) (wanted : Wanted) (tries : ℕ) (course : Course)
       (later before : List Event) → events ≡ later ++ before →
       Begins config passes part (course_of output wanted tries) course later before →
       HoldsMissing part config (now config passes before).device.words output →
@@ -163,7 +163,7 @@ pub record KeepsPower (config : Config) (passes : ℕ) (events : List Event) : T
       Begins config passes part (power_course_of output byte tries) course (rest ++ (newer ++ later)) before →
       IsStep (power_goal_at config passes output byte before)
       (commands config passes (later ++ before) output) (commands config passes ((newer ++ later) ++ before) output)
-  pub come_true : (part : PartRegisters) (limits : Option Bounds) (output byte tries : ℕ) (course : Course)
+  pub come_true : (part : PartRegisters) (limits : OutputLimits) (output byte tries : ℕ) (course : Course)
       (later before : List Event) → events ≡ later ++ before →
       Begins config passes part (power_course_of output byte tries) course later before →
       next_of part limits (now config passes events).host course ≡ Ended Reached →

@@ -1,5 +1,5 @@
 -- What limits of an output are worth over a life: this project's own choice. Lists are newest first.
-use Rattle.std.specs.Prelude.{◌≡◌, ◌⊎◌, ◌<◌, ℕ, true, None, Some, List, [], ◌∷◌, ◌++◌, Option, option_and_then, slice_index_or}
+use Rattle.std.specs.Prelude.{◌≡◌, ◌⊎◌, ◌<◌, ℕ, true, None, Some, List, [], ◌∷◌, ◌++◌, option_and_then, slice_index_or}
 use Rattle.pm_num.specs.Ratio.{Ratio, AtMost, micros}
 use Rattle.pm_table.specs.declared.reg.Reg.{Reg}
 use Rattle.pm_table.specs.declared.reg.Reg.TheVariants.{VoutMax, VoutMin}
@@ -11,6 +11,8 @@ use Rattle.pm_device.specs.Held.{value_for}
 use Rattle.pm_device.specs.Start.{start_word}
 use Rattle.pm_host.specs.Transcript as host
 use Rattle.pm_limits.specs.declared.part_registers.PartRegisters.{PartRegisters}
+use Rattle.pm_limits.specs.declared.output_limits.OutputLimits.{OutputLimits}
+use Rattle.pm_limits.specs.declared.output_limits.OutputLimits.TheVariants.{Unlimited, Between}
 use Rattle.pm_limits.specs.Bounds.{Bounds, IsWithin}
 use Rattle.pm_limits.specs.Guard.{guard_fault}
 use Rattle.pm_world.specs.declared.event.Event.{Event}
@@ -67,7 +69,7 @@ pub record MinAtLeast (config : Config) (passes : ℕ) (events : List Event) (ou
       AtMost (value_for config output word) (value_for config output most)
 
 -- each job that was asked for is one that a guard with these limits, of a part with these registers, lets through
-abbrev pub AreGuarded : Config → ℕ → PartRegisters → List (Option Bounds) → List Event → Type 0
+abbrev pub AreGuarded : Config → ℕ → PartRegisters → List OutputLimits → List Event → Type 0
 AreGuarded config passes part limits [] = Unit {0}
 AreGuarded config passes part limits (event ∷ before) =
     (option_and_then (guard_fault (record { host = (now config passes before).host; limits = limits; registers = part }))
@@ -90,11 +92,11 @@ pub record StaysLimited (config : Config) (passes : ℕ) (events : List Event) :
   pub least : (output : ℕ) (least : Ratio) (later before : List Event) → output < config.count →
       events ≡ later ++ before → MinAtLeast config passes events output least →
       AtMost least (commands config passes before output)
-  pub guarded : (output : ℕ) (bounds : Bounds) (part : PartRegisters) (limits : List (Option Bounds)) → output < config.count →
-      slice_index_or limits output None ≡ Some bounds → AreGuarded config passes part limits events →
+  pub guarded : (output : ℕ) (bounds : Bounds) (part : PartRegisters) (limits : List OutputLimits) → output < config.count →
+      slice_index_or limits output Unlimited ≡ Between bounds → AreGuarded config passes part limits events →
       StartsWithin config output bounds → OwnWithin config passes events output bounds
-  pub ordered : (output : ℕ) (bounds : Bounds) (part : PartRegisters) (limits : List (Option Bounds)) → output < config.count →
-      slice_index_or limits output None ≡ Some bounds → AreGuarded config passes part limits events →
+  pub ordered : (output : ℕ) (bounds : Bounds) (part : PartRegisters) (limits : List OutputLimits) → output < config.count →
+      slice_index_or limits output Unlimited ≡ Between bounds → AreGuarded config passes part limits events →
       (register : Reg) (word : ℕ) → is_voltage register ≡ true →
       IsOwnWord config passes events (Out output register) word →
       (word ≡ start_word config (Out output register)) ⊎ IsWithin bounds (value_for config output word)

@@ -11,7 +11,7 @@ use Rattle.pm_host.specs.Refusals.{is_busy}
 use Rattle.pm_host.specs.Summary.{possible_at}
 use Rattle.pm_host.specs.Transcript as host
 use Rattle.pm_limits.specs.declared.part_registers.PartRegisters.{PartRegisters}
-use Rattle.pm_limits.specs.Bounds.{Bounds}
+use Rattle.pm_limits.specs.declared.output_limits.OutputLimits.{OutputLimits}
 use Rattle.pm_limits.specs.Part.{all_registers}
 use Rattle.pm_rail.specs.declared.orders.PlanOrder.{PlanOrder}
 use Rattle.pm_rail.specs.Known.{known_word}
@@ -48,7 +48,7 @@ last_order config passes output (event ∷ later) before = newest_order output
 -- the last one again
 abbrev pub IsPlansOrder : Config → ℕ → PartRegisters → ℕ → Wants → List Event → List Event → PlanOrder → Type 0
 IsPlansOrder config passes part output wants later before order =
-    ((limits : Option Bounds) × (plan_of part (now config passes (later ++ before)).host limits output wants ≡ Ok (Some order)))
+    ((limits : OutputLimits) × (plan_of part (now config passes (later ++ before)).host limits output wants ≡ Ok (Some order)))
     ⊎ (last_order config passes output later before ≡ Some order)
 
 -- what the host is asked for is no restore, and no order of this output but such a one
@@ -108,7 +108,7 @@ pub record KeepsPlans (config : Config) (passes : ℕ) (events : List Event) : T
       HoldsMissing part config (now config passes before).device.words output →
       Follows config passes part output wants later before →
       HoldsMissing part config (now config passes events).device.words output
-  pub come_true : (part : PartRegisters) (output : ℕ) (limits : Option Bounds) (wants : Wants) (register : Reg) (word : ℕ) →
+  pub come_true : (part : PartRegisters) (output : ℕ) (limits : OutputLimits) (wants : Wants) (register : Reg) (word : ℕ) →
       output < config.count → wants Operation ≡ None → IsReadSince config passes output wants events →
       HoldsMissing part config (now config passes events).device.words output →
       plan_of part (now config passes events).host limits output wants ≡ Ok None → wants register ≡ Some word →

@@ -10,6 +10,8 @@ use Rattle.pm_host.specs.Refusals.{is_busy}
 use Rattle.pm_host.specs.Transcript as host
 use Rattle.pm_limits.specs.declared.part_registers.PartRegisters.{PartRegisters}
 use Rattle.pm_limits.specs.Band.{band_at, band_on, is_yes, within_of}
+use Rattle.pm_limits.specs.declared.output_limits.OutputLimits.{OutputLimits}
+use Rattle.pm_limits.specs.declared.output_limits.OutputLimits.TheVariants.{Unlimited, Between}
 use Rattle.pm_limits.specs.Bounds.{Bounds}
 use Rattle.pm_limits.specs.Guard.{guard_fault}
 use Rattle.pm_world.specs.declared.event.Event.{Event}
@@ -26,11 +28,11 @@ use Rattle.pm_world.specs.Uncertainty.{AreSteady}
 -- the host's band of an output lies within limits, and so it would with this byte in OPERATION
 abbrev pub is_within : Config → ℕ → PartRegisters → List Event → ℕ → Bounds → Bool
 is_within config passes part events output bounds =
-    is_yes (within_of (Some bounds) (band_at part (now config passes events).host output))
+    is_yes (within_of (Between bounds) (band_at part (now config passes events).host output))
 
 abbrev pub is_within_on : Config → ℕ → PartRegisters → List Event → ℕ → Bounds → ℕ → Bool
 is_within_on config passes part events output bounds byte =
-    is_yes (within_of (Some bounds) (band_on part (now config passes events).host output byte))
+    is_yes (within_of (Between bounds) (band_on part (now config passes events).host output byte))
 
 -- no restore is asked for, and the output isn't turned off by a byte with which it isn't known to lie within the limits
 abbrev pub MayTurn : Config → ℕ → PartRegisters → List Event → ℕ → Bounds → Option host.Job → Type 0
@@ -40,7 +42,7 @@ MayTurn config passes part before output bounds (Some (host.Send RestoreUserAll)
 MayTurn config passes part before output bounds job = Unit {0}
 
 -- each of the later events asks for nothing but such a job, which a guard with these limits lets through
-abbrev pub StaysGuarded : Config → ℕ → PartRegisters → List (Option Bounds) → ℕ → Bounds → List Event → List Event → Type 0
+abbrev pub StaysGuarded : Config → ℕ → PartRegisters → List OutputLimits → ℕ → Bounds → List Event → List Event → Type 0
 StaysGuarded config passes part limits output bounds [] before = Unit {0}
 StaysGuarded config passes part limits output bounds (event ∷ later) before =
     (option_and_then (guard_fault (record {
@@ -61,10 +63,10 @@ IsFresh config passes events = (cell : Cell) → has_read config passes cell eve
 -- output isn't turned off by a byte with which it may lie outside. The converter's words are those of a program, and it didn't restart
 -- since the answers that the host rests on.
 abbrev pub WithinStaysWithin : Type 0
-WithinStaysWithin = (config : Config) (passes : ℕ) (part : PartRegisters) (output : ℕ) (bounds : Bounds) (limits : List (Option Bounds))
+WithinStaysWithin = (config : Config) (passes : ℕ) (part : PartRegisters) (output : ℕ) (bounds : Bounds) (limits : List OutputLimits)
     (later before : List Event) →
     IsSpelled config → StartsShort config → IsLived config passes (later ++ before) → CarryBytes (later ++ before) →
-    output < config.count → slice_index_or limits output None ≡ Some bounds →
+    output < config.count → slice_index_or limits output Unlimited ≡ Between bounds →
     is_busy (now config passes before).host ≡ false → IsFresh config passes before →
     AreSteady later → StaysGuarded config passes part limits output bounds later before →
     is_within config passes part before output bounds ≡ true → is_within config passes part (later ++ before) output bounds ≡ true

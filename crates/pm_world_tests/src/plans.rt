@@ -5,7 +5,7 @@ use crate::checks::{equal, is_true};
 use crate::look::Look;
 use pm_device::{Config, OutputStart};
 use pm_host::Job;
-use pm_limits::PartRegisters;
+use pm_limits::{OutputLimits, PartRegisters};
 use pm_num::Frac;
 use pm_rail::{Plan, PlanFault, PlanOrder, Survey, Wanted, next_order_in};
 use pm_table::{Cell, Coefficients, Reg};
@@ -367,7 +367,13 @@ fn plans(world: &World, output: u8, wanted: &Wanted) -> Result<Option<PlanOrder>
         wanted: *wanted,
     };
     let part = PartRegisters::all();
-    next_order_in(host.state(), host.stage(), part, &None, &plan)
+    next_order_in(
+        host.state(),
+        host.stage(),
+        part,
+        &OutputLimits::Unlimited,
+        &plan,
+    )
 }
 
 // One life.

@@ -172,6 +172,7 @@ CALLS = {
     "pm_host_new": (_u8, [_host, _u8, _u8, _u8]),
     "pm_host_new_with": (_u8, [_host, _u8, _u8, _u8, _at(RegistersImage)]),
     "pm_host_set_limits": (_u8, [_host, _u8, _i64, _i64]),
+    "pm_host_no_limits": (_u8, [_host, _u8]),
     "pm_host_limits": (_u8, [_host, _u8, _at(LimitsImage)]),
     "pm_host_limits_state": (_u8, [_host, _u8]),
     "pm_host_band": (_u8, [_host, _u8, _at(BandImage)]),

@@ -39,7 +39,7 @@ class Device:
     """A part on a bus, through a host of its own.
 
     `limits` gives outputs a least and a most, as {0: ("3.2V", "3.465V")}: no order beyond them leaves this host, and
-    they can be narrowed by `set_limits`. `lacks` names registers that the part doesn't have, as ("VOUT_MIN",). A voltage is a text with
+    they can be narrowed by `set_limits`. {1: None} says that output 1 has none; an output that isn't named is ordered no voltage (L8). `lacks` names registers that the part doesn't have, as ("VOUT_MIN",). A voltage is a text with
     its unit, as "3.3V" or "850mV", or a Voltage, which is what is given back.
 
     An order, a survey and a margin look at the rail behind their end, and raise NotDelivered where it doesn't deliver what it is commanded
@@ -49,7 +49,7 @@ class Device:
     """
 
     def __init__(self, bus: Bus, address: int, outputs: int = 1, passes: int = 3,
-                 limits: Mapping[int, tuple[GivenVoltage, GivenVoltage]] | None = None, lacks: Iterable[str | int] = (),
+                 limits: Mapping[int, tuple[GivenVoltage, GivenVoltage] | None] | None = None, lacks: Iterable[str | int] = (),
                  looks: Looks | None = Looks()) -> None:
         for name in ("write", "read"):
             if not callable(getattr(bus, name, None)):
@@ -62,8 +62,11 @@ class Device:
         self.delivered: Delivered | None = None
         self.lacks = frozenset(NAMES[code_of(register)] for register in lacks)
         for output, pair in dict(limits or {}).items():
+            if pair is None:
+                self.no_limits(output)
+                continue
             if not isinstance(pair, (tuple, list)) or len(pair) != 2:
-                raise TypeError(f"limits of output {output}: give a least and a most, and not {pair!r}")
+                raise TypeError(f"limits of output {output}: give a least and a most, or None for no limits, and not {pair!r}")
             self.set_limits(output, *pair)
 
     def __repr__(self) -> str:
@@ -77,15 +80,20 @@ class Device:
         self.host.set_limits(output, least, most)
 
     @alone
+    def no_limits(self, output: int) -> None:
+        """Says that an output has no limits. L6 where it has some."""
+        self.host.no_limits(output)
+
+    @alone
     def limits(self, output: int) -> tuple[Voltage, Voltage] | None:
-        """The limits of an output, None where it has none."""
+        """The limits of an output, None where it was given none."""
         found = self.host.limits(output)
         return None if found is None else (found.least, found.most)
 
     @alone
     def limits_state(self, output: int) -> str:
         """How the output lies to its limits, by what is known: `within`, `outside`, `not known` where that doesn't tell, or `no limits`
-        where it has none."""
+        where it was given none."""
         return self.host.limits_state(output)
 
     @alone
@@ -257,7 +265,7 @@ class Device:
         return self.complete(Course.words(output, wanted, tries), before_order, after_order, f"apply {output}", accept)
 
     def turn_on(self, output: int, tries: int = TRIES) -> RailState:
-        """Brings OPERATION to 80h, once what the output will command then is known. L2, L5 by its limits, P7 by WRITE_PROTECT."""
+        """Brings OPERATION to 80h, once what the output will command then is known. L8, L2, L5 by its limits, P7 by WRITE_PROTECT."""
         return self.complete(Course.power(output, ON, tries), job=f"on {output}")
 
     def turn_off(self, output: int, tries: int = TRIES) -> RailState:

@@ -25,6 +25,7 @@ SAYINGS = {
     "L5": "the output isn't known to be within its limits then: check or order what OPERATION selects first",
     "L6": "limits are narrowed, never widened",
     "L7": "the part doesn't have this register, or the margin that OPERATION selects: leave it out, or correct what it lacks",
+    "L8": "no limits of this output are known: give it some, or say that it has none",
     "P1": "the output's format isn't known: learn it first",
     "P4": "what the register holds isn't known: check it first",
     "P5": "it would be below VOUT_MIN: order VOUT_MIN first",
@@ -84,7 +85,7 @@ class NumberRefused(Refused):
 
 
 class LimitRefused(Refused):
-    """L1 to L7: what limits refuse, and a job on a register that the part doesn't have."""
+    """L1 to L8: what limits refuse, and a job on a register that the part doesn't have."""
 
 
 class PlanRefused(Refused):

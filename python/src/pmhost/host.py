@@ -27,8 +27,8 @@ SELECTED = {0xFF: "AVSBus", **NAMES}
 
 
 def state_of(number: int, limits: Limits | None) -> str:
-    """How an output lies to its limits, in words: the library calls one within that has none."""
-    return NONE_GIVEN if LIMITS_STATES[number] == "within" and limits is None else LIMITS_STATES[number]
+    """How an output lies to its limits, in words."""
+    return NONE_GIVEN if limits is None else LIMITS_STATES[number]
 
 
 def registers_image(lacks: Iterable[str | int]) -> at.RegistersImage:
@@ -56,7 +56,8 @@ def word_of(image: at.StandingImage) -> int | None:
 
 class Host:
     """A host for the device at an address, 08h to 77h, with 1 to 8 outputs; a job has at most 1 to 15 passes. `lacks` names the
-    registers that the part doesn't have: of VOUT_MAX, VOUT_MARGIN_HIGH, VOUT_MARGIN_LOW and VOUT_MIN.
+    registers that the part doesn't have: of VOUT_MAX, VOUT_MARGIN_HIGH, VOUT_MARGIN_LOW and VOUT_MIN. Give each output limits before its
+    first order, or say by `no_limits` that it has none.
 
     It says by `frame` what to send, and is told what became of it by `write_ended` or `read_ended`; `run` does so over a bus.
     Copies share nothing. It isn't for several threads at once.
@@ -106,8 +107,13 @@ class Host:
         pair = given_microvolts(least, "least"), given_microvolts(most, "most")
         accepted(library.pm_host_set_limits(REFERENCE(self._image), self._there(output), *pair))
 
+    def no_limits(self, output: int) -> None:
+        """Says that an output has no limits. Without this and without limits an order of a voltage, and one of OPERATION that leaves the
+        output on, is refused (L8); turning it off isn't. L6 where it has limits."""
+        accepted(library.pm_host_no_limits(REFERENCE(self._image), self._there(output)))
+
     def limits(self, output: int) -> Limits | None:
-        """The limits of an output, None where it has none."""
+        """The limits of an output, None where it was given none."""
         found = at.LimitsImage()
         number = library.pm_host_limits(REFERENCE(self._image), self._there(output), REFERENCE(found))
         if number == NO_LIMITS:
@@ -117,7 +123,7 @@ class Host:
 
     def limits_state(self, output: int) -> str:
         """How an output's voltage lies to its limits, by what is known: `within`, `outside`, `not known` where that doesn't tell, or
-        `no limits` where it has none."""
+        `no limits` where it was given none."""
         number = library.pm_host_limits_state(REFERENCE(self._image), self._there(output))
         if number not in LIMITS_STATES:
             raise refusal(number)
@@ -141,7 +147,7 @@ class Host:
     # ---- Jobs ----
 
     def order(self, output: int, register: str | int, word: int) -> None:
-        """Begins an order of a word. H3, L7, L2, L3, L4, H5, L5, H6."""
+        """Begins an order of a word. H3, L7, L8, L2, L3, L4, H5, L5, H6."""
         code, word = code_of(register), whole(word, 0, 0xFFFF, "word")
         accepted(library.pm_host_order(REFERENCE(self._image), self._there(output), code, word))
 

@@ -81,7 +81,7 @@ class Band:
 class RailState:
     """What an output commands, by what is known: whether it is on, None where OPERATION doesn't tell; its band, None where its
     format isn't known, where OPERATION may hand its voltage to AVSBus, or where an end is beyond 10^15 microvolts; and how that
-    lies to its `limits`: `within`, `outside`, `not known`, or `no limits` where it has none. `selected` is the register that has its
+    lies to its `limits`: `within`, `outside`, `not known`, or `no limits` where it was given none. `selected` is the register that has its
     voltage, `AVSBus`, or None where that isn't known."""
 
     is_on: bool | None

@@ -1,6 +1,6 @@
 //! The rows of trials/course/rows.txt and accept.txt, whose heads say what they are: each course over a bus that has the row's answers.
 
-use super::framed;
+use super::{framed, unlimited};
 use pmhost::*;
 
 const ROWS: &str = include_str!("../../../trials/course/rows.txt");
@@ -154,7 +154,7 @@ fn register_of(code: &str) -> Register {
 fn host_of(line: &str) -> Host {
     let number = |name| said(line, name).map_or(1, |text| text.parse().unwrap());
     let missing: Vec<Register> = said(line, "lacks=").map_or(Vec::new(), |codes| codes.split(',').map(register_of).collect());
-    let mut host = Host::without(0x58, number("outputs="), number("passes="), &missing).unwrap();
+    let mut host = unlimited(Host::without(0x58, number("outputs="), number("passes="), &missing).unwrap());
     if let Some((least, most)) = said(line, "limits=").and_then(|limits| limits.split_once(':')) {
         host.set_limits(0, Limits { least: least.parse().unwrap(), most: most.parse().unwrap() }).unwrap();
     }

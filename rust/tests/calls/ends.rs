@@ -3,7 +3,7 @@
 use core::fmt;
 use std::error::Error;
 
-use super::{framed, learned, part, COMMAND};
+use super::{framed, free, learned, part, COMMAND};
 use pmhost::*;
 
 /// A transaction that failed, by its number from 1.
@@ -76,7 +76,7 @@ impl Bus for Watched {
 }
 
 fn host() -> Host {
-    Host::new(0x58, 2, 3).unwrap()
+    free(0x58, 2, 3)
 }
 
 // VOUT_COMMAND 34CDh of output 0 as it is answered, without the address; and the same with another PEC.
@@ -223,7 +223,7 @@ fn each_job_sends_its_own_frames() {
 #[test]
 fn a_protected_part_makes_an_order_an_error() {
     let mut part = Part::protected(0x58, &[Output::default()], (1, 0, 3), 0x80).unwrap();
-    let mut host = Host::new(0x58, 1, 3).unwrap();
+    let mut host = free(0x58, 1, 3);
     let mut order = || -> Result<Done, NotDone<NoAnswer>> {
         host.run_job(Job::Learn(0), &mut part)?;
         host.run_job(Job::OrderMicrovolts(COMMAND, 3_300_000), &mut part)?;
@@ -240,7 +240,7 @@ fn microvolts_are_exact() {
     let direct = Format::Direct { m: 100, b: -3355, r: 4 };
     assert_eq!((direct.nearest_word(EXACT), direct.microvolts(4433)), (Ok(4433), Ok(EXACT)));
     let mut part = Part::new(0x58, &[Output { mode: 0x40, ..Output::default() }], (100, -3355, 4)).unwrap();
-    let mut host = Host::new(0x58, 1, 3).unwrap();
+    let mut host = free(0x58, 1, 3);
     assert_eq!(host.run_job(Job::Learn(0), &mut part), Ok(Done::Learned(direct)));
     assert_eq!(host.run_job(Job::OrderMicrovolts(COMMAND, EXACT), &mut part), Ok(Done::Word(4433)));
     assert_eq!(part.commanded_microvolts(0), Ok(EXACT));

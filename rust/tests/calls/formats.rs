@@ -1,6 +1,6 @@
 //! The format that a voltage is set by, and what a loop that didn't come to its end says.
 
-use super::framed;
+use super::{framed, free};
 use pmhost::*;
 
 const SET: Register = Register::VoutCommand;
@@ -51,7 +51,7 @@ impl Bus for Exchanged {
 
 #[test]
 fn a_voltage_is_set_in_the_format_that_the_part_has() {
-    let (mut host, mut bus) = (Host::new(0x58, 1, 3).unwrap(), Exchanged::new(usize::MAX));
+    let (mut host, mut bus) = (free(0x58, 1, 3), Exchanged::new(usize::MAX));
     for place in [0, 1] {
         // From the second call on another part is there.
         assert!(host.set_microvolts(0, SET, MICROVOLTS, COURSE_TRIES, &mut bus).is_ok());
@@ -67,7 +67,7 @@ fn a_voltage_is_set_in_the_format_that_the_part_has() {
 #[test]
 fn a_set_learns_whatever_is_known() {
     for (is_known, is_lost) in [(false, false), (true, false), (true, true)] {
-        let (mut host, mut bus) = (Host::new(0x58, 1, 1).unwrap(), Exchanged::new(usize::from(is_known)));
+        let (mut host, mut bus) = (free(0x58, 1, 1), Exchanged::new(usize::from(is_known)));
         if is_known {
             assert_eq!(host.run_job(Job::Learn(0), &mut bus), Ok(Done::Learned(Format::Ulinear16(-12))));
         }
@@ -84,13 +84,13 @@ fn a_part_that_is_exchanged_while_a_voltage_is_set() {
     // Transactions 0 to 5 are the survey, whose first is a learn, 6 and 7 the order, and the survey that comes then begins with 8.
     // After the first learn the word of the other part may be sent; the next survey finds that.
     for (at, sent) in [(0, [&[][..], &WORDS[1..]]), (6, [&[], &WORDS]), (8, [&WORDS[..1], &WORDS[1..]])] {
-        let (mut host, mut bus) = (Host::new(0x58, 1, 3).unwrap(), Exchanged::new(at));
+        let (mut host, mut bus) = (free(0x58, 1, 3), Exchanged::new(at));
         let rail = host.set_microvolts(0, SET, MICROVOLTS, COURSE_TRIES, &mut bus).unwrap();
         assert_eq!(rail.band, Ok(Band { least: 3_299_804, greatest: 3_299_805 }), "{at}");
         assert_eq!((bus.parts[1].commanded_microvolts(0), bus.words), (COMMANDED[1], sent.map(<[u16]>::to_vec)), "{at}");
     }
     for at in 1..=7 {
-        let (mut host, mut bus) = (Host::new(0x58, 1, 3).unwrap(), Exchanged::new(at));
+        let (mut host, mut bus) = (free(0x58, 1, 3), Exchanged::new(at));
         let rail = host.set_microvolts(0, SET, MICROVOLTS, COURSE_TRIES, &mut bus).unwrap();
         assert_eq!(
             (rail.band, bus.parts[1].commanded_microvolts(0)),
@@ -126,7 +126,7 @@ impl Bus for Vid {
 #[test]
 fn a_format_that_no_host_has_ends_a_course() {
     let [part, _] = parts();
-    let mut host = Host::new(0x58, 1, 1).unwrap();
+    let mut host = free(0x58, 1, 1);
     let mut bus = Vid { part, from: 0, modes: 0, count: 0 };
     let vid = Err(NotReached::NoFormat { mode: 0x21 });
     assert_eq!((host.set_microvolts(0, SET, MICROVOLTS, COURSE_TRIES, &mut bus).map(|_| ()), bus.count), (vid, 1));
@@ -187,7 +187,7 @@ fn spent_says_what_the_last_answer_was_and_what_the_bus_said() {
         (0, true, 3, Some(Cell::Output(0, Register::VoutCommand)), None), // a good answer came since
     ] {
         let [part, _] = parts();
-        let (mut host, mut bus) = (Host::new(0x58, 1, 1).unwrap(), Once { part, at, is_damaged, count: 0, met: false });
+        let (mut host, mut bus) = (free(0x58, 1, 1), Once { part, at, is_damaged, count: 0, met: false });
         let end = host.set_microvolts(0, SET, MICROVOLTS, tries, &mut bus);
         let error = (!is_damaged).then_some(at);
         assert_eq!(end, Err(NotReached::Spent { cell, fault, error }), "{at} {is_damaged} {tries}");

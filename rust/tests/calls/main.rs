@@ -23,8 +23,20 @@ fn part() -> Part {
     Part::new(0x58, &[Output { command: 0x34CD, ..Output::default() }, Output::default()], (1, 0, 3)).unwrap()
 }
 
+// A host whose outputs are said to have no limits.
+fn free(address: u8, outputs: u8, passes: u8) -> Host {
+    unlimited(Host::new(address, outputs, passes).unwrap())
+}
+
+fn unlimited(mut host: Host) -> Host {
+    for output in 0..host.outputs() {
+        host.no_limits(output).unwrap();
+    }
+    host
+}
+
 fn learned() -> (Host, Part) {
-    let (mut host, mut part) = (Host::new(0x58, 2, 3).unwrap(), part());
+    let (mut host, mut part) = (free(0x58, 2, 3), part());
     for output in 0..2 {
         assert_eq!(host.run_job(Job::Learn(output), &mut part), Ok(Done::Learned(Format::Ulinear16(-12))));
     }
@@ -74,6 +86,31 @@ fn limits_are_kept_by_the_host() {
     host.restart();
     assert_eq!((host.limits(0), host.band(0)), (Ok(Some(limits)), Err(Refusal::H7FormatUnknown)));
     assert_eq!(host.order(COMMAND, 0x34CD), Err(Refusal::L2FormatUnknown));
+}
+
+#[test]
+fn no_voltage_is_ordered_where_no_limits_are_known() {
+    let (mut host, mut part) = (Host::new(0x58, 2, 3).unwrap(), part());
+    let switch = |output| Cell::Output(output, Register::Operation);
+    assert_eq!((host.limits(0), host.limits_state(0)), (Ok(None), Ok(LimitsState::NotKnown)));
+    host.run_job(Job::Learn(0), &mut part).unwrap();
+    for register in [Register::VoutCommand, Register::VoutMax, Register::VoutMin, Register::VoutMarginHigh, Register::VoutMarginLow] {
+        assert_eq!(host.order(Cell::Output(0, register), 0x34CD), Err(Refusal::L8NoLimits), "{register:?}");
+    }
+    assert_eq!(host.order_microvolts(COMMAND, 3_300_000), Err(Refusal::L8NoLimits));
+    assert_eq!((host.order(switch(0), 0x80), host.order(switch(0), 0xA8)), (Err(Refusal::L8NoLimits), Err(Refusal::L8NoLimits)));
+    assert_eq!(host.run_job(Job::Order(switch(0), 0x00), &mut part), Ok(Done::Word(0x00)));
+    assert_eq!(host.run_job(Job::Order(Cell::WriteProtect, 0x00), &mut part), Ok(Done::Word(0x00)));
+    let mut course = Course::voltage(0, Register::VoutCommand, 3_300_000, COURSE_TRIES).unwrap();
+    let refused = host.run_course(&mut course, &mut part);
+    assert!(matches!(refused, Err(NotReached::Refused { refusal: Refusal::L8NoLimits, .. })), "{refused:?}");
+    assert_eq!((host.no_limits(2), host.no_limits(0)), (Err(Refusal::H4UnknownOutput), Ok(())));
+    assert_eq!((host.limits(0), host.limits_state(0)), (Ok(None), Ok(LimitsState::Yes)));
+    assert_eq!(host.run_job(Job::Order(COMMAND, 0x3400), &mut part), Ok(Done::Word(0x3400)));
+    assert_eq!(host.order(Cell::Output(1, Register::VoutCommand), 0x3400), Err(Refusal::L8NoLimits));
+    // Limits that are given later end it, and stay.
+    host.set_limits(0, Limits { least: 3_200_000, most: 3_465_000 }).unwrap();
+    assert_eq!((host.order(COMMAND, 0xFFFF), host.no_limits(0)), (Err(Refusal::L4AboveLimit), Err(Refusal::L6LimitsWidened)));
 }
 
 #[test]
@@ -127,7 +164,7 @@ fn a_refusal_has_its_letter_and_its_name() {
 
 #[test]
 fn a_frame_of_the_other_kind_is_refused() {
-    let mut host = Host::new(0x58, 1, 2).unwrap();
+    let mut host = free(0x58, 1, 2);
     assert_eq!(host.write_ended(true), Err(Refusal::OtherFrame));
     host.check(COMMAND).unwrap();
     assert_eq!((host.write_ended(true), host.order(COMMAND, 1)), (Err(Refusal::OtherFrame), Err(Refusal::H3Busy)));
@@ -283,7 +320,7 @@ impl Bus for Faulty {
 fn no_confirmed_word_is_wrong_under_every_fault() {
     let mut ends = [0; 3];
     for fates in 0..4096 {
-        let mut host = Host::new(0x58, 2, 3).unwrap();
+        let mut host = free(0x58, 2, 3);
         let mut bus = Faulty { part: part(), fates };
         let end = host.run_job(Job::Order(COMMAND, 0x3400), &mut bus);
         let held = bus.part.word(COMMAND).unwrap();

@@ -5,6 +5,7 @@ use std::cell::Cell as Kept;
 use std::error::Error;
 use std::rc::Rc;
 
+use super::free;
 use pmhost::*;
 
 /// Why a transaction failed: nobody acknowledged the address, or a byte behind it wasn't acknowledged.
@@ -117,7 +118,7 @@ impl Clock for Back {
 fn a_clock_that_steps_back_ends_the_patience() {
     let below = Scripted { does: b"uuuu", time: Time(Rc::new(Kept::new(0))), calls: String::new(), last: 0 };
     let mut bus = Patient::new(below, Back(50));
-    assert!(Host::new(0x58, 1, 1).unwrap().run_job(ORDER, &mut bus).is_err());
+    assert!(free(0x58, 1, 1).run_job(ORDER, &mut bus).is_err());
     assert_eq!(bus.into_inner().calls, "WR");
 }
 
@@ -125,7 +126,7 @@ fn a_clock_that_steps_back_ends_the_patience() {
 fn a_bus_may_be_borrowed_and_is_given_back() {
     let clock = || Time(Rc::new(Kept::new(0)));
     let mut part = Part::new(0x58, &[Output::default()], (1, 0, 3)).unwrap();
-    let mut host = Host::new(0x58, 1, 1).unwrap();
+    let mut host = free(0x58, 1, 1);
     let mut bus = Patient::new(&mut part, clock());
     assert_eq!(host.run_job(ORDER, &mut bus), Ok(Done::Word(0x34CD)));
     bus.bus_mut().restart();
@@ -146,7 +147,7 @@ fn carried_out(job: Job, passes: u8, told: Told, does: &'static str) -> (Result<
     let bus = Patient::new(below, time);
     let bus = if let Some(milliseconds) = told.0 { bus.with_patience(milliseconds) } else { bus };
     let mut bus = if let Some((code, mask)) = told.1 { bus.with_ready(code, mask) } else { bus };
-    let ended = Host::new(0x58, 1, passes).unwrap().run_job(job, &mut bus);
+    let ended = free(0x58, 1, passes).run_job(job, &mut bus);
     let below = bus.bus();
     (ended, below.calls.clone(), below.last.wrapping_sub(BEGIN))
 }
@@ -202,7 +203,7 @@ fn ones_are_no_answer() {
     // At 4Ah they have the right packet error code for WRITE_PROTECT.
     let time = Time(Rc::new(Kept::new(0)));
     let below = Scripted { does: b"o", time: time.clone(), calls: String::new(), last: 0 };
-    let mut host = Host::new(0x4A, 1, 1).unwrap();
+    let mut host = free(0x4A, 1, 1);
     assert_eq!(host.run_job(Job::Check(Cell::WriteProtect), &mut Patient::new(below, time)), ones);
 }
 

@@ -1,5 +1,6 @@
 //! What an output commands, and courses.
 
+use super::{free, unlimited};
 use pmhost::*;
 
 const VOLTS: Wanted = Wanted { command: Some(0x3500), max: None, margin_high: None, margin_low: None, min: None };
@@ -38,7 +39,7 @@ fn lossy(lost: usize) -> Lossy {
 
 #[test]
 fn a_rail_is_told_by_what_is_known() {
-    let (mut host, mut bus) = (Host::new(0x58, 1, 3).unwrap(), lossy(0));
+    let (mut host, mut bus) = (free(0x58, 1, 3), lossy(0));
     let before = host.rail(0).unwrap();
     assert_eq!((before.power, before.selected), (Power::NotKnown, Selected::NotKnown));
     assert_eq!((before.band, before.within), (Err(Refusal::H7FormatUnknown), LimitsState::Yes));
@@ -60,12 +61,12 @@ fn a_rail_says_which_register_has_its_voltage() {
     ];
     for (byte, selected) in rows {
         let output = Output { operation: byte, ..Output::default() };
-        let (mut host, mut bus) = (Host::new(0x58, 1, 1).unwrap(), Part::new(0x58, &[output], (1, 0, 3)).unwrap());
+        let (mut host, mut bus) = (free(0x58, 1, 1), Part::new(0x58, &[output], (1, 0, 3)).unwrap());
         host.run_job(Job::Check(Cell::Output(0, Register::Operation)), &mut bus).unwrap();
         assert_eq!(host.rail(0).unwrap().selected, selected, "{byte:02X}");
     }
     // No part of the model holds B0h, which hands the voltage to AVSBus.
-    let mut host = Host::new(0x58, 1, 1).unwrap();
+    let mut host = free(0x58, 1, 1);
     host.check(Cell::Output(0, Register::Operation)).unwrap();
     let _ = host.read_ended(&[0xB1, 0x01, 0xB0, pec(&[0xB0, 0x06, 0x02, 0x00, 0x01, 0xB1, 0x01, 0xB0])]).unwrap();
     assert_eq!(host.rail(0).unwrap().selected, Selected::AvsBus);
@@ -73,7 +74,7 @@ fn a_rail_says_which_register_has_its_voltage() {
 
 #[test]
 fn a_course_says_what_it_would_begin_and_what_is_under_way() {
-    let (mut host, mut bus) = (Host::new(0x58, 1, 3).unwrap(), lossy(0));
+    let (mut host, mut bus) = (free(0x58, 1, 3), lossy(0));
     let cell = Cell::Output(0, Register::VoutCommand);
     let mut course = Course::words(0, &VOLTS, 40).unwrap();
     assert_eq!((course.next(&host), course.job(), course.end()), (Some(Job::Learn(0)), None, None));
@@ -120,7 +121,7 @@ fn a_course_is_of_an_output_and_of_voltages() {
 
 #[test]
 fn a_course_waits_for_another_job() {
-    let (mut host, mut bus) = (Host::new(0x58, 1, 1).unwrap(), lossy(0));
+    let (mut host, mut bus) = (free(0x58, 1, 1), lossy(0));
     let mut course = Course::survey(0, 9).unwrap();
     host.check(Cell::WriteProtect).unwrap();
     let busy = NotReached::Refused { refusal: Refusal::H3Busy, cell: None };
@@ -132,7 +133,7 @@ fn a_course_waits_for_another_job() {
 
 #[test]
 fn a_course_writes_what_is_due_and_surveys() {
-    let (mut host, mut bus) = (Host::new(0x58, 1, 3).unwrap(), lossy(0));
+    let (mut host, mut bus) = (free(0x58, 1, 3), lossy(0));
     let wanted = Wanted { max: Some(0x3A00), command: Some(0x3900), ..Wanted::default() };
     assert_eq!(run(&mut host, &wanted, 40, &mut bus), Ok(()));
     assert_eq!((bus.writes.as_slice(), bus.part.commanded_microvolts(0)), (&[0x24, 0x21][..], Ok(3_562_500)));
@@ -146,7 +147,7 @@ fn a_course_writes_what_is_due_and_surveys() {
 
 #[test]
 fn a_voltage_is_set_and_told() {
-    let (mut host, mut bus) = (Host::new(0x58, 1, 3).unwrap(), lossy(1));
+    let (mut host, mut bus) = (free(0x58, 1, 3), lossy(1));
     host.set_limits(0, Limits { least: 3_200_000, most: 3_600_000 }).unwrap();
     // Nothing is known: the format is learned, the first write is lost, and the word is 3501h, 3.312744 V.
     let selected = Selected::Register(Register::VoutCommand);
@@ -168,7 +169,7 @@ fn a_voltage_is_set_and_told() {
 
 #[test]
 fn a_voltage_that_is_not_set_says_why() {
-    let (mut host, mut bus) = (Host::new(0x58, 1, 1).unwrap(), lossy(9));
+    let (mut host, mut bus) = (free(0x58, 1, 1), lossy(9));
     host.set_limits(0, Limits { least: 3_200_000, most: 3_600_000 }).unwrap();
     let mut set = |register, microvolts, tries| host.set_microvolts(0, register, microvolts, tries, &mut bus);
     let refused = |refusal, cell| Err(NotReached::Refused { refusal, cell });
@@ -193,7 +194,7 @@ fn a_format_that_is_not_learned_ends_a_set() {
             Err(NoAnswer)
         }
     }
-    let (mut host, mut bus) = (Host::new(0x58, 1, 1).unwrap(), Dead(0));
+    let (mut host, mut bus) = (free(0x58, 1, 1), Dead(0));
     let end = host.set_microvolts(0, Register::VoutCommand, 3_300_000, 4, &mut bus);
     let fault = Some(AnswerFault::NoAnswer);
     assert_eq!((end, bus.0), (Err(NotReached::Spent { cell: None, fault, error: Some(NoAnswer) }), 4));
@@ -201,9 +202,9 @@ fn a_format_that_is_not_learned_ends_a_set() {
 
 #[test]
 fn a_lost_order_is_given_once_again() {
-    let (mut host, mut bus) = (Host::new(0x58, 1, 1).unwrap(), lossy(1));
+    let (mut host, mut bus) = (free(0x58, 1, 1), lossy(1));
     assert_eq!((run(&mut host, &VOLTS, 40, &mut bus), bus.writes.len()), (Ok(()), 2));
-    let (mut host, mut bus) = (Host::new(0x58, 1, 1).unwrap(), lossy(9));
+    let (mut host, mut bus) = (free(0x58, 1, 1), lossy(9));
     let end = run(&mut host, &VOLTS, 40, &mut bus);
     assert_eq!(end, Err(NotReached::Differs { register: Register::VoutCommand, word: 0x34CD }));
     assert_eq!(bus.writes.len(), 2);
@@ -214,7 +215,7 @@ fn a_lost_order_is_given_once_again() {
 #[test]
 fn a_part_may_lack_registers() {
     let missing = [Register::VoutMin, Register::VoutMarginHigh];
-    let (mut host, mut bus) = (Host::without(0x58, 1, 3, &missing).unwrap(), lossy(0));
+    let (mut host, mut bus) = (unlimited(Host::without(0x58, 1, 3, &missing).unwrap()), lossy(0));
     assert_eq!(run(&mut host, &VOLTS, 40, &mut bus), Ok(()));
     assert_eq!(host.check(Cell::Output(0, Register::VoutMin)), Err(Refusal::L7MissingRegister));
     assert_eq!(host.order(Cell::Output(0, Register::Operation), 0xA8), Err(Refusal::L7MissingRegister));
@@ -233,7 +234,7 @@ fn a_part_may_lack_registers() {
 
 #[test]
 fn off_is_the_first_frame_and_on_comes_after_a_survey() {
-    let (mut host, mut bus) = (Host::new(0x58, 1, 1).unwrap(), lossy(0));
+    let (mut host, mut bus) = (free(0x58, 1, 1), lossy(0));
     assert_eq!(host.run_course(&mut Course::power(0, 0, 9).unwrap(), &mut bus), Ok(()));
     assert_eq!((bus.writes.as_slice(), host.rail(0).unwrap().power), (&[0x01][..], Power::Off));
     assert_eq!(host.format(0), Ok(None));

@@ -139,7 +139,7 @@ static int is_right(const row *of) {
     bus to = {of, 0, 0, 0, 0, (uint32_t)BEGIN, (uint32_t)BEGIN};
     pm_patient patient = {put, ask, &to, now, wait, of->patience, 0, (uint8_t)(of->mask != 0 ? 0xEF : 0), of->mask};
     pm_step step = {0, 0};
-    if (pm_host_new(&host, of->address, 1, of->passes) != PM_OK)
+    if (pm_host_new(&host, of->address, 1, of->passes) != PM_OK || pm_host_no_limits(&host, 0) != PM_OK)
         return 0;
     for (int times = of->job == 't' ? 2 : 1; times > 0; times--) {
         if (begin(&host, of->job) != PM_OK)

@@ -140,7 +140,7 @@ static int is_right(const row *of, uint16_t confirmed) {
     pm_host host;
     pm_standing standing = {0, 0};
     bus to = {of, &host, 0, 0, NULL};
-    if (pm_host_new(&host, 0x58, 2, of->passes) != PM_OK || begin(&host, of->job) != PM_OK) {
+    if (pm_host_new(&host, 0x58, 2, of->passes) != PM_OK || pm_host_no_limits(&host, 0) != PM_OK || begin(&host, of->job) != PM_OK) {
         printf("%s: the job is refused\n", of->name);
         return 0;
     }

@@ -1,4 +1,5 @@
 ghost use Rattle.std.specs.Prelude.{◌≡◌, IfSome, MatchOption, None, Some, is_some, replicate, true};
+ghost use Rattle.pm_limits.specs.declared.output_limits.OutputLimits.TheVariants.{Unlimited};
 ghost use Rattle.pm_limits.specs.Part.{all_registers};
 ghost use Rattle.pm_host.specs.Summary.{start};
 ghost use Rattle.pm_device.specs.History.{start_of};
@@ -140,7 +141,7 @@ fn came(count: usize) -> ReadEnd
 /// Where the plan has no restart, the driver keeps that with each job ([`never_restarts_stays`](crate::never_restarts_stays)).
 pub fn driver_over<'a>(c: Config, passes: u8, plan: &'a [Fault]) -> Option<Driver<SimulatedBus<'a>>>
     ensures guard { IfSome result (λ driver. driver.guard
-        ≡ record { host = start (setup_of c passes); limits = replicate 8 None; registers = all_registers }) }
+        ≡ record { host = start (setup_of c passes); limits = replicate 8 Unlimited; registers = all_registers }) }
     ensures device { IfSome result (λ driver. driver.bus.device ≡ start_of c) }
     ensures plan { IfSome result (λ driver. driver.bus.plan.now ≡ plan.now) }
     ensures next { IfSome result (λ driver. driver.bus.next ≡ 0) }

@@ -11,7 +11,8 @@ use crate::host::{
 use crate::known::{pm_host_confirmed_word, pm_host_possible_words, pm_host_restart_seen};
 use crate::known_cells::{KnownCell, KnownCells, pm_host_known_cells};
 use crate::limits::{
-    BandImage, pm_host_band, pm_host_limits, pm_host_limits_state, pm_host_set_limits,
+    BandImage, pm_host_band, pm_host_limits, pm_host_limits_state, pm_host_no_limits,
+    pm_host_set_limits,
 };
 use crate::names::{NameImage, pm_end_name, pm_refusal_name};
 use crate::other_read::{BlockImage, pm_read_block, pm_read_plain};
@@ -39,10 +40,18 @@ pub(super) const PACKET: PacketImage = PacketImage {
     word: 9,
 };
 
-// A host with two outputs and at most this many passes.
-pub(super) fn host(passes: u8) -> GuardImage {
+// A host with two outputs and at most this many passes, of which no limits are known.
+pub(super) fn bare(passes: u8) -> GuardImage {
     let mut image = GuardImage::blank();
     let _ = pm_host_new(&mut image, 0x58, 2, passes);
+    image
+}
+
+// A host with two outputs that are said to have no limits.
+pub(super) fn host(passes: u8) -> GuardImage {
+    let mut image = bare(passes);
+    let _ = no_limits(&mut image, 0);
+    let _ = no_limits(&mut image, 1);
     image
 }
 
@@ -56,6 +65,8 @@ pub(super) fn host_with(passes: u8, has: [u8; 4]) -> GuardImage {
         vout_min: has[3],
     };
     let _ = pm_host_new_with(&mut image, 0x58, 2, passes, &registers);
+    let _ = no_limits(&mut image, 0);
+    let _ = no_limits(&mut image, 1);
     image
 }
 
@@ -209,6 +220,10 @@ pub(super) fn at_least(format: &FormatNumbers, microvolts: i64) -> (u8, u16) {
 
 pub(super) fn narrow(image: &mut GuardImage, output: u8, least: i64, most: i64) -> u8 {
     pm_host_set_limits(image, output, least, most)
+}
+
+pub(super) fn no_limits(image: &mut GuardImage, output: u8) -> u8 {
+    pm_host_no_limits(image, output)
 }
 
 pub(super) fn limits(image: &GuardImage, output: u8) -> (u8, i64, i64) {

@@ -5,12 +5,14 @@ use super::checks::equal;
 use crate::guard_image::GuardImage;
 use crate::host::{pm_host_new, pm_host_order};
 use crate::host_step::HostStep;
+use crate::limits::pm_host_no_limits;
 use crate::sending_image::SendingImage;
 use crate::told::{pm_host_frame, pm_host_read_ended, pm_host_write_ended};
 
 // 3.3 V for VOUT_COMMAND of output 0, by a host of a part at address 58h with two outputs.
 fn ordered(host: &mut GuardImage, frame: &mut SendingImage) -> HostStep {
     pm_host_new(host, 0x58, 2, 2); // the last number: two passes
+    pm_host_no_limits(host, 0); // of output 0 any voltage is ordered
     pm_host_order(host, 0, 0x21, 0x34CD);
     pm_host_frame(host, frame); // a write: B0 05 04 00 21 CD 34 5A
     pm_host_write_ended(host, 0); // no acknowledgement came; the host reads the cell back

@@ -1,8 +1,8 @@
 //! Limits, the band, names, and what is known of every cell.
 
 use super::calls::{
-    band, check, end_name, got, host, known, learn, limits, narrow, order, order_micro,
-    refusal_name, within,
+    band, bare, check, end_name, got, host, known, learn, limits, narrow, no_limits, order,
+    order_micro, refusal_name, within,
 };
 use super::checks::{equal, is_true};
 use crate::guard_image::GuardImage;
@@ -96,6 +96,45 @@ fn the_band_is_rounded_outward(rt: HostRuntime) {
     equal(&rt, &within(&image, 0), &0x91, &5);
 }
 
+// An output, a code, a word, and the number of its order where no limits are known: VOUT_COMMAND, VOUT_MAX and VOUT_MIN,
+// OPERATION on and off, and WRITE_PROTECT.
+static UNKNOWN: [(u8, u8, u16, u8); 8] = [
+    (0, 0x21, 0x34CD, 0x28),
+    (0, 0x24, 0x34CD, 0x28),
+    (1, 0x2B, 0x34CD, 0x28),
+    (0, 0x01, 0x80, 0x28),
+    (0, 0x01, 0xA8, 0x28),
+    (0, 0x01, 0x40, 0),
+    (0, 0x10, 0x00, 0),
+    (2, 0x21, 0x34CD, 0x04),
+];
+
+#[test]
+fn no_voltage_is_ordered_where_no_limits_are_known(rt: HostRuntime) {
+    for &(output, code, word, number) in &UNKNOWN {
+        let mut image = bare(2);
+        equal(
+            &rt,
+            &order(&mut image, output, code, word),
+            &number,
+            &(output, code, word),
+        );
+    }
+    let mut image = bare(2);
+    equal(&rt, &limits(&image, 0), &(0xE6, 7, 7), &1);
+    equal(&rt, &within(&image, 0), &0x93, &2);
+    equal(&rt, &no_limits(&mut image, 2), &4, &3);
+    equal(&rt, &no_limits(&mut image, 0), &0, &4);
+    equal(&rt, &limits(&image, 0), &(0xE6, 7, 7), &5);
+    equal(&rt, &within(&image, 0), &0x91, &6);
+    equal(&rt, &order(&mut image, 1, 0x21, 0x34CD), &0x28, &7);
+    equal(&rt, &narrow(&mut image, 0, 3_200_000, 3_465_000), &0, &8);
+    equal(&rt, &no_limits(&mut image, 0), &0x26, &9);
+    equal(&rt, &limits(&image, 0), &(0, 3_200_000, 3_465_000), &10);
+    equal(&rt, &no_limits(&mut image, 1), &0, &11);
+    equal(&rt, &order(&mut image, 1, 0x21, 0x34CD), &0, &12);
+}
+
 // What came for a read of VOUT_MIN and of VOUT_MAX, the limits that the output then has, and whether its voltage lies
 // within them: its whole band a microvolt below them and above them, and touching them.
 static BEYOND: [([u8; 5], [u8; 5], i64, i64, u8); 4] = [
@@ -135,7 +174,8 @@ static REFUSALS: [(u8, &[u8]); 29] = [
     (0x15, b"N5 TooLarge\0"),
     (0x25, b"L5 NotKnownWithin\0"),
     (0x27, b"L7 MissingRegister\0"),
-    (0x28, b""),
+    (0x28, b"L8 NoLimits\0"),
+    (0x29, b""),
     (0x35, b"F5 WrongPec\0"),
     (0x47, b"K7 ReadOnly\0"),
     (0x50, b""),

@@ -3,7 +3,7 @@
 use super::guards::{DIRECT, FALLING, LINEAR, first, guard, learn, read, refusal};
 use crate::checks::{equal, is_true};
 use pm_host::Job;
-use pm_limits::{Guard, Within};
+use pm_limits::{Guard, OutputLimits, Within};
 use pm_num::Frac;
 use pm_table::Reg;
 use std::process::Abort;
@@ -128,7 +128,7 @@ fn a_band_is_within_or_not_or_that_isnt_known(rt: HostRuntime) {
         }
         equal(&rt, &within(&guard), &Some(wanted), &command);
     }
-    // With no limits everything is.
+    // Where it is said that there are no limits everything is.
     let mut free = guard_without_limits();
     equal(&rt, &within(&free), &Some(Within::Yes), &3);
     learn(&mut free, 0, LINEAR, &[]);
@@ -136,7 +136,7 @@ fn a_band_is_within_or_not_or_that_isnt_known(rt: HostRuntime) {
 }
 
 fn guard_without_limits() -> Guard {
-    match Guard::new(0x58, 1, 1, [None; 8]) {
+    match Guard::new(0x58, 1, 1, [OutputLimits::Unlimited; 8]) {
         Ok(guard) => guard,
         Err(_) => unreachable!(),
     }

@@ -2,7 +2,7 @@
 
 use pm_frame::{Frame, Message, answer, fits};
 use pm_host::{Job, Told, Turn};
-use pm_limits::{Guard, LimitFault, Limits};
+use pm_limits::{Guard, LimitFault, Limits, OutputLimits};
 use pm_table::{Cell, Reg};
 
 /// ULINEAR16 with the exponent -12: a word is so many times 1/4096 V.
@@ -19,10 +19,12 @@ pub(crate) const fn first(register: Reg) -> Cell {
     Cell::Out(0, register)
 }
 
-/// A guard whose first output has these limits, in microvolts; the second has none.
+/// A guard whose first output has these limits, in microvolts; the second is said to have none.
 pub(crate) fn guard(least: i64, most: i64) -> Guard {
-    let mut limits = [None; 8];
-    limits[0] = Limits::new(least, most).ok();
+    let mut limits = [OutputLimits::Unlimited; 8];
+    if let Ok(first) = Limits::new(least, most) {
+        limits[0] = OutputLimits::Between(first);
+    }
     match Guard::new(0x58, 2, 1, limits) {
         Ok(guard) => guard,
         Err(_) => unreachable!(),

@@ -6,7 +6,7 @@ use super::rails::{asks, next_of};
 use crate::checks::{equal, is_true};
 use pm_frame::Message;
 use pm_host::{HostFault, Job, JobEnd, Told};
-use pm_limits::{Guard, LimitFault, Limits, PartRegisters, Within};
+use pm_limits::{Guard, LimitFault, Limits, OutputLimits, PartRegisters, Within};
 use pm_num::Frac;
 use pm_rail::{PlanFault, PlanOrder, Power, Survey, Wanted, next_order, rail_of};
 use pm_table::{Cell, Reg};
@@ -24,10 +24,12 @@ const NOTHING: Wanted = Wanted {
     min: None,
 };
 
-// A guard of a part with these registers, whose first output has limits of 0.9 V to 1.1 V; the second has none.
+// A guard of a part with these registers, whose first output has limits of 0.9 V to 1.1 V; the second is said to have none.
 fn guard_of(part: PartRegisters) -> Guard {
-    let mut limits = [None; 8];
-    limits[0] = Limits::new(900_000, 1_100_000).ok();
+    let mut limits = [OutputLimits::Unlimited; 8];
+    if let Ok(first) = Limits::new(900_000, 1_100_000) {
+        limits[0] = OutputLimits::Between(first);
+    }
     match Guard::of_part(0x58, 2, 1, limits, part) {
         Ok(guard) => guard,
         Err(_) => unreachable!(),

@@ -311,9 +311,15 @@ fn a_plan_is_refused_for_what_comes_first(rt: HostRuntime) {
 }
 
 // Each fault as programs print it, its number and the code of its register.
-static LETTERS: [(PlanFault, &str, u8, Option<u8>); 8] = [
+static LETTERS: [(PlanFault, &str, u8, Option<u8>); 9] = [
     (PlanFault::Busy, "H3 Busy", 3, None),
     (PlanFault::FormatUnknown, "P1 FormatUnknown", 0x61, None),
+    (
+        PlanFault::NoLimits(Reg::VoutMin),
+        "L8 NoLimits",
+        0x28,
+        Some(0x2B),
+    ),
     (
         PlanFault::BelowLimit(Reg::VoutMax),
         "L3 BelowLimit",

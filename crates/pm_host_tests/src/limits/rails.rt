@@ -4,7 +4,7 @@ use super::guards::{DIRECT, FALLING, LINEAR, first, give_up, guard, learn, read,
 use crate::checks::{equal, is_true};
 use pm_frame::Message;
 use pm_host::{HostFault, Job};
-use pm_limits::{Guard, Within};
+use pm_limits::{Guard, OutputLimits, Within};
 use pm_rail::{
     PlanFault, PlanOrder, Power, Rail, Selected, Survey, Wanted, begin_next, next_order, rail_of,
 };
@@ -170,7 +170,7 @@ fn a_rail_is_told_by_what_is_known(rt: HostRuntime) {
 
 // The example of the root, word for word.
 fn asked() -> Result<(Option<PlanFault>, Option<Job>), HostFault> {
-    let guard = Guard::new(0x58, 1, 2, [None; 8])?;
+    let guard = Guard::new(0x58, 1, 2, [OutputLimits::Unknown; 8])?;
     let wanted = Wanted {
         command: Some(0x34CD), // 3.3 V where VOUT_MODE says ULINEAR16 with the exponent -12
         max: Some(0x3770),

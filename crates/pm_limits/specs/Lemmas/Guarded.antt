@@ -23,6 +23,8 @@ use Rattle.pm_host.specs.Summary.{format_at}
 use Rattle.pm_host.specs.Transcript.{Order}
 use Rattle.pm_limits.specs.declared.fault.LimitFault.{LimitFault}
 use Rattle.pm_limits.specs.declared.fault.LimitFault.TheVariants.{BelowLimit, AboveLimit, MissingRegister}
+use Rattle.pm_limits.specs.declared.output_limits.OutputLimits.{OutputLimits}
+use Rattle.pm_limits.specs.declared.output_limits.OutputLimits.TheVariants.{Unknown, Unlimited, Between}
 use Rattle.pm_limits.specs.declared.guard.Within.{Within}
 use Rattle.pm_limits.specs.declared.guard.Within.TheVariants.{Yes, No, NotKnown}
 use Rattle.pm_limits.specs.Band.{band_on, is_yes, within_of}
@@ -30,6 +32,7 @@ use Rattle.pm_limits.specs.Bounds.{Bounds, IsWithin, outside_fault}
 use Rattle.pm_limits.specs.Guard.{Guarded, guard_fault, guarded_order, judged, limits_at, missing_cell, missing_ordered, of_host}
 use Rattle.pm_limits.specs.Guard.{operation_limit, unsure_fault, voltage_limit}
 use Rattle.pm_limits.specs.Guard.{word_fault}
+use Rattle.pm_limits.specs.OutputLimits.{are_known}
 use Rattle.pm_limits.specs.Part.{has_register}
 use Rattle.pm_num.specs.Lemmas.Order.{at-most}
 
@@ -44,11 +47,12 @@ inside bounds value h = go (is_above (micros bounds.least) value) (is_above valu
       record { from_least = at-most (micros bounds.least) value b; to_greatest = at-most value (micros bounds.most) a }
 
 -- a word that the limits let through
-let-through : (limits : Option Bounds) (shape : Option Shape) (word : ℕ) (bounds : Bounds) → limits ≡ Some bounds →
+let-through : (limits : OutputLimits) (shape : Option Shape) (word : ℕ) (bounds : Bounds) → limits ≡ Between bounds →
     voltage_limit limits shape word ≡ None → IsSomeAnd shape (λ s. IsWithin bounds (shape_value s word))
-let-through None shape word bounds is free = cc
-let-through (Some own) None word bounds is free = cc
-let-through (Some own) (Some shape) word bounds is free =
+let-through Unknown shape word bounds is free = cc
+let-through Unlimited shape word bounds is free = cc
+let-through (Between own) None word bounds is free = cc
+let-through (Between own) (Some shape) word bounds is free =
     let same : own ≡ bounds = cc in
     subst (λ (b : Bounds). IsWithin b (shape_value shape word)) same (inside own (shape_value shape word) free)
 
@@ -59,30 +63,26 @@ judged-voltage : (g : Guarded) (output : ℕ) (register : Reg) (word : ℕ) → 
 judged-voltage g output Operation word h = cc
 judged-voltage g output register word h = refl
 
--- An order of a voltage that is let through has a word within the limits.
-order-within : (g : Guarded) (cell : Cell) (output : ℕ) (register : Reg) (word : ℕ) (bounds : Bounds) →
+-- The limits say nothing of an order of a voltage that is let through.
+order-judged : (g : Guarded) (cell : Cell) (output : ℕ) (register : Reg) (word : ℕ) →
     guarded_order g.registers (limits_at g (output_of cell)) g.host cell word ≡ None → cell ≡ Out output register
-    → is_voltage register ≡ true →
-    limits_at g output ≡ Some bounds →
-    IsSomeAnd (format_at g.host output) (λ shape. IsWithin bounds (shape_value shape word))
-order-within g cell output register word bounds free is voltage limits =
+    → is_voltage register ≡ true → voltage_limit (limits_at g output) (format_at g.host output) word ≡ None
+order-judged g cell output register word free is voltage =
     let judge = (or-none (judged g.registers (limits_at g (output_of cell)) g.host cell word) _
     (or-none (missing_ordered g.registers cell word) _ (or-none (of_host (cell_fault g.host cell)) _ free).1).1).0 in
-    let none = sym (judged-voltage g output register word voltage)
-    ∙ ap (λ (c : Cell). judged g.registers (limits_at g (output_of c)) g.host c word) (sym is) ∙ judge in
-    let-through (limits_at g output) (format_at g.host output) word bounds limits none
+    sym (judged-voltage g output register word voltage)
+    ∙ ap (λ (c : Cell). judged g.registers (limits_at g (output_of c)) g.host c word) (sym is) ∙ judge
 
--- A job that orders a voltage, as a word or in microvolts, and is let through has a word within the limits.
-pub guarded-voltage : (g : Guarded) (asked : Job) (output : ℕ) (register : Reg) (word : ℕ) (bounds : Bounds) →
+-- The limits say nothing of a job that orders one, as a word or in microvolts, and is let through.
+job-judged : (g : Guarded) (asked : Job) (output : ℕ) (register : Reg) (word : ℕ) →
     guard_fault g asked ≡ None → accepted_job g.host asked ≡ Some (Order (Out output register) word) →
-    is_voltage register ≡ true → limits_at g output ≡ Some bounds →
-    IsSomeAnd (format_at g.host output) (λ shape. IsWithin bounds (shape_value shape word))
-guarded-voltage g (job.Order cell w) output register word bounds free is voltage limits =
+    is_voltage register ≡ true → voltage_limit (limits_at g output) (format_at g.host output) word ≡ None
+job-judged g (job.Order cell w) output register word free is voltage =
     let same_cell : cell ≡ Out output register = cc in
     let same_word : w ≡ word = cc in
-    subst (λ n. IsSomeAnd (format_at g.host output) (λ shape. IsWithin bounds (shape_value shape n))) same_word
-    (order-within g cell output register w bounds free same_cell voltage limits)
-guarded-voltage g (job.OrderMicro cell x) output register word bounds free is voltage limits =
+    subst (λ n. voltage_limit (limits_at g output) (format_at g.host output) n ≡ None) same_word
+    (order-judged g cell output register w free same_cell voltage)
+job-judged g (job.OrderMicro cell x) output register word free is voltage =
     let third = (or-none (word_fault g.host cell x) _
     (or-none (missing_cell g.registers cell) _ (or-none (of_host (cell_fault g.host cell)) _ free).1).1).1 in
     go (micro_word g.host cell x)
@@ -92,16 +92,36 @@ guarded-voltage g (job.OrderMicro cell x) output register word bounds free is vo
     go : (found : Option ℕ) →
         option_and_then (λ n. guarded_order g.registers (limits_at g (output_of cell)) g.host cell n) found ≡ None →
         option_map (λ n. Order cell n) found ≡ Some (Order (Out output register) word) →
-        IsSomeAnd (format_at g.host output) (λ shape. IsWithin bounds (shape_value shape word))
+        voltage_limit (limits_at g output) (format_at g.host output) word ≡ None
     go None none is' = cc
     go (Some w) none is' =
         let same_cell : cell ≡ Out output register = cc in
         let same_word : w ≡ word = cc in
-        subst (λ n. IsSomeAnd (format_at g.host output) (λ shape. IsWithin bounds (shape_value shape n))) same_word
-        (order-within g cell output register w bounds none same_cell voltage limits)
-guarded-voltage g (job.Check cell) output register word bounds free is voltage limits = cc
-guarded-voltage g (job.Learn o) output register word bounds free is voltage limits = cc
-guarded-voltage g (job.Send command) output register word bounds free is voltage limits = cc
+        subst (λ n. voltage_limit (limits_at g output) (format_at g.host output) n ≡ None) same_word
+        (order-judged g cell output register w none same_cell voltage)
+job-judged g (job.Check cell) output register word free is voltage = cc
+job-judged g (job.Learn o) output register word free is voltage = cc
+job-judged g (job.Send command) output register word free is voltage = cc
+
+-- A voltage that is let through of an output with limits lies within them.
+pub guarded-voltage : (g : Guarded) (asked : Job) (output : ℕ) (register : Reg) (word : ℕ) (bounds : Bounds) →
+    guard_fault g asked ≡ None → accepted_job g.host asked ≡ Some (Order (Out output register) word) →
+    is_voltage register ≡ true → limits_at g output ≡ Between bounds →
+    IsSomeAnd (format_at g.host output) (λ shape. IsWithin bounds (shape_value shape word))
+guarded-voltage g asked output register word bounds free is voltage limits =
+    let-through (limits_at g output) (format_at g.host output) word bounds limits (job-judged g asked output register word free is voltage)
+
+-- None is let through of an output of which no limits are known.
+pub guarded-known : (g : Guarded) (asked : Job) (output : ℕ) (register : Reg) (word : ℕ) →
+    guard_fault g asked ≡ None → accepted_job g.host asked ≡ Some (Order (Out output register) word) →
+    is_voltage register ≡ true → are_known (limits_at g output) ≡ true
+guarded-known g asked output register word free is voltage =
+    go (limits_at g output) (format_at g.host output) (job-judged g asked output register word free is voltage)
+  where
+    go : (limits : OutputLimits) (shape : Option Shape) → voltage_limit limits shape word ≡ None → are_known limits ≡ true
+    go Unknown shape none = cc
+    go Unlimited shape none = refl
+    go (Between bounds) shape none = refl
 
 -- A byte of OPERATION that leaves the output on is let through only where all of the band lies within the limits.
 pub guarded-on : (g : Guarded) (output byte : ℕ) → guard_fault g (job.Order (Out output Operation) byte) ≡ None →
@@ -113,7 +133,7 @@ guarded-on g output byte free on =
     (or-none (of_host (cell_fault g.host (Out output Operation))) _ free).1).1).0
   where
     go : (b : Bool) (w : Within) → b ≡ true →
-        cond (b && not (is_yes w)) (Some (unsure_fault (format_at g.host output))) None ≡ None → w ≡ Yes
+        cond (b && not (is_yes w)) (Some (unsure_fault (limits_at g output) (format_at g.host output))) None ≡ None → w ≡ Yes
     go false w on' none = cc
     go true Yes on' none = refl
     go true No on' none = cc
@@ -157,25 +177,25 @@ pub guarded-off : (g : Guarded) (output byte : ℕ) → has_on byte ≡ false �
 guarded-off g output byte off = alone g (Out output Operation) byte
     (ap (λ (r : Reg). rule (not (has_register g.registers r)) MissingRegister) (off-selects byte off))
     (ap (λ (b : Bool). cond (b && not (is_yes (within_of (limits_at g output) (band_on g.registers g.host output byte))))
-    (Some (unsure_fault (format_at g.host output))) None)
+    (Some (unsure_fault (limits_at g output) (format_at g.host output))) None)
     off)
 
 -- the limits of an output that has none say nothing
-judged-free : (g : Guarded) (output : ℕ) (register : Reg) (word : ℕ) → limits_at g output ≡ None →
+judged-free : (g : Guarded) (output : ℕ) (register : Reg) (word : ℕ) → limits_at g output ≡ Unlimited →
     judged g.registers (limits_at g output) g.host (Out output register) word ≡ None
 judged-free g output Operation word none =
-    ap (λ (l : Option Bounds). cond (has_on word && not (is_yes (within_of l (band_on g.registers g.host output word))))
-    (Some (unsure_fault (format_at g.host output))) None)
+    ap (λ (l : OutputLimits). cond (has_on word && not (is_yes (within_of l (band_on g.registers g.host output word))))
+    (Some (unsure_fault l (format_at g.host output))) None)
     none
     ∙ go (has_on word)
   where
-    go : (b : Bool) → cond (b && false) (Some (unsure_fault (format_at g.host output))) None ≡ None
+    go : (b : Bool) → cond (b && false) (Some (unsure_fault Unlimited (format_at g.host output))) None ≡ None
     go true = refl
     go false = refl
-judged-free g output register word none = ap (λ (l : Option Bounds). voltage_limit l (format_at g.host output) word) none
+judged-free g output register word none = ap (λ (l : OutputLimits). voltage_limit l (format_at g.host output) word) none
 
 -- an order for a register of an output without limits is refused as the host refuses it
-pub guarded-free : (g : Guarded) (output : ℕ) (register : Reg) (word : ℕ) → limits_at g output ≡ None →
+pub guarded-free : (g : Guarded) (output : ℕ) (register : Reg) (word : ℕ) → limits_at g output ≡ Unlimited →
     missing_ordered g.registers (Out output register) word ≡ None →
     guard_fault g (job.Order (Out output register) word)
     ≡ of_host (begin_fault g.host (job.Order (Out output register) word))

@@ -22,7 +22,8 @@ use Rattle.pm_host.specs.Possible.{has_room, is_listed, only}
 use Rattle.pm_host.specs.Refusals.{cell_fault, is_busy, order_fault}
 use Rattle.pm_host.specs.Summary.{Summary, format_at, possible_at}
 use Rattle.pm_limits.specs.declared.fault.LimitFault.TheVariants as limit
-use Rattle.pm_limits.specs.Bounds.{Bounds}
+use Rattle.pm_limits.specs.declared.output_limits.OutputLimits.{OutputLimits}
+use Rattle.pm_limits.specs.declared.output_limits.OutputLimits.TheVariants.{Unknown, Unlimited, Between}
 use Rattle.pm_limits.specs.declared.part_registers.PartRegisters.{PartRegisters}
 use Rattle.pm_limits.specs.declared.ends.Side.TheVariants.{Lowest, Highest}
 use Rattle.pm_limits.specs.Ends.{format_end}
@@ -30,7 +31,7 @@ use Rattle.pm_limits.specs.Guard.{Guarded, guard_fault, judged, limits_at, missi
 use Rattle.pm_limits.specs.Part.{has_register, missing_word}
 use Rattle.pm_rail.specs.declared.orders.PlanOrder.{PlanOrder}
 use Rattle.pm_rail.specs.Known.{Cells, cells_of, known_of, sole, sole_of}
-use Rattle.pm_rail.specs.Orders.{below_fault, is_wanted_above, is_wanted_below, is_wanted_missing, limits_fault, order_of, plan_of}
+use Rattle.pm_rail.specs.Orders.{below_fault, is_wanted, is_wanted_above, is_wanted_below, is_wanted_missing, limits_fault, order_of, plan_of}
 use Rattle.pm_rail.specs.Plan.{goal_of, next_register}
 use Rattle.pm_rail.specs.Registers.{Held, Wants}
 use Rattle.pm_rail.specs.Lemmas.Ends.{due}
@@ -48,11 +49,13 @@ room word Any h = refl
 room word (Words words) h = room-listed word words.items h
 
 -- a limit says nothing of a wanted word that the plan judged
-limit-says : (limits : Option Bounds) (shape : Shape) (wants : Wants) (register : Reg) (word : ℕ) →
+limit-says : (limits : OutputLimits) (shape : Shape) (wants : Wants) (register : Reg) (word : ℕ) →
     limits_fault limits (shape_value shape) wants ≡ None → is_voltage register ≡ true → wants register ≡ Some word →
     voltage_limit limits (Some shape) word ≡ None
-limit-says None shape wants register word free volt is = refl
-limit-says (Some bounds) shape wants register word free volt is =
+limit-says Unlimited shape wants register word free volt is = refl
+limit-says Unknown shape wants register word free volt is =
+    let bad = sym (none-voltage _ (is_wanted wants) free register volt) ∙ ap (λ (o : Option ℕ). is_some o) is in cc
+limit-says (Between bounds) shape wants register word free volt is =
     let below = none-voltage _ (is_wanted_below (micros bounds.least) (shape_value shape) wants) (or-none _ _ free).0 register volt in
     let above = none-voltage _ (is_wanted_above (micros bounds.most) (shape_value shape) wants)
     (or-none (below_fault (micros bounds.least) (shape_value shape) wants) _ free).1 register volt in
@@ -75,7 +78,7 @@ a-voltage : (wants : Wants) (register : Reg) (word : ℕ) → wants Operation �
 a-voltage wants Operation word none is = absurd (let bad = sym none ∙ is in cc)
 a-voltage wants register word none is = refl
 
-judged-voltage : (part : PartRegisters) (limits : Option Bounds) (s : Summary) (output : ℕ) (register : Reg) (word : ℕ) →
+judged-voltage : (part : PartRegisters) (limits : OutputLimits) (s : Summary) (output : ℕ) (register : Reg) (word : ℕ) →
     is_voltage register ≡ true → judged part limits s (Out output register) word ≡ voltage_limit limits (format_at s output) word
 judged-voltage part limits s output Operation word h = cc
 judged-voltage part limits s output register word h = refl
@@ -123,7 +126,7 @@ accepted g output wants register word here none is =
     s : Summary
     s = g.host
 
-    limits : Option Bounds
+    limits : OutputLimits
     limits = limits_at g output
 
     planned : IsPlanned g.registers s limits output wants (Some (record { register = register; word = word }))

@@ -15,7 +15,7 @@ use Rattle.pm_table.specs.Operation.{selected_register}
 use Rattle.pm_table.specs.Rules.{first, rule}
 use Rattle.pm_table.specs.RuleLemmas.{map-none, or-none}
 use Rattle.pm_model.specs.Commanded.{Scale}
-use Rattle.pm_limits.specs.Bounds.{Bounds}
+use Rattle.pm_limits.specs.declared.output_limits.OutputLimits.{OutputLimits}
 use Rattle.pm_limits.specs.Lemmas.Selected.{each-selected}
 use Rattle.pm_host.specs.declared.knowledge.Possible.{Possible}
 use Rattle.pm_host.specs.declared.knowledge.Possible.TheVariants.{Any, Words}
@@ -89,7 +89,7 @@ none-selected fault test free byte =
     each-selected (λ r. test r ≡ false) (one.0) (two.0) (three.0) byte
 
 -- an answer that is no refusal
-pub record IsPlanned (part : PartRegisters) (s : Summary) (limits : Option Bounds) (output : ℕ) (wants : Wants)
+pub record IsPlanned (part : PartRegisters) (s : Summary) (limits : OutputLimits) (output : ℕ) (wants : Wants)
     (order : Option PlanOrder) : Type 0 where
   pub idle : is_busy s ≡ false
   pub there : missing_fault part wants ≡ None
@@ -101,7 +101,7 @@ pub record IsPlanned (part : PartRegisters) (s : Summary) (limits : Option Bound
   pub next : let known = known_of (cells_of part shape s) output in
       option_map (order_of known wants) (next_register (shape_value shape) known wants) ≡ order
 
-pub is-planned : (part : PartRegisters) (s : Summary) (limits : Option Bounds) (output : ℕ) (wants : Wants) (order : Option PlanOrder) →
+pub is-planned : (part : PartRegisters) (s : Summary) (limits : OutputLimits) (output : ℕ) (wants : Wants) (order : Option PlanOrder) →
     plan_of part s limits output wants ≡ Ok order → IsPlanned part s limits output wants order
 is-planned part s limits output wants order is = either (is_busy s) refl is where
   by : (shape : Shape) (within unknown protect words protected : Option PlanFault) (next : Option PlanOrder) →

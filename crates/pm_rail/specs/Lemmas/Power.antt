@@ -9,7 +9,7 @@ use Rattle.pm_host.specs.declared.job.Job.TheVariants.{Order}
 use Rattle.pm_host.specs.Refusals.{is_busy}
 use Rattle.pm_host.specs.Summary.{Summary}
 use Rattle.pm_limits.specs.declared.part_registers.PartRegisters.{PartRegisters}
-use Rattle.pm_limits.specs.Bounds.{Bounds}
+use Rattle.pm_limits.specs.declared.output_limits.OutputLimits.{OutputLimits}
 use Rattle.pm_rail.specs.declared.fault.PlanFault.TheVariants.{Busy, NotKnown}
 use Rattle.pm_rail.specs.declared.orders.PlanOrder.{PlanOrder}
 use Rattle.pm_rail.specs.Survey.{is_surveyed, next_job}
@@ -26,7 +26,7 @@ pub data NamesPower (part : PartRegisters) (s : Summary) (course : Course) (byte
   reads : (job : Asked) → next_job part course.survey s ≡ Some job → NamesPower part s course byte job
   orders : NamesPower part s course byte (Order (Out course.survey.output Operation) byte)
 
-module _ (part : PartRegisters) (limits : Option Bounds) (s : Summary) (course : Course) (byte : ℕ) (power : course.byte ≡ Some byte) where
+module _ (part : PartRegisters) (limits : OutputLimits) (s : Summary) (course : Course) (byte : ℕ) (power : course.byte ≡ Some byte) where
   abbrev the_order : PlanOrder
   the_order = record { register = Operation; word = byte }
 

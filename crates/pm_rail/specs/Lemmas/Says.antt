@@ -17,7 +17,7 @@ use Rattle.pm_host.specs.declared.job.JobEnd.TheVariants as end
 use Rattle.pm_host.specs.Refusals.{is_busy}
 use Rattle.pm_host.specs.Summary.{Summary, format_at}
 use Rattle.pm_limits.specs.declared.part_registers.PartRegisters.{PartRegisters}
-use Rattle.pm_limits.specs.Bounds.{Bounds}
+use Rattle.pm_limits.specs.declared.output_limits.OutputLimits.{OutputLimits}
 use Rattle.pm_limits.specs.Guard.{Guarded, limits_at}
 use Rattle.pm_limits.specs.Part.{has_register}
 use Rattle.pm_rail.specs.declared.fault.PlanFault.{PlanFault}
@@ -122,7 +122,7 @@ same-shape : (a b : Shape) → ◌≡◌ {A = Option Shape} (Some a) (Some b) �
 same-shape a b e = ap (λ (o : Option Shape). unwrap_or o a) e
 
 -- A plan is refused where a survey for it is stuck at a register that the part doesn't have.
-pub stuck-plan : (part : PartRegisters) (v : Survey) (s : Summary) (limits : Option Bounds) (order : Option PlanOrder) →
+pub stuck-plan : (part : PartRegisters) (v : Survey) (s : Summary) (limits : OutputLimits) (order : Option PlanOrder) →
     is_stuck part v s ≡ true → plan_of part s limits v.output (wants_of (wanted_in v.plan)) ≡ Ok order → ⊥
 stuck-plan part v s limits order stuck is = by (format_at s v.output) refl stuck where
   wants : Wants
@@ -158,7 +158,7 @@ stuck-plan part v s limits order stuck is = by (format_at s v.output) refl stuck
 
 -- What a course says, case by case: a job is open; an order differed twice; the part lacks a wanted register; the output is
 -- turned off; the survey asks for a job; or it asks for nothing, and this is the next order.
-pub data Said (part : PartRegisters) (limits : Option Bounds) (s : Summary) (course : Course) : Next → Type 0 where
+pub data Said (part : PartRegisters) (limits : OutputLimits) (s : Summary) (course : Course) : Next → Type 0 where
   says-busy : is_busy s ≡ true → Said part limits s course (Ended (Stopped (Refused Busy)))
   says-differs : (d : Differing) → course.twice ≡ Some d → Said part limits s course (Ended (Stopped (Differs d.register d.word)))
   says-missing : (fault : PlanFault) → is_busy s ≡ false → Said part limits s course (Ended (Stopped (Refused fault)))
@@ -167,7 +167,7 @@ pub data Said (part : PartRegisters) (limits : Option Bounds) (s : Summary) (cou
   says-order : (order : Result (Option PlanOrder) PlanFault) → is_busy s ≡ false → due_job part course.survey s ≡ None →
       order_next part limits s course ≡ order → Said part limits s course (ordering course order)
 
-pub said : (part : PartRegisters) (limits : Option Bounds) (s : Summary) (course : Course) →
+pub said : (part : PartRegisters) (limits : OutputLimits) (s : Summary) (course : Course) →
     Said part limits s course (says part limits s course)
 said part limits s course = go (is_busy s) refl where
   asks : (o : Option Asked) → is_busy s ≡ false → due_job part course.survey s ≡ o → Said part limits s course (reading part limits s course o)
@@ -237,13 +237,13 @@ none-some : (order : PlanOrder) → ◌≡◌ {A = Result (Option PlanOrder) Pla
 none-some order e = cc
 
 -- how a course comes to name a job: its survey asks for it, or has ended by its own rule and the order is the next one
-pub data Names (part : PartRegisters) (limits : Option Bounds) (s : Summary) (course : Course) : Asked → Type 0 where
+pub data Names (part : PartRegisters) (limits : OutputLimits) (s : Summary) (course : Course) : Asked → Type 0 where
   reads : (job : Asked) → next_job part course.survey s ≡ Some job → Names part limits s course job
   orders : (order : PlanOrder) → is_surveyed part course.survey s ≡ true →
       plan_of part s limits course.survey.output (wants_of (wanted_in course.survey.plan)) ≡ Ok (Some order) →
       Names part limits s course (Order (Out course.survey.output order.register) order.word)
 
-module _ (part : PartRegisters) (limits : Option Bounds) (s : Summary) (course : Course) (words : course.byte ≡ None) where
+module _ (part : PartRegisters) (limits : OutputLimits) (s : Summary) (course : Course) (words : course.byte ≡ None) where
   -- the order is that of the plan, or none where nothing is wanted
   planned : (o : Result (Option PlanOrder) PlanFault) → order_next part limits s course ≡ o →
       ((o ≡ Ok None) × (is_none course.survey.plan ≡ true) × (is_surveyed part course.survey s ≡ true))
@@ -339,7 +339,7 @@ module _ (part : PartRegisters) (limits : Option Bounds) (s : Summary) (course :
 -- ---- What stays ----
 
 -- what holds of a course and of one that begins once more holds of the one that is asked
-pub renewed-so : (P : Course → Type 0) (part : PartRegisters) (limits : Option Bounds) (s : Summary) (course : Course) →
+pub renewed-so : (P : Course → Type 0) (part : PartRegisters) (limits : OutputLimits) (s : Summary) (course : Course) →
     P course → P (once_more course) → P (renewed part limits s course)
 renewed-so P part limits s course p q = go (is_carried_out part limits s course) where
   go : (b : Bool) → P (if b then once_more course else course)
@@ -347,7 +347,7 @@ renewed-so P part limits s course p q = go (is_carried_out part limits s course)
   go false = p
 
 -- while nothing was ordered a course begins no new survey
-pub renewed-none : (part : PartRegisters) (limits : Option Bounds) (s : Summary) (course : Course) → course.ordered ≡ false →
+pub renewed-none : (part : PartRegisters) (limits : OutputLimits) (s : Summary) (course : Course) → course.ordered ≡ false →
     renewed part limits s course ≡ course
 renewed-none part limits s course none =
     ap (λ (b : Bool). if b && (is_none course.twice && (is_surveyed part course.survey s && is_last (order_next part limits s course)))
@@ -389,7 +389,7 @@ differing-same course (Some (Learn output)) e = (refl, refl)
 differing-same course (Some (Send command)) e = (refl, refl)
 
 -- What holds of each job of the survey and of each order of the output holds of what is named, and no job is open then.
-pub named-so : (P : Asked → Type 0) (part : PartRegisters) (limits : Option Bounds) (s : Summary) (course : Course) →
+pub named-so : (P : Asked → Type 0) (part : PartRegisters) (limits : OutputLimits) (s : Summary) (course : Course) →
     ((j : Asked) → next_job part course.survey s ≡ Some j → P j) →
     ((order : PlanOrder) → P (Order (Out course.survey.output order.register) order.word)) →
     (job : Asked) → says part limits s course ≡ Job job → (is_busy s ≡ false) × P job

@@ -8,7 +8,7 @@ use Rattle.pm_table.specs.declared.reg.Reg.TheVariants.{Operation}
 use Rattle.pm_model.specs.Commanded.{Scale}
 use Rattle.pm_host.specs.Summary.{Summary, format_at}
 use Rattle.pm_limits.specs.declared.part_registers.PartRegisters.{PartRegisters}
-use Rattle.pm_limits.specs.Bounds.{Bounds}
+use Rattle.pm_limits.specs.declared.output_limits.OutputLimits.{OutputLimits}
 use Rattle.pm_rail.specs.declared.orders.PlanOrder.{PlanOrder}
 use Rattle.pm_rail.specs.Known.{cells_of, known_of}
 use Rattle.pm_rail.specs.Laws.{MayHold}
@@ -22,7 +22,7 @@ use Rattle.pm_rail.specs.Lemmas.Known.{IsPlanned, goal-same, is-planned, known-a
 at-some : {A : Type 0} (P : A → Type 0) (o : Option A) (a : A) → o ≡ Some a → P a → IsSomeAnd o P
 at-some {A = A} P o a is p = subst (λ (q : Option A). IsSomeAnd q P) (sym is) p
 
-module _ (part : PartRegisters) (s : Summary) (limits : Option Bounds) (output : ℕ) (wants : Wants) (order : Option PlanOrder) (held : Held)
+module _ (part : PartRegisters) (s : Summary) (limits : OutputLimits) (output : ℕ) (wants : Wants) (order : Option PlanOrder) (held : Held)
     (none : wants Operation ≡ None) (may : MayHold part s output wants held)
     (is : plan_of part s limits output wants ≡ Ok order) where
   planned : IsPlanned part s limits output wants order
@@ -70,7 +70,7 @@ unordered held wants (Some register) h = cc
 wanted-goal : (held : Held) (wants : Wants) (register : Reg) (word : ℕ) → wants register ≡ Some word → goal_of held wants register ≡ word
 wanted-goal held wants register word is = ap (λ (o : Option ℕ). unwrap_or o (held register)) is
 
-pub done-held : (part : PartRegisters) (s : Summary) (limits : Option Bounds) (output : ℕ) (wants : Wants) (held : Held) (register : Reg)
+pub done-held : (part : PartRegisters) (s : Summary) (limits : OutputLimits) (output : ℕ) (wants : Wants) (held : Held) (register : Reg)
     (word : ℕ) →
     wants Operation ≡ None → MayHold part s output wants held → plan_of part s limits output wants ≡ Ok None →
     wants register ≡ Some word → held register ≡ word

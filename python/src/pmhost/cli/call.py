@@ -209,7 +209,7 @@ class Call:
     def places(self) -> dict[str, Place]:
         """The parts of the call by their names, none of which was opened before its first use."""
         if not self._places:
-            options = Options(self.passes, self.delay, self.busy_timeout, self.is_forced, self.is_shared, self.kernel)
+            options = Options(self.passes, self.delay, self.busy_timeout, self.is_forced, self.is_shared, self.kernel, self.is_unlimited)
             self._trace = Trace(self.trace_path, head_of(self.words), self.is_timed)
             is_board = self._rails is not None and self._rails.is_board
             self._log = Log(self._log_path, self.words, not is_board)

@@ -126,7 +126,7 @@ class JobsCall(Call):
     def places(self) -> dict[str, Place]:
         if not self._places:
             part = BoardPart(ONLY, MODEL_BUS, faults.ADDRESS, self.counted(), "", self.lacks)
-            options = Options(self.passes, 0, None, False, False, None)
+            options = Options(self.passes, 0, None, False, False, None, self.is_unlimited)
             self._places = {ONLY: FaultyPlace(part, self.limits, options, self.bench.bus)}
         return self._places
 

@@ -22,9 +22,10 @@ HELD_LOW = ("a line is held low: address 02, which no part may have, acknowledge
 class Options:
     """How the parts of a call are driven: its options but for where the parts are."""
 
-    def __init__(self, passes: int, delay: int, busy_timeout: int | None, is_forced: bool, is_shared: bool, kernel: Calls | None) -> None:
+    def __init__(self, passes: int, delay: int, busy_timeout: int | None, is_forced: bool, is_shared: bool, kernel: Calls | None,
+                 is_unlimited: bool) -> None:
         self.passes, self.delay, self.busy_timeout = passes, delay, busy_timeout
-        self.is_forced, self.is_shared, self.kernel = is_forced, is_shared, kernel
+        self.is_forced, self.is_shared, self.kernel, self.is_unlimited = is_forced, is_shared, kernel, is_unlimited
 
 
 class Place:
@@ -85,6 +86,9 @@ class Place:
                 self._log.listen(self._pmbus.host, f"{part.name} bus {part.bus} address {part.address:02X}".strip(), self._pmbus.lacks)
             for output, pair in self.limits.items():
                 self._pmbus.host.set_limits(output, *(of_microvolts(each) for each in pair))
+            if self._options.is_unlimited:
+                for output in set(range(part.outputs)) - set(self.limits):
+                    self._pmbus.host.no_limits(output)
         return self._pmbus
 
     @property

@@ -33,6 +33,8 @@ class ProvedHost:
 
     def __init__(self, address: int, outputs: int, passes: int, bus: Bus) -> None:
         self.host, self.bus = Host(address, outputs, passes), bus
+        for output in range(outputs):
+            self.host.no_limits(output)
 
     def restart(self) -> None:
         self.host.restart()

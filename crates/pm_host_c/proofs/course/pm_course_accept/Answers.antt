@@ -1,6 +1,6 @@
 use Rattle.std.proofs.Common.{◌≡◌, ◌∙◌, Option, Some, None, false, true, refl, subst, sym}
 use Rattle.std.specs.Prelude.{nat_lt}
-use Rattle.pm_limits.specs.Bounds.{Bounds}
+use Rattle.pm_limits.specs.declared.output_limits.OutputLimits.{OutputLimits}
 use Rattle.pm_limits.specs.Guard.{limits_at}
 use Rattle.pm_course.specs.Accept.{Accepts}
 use Rattle.pm_host_c.specs.declared.course_image.CourseImage.{CourseImage}
@@ -34,7 +34,7 @@ returns-in-Ok-accept_in c =
     let there : nat_lt was.course.survey.output c.args.host.now.host.state.outputs ≡ true =
     sym c.has_output.ensures ∙ c.if-not-has_output.false in
     let accepts : Accepts (limits_at g was.course.survey.output) g.host was c.args.microvolts c.accept_in.result c.accept_in.new.self =
-    subst (λ (l : Option Bounds). Accepts l g.host was c.args.microvolts c.accept_in.result c.accept_in.new.self)
+    subst (λ (l : OutputLimits). Accepts l g.host was c.args.microvolts c.accept_in.result c.accept_in.new.self)
     c.limits-limits.ensures c.accept_in.ensures in
     let number : 0 ≡ accept_number c.accept_in.result = rw (c.in-Ok-accept_in.is) refl in
     let image : c.of.result ≡ accept_image c.args.course.now c.accept_in.result c.accept_in.new.self =
@@ -49,7 +49,7 @@ returns-in-Err c =
     let there : nat_lt was.course.survey.output c.args.host.now.host.state.outputs ≡ true =
     sym c.has_output.ensures ∙ c.if-not-has_output.false in
     let accepts : Accepts (limits_at g was.course.survey.output) g.host was c.args.microvolts c.accept_in.result c.accept_in.new.self =
-    subst (λ (l : Option Bounds). Accepts l g.host was c.args.microvolts c.accept_in.result c.accept_in.new.self)
+    subst (λ (l : OutputLimits). Accepts l g.host was c.args.microvolts c.accept_in.result c.accept_in.new.self)
     c.limits-limits.ensures c.accept_in.ensures in
     let number : c.in-Err.refusal.number ≡ accept_number c.accept_in.result = rw (c.in-Err.is) refl in
     let image : c.args.course.now ≡ accept_image c.args.course.now c.accept_in.result c.accept_in.new.self = rw (c.in-Err.is) refl in

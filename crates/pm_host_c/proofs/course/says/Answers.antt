@@ -1,8 +1,8 @@
 use Rattle.std.proofs.Common.{◌≡◌, true, false, subst, rules}
-use Rattle.std.specs.Prelude.{nat_lt, Option}
+use Rattle.std.specs.Prelude.{nat_lt}
 use Rattle.pm_host.specs.Image.{held}
 use Rattle.pm_limits.specs.declared.part_registers.PartRegisters.{PartRegisters}
-use Rattle.pm_limits.specs.Bounds.{Bounds}
+use Rattle.pm_limits.specs.declared.output_limits.OutputLimits.{OutputLimits}
 use Rattle.pm_course.specs.FrameCourse.{SaysNext}
 use Rattle.pm_host_c.specs.Course.{guard_at, there, unknown}
 use Rattle.pm_limits.specs.Guard.{limits_at}
@@ -22,5 +22,5 @@ returns c =
     (subst
     (λ (r : PartRegisters). SaysNext r (limits_at (guard_at c.args.host.now c.args.stage) was.course.survey.output) s was c.next_in.result c.next_in.new.self)
     c.registers-registers.ensures
-    (subst (λ (l : Option Bounds). SaysNext c.registers-registers.result l s was c.next_in.result c.next_in.new.self)
+    (subst (λ (l : OutputLimits). SaysNext c.registers-registers.result l s was c.next_in.result c.next_in.new.self)
     c.limits-limits.ensures c.next_in.ensures))

@@ -1,7 +1,7 @@
-use Rattle.std.proofs.Common.{◌∙◌, Option, None, ap}
+use Rattle.std.proofs.Common.{◌∙◌, None, ap}
 use Rattle.pm_host.specs.Image.{held}
 use Rattle.pm_limits.specs.Band.{band_at, within_of}
-use Rattle.pm_limits.specs.Bounds.{Bounds}
+use Rattle.pm_limits.specs.declared.output_limits.OutputLimits.{OutputLimits}
 use Rattle.pm_host_c.specs.Guard.{registers_held}
 use Rattle.pm_host_c.proofs.limits.within_in.Goals as goal
 
@@ -9,5 +9,5 @@ pub returns : goal.returns
 returns c =
     let image = c.args.host.now in
     c.within_limits.ensures ∙ ap (within_of c.limits.result) c.known_band.ensures
-    ∙ ap (λ (l : Option Bounds). within_of l (band_at (registers_held image.registers) (held None image.host.state) c.args.output))
+    ∙ ap (λ (l : OutputLimits). within_of l (band_at (registers_held image.registers) (held None image.host.state) c.args.output))
     c.limits.ensures

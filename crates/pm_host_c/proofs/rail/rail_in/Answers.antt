@@ -1,6 +1,6 @@
 use Rattle.std.proofs.Common.{◌∙◌, Option, None, refl, ap, subst}
 use Rattle.pm_host.specs.Image.{held}
-use Rattle.pm_limits.specs.Bounds.{Bounds}
+use Rattle.pm_limits.specs.declared.output_limits.OutputLimits.{OutputLimits}
 use Rattle.pm_limits.specs.declared.band.Band.{Band}
 use Rattle.pm_limits.specs.Band.{band_at, within_of}
 use Rattle.pm_host.specs.Summary.{format_at}
@@ -20,7 +20,7 @@ returns c =
       selected = c.of_selected.ensures ∙ ap selected_word c.selected_in.ensures;
       within = c.of_within.ensures ∙ ap within_word (c.within_limits.ensures
           ∙ ap (within_of c.limits.result) known
-          ∙ ap (λ (l : Option Bounds). within_of l (band_at (registers_held c.args.host.now.registers) s c.args.output)) c.limits.ensures);
+          ∙ ap (λ (l : OutputLimits). within_of l (band_at (registers_held c.args.host.now.registers) s c.args.output)) c.limits.ensures);
       band = told.number ∙ ap (ends_in (format_at s c.args.output)) known;
       ends = λ zero. subst (λ (k : Option Band). IsEnds k c.put_known-band.new.ends) known (told.said zero);
       none = told.refused;

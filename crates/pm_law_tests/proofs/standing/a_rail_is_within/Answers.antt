@@ -1,10 +1,11 @@
-use Rattle.std.specs.Prelude.{◌<◌, ℕ, List, Option, Some, None, slice_index_or}
+use Rattle.std.specs.Prelude.{◌<◌, ℕ, List, Some, None, slice_index_or}
 use Rattle.std.proofs.Common.{◌≡◌, refl, sym, ◌∙◌, ap, subst}
 use Rattle.pm_host.specs.Transcript as host
 use Rattle.pm_limits.specs.declared.part_registers.PartRegisters.{PartRegisters}
 use Rattle.pm_limits.specs.declared.guard.Within.TheVariants.{Yes}
 use Rattle.pm_limits.specs.Band.{band_at, within_of}
-use Rattle.pm_limits.specs.Bounds.{Bounds}
+use Rattle.pm_limits.specs.declared.output_limits.OutputLimits.{OutputLimits}
+use Rattle.pm_limits.specs.declared.output_limits.OutputLimits.TheVariants.{Unlimited}
 use Rattle.pm_limits.specs.Guard.{Guarded, limits_at}
 use Rattle.pm_rail.specs.declared.survey.Survey.{Survey}
 use Rattle.pm_world.specs.Bands.{HoldsMissing}
@@ -37,4 +38,4 @@ returns-in-Yes g c = λ is has same short.
     (sym c.within.ensures ∙ c.in-Yes.is) in
     c.bands_stand.ensures.within new.guard (held new.bus) output g.bounds
     (subst (λ (s : host.Setup). output < s.outputs) (sym c.survey.ensures.kept) c.requires.1.0) stands
-    (ap (λ (ls : List (Option Bounds)). slice_index_or ls output None) c.survey.ensures.limits ∙ c.requires.1.1.1) says
+    (ap (λ (ls : List OutputLimits). slice_index_or ls output Unlimited) c.survey.ensures.limits ∙ c.requires.1.1.1) says
