@@ -8,7 +8,7 @@ from unittest import mock
 
 from pmhost import ModelPart, Output
 from pmhost.cli import place
-from pmhost.cli.call import Interrupted
+from pmhost.cli.signals import Interrupted
 from pmhost.picture import drawing, lane
 from pmhost.picture.drawing import ROW
 from pmhost.picture.way import COMMANDED

@@ -1,8 +1,8 @@
 """Brings the parts of a board to the settings of a file of rails, and tells rail by rail what became of it.
 
 Everything is read and judged before the first write: each part of a board file has to answer and to be the model that the file says,
-each rail's course goes up to its first order, and its margins are read. Then the courses go on to their ends, rail by rail in the file's
-order. What comes next, and what isn't ordered at all, is said by the library alone: no rail commands anything on its way but what it
+each rail's course goes up to its first order, and its margins are read. Then the courses go on to their ends, one rail after another in
+their order. What comes next, and what isn't ordered at all, is said by the library alone: no rail commands anything on its way but what it
 commanded and what is wanted.
 """
 from __future__ import annotations
@@ -11,6 +11,7 @@ from dataclasses import dataclass, field
 from typing import Callable
 
 from . import probe, voltages
+from .back import Held
 from .course import Wanted
 from .cuts import Cut, cuts
 from .device import Device
@@ -21,6 +22,7 @@ from .parts import BoardPart
 from .rail_course import OUTSIDE, PROTECT, RailCourse, Restarted, Setting, Stopped
 from .rails import BOUNDS, MARGINS, SETTINGS, WORDS, Rail
 from .states import Step
+from .steps import begin, judge_way_back
 from .survey import Commanded, answers, commanded, only_word, read
 from .values import Format
 
@@ -42,6 +44,8 @@ class Board:
     accept: int | None = None
     looks: Looks | None = None
     wants_store: bool = False
+    # What notes of a rail what it held before its first order, where there is to be a way back.
+    note: Callable[[Held], None] | None = None
     # Whether a part holds just the WRITE_PROTECT of its file, and what lifts that; a dry run lifts nothing.
     is_in_the_way: Callable[[str], bool] = lambda name: False
     lift: Callable[[str], bool] = lambda name: False
@@ -234,6 +238,9 @@ class Board:
                 self.judge_refused(rail)
         if not self.is_dry:
             self.unlock()
+        for rail in self.rails if self.note is not None else ():
+            if self.courses[rail.name].course.ended is None:
+                judge_way_back(self, rail)
         if self.wants_store:
             self.judge_store()
 
@@ -263,6 +270,7 @@ class Board:
         self.prepare()
         for rail in self.rails:
             if self.courses[rail.name].course.ended is None:
+                begin(self, rail)
                 self.courses[rail.name].go(True)
                 self.judge_refused(rail)
                 if why := self.why_dead(rail):

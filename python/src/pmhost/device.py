@@ -33,6 +33,8 @@ def alone(call: Callable[Words, Made]) -> Callable[Words, Made]:
 
 # Bytes of OPERATION.
 ON, OFF, MARGINS = 0x80, 0x00, {"high": 0xA8, "low": 0x94}
+# Its bits of which one is 1 where an output that is on isn't at VOUT_COMMAND.
+ANOTHER = 0x30
 
 
 class Device:

@@ -194,6 +194,10 @@ class Look:
         if silent and "limits" not in self.part.absent:
             self.notes.append(f"{', '.join(silent)} gave no good answer, and {'is' if len(silent) == 1 else 'are'}n't judged")
             self.part.absent.add("limits")
+        self.judge(course)
+
+    def judge(self, course: Course) -> None:
+        """P8 where the course's goal is at or beyond a fault limit, by what was read before."""
         for register in GOALS:
             word = goal_of(course, self.part.host, CODES[register])
             if word is not None:

@@ -13,6 +13,7 @@
 
 A rail has an output, its volts and its limits; margins, min and max (VOUT_MIN, VOUT_MAX) only where they are to be set. It is on,
 unless `on = false` says that it is off. `accept` is for a part that rounds: a held word that is this near is as wanted. Voltages are texts with their unit, exactly as they are written, to a whole microvolt.
+`after`, `wait` and `delivers` say a rail's place among the others (`sequence`).
 
 A board with several parts has a table for each (`parts`), and `part = "u12"` in each rail. Without them the file is of one part, whose
 place is given on the command line: `lacks = ["VOUT_MIN"]` above the first rail names registers that it doesn't have, and without
@@ -25,7 +26,7 @@ from dataclasses import dataclass, field
 from decimal import Decimal
 from typing import Callable, TypeVar
 
-from . import voltages
+from . import sequence, voltages
 from .parts import MOST_OUTPUTS, NAME, BadRails, BoardPart, is_whole, lacks_of, part_of, protect_of
 
 # The settings of a rail, by their registers.
@@ -34,7 +35,7 @@ SETTINGS = {"volts": "VOUT_COMMAND", "margin_high": "VOUT_MARGIN_HIGH", "margin_
 WORDS = ("volts", "margin_low", "margin_high")
 MARGINS = (SETTINGS["margin_high"], SETTINGS["margin_low"])
 BOUNDS = (SETTINGS["min"], SETTINGS["max"])
-KEYS = ("output", "limits", "on", "accept", *SETTINGS)
+KEYS = ("output", "limits", "on", "accept", *SETTINGS, *sequence.KEYS)
 MOST_BYTES = 1 << 20
 LIMITS_EXAMPLE = '["0.85V", "0.95V"]'
 # What a file without a table of parts says of its one part.
@@ -48,7 +49,7 @@ Made = TypeVar("Made")
 @dataclass
 class Rail:
     """A rail: its output of a part, its limits and its settings in whole microvolts, by their names, whether it is on, and how near a held
-    word has to be to a setting, in microvolts."""
+    word has to be to a setting, in microvolts. It comes after other rails, so many milliseconds later, and these may have to deliver."""
 
     name: str
     output: int
@@ -57,11 +58,14 @@ class Rail:
     is_on: bool = True
     part: str = ONLY
     accept: int | None = None
+    after: tuple[str, ...] = ()
+    wait: int = 0
+    delivers: bool = False
 
 
 @dataclass
 class Rails:
-    """The rails of a file, and the parts that have them, by their names."""
+    """The rails of a file in their order, and the parts that have them, by their names."""
 
     rails: list[Rail]
     parts: dict[str, BoardPart]
@@ -120,9 +124,10 @@ def judged(found: dict[str, object]) -> Rails:
         faults += places_of(list(parts.values()))
     tables = found.get("parts")
     faults += outputs_of(list(rails.values()), parts, set(tables) if isinstance(tables, dict) else set())
+    ordered = list(rails.values()) if faults else sequence.in_order(list(rails.values()), faults)
     if faults:
         raise BadRails("; ".join(faults))
-    return Rails(list(rails.values()), parts)
+    return Rails(ordered, parts)
 
 
 def all_of(key: str, found: dict[str, object], made: Callable[[str, object], Made], none: str, faults: list[str]) -> dict[str, Made]:
@@ -208,7 +213,7 @@ def rail_of(name: str, table: object, has_parts: bool) -> Rail:
     accept = microvolts(f"{at}.accept", table["accept"]) if "accept" in table else None
     if accept is not None and accept < 0:
         raise BadRails(f'{at}.accept: give how near is near enough, as "3mV"')
-    rail = Rail(name, output, (least, most), settings, is_on, part, accept)
+    rail = Rail(name, output, (least, most), settings, is_on, part, accept, *sequence.place_of(at, table))
     judge(at, rail)
     return rail
 

@@ -12,7 +12,7 @@ from .errors import LimitRefused
 from .host import Host
 from .packets import Packet
 from .reads import Reads
-from .states import Known, Step
+from .states import Bus, Known, Step
 from .transfers import Transfers
 from .values import CODES, Format
 from .zeros import ADDRESS, REGISTER, Believing
@@ -132,11 +132,16 @@ class Listening(Transfers):
             raise Silent
 
 
+def believed(part: Device) -> Bus:
+    """The bus of a part, over which zeros of WRITE_PROTECT are believed where they are good."""
+    return Believing(part.bus, lambda: ask_operation(part)) if part.host.address == ADDRESS else part.bus
+
+
 def complete(part: Device, course: Course, before_order: Callable[[Job], None] | None = None,
              after_order: Callable[[Job, Step], None] | None = None, ask: Callable[[], str] | None = None) -> None:
     """Carries a course out, as `Host.run_course` does. Where nobody answers its first job `ask` says why, nothing where the part answers,
     and it goes on: Nobody, and without `ask` at once. NotBelieved where zeros of WRITE_PROTECT aren't believed."""
-    bus = Believing(part.bus, lambda: ask_operation(part)) if part.host.address == ADDRESS else part.bus
+    bus = believed(part)
     part.transfers = Listening(part.host.passes)
     try:
         part.host.run_course(course, bus, part.transfers, before_order, after_order)

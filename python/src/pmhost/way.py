@@ -6,12 +6,11 @@ from typing import Mapping
 
 from . import voltages
 from .apply import Board
-from .course import Course
 from .device import Device
-from .packets import pec, read_write
 from .parts import BoardPart
 from .rail_course import Setting
 from .rails import SETTINGS, Rail
+from .rehearsal import copied, rehearsed
 from .states import Step
 from .survey import only_word
 
@@ -54,22 +53,6 @@ def known_of(part: Device, output: int, lacks: tuple[str, ...] = ()) -> Knowledg
     return Knowledge(state.is_on, None if state.band is None else (state.band.least.microvolts, state.band.greatest.microvolts), bounds)
 
 
-class Taking:
-    """A bus that reaches nobody: each write is acknowledged, and each request is answered by the word that was written last."""
-
-    def __init__(self, address: int) -> None:
-        self.address, self.word = address, 0
-
-    def write(self, frame: bytes) -> bool:
-        self.word = read_write(self.address, frame).word
-        return True
-
-    def read(self, request: bytes, count: int) -> bytes:
-        word = self.word.to_bytes(count - 2, "little")
-        answer = bytes([len(word)]) + word
-        return answer + bytes([pec(request + bytes([request[0] | 1]) + answer)])
-
-
 class Way:
     """Of the rails of a board, by their names. `parts` has what the file says of their parts."""
 
@@ -101,22 +84,9 @@ class Way:
     def rehearse(self, rail: Rail) -> None:
         """What the course of a rail orders where each order is confirmed: copies of the host and of the course are told so, and nothing is
         sent."""
-        course, part = self.board.courses[rail.name].course.copy(), Device(Taking(self.board.on(rail).host.address), 0x58, 8)
-        part.host = self.board.on(rail).host.copy()
-        while (order := course.next(part.host)) is not None and order.word is not None:
-            self.take(course, part)
+        part = copied(self.board.on(rail))
+        for order in rehearsed(part, self.board.courses[rail.name].course.copy()):
             self.rows[rail.name].append(WayRow(self.order_words(self.board.setting(rail, order.register)), "", PLANNED, self.known(rail, part)))
-
-    @staticmethod
-    def take(course: Course, part: Device) -> None:
-        """The next order of a course is confirmed."""
-        is_over = False
-        while not is_over and (sending := course.frame(part.host)) is not None:
-            if sending.is_request:
-                step = course.read_ended(part.host, bytes([part.host.address << 1 | 1]) + part.bus.read(sending.frame, sending.answer))
-            else:
-                step = course.write_ended(part.host, part.bus.write(sending.frame))
-            is_over = step.is_over
 
     def known(self, rail: Rail, part: Device) -> Knowledge:
         return known_of(part, rail.output, self.parts[rail.part].lacks)

@@ -19,15 +19,16 @@ from .._version import __version__
 from ..bus import NoBus
 from ..bus.linux import Calls
 from ..errors import PmhostError
-from . import capture, faults, known, names, orders, probe, rails, streams, torture, why
+from . import capture, faults, known, margins, names, orders, probe, rails, sequence, streams, torture, why
 from .again import are_several
 from .answer import Answer
 from .completion import bash
-from .call import Call, Interrupted, complain, interruptible
+from .call import Call, complain
 from .parser import BadCall, Parser, bus_options, shown
+from .signals import Interrupted, interruptible
 
 # The modules of the commands, in the order of the help.
-MODULES: list[ModuleType] = [probe, orders, why, known, rails, faults, torture, capture]
+MODULES: list[ModuleType] = [probe, orders, why, known, rails, margins, faults, torture, capture]
 # The commands that have jobs of their own, between which a + stands: the call has no other command.
 OWN_JOBS = ("faults", "torture")
 
@@ -90,7 +91,8 @@ def commands_of(words: list[str]) -> list[argparse.Namespace]:
     """The commands of a command line, each with its own words as `said`."""
     options, found = options_of(parser()[0]), list[argparse.Namespace]()
     # argparse would take the file behind a bare --store for its value.
-    for part in parts_of([rails.STORE_ALL if word == "--store=always" else word for word in words]):
+    whole = parts_of([rails.STORE_ALL if word == "--store=always" else word for word in words])
+    for part in [each for part in whole for each in names.parted(part, all_valued())]:
         for word in () if part[:1] and part[0] in OWN_JOBS else part:
             if word.startswith("--") and word.partition("=")[0] not in options:
                 raise BadCall(f"{shown(word)}: no such option; --help tells which there are")
@@ -106,6 +108,8 @@ def read_command(part: list[str], named: names.Named | None) -> argparse.Namespa
     arguments.said = " ".join([arguments.command, *words_behind(arguments.command, part, has_value)])
     if named is not None:
         names.attach(arguments, named)
+        if named.rail is None:
+            sequence.attach(arguments)
     return arguments
 
 
@@ -151,6 +155,21 @@ def run_commands(call: Call) -> int:
     return status or (call.ordered.look(call) if are_several(call.commands) else 0)
 
 
+def run_to_the_end(call: Call) -> int:
+    """The same, and whatever ends them, the way back and what is protected come behind. A signal is raised once at most: where that
+    meets the way back, the second one goes on with it."""
+    status = 1
+    try:
+        try:
+            status = run_commands(call)
+        finally:
+            status = call.back.end() or status
+    finally:
+        status = call.back.end() or call.protection.lock() or status
+        call.close()
+    return status
+
+
 def judged(words: list[str], kernel: Calls | None) -> Call:
     """The call of a command line, judged whole before anything is opened."""
     call = Call(commands_of(words), kernel)
@@ -187,8 +206,9 @@ def main(words: list[str] | None = None, kernel: Calls | None = None) -> int:
     calls: list[Call] = []
     status = run(list(sys.argv[1:] if words is None else words), kernel, calls)
     for call in calls:
-        if call.protection.left:
-            complain(call.protection.left)
+        for left in (call.back.left, call.protection.left):
+            if left:
+                complain(left)
     return status
 
 
@@ -207,13 +227,7 @@ def run(given: list[str], kernel: Calls | None, calls: list[Call]) -> int:
         if not call.has_bus:
             return run_commands(call)
         with interruptible():
-            status = 1
-            try:
-                status = run_commands(call)
-            finally:
-                status = call.protection.lock() or status
-                call.close()
-            return status
+            return run_to_the_end(call)
     except BadCall as fault:
         return fail(given, str(fault), "bad call", BAD_CALL)
     except Interrupted:

@@ -2,14 +2,12 @@
 from __future__ import annotations
 
 import argparse
-import contextlib
-import signal
 import sys
-from typing import Any, Callable, Iterator
+from typing import Any, Callable
 
 from ..began import head_of
 from ..bus import LinuxBus, PatientBus, Trace
-from ..bus.linux import ENDING, BusTrace, Calls
+from ..bus.linux import BusTrace, Calls
 from ..part import ModelPartBus
 from ..parts import MODEL_BUS, BoardPart
 from ..device import Device
@@ -21,6 +19,7 @@ from ..reserved import why_reserved
 from . import streams
 from .again import Ordered
 from .answer import NOWHERE, Answer, coloured
+from .back import WayBack
 from .parser import BEHIND, OPTIONS, BadCall
 from .place import Options, Place
 from .protection import Protection
@@ -31,38 +30,6 @@ LOOKS = Looks()
 PROBE_TELLS = "; pmhost probe tells why"
 # The options that say where the one part is, and what it has: a board file has them for each part.
 OF_ONE_PART = ("bus", "address", "outputs", "limit", "no_limit", "lacks", "ready")
-
-
-class Interrupted(BaseException):
-    """A signal asked the program to end."""
-
-
-def interrupt(*_: object) -> None:
-    """The first signal ends the program. A further one is heard and dropped: one that came already and is ignored from now on
-    Python would tell of."""
-    for each in ENDING:
-        signal.signal(each, drop)
-    raise Interrupted
-
-
-def drop(*_: object) -> None:
-    """A further signal changes nothing."""
-
-
-@contextlib.contextmanager
-def interruptible() -> Iterator[None]:
-    """A signal that ends becomes Interrupted, unless it is ignored, as below nohup."""
-    mask = signal.pthread_sigmask(signal.SIG_BLOCK, ())
-    before = {each: signal.getsignal(each) for each in ENDING}
-    for each, action in before.items():
-        if action is not signal.SIG_IGN:
-            signal.signal(each, interrupt)
-    try:
-        yield
-    finally:
-        for each, action in before.items():
-            signal.signal(each, action)
-        signal.pthread_sigmask(signal.SIG_SETMASK, mask)
 
 
 def complain(words: str) -> None:
@@ -92,7 +59,7 @@ class Call:
         # The parts that have answered, and the rail that the command under way names, which a file has.
         self.has_answered, self.identified, self.ordered = set[str](), set[str](), Ordered()
         self.named: Rail | None = None
-        self.protection = Protection(self)
+        self.protection, self.back = Protection(self), WayBack(self)
         self.protect: int | None = None
         self.bus: str | None = self._one("bus")
         self.address: int | None = self._one("address")

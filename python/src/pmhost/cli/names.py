@@ -1,5 +1,5 @@
 """A rail of a board file in the place of an output: `set board.toml core 0.9V`. Part, output, limits and missing registers come from the
-file."""
+file. `on board.toml` and `off board.toml` are about all of its rails."""
 from __future__ import annotations
 
 import argparse
@@ -18,17 +18,27 @@ if TYPE_CHECKING:
 # The commands that take a file and a rail in the place of an output; those of the second kind go over all rails where none is named.
 OF_A_RAIL = ("learn", "read", "survey", "set", "word", "on", "off", "margin", "clear", "why", "known", "band")
 OF_ALL = ("survey", "why", "known", "band")
+# Those that go from rail to rail in the order of the file, which is a command of its own.
+IN_ORDER = ("on", "off")
+BACK = "--back"
 ENDING = ".toml"
 
 
 @dataclass(frozen=True)
 class Named:
-    """A rail of a file, and whether the command goes over all of its rails."""
+    """A rail of a file, and whether the command goes over all of its rails; no rail where it goes over them in their order."""
 
     file: str
     found: Rails
-    rail: Rail
+    rail: Rail | None
     is_one_of_all: bool
+
+
+def parted(part: list[str], has_value: set[str]) -> list[list[str]]:
+    """The words of a command, and those of the one behind its --back, which needs no + between them."""
+    at = part.index(BACK) + 1 if BACK in part else 0
+    command, behind = place_of(part, has_value)[0], place_of(part[at:], has_value)[0]
+    return [part[:at], part[at:]] if at and command == "margin" and behind else [part]
 
 
 def place_of(part: list[str], has_value: set[str]) -> tuple[str, int | None]:
@@ -57,6 +67,8 @@ def expanded(part: list[str], has_value: set[str]) -> list[tuple[list[str], Name
     if behind and behind[0] in names:
         rail = names[behind[0]]
         return [([*part[:at], str(rail.output), *part[at + 2:]], Named(file, found, rail, False))]
+    if command in IN_ORDER and not behind:
+        return [([*part[:at], str(found.rails[0].output), *part[at + 1:]], Named(file, found, None, True))]
     if command in OF_ALL and not behind:
         # The options stand in the first one alone: they are those of the call.
         words = [[*part[:at], str(found.rails[0].output), *part[at + 1:]], *([command, str(rail.output)] for rail in found.rails[1:])]
@@ -66,10 +78,11 @@ def expanded(part: list[str], has_value: set[str]) -> list[tuple[list[str], Name
 
 
 def attach(arguments: argparse.Namespace, named: Named) -> None:
-    """A command is about a rail of a file, which the call is told of as it is judged."""
+    """A command is about a rail of a file, or about all of them, which the call is told of as it is judged."""
     arguments.rails, arguments.named, arguments.goes_on = named.found, named.rail, named.is_one_of_all
     words = arguments.said.split()
-    arguments.said = " ".join([words[0], named.rail.name, *words[2:]])
+    name = shown(named.file) if named.rail is None else named.rail.name
+    arguments.said = " ".join([words[0], name, *words[2:]])
     arguments.judge_file = judge_file
 
 

@@ -7,9 +7,10 @@ import re
 from typing import Any, Callable
 
 from .. import probe, voltages
+from ..back import Held
 from ..codes import CODES, code_of
 from ..course import Course, Job
-from ..device import MARGINS, OFF, ON, Device
+from ..device import ANOTHER, MARGINS, OFF, ON, Device
 from ..errors import PlanRefused, Refused, name_of
 from ..readings import KINDS
 from ..rounded import Accepting
@@ -21,6 +22,7 @@ from . import readings
 from .answer import Answer, in_digits
 from .call import Call, said
 from .completion import completed_by
+from .names import BACK
 from .outcome import (DEVICE, REGISTERS, VOLTAGES, answer_of, cell_words, confirmed_alone, course_answer, deliver, rail_words, read_notes_behind,
                       refused, tell_bad_end, why_not)
 from .parser import BadCall, bus_options, shown, whole
@@ -134,6 +136,8 @@ def add(commands: Any) -> None:
     found.add_argument("output", **output)
     completed_by(found.add_argument("byte", metavar="high|low", type=margin_of), ("high", "low"))
     bus_options(found)
+    found.add_argument(BACK, action="store_true", help="OPERATION as it was is the last act of the call, whatever ends it: the commands behind "
+                                                       "this run on the margin")
     found = command("clear", send_command, "clears the latched faults of an output", judge_write)
     found.add_argument("output", **output)
     bus_options(found)
@@ -381,8 +385,28 @@ def word(arguments: argparse.Namespace) -> int:
 
 
 def operate(arguments: argparse.Namespace) -> int:
-    """Orders OPERATION."""
-    return turn(arguments, arguments.byte)
+    """Orders OPERATION, which is noted first where it is to come back."""
+    return getattr(arguments, "back", False) and note_way_back(arguments) or turn(arguments, arguments.byte)
+
+
+def note_way_back(arguments: argparse.Namespace) -> int:
+    """Reads OPERATION of an output, which the way back of the call brings back. 0, or the status where nothing may be ordered."""
+    call: Call = arguments.call
+    part, output = call.part(), arguments.output
+    if call.back.has(call.part_name, output):
+        return 0
+    state = survey(part, output)
+    byte = state.only_word("OPERATION")
+    if byte is None or state.missing:
+        return call.say(call.nobody(arguments, why_not(state)))
+    if byte & ON and byte & ANOTHER:
+        return call.say(answer_of(arguments, part, "OPERATION", "refused", status=1, text="refused, nothing was ordered",
+                                  why=f"OPERATION is {byte:02X}, by which it isn't at its voltage now: order `on` first"))
+    if byte & ON and not state.is_well:
+        return call.say(answer_of(arguments, part, "OPERATION", "refused", status=1, text="refused, nothing was ordered",
+                                  why=f"no way back: {why_not(state)}"))
+    call.back.note(Held(str(output) if call.named is None else call.named.name, call.part_name, output, {"OPERATION": byte}))
+    return 0
 
 
 def turn(arguments: argparse.Namespace, byte: int) -> int:

@@ -7,15 +7,13 @@ import ast
 import re
 from typing import Any, Callable, NoReturn
 
-from .. import parts, voltages
+from .. import parts, sequence, voltages
 from ..parts import MISSABLE, MODEL_BUS
 from . import streams
 from .completion import FILES, completed_by
 
 BUS = re.compile(r"(?:/dev/i2c-|i2c-)?([0-9]{1,9})\Z")
-TIME = re.compile("([0-9]{1,9}) ?(ms|s)")
 PERCENT = re.compile(r"([0-9]{1,3})(?:\.([0-9]))?%")
-MILLISECONDS = {"ms": 1, "s": 1000}
 LIMIT_EXAMPLE = "0:3.135V:3.465V"
 
 
@@ -101,10 +99,9 @@ def whole(least: int, most: int, what: str) -> Callable[[str], int]:
 def time_of(most: int, what: str) -> Callable[[str], int]:
     """The judge of a time with its unit, of at most so many seconds: its milliseconds."""
     def judge(word: str) -> int:
-        found = TIME.fullmatch(word.strip())
-        if not found:
+        milliseconds = sequence.milliseconds(word)
+        if milliseconds is None:
             raise argparse.ArgumentTypeError(f"{what} {shown(word.strip())}: give a time with its unit, as 12ms or 5s")
-        milliseconds = int(found[1]) * MILLISECONDS[found[2]]
         if milliseconds > most * 1000:
             raise argparse.ArgumentTypeError(f"{what} {word.strip()}: give at most {most}s")
         return milliseconds

@@ -13,6 +13,7 @@ from ..stores import too_hot
 from . import way
 from .again import RESTARTED
 from .answer import Answer, delivery_of, in_digits, number
+from .back import words_of
 from .call import Call, said
 from .completion import FILES, completed_by
 from .orders import ACCEPT, STORES
@@ -31,13 +32,16 @@ def add(commands: Any) -> None:
                             ("verify", verify, "compares them with a file of rails, and orders nothing")):
         found = commands.add_parser(name, help=help, description=help[0].upper() + help[1:] + ".")
         completed_by(found.add_argument("file", metavar="FILE", type=file_of, help="settings of a board's rails, in TOML"), FILES)
-        found.set_defaults(run=run, judge_file=judge_file, judge=way.judge, dry_run=False, picture=None, is_order=name == "apply")
+        found.set_defaults(run=run, judge_file=judge_file, judge=way.judge, dry_run=False, picture=None, goes_back=False, is_order=name == "apply")
         if name == "apply":
             found.add_argument("--dry-run", action="store_true", help="reads, and says what would be ordered")
             found.add_argument("--store", action="store_true", dest="wants_store",
                                help="has the parts of which something was ordered store their settings, once all rails are as the file has them")
             found.add_argument(STORE_ALL, action="store_true", dest="stores_all",
                                help="the same of all parts, also where nothing was ordered; --store=always is this, too")
+            found.add_argument("--back-on-failure", action="store_true", dest="goes_back",
+                               help="brings every rail back to what it held where the call fails; refuses before any order where no way back "
+                                    "would be accepted")
             way.add(found)
         found.add_argument("--accept", **ACCEPT)
         bus_options(found)
@@ -87,7 +91,7 @@ def board_of(arguments: argparse.Namespace) -> Board:
 
     board.before_order, board.after_order, board.looks, board.accept = before, after, call.looks, arguments.accept
     board.is_in_the_way, board.lift = call.protection.is_in_the_way, call.protection.lift
-    board.is_dry = arguments.dry_run
+    board.is_dry, board.note = arguments.dry_run, call.back.note if arguments.goes_back else None
     return board
 
 
@@ -102,18 +106,28 @@ def run_board(arguments: argparse.Namespace, board: Board, run: Any) -> int:
     try:
         why, status = stop_of(board, run)
     except BaseException as fault:
+        call.back.go()
         file.broken_off(fault)
         raise
     call.maybe = ""
+    gone = went_back(call, bool(why))
     board.take()
     # Where no plan is carried on, what is held decides.
     are_wanted = arguments.command == "apply" and not why
     if why and arguments.command == "apply" and not is_dry:
-        why += after_a_stop(board)
-    found = Answer(said(arguments), "stopped" if why else "would order" if is_dry else "done", status=status, why=why,
+        why += gone or after_a_stop(board)
+    found = Answer(said(arguments), "back" if gone and not call.back.left else "stopped" if why else "would order" if is_dry else "done", status=status, why=why,
                    rows=rows(board, is_dry and not why, are_wanted))
     with file.written(found.end, why):
         return answer(call, board, found, is_dry, are_wanted, getattr(arguments, "stores_all", False))
+
+
+def went_back(call: Call, is_bad: bool) -> str:
+    """The way back of a call that failed: what became of it, in words for the end of a line; nothing where there was none. Where all went
+    well nothing is brought back any more."""
+    if not is_bad:
+        call.back.forget()
+    return "".join(f"; {words_of(*each)}" for each in call.back.go())
 
 
 def answer(call: Call, board: Board, found: Answer, is_dry: bool, are_wanted: bool, stores_all: bool) -> int:

@@ -13,9 +13,10 @@ from ..picture.way import COMMANDED, RailWay, WayPicture
 from ..rails import Rail
 from ..way import Way
 from . import streams
-from .call import Call, Interrupted
+from .call import Call
 from .completion import FILES, completed_by
 from .parser import BadCall, file_of, shown
+from .signals import Interrupted
 
 HELP = ("draws into this file (SVG) the way of each rail, order by order: what its output commands, by what the host knows; with "
         "--dry-run what the plan would order")

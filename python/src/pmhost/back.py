@@ -1,0 +1,94 @@
+"""The way back: what an output held before its first order, and how it is brought to that again. `bring_back` says that it is back
+only where the words were ordered or read, and read back, since it was called."""
+from __future__ import annotations
+
+from dataclasses import dataclass
+from typing import Callable, Mapping
+
+from . import clock
+from .bus.patient import Waits
+from .course import Course, CourseEnd, in_hexadecimal
+from .device import Device
+from .errors import SAYINGS, refusal
+from .survey import believed, only_word
+from .transfers import Transfers
+from .values import Format
+from .zeros import NotBelieved
+
+OPERATION = "OPERATION"
+# For how many seconds the way back is tried again where it isn't confirmed, and how many jobs each try has at most.
+PATIENCE, TRIES = 5, 12
+
+
+@dataclass(frozen=True)
+class Held:
+    """What an output of a part held before its first order, under a rail's name: OPERATION alone, or words of voltages with their format."""
+
+    name: str
+    part: str
+    output: int
+    words: Mapping[str, int]
+    form: Format | None = None
+
+    def course(self, tries: int = TRIES) -> Course:
+        """The course back."""
+        byte = self.words.get(OPERATION)
+        return Course.words(self.output, self.words, tries) if byte is None else Course.power(self.output, byte, tries)
+
+    @property
+    def said(self) -> str:
+        """Its words."""
+        return ", ".join(f"{register} {in_hexadecimal(register, word)}" for register, word in self.words.items())
+
+
+def bring_back(part: Device, held: Held, lift: Callable[[], bool] = lambda: False) -> str:
+    """Brings an output to what it held: why it isn't known to be there, nothing where it is. It is tried again for a while. `lift` lifts
+    WRITE_PROTECT where that is in the way, and says whether it did."""
+    waits = Waits(clock.until() + PATIENCE)
+    while why := try_back(part, held, lift):
+        if not waits.wait():
+            break
+    return why
+
+
+def try_back(part: Device, held: Held, lift: Callable[[], bool]) -> str:
+    """The same, once."""
+    try:
+        why = read_first(part, held) or carried_out(part, held)
+        if why and lift():
+            why = carried_out(part, held)
+    except NotBelieved as doubt:
+        part.restart()
+        return str(doubt)
+    return why
+
+
+def read_first(part: Device, held: Held) -> str:
+    """Reads what is to be brought back, since what was known before may be of a time before a restart: why that isn't known."""
+    for register in held.words:
+        part.host.check(held.output, register)
+        if part.run().kind != "done":
+            return f"{register}: {part.transfers.why() or 'no good answer'}"
+    return ""
+
+
+def carried_out(part: Device, held: Held) -> str:
+    """Carries the course back out: why it isn't reached."""
+    course, part.transfers = held.course(), Transfers()
+    part.host.run_course(course, believed(part), part.transfers)
+    end, form = course.ended or CourseEnd(""), part.host.format(held.output)
+    if held.form is not None and form != held.form:
+        return "its voltages have another format now"
+    if end.kind == "reached" and all(only_word(part, held.output, register) == word for register, word in held.words.items()):
+        return ""
+    return why_not(end, part.transfers)
+
+
+def why_not(end: CourseEnd, transfers: Transfers) -> str:
+    """Why a course back came to another end."""
+    if end.kind == "refused":
+        fault = refusal(end.number, end.register)
+        return f"{f'{fault.register}: ' * bool(fault.register)}{SAYINGS.get(fault.letter, fault.name)}: {fault.letter} {fault.name}"
+    if end.word is not None:
+        return f"{end.register} is {in_hexadecimal(end.register, end.word)}"
+    return f"{end.register or 'it'}: {transfers.why() or end.fault or 'no good answer'}"

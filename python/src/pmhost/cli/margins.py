@@ -1,0 +1,237 @@
+"""`margin-test board.toml`: each rail at its voltage, at its high and its low margin, measured at each, and back at its voltage."""
+from __future__ import annotations
+
+import argparse
+from dataclasses import dataclass, field
+from typing import Any, Callable
+
+from .. import rails, voltages
+from ..apply import Board
+from ..back import OPERATION, Held
+from ..course import Course, CourseEnd, Job, in_hexadecimal
+from ..cuts import cuts
+from ..device import ANOTHER, MARGINS, ON
+from ..errors import SAYINGS, PlanRefused, refusal
+from ..look import Delivered, Look, Looks, register_words
+from ..parts import BadRails
+from ..rail_course import Due, Stopped
+from ..rails import Rail
+from ..rehearsal import first_not_reached
+from ..survey import TRIES, Commanded, Nobody, commanded, complete, only_word, survey
+from ..zeros import NotBelieved
+from .answer import Answer, between, delivery_of, number
+from .back import words_of
+from .call import Call, said
+from .completion import FILES, completed_by
+from .outcome import limit_words, why_not, why_refused
+from .parser import BadCall, bus_options, file_of, shown
+
+HELP = "has rails of a file command their margins one after another, measures there, and brings each back to its voltage"
+# A margin isn't to be selected at the end, whatever came.
+POINTS = ("nominal", "high", "low", "nominal")
+
+
+def add(commands: Any) -> None:
+    """Adds the subparser."""
+    found = commands.add_parser("margin-test", help=HELP, description=HELP[0].upper() + HELP[1:] + ".")
+    completed_by(found.add_argument("file", metavar="FILE", type=file_of, help="settings of a board's rails, in TOML"), FILES)
+    found.add_argument("names", metavar="RAIL", nargs="*", help="these rails alone; all that are to be on if none is named")
+    found.set_defaults(run=margin_test, judge_file=judge_file)
+    bus_options(found)
+
+
+def judge_file(arguments: argparse.Namespace) -> None:
+    """The file is judged whole, and the named rails are among its own. BadCall."""
+    call: Call = arguments.call
+    try:
+        found = arguments.rails = rails.read(arguments.file)
+    except BadRails as bad:
+        raise BadCall(str(bad)) from bad
+    call.take_rails(arguments, found)
+    named = {rail.name: rail for rail in found.rails}
+    for name in arguments.names:
+        if name not in named:
+            raise BadCall(f"margin-test: {shown(name)}: there is no such rail in {shown(arguments.file)}, which has {', '.join(named)}")
+    arguments.chosen = [rail for rail in found.rails if (rail.name in arguments.names if arguments.names else rail.is_on)]
+
+
+@dataclass
+class Row:
+    """What a rail commanded and did at a point."""
+
+    rail: Rail
+    point: str
+    state: Commanded
+    delivered: Delivered
+
+    def columns(self) -> tuple[str, ...]:
+        """The columns of the table."""
+        found, state = self.delivered, self.state
+        commands = "not known" if state.least is None or state.greatest is None else between(state.least, state.greatest)
+        micro = found.verdict.microvolts
+        status = "-" if found.status is None else register_words("STATUS_WORD", found.status).partition(" ")[2]
+        return self.rail.name, self.point, commands, "-" if micro is None else voltages.shown(micro), status
+
+    def by_names(self) -> dict[str, object]:
+        """The same by names and numbers."""
+        state = self.state
+        return {"rail": self.rail.name, "part": self.rail.part or None, "output": self.rail.output, "point": self.point,
+                "commands": None if state.least is None else [number(state.least), number(state.greatest)], **delivery_of(self.delivered)}
+
+
+@dataclass
+class RailTest:
+    """The test of one rail. `byte` is that of OPERATION by which it is at its voltage."""
+
+    call: Call
+    rail: Rail
+    rows: list[Row]
+    byte: int = ON
+    is_back: bool = False
+    look: Look = field(init=False)
+
+    def __post_init__(self) -> None:
+        self.part = self.call.places()[self.rail.part].pmbus()
+        self.look = Look(self.part, self.rail.output, self.call.looks or Looks())
+
+    # ---- Before any order ----
+
+    def judge(self) -> None:
+        """Reads all that the test needs, and orders nothing. Stopped where a step of it would be refused."""
+        found, name = survey(self.part, self.rail.output), self.rail.name
+        if found.missing or found.unended or found.selected is None:
+            raise self.stopped(why_not(found))
+        if found.is_on is False:
+            raise Stopped(f"{name}: the output is off, and a margin would turn it on: order `on` first")
+        byte = only_word(self.part, self.rail.output, OPERATION)
+        self.byte = byte if byte is not None and not byte & ANOTHER else ON
+        way = (self.byte, *MARGINS.values(), self.byte)
+        for each in way:
+            self.plan(each)
+        refused = first_not_reached(self.part, self.rail.output, way, self.call.protection.is_in_the_way(self.rail.part))
+        if refused is not None:
+            raise self.stopped(self.why_ended(*refused))
+        form, words = found.form, {each: only_word(self.part, self.rail.output, each) for each in (*rails.MARGINS, *rails.BOUNDS)}
+        for it in cuts(form, {each: words[each] for each in rails.MARGINS}, *(words[each] for each in rails.BOUNDS)) if form else ():
+            raise Stopped(f"{name}: {it.register} {voltages.shown(it.value)} is cut to {voltages.shown(it.to)}: order it within VOUT_MIN and VOUT_MAX")
+
+    def plan(self, byte: int) -> None:
+        """Goes up to the order of a byte. Stopped where it would be refused."""
+        course = Course.power(self.rail.output, byte, TRIES)
+
+        def before(order: Job) -> None:
+            if self.look.has_looked_before:
+                self.look.judge(course)
+            self.look.before(course, order)
+            raise Due
+
+        try:
+            self.carry_out(course, before)
+        except Due:
+            pass
+        end = course.ended
+        if end is not None and end.kind == "refused" and refusal(end.number).letter == "P7" and self.call.protection.is_in_the_way(self.rail.part):
+            return
+        if end is not None and end.kind != "reached":
+            raise self.stopped(self.why_ended(byte, end))
+
+    # ---- Orders ----
+
+    def run(self) -> None:
+        """Goes from point to point and back. Stopped; the way back is noted before the first order."""
+        protection, part = self.call.protection, self.rail.part
+        protection.touch(part)
+        protection.lift(part)
+        self.call.back.note(Held(self.rail.name, part, self.rail.output, {OPERATION: self.byte}))
+        for point, byte in zip(POINTS, (self.byte, MARGINS["high"], MARGINS["low"])):
+            self.turn(point, byte)
+            self.measure(point)
+        for held, why in self.call.back.go():
+            self.is_back = not why
+            if why:
+                raise Stopped(words_of(held, why))
+        self.measure(POINTS[-1])
+
+    def turn(self, point: str, byte: int) -> None:
+        """Orders a byte. Stopped where that isn't confirmed."""
+        course, call = Course.power(self.rail.output, byte, TRIES), self.call
+
+        def before(_: Job) -> None:
+            call.maybe = f"{self.rail.name} may be on a margin"
+
+        self.carry_out(course, before)
+        end = course.ended or CourseEnd("")
+        if end.kind != "reached":
+            raise self.stopped(f"at {point}: {self.why_ended(byte, end)}")
+
+    def measure(self, point: str) -> None:
+        """Looks at the rail. Stopped where it doesn't deliver."""
+        found = self.look.after()
+        self.rows.append(Row(self.rail, point, commanded(self.part, self.rail.output), found))
+        state = self.rows[-1].state
+        if found.is_bad:
+            raise self.stopped(f"at {point}: {found.why}")
+        if state.limits_state != "within" or state.value is None or not state.is_value(state.value):
+            raise self.stopped(f"at {point}: it isn't known to command its voltage{limit_words(state)}")
+
+    # ---- Courses ----
+
+    def carry_out(self, course: Course, before: Callable[[Job], None]) -> None:
+        """Carries a course out. Stopped where nobody answers, or a voltage is at or beyond a fault limit."""
+        try:
+            complete(self.part, course, before)
+        except (Nobody, NotBelieved) as silent:
+            raise self.stopped(f"no good answer: {silent}") from None
+        except PlanRefused as fault:
+            raise self.stopped(f"{fault.said}: {fault.letter} {fault.name}") from None
+
+    def why_ended(self, byte: int, end: CourseEnd) -> str:
+        """Why a byte of OPERATION isn't reached."""
+        said = f"{OPERATION} {byte:02X}"
+        if end.kind == "refused":
+            fault = refusal(end.number, end.register)
+            why = why_refused(argparse.Namespace(byte=byte), commanded(self.part, self.rail.output), fault.letter)
+            return f"{said}: {why or SAYINGS.get(fault.letter, fault.name)}: {fault.letter} {fault.name}"
+        if end.word is not None:
+            return f"{said}: {end.register} is {in_hexadecimal(end.register, end.word)}"
+        return f"{said}: {self.part.transfers.why() or end.fault or 'no good answer'}"
+
+    def stopped(self, why: str) -> Stopped:
+        return Stopped(f"{self.rail.name}: {why}")
+
+
+def margin_test(arguments: argparse.Namespace) -> int:
+    """Tests the rails: all are read and judged before the first order, and the first that fails ends the test. The status."""
+    call: Call = arguments.call
+    places, file, rows = call.places(), arguments.rails, list[Row]()
+    board = Board({name: place.pmbus() for name, place in places.items()}, arguments.chosen, file.parts if file.is_board else {},
+                  lambda name: places[name].ask_operation())
+    why, begun = "", list[RailTest]()
+    try:
+        board.identify()
+        tests = [RailTest(call, rail, rows) for rail in arguments.chosen]
+        for each in tests:
+            each.judge()
+        for each in tests:
+            begun.append(each)
+            each.run()
+    except Stopped as stopped:
+        why = str(stopped) if begun else f"{stopped}: nothing was ordered"
+    for held, fault in call.back.go():
+        begun[-1].is_back = not fault
+        why += f"; {words_of(held, fault)}"
+    return tell(arguments, begun, rows, why)
+
+
+def tell(arguments: argparse.Namespace, begun: list[RailTest], rows: list[Row], why: str) -> int:
+    """Says it: the table, and which rails are back. The status."""
+    call: Call = arguments.call
+    call.maybe = ""
+    if not call.is_json and rows:
+        lines = [("rail", "point", "commands", "READ_VOUT", "STATUS_WORD"), *(row.columns() for row in rows)]
+        wide = [max(len(line[at]) for line in lines) for at in range(4)]
+        call.say_lines(["  ".join([*(line[at].ljust(wide[at]) for at in range(4)), line[4]]).rstrip() for line in lines])
+        call.say_lines([f"{each.rail.name}: back, {OPERATION} {each.byte:02X} confirmed" for each in begun if each.is_back])
+    backs = [{"rail": each.rail.name, "point": "back", "confirmed": each.is_back} for each in begun]
+    return call.say(Answer(said(arguments), "stopped" if why else "done", "", 1 if why else 0, why, rows=[*(row.by_names() for row in rows), *backs],
+                           restart_seen=any(place.pmbus().restart_seen for place in call.places().values())))

@@ -1,0 +1,92 @@
+"""`on board.toml` and `off board.toml`: the rails of a file one after another, on in their order and off in reverse."""
+from __future__ import annotations
+
+import argparse
+
+from .. import clock
+from ..bus import NoBus
+from ..errors import PmhostError
+from ..look import Look, Looks
+from ..rails import Rail
+from ..steps import why_not_before
+from . import orders, streams
+from .answer import Answer
+from .call import Call, said
+
+
+def attach(arguments: argparse.Namespace) -> None:
+    """The command is about all rails of its file."""
+    arguments.run, arguments.judge, arguments.output, arguments.goes_on = turn_all, lambda _: None, None, False
+
+
+def turn_all(arguments: argparse.Namespace) -> int:
+    """Turns the rails of a file on, those that are to be on, or all of them off. The status."""
+    rails = arguments.rails.rails
+    status = turn_off(arguments, rails[::-1]) if arguments.command == "off" else turn_on(arguments, [rail for rail in rails if rail.is_on])
+    call: Call = arguments.call
+    call.begin(arguments)
+    return status or call.ordered.look(call)
+
+
+def of_rail(arguments: argparse.Namespace, rail: Rail) -> argparse.Namespace:
+    """The same command about one of its rails, which has begun."""
+    one = argparse.Namespace(**{**vars(arguments), "named": rail, "output": rail.output, "said": f"{arguments.command} {rail.name}"})
+    call: Call = arguments.call
+    call.begin(one)
+    return one
+
+
+def turn_on(arguments: argparse.Namespace, rails: list[Rail]) -> int:
+    """In their order, up to the first that doesn't come to its end. The status."""
+    call: Call = arguments.call
+    for place, rail in enumerate(rails):
+        one = of_rail(arguments, rail)
+        if why := before(call, rail, rails[:place]):
+            status = call.say(Answer(one.said, "not begun", "not begun, nothing was ordered", 1, why, rail.output))
+        else:
+            status = call.other_model(one) or orders.operate(one)
+        if status:
+            left = ", ".join(it.name for it in rails[place + 1:])
+            call.begin(arguments)
+            return max(status, call.say(Answer(said(arguments), "stopped", "", status, f"nothing was ordered of {left}"))) if left else status
+    return 0
+
+
+def before(call: Call, rail: Rail, begun: list[Rail]) -> str:
+    """Waits as the file has it, and looks at the rails before: why the next one doesn't begin, nothing where it does."""
+    clock.wait(rail.wait / 1000)
+    for each in begun if rail.delivers else ():
+        if each.name in rail.after:
+            look = Look(call.places()[each.part].pmbus(), each.output, call.looks or Looks())
+            if why := why_not_before(each.name, look.after()):
+                return why
+    return ""
+
+
+def turn_off(arguments: argparse.Namespace, rails: list[Rail]) -> int:
+    """In reverse. One that isn't known to be off is left, which its line says, and the next one is turned off all the same. The status."""
+    call: Call = arguments.call
+    status, fault, silent = 0, None, list[str]()
+    for place, rail in enumerate(rails):
+        clock.wait(max([0, *(it.wait for it in rails[:place] if rail.name in it.after)]) / 1000)
+        one = of_rail(arguments, rail)
+        try:
+            found = turn_one_off(call, one)
+        except streams.NoStream as closed:
+            # Nobody is left to read it: the rails behind it are turned off all the same.
+            found, fault = 1, closed
+        if found:
+            silent.append(rail.name)
+        status = max(status, found)
+    call.begin(arguments)
+    if fault is not None:
+        raise fault
+    return call.say(Answer(said(arguments), "unknown", "", 1, f"not known to be off: {', '.join(silent)}")) if silent else status
+
+
+def turn_one_off(call: Call, one: argparse.Namespace) -> int:
+    """Turns a rail off: the status, also where its bus can't be opened."""
+    try:
+        return call.other_model(one) or orders.operate(one)
+    except (NoBus, PmhostError) as fault:
+        return call.say(Answer(one.said, "no bus" if isinstance(fault, NoBus) else "refused", "not known to be off", 1, str(fault), one.output))

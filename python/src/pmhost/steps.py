@@ -1,0 +1,65 @@
+"""What stands between the steps of a board: how long is waited before a rail's first order, whether the rails before it deliver, and
+whether a way back of it would be accepted."""
+from __future__ import annotations
+
+from typing import TYPE_CHECKING
+
+from . import clock, voltages
+from .back import Held
+from .errors import SAYINGS, refusal
+from .look import Delivered, Look, Looks
+from .rail_course import Stopped
+from .rails import Rail
+from .rehearsal import is_reached, modelled
+from .survey import TRIES, only_word
+
+if TYPE_CHECKING:
+    from .apply import Board
+
+# What a rail may be that comes before one with `delivers`, beside those that are no fault of it.
+NOT_ON = ("commanded off", "not known to be on", "went off")
+
+
+def why_not_before(name: str, found: Delivered) -> str:
+    """Why a rail doesn't deliver after which another one is to begin, by what was seen of it; nothing where it does."""
+    if found.is_bad or found.verdict.kind in NOT_ON:
+        return f"{name} has to deliver first: {found.why or found.verdict.kind}{found.words}"
+    return ""
+
+
+def begin(board: Board, rail: Rail) -> None:
+    """Before the first order of a rail: waits as its file has it, looks at the rails before it, and notes what it holds. Stopped."""
+    clock.wait(rail.wait / 1000)
+    for each in board.rails if rail.delivers else ():
+        if each.name in rail.after:
+            look = board.look_of(each) or Look(board.on(each), each.output, Looks())
+            found = board.delivered[each.name] = look.after()
+            if why := why_not_before(each.name, found):
+                raise Stopped(f"{rail.name} isn't begun: {why}")
+    if board.note is not None:
+        board.note(held_of(board, rail))
+
+
+def held_of(board: Board, rail: Rail) -> Held:
+    """What a rail's settings hold. Stopped where one isn't known."""
+    words = {it.register: only_word(board.on(rail), rail.output, it.register) for it in board.of(rail)}
+    known = {register: word for register, word in words.items() if word is not None}
+    if known.keys() != words.keys():
+        raise Stopped(f"{rail.name}: no way back: what {', '.join(words.keys() - known.keys())} holds isn't known")
+    return Held(rail.name, rail.part, rail.output, known, board.format(rail))
+
+
+def judge_way_back(board: Board, rail: Rail) -> None:
+    """Stops where the way back of a rail would be refused behind its orders, which are rehearsed: nothing is sent."""
+    held, model = held_of(board, rail), modelled(board.on(rail), rail.output)
+    back = held.course(TRIES)
+    if not is_reached(model, board.courses[rail.name].course.copy()) or is_reached(model, back):
+        return
+    end = back.ended
+    if end is None or end.kind != "refused":
+        raise Stopped(f"{rail.name}: no way back: it isn't known to be reached")
+    fault = refusal(end.number, end.register)
+    is_word = fault.register in held.words
+    is_now = f" is {voltages.shown(board.format(rail).told(held.words[fault.register or '']))}" if is_word else ""
+    raise Stopped(f"{rail.name}: no way back: {fault.register or 'it'}{is_now}, "
+                  f"{SAYINGS.get(fault.letter, fault.name).partition(': ')[0]}: {fault.letter} {fault.name}")
