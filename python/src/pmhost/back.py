@@ -6,7 +6,6 @@ from dataclasses import dataclass
 from typing import Callable, Mapping
 
 from . import clock
-from .bus.patient import Waits
 from .course import Course, CourseEnd, in_hexadecimal
 from .device import Device
 from .errors import SAYINGS, refusal
@@ -16,8 +15,8 @@ from .values import Format
 from .zeros import NotBelieved
 
 OPERATION = "OPERATION"
-# For how many seconds the way back is tried again where it isn't confirmed, and how many jobs each try has at most.
-PATIENCE, TRIES = 5, 12
+# For how many seconds the way back is tried again where it isn't confirmed, after which wait, and how many jobs each try has at most.
+PATIENCE, WAIT, TRIES = 5, 0.05, 12
 
 
 @dataclass(frozen=True)
@@ -44,10 +43,9 @@ class Held:
 def bring_back(part: Device, held: Held, lift: Callable[[], bool] = lambda: False) -> str:
     """Brings an output to what it held: why it isn't known to be there, nothing where it is. It is tried again for a while. `lift` lifts
     WRITE_PROTECT where that is in the way, and says whether it did."""
-    waits = Waits(clock.until() + PATIENCE)
-    while why := try_back(part, held, lift):
-        if not waits.wait():
-            break
+    deadline = clock.until() + PATIENCE
+    while (why := try_back(part, held, lift)) and clock.until() < deadline:
+        clock.wait(WAIT)
     return why
 
 

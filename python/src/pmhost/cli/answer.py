@@ -44,11 +44,13 @@ class Answer:
     delivered: Delivered | None = None
     restart_seen: bool | None = None
     refusal: str | None = None
+    # What stands in a line in the place of the output.
+    name: str = ""
     rows: list[dict[str, object]] = field(default_factory=list)
 
     def place(self) -> str:
         """The output behind the command, - for the device's register."""
-        return f" {self.output}" if self.output is not None else " -" if self.register is not None else ""
+        return f" {self.name}" if self.name else f" {self.output}" if self.output is not None else " -" if self.register is not None else ""
 
     def as_json(self, where: Mapping[str, object] | None = None) -> str:
         """The same as one object; each command's has the same keys. `where` has the bus, the address and the name of its part."""

@@ -45,7 +45,6 @@ class WayBack:
                 self._held.pop()
             if done:
                 call.settled = "; ".join(words_of(*each) for each in done)
-            self.left = "; ".join(filter(None, [self.left, *(words_of(*each) for each in done if each[1])]))
         return done
 
     def _bring(self, held: Held) -> str:
@@ -60,9 +59,10 @@ class WayBack:
         """Brings back what is left as a call ends, and says so. The status: 1 where something isn't known to be back."""
         status = 0
         for held, why in self.go():
-            status = max(status, int(bool(why)))
+            if why:
+                status, self.left = 1, f"{self.left}{'; ' * bool(self.left)}{words_of(held, why)}"
             answer = Answer(f"back {held.name}", "not back" if why else "back", f"{held.said} confirmed" if not why else "not known", status,
-                            output=held.output, register=OPERATION if OPERATION in held.words else None, word=held.words.get(OPERATION))
+                            output=held.output, register=OPERATION if OPERATION in held.words else None, word=held.words.get(OPERATION), name=held.name)
             # Nobody may be left to read it.
             with contextlib.suppress(streams.NoStream):
                 self.call.say(answer)

@@ -267,7 +267,7 @@ class Call:
 
     def say(self, answer: Answer) -> int:
         """Prints an answer, and on standard error why it is a bad one. Its status."""
-        place = answer.place() if self.named is None or answer.output is None else f" {self.named.name}"
+        place = answer.place() if self.named is None or answer.output is None or answer.name else f" {self.named.name}"
         lines = [answer.as_json(self.where())] if self.is_json else [f"{answer.command.split()[0]}{place}: {answer.text}"] if answer.text else []
         self.say_lines(lines)
         if answer.why:

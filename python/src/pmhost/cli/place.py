@@ -43,11 +43,7 @@ class Place:
     def open(self) -> ModelPartBus | LinuxBus:
         """The bus, opened at its first use. NoBus, too, where a line is held low."""
         if self._bus is None:
-            try:
-                self._bus = self._made()
-            except BaseException:
-                self._trace.close()
-                raise
+            self._bus = self._made()
             if self.is_held_low():
                 raise NoBus(HELD_LOW)
         return self._bus

@@ -110,24 +110,28 @@ def run_board(arguments: argparse.Namespace, board: Board, run: Any) -> int:
         file.broken_off(fault)
         raise
     call.maybe = ""
-    gone = went_back(call, bool(why))
+    gone, is_back = went_back(call, board, bool(why))
     board.take()
     # Where no plan is carried on, what is held decides.
     are_wanted = arguments.command == "apply" and not why
     if why and arguments.command == "apply" and not is_dry:
         why += gone or after_a_stop(board)
-    found = Answer(said(arguments), "back" if gone and not call.back.left else "stopped" if why else "would order" if is_dry else "done", status=status, why=why,
+    found = Answer(said(arguments), "back" if is_back else "stopped" if why else "would order" if is_dry else "done", status=status, why=why,
                    rows=rows(board, is_dry and not why, are_wanted))
     with file.written(found.end, why):
         return answer(call, board, found, is_dry, are_wanted, getattr(arguments, "stores_all", False))
 
 
-def went_back(call: Call, is_bad: bool) -> str:
-    """The way back of a call that failed: what became of it, in words for the end of a line; nothing where there was none. Where all went
-    well nothing is brought back any more."""
+def went_back(call: Call, board: Board, is_bad: bool) -> tuple[str, bool]:
+    """The way back of a call that failed: what became of it, in words for the end of a line, nothing where there was none; and whether all is
+    back. Where all went well nothing is brought back any more."""
     if not is_bad:
         call.back.forget()
-    return "".join(f"; {words_of(*each)}" for each in call.back.go())
+    gone = call.back.go()
+    for held, _ in gone:
+        # What it was seen to do before says nothing of it now.
+        board.delivered.pop(held.name, None)
+    return "".join(f"; {words_of(*each)}" for each in gone), bool(gone) and not any(why for _, why in gone)
 
 
 def answer(call: Call, board: Board, found: Answer, is_dry: bool, are_wanted: bool, stores_all: bool) -> int:
