@@ -4,10 +4,12 @@ transfers the bus is away, as 1-30; without it some."""
 import errno
 import os
 import re
+import signal
 import tempfile
 import unittest
 
 from pmhost import ModelPart, ModelPartBus, Output
+from pmhost.bus.linux import ENDING
 
 from .board_kernel import BoardKernel
 from .runs import called
@@ -16,7 +18,7 @@ from .test_board_files import table_of
 AWAY = os.environ.get("PMHOST_AWAY", "1 2 9 30").split()
 EACH_LENGTH = "PMHOST_AWAY" in os.environ
 LENGTHS = [*range(1, 31)] if AWAY == ["1-30"] else [int(each) for each in AWAY]
-ON, MARGINS = 0x80, (0xA8, 0x94)
+ON, MARGINS, NAMES = 0x80, (0xA8, 0x94), ("core", "io")
 BACK = re.compile(r"(\w+)(?: is back: |: back, |: )OPERATION ([0-9A-F]{2}) confirmed")
 
 
@@ -53,8 +55,14 @@ class Part:
 class Broken(unittest.TestCase):
     """Each run is that of a part with two rails of its own."""
 
-    words, rails = ("margin-test",), ()
-    starts = (ON, ON)
+    words = ("margin-test", "FILE")
+    starts, board = (ON, ON), BOARD
+
+    def setUp(self):
+        # A shell may have started the tests with signals ignored, which pmhost goes by.
+        for each in ENDING:
+            before = signal.signal(each, signal.default_int_handler)
+            self.addCleanup(signal.signal, each, before)
 
     def run_once(self, mishaps, words=None):
         """The status, what is printed, and the part."""
@@ -62,7 +70,7 @@ class Broken(unittest.TestCase):
         over = BoardKernel({7: {0x58: part}}, mishaps)
         over.strikes_looks = True
         with tempfile.NamedTemporaryFile("w", suffix=".toml") as file:
-            file.write(BOARD)
+            file.write(self.board)
             file.flush()
             status, out, err = called([file.name if word == "FILE" else word for word in words or self.words], over)
         return status, out, err.replace(file.name, "FILE"), part, over
@@ -80,9 +88,9 @@ class Broken(unittest.TestCase):
         self.assertIn(status, ends, err)
         self.assertEqual(status == 0, err == "")
         for name, byte in BACK.findall(out + err):
-            self.assertEqual(held[("core", "io").index(name)], int(byte, 16), out + err)
+            self.assertEqual(held[NAMES.index(name)], int(byte, 16), out + err)
         if status == 0:
-            self.assertEqual([name for name, _ in BACK.findall(out)], ["core", "io"])
+            self.assertEqual(sorted(name for name, _ in BACK.findall(out)), [*NAMES])
 
 
 class MarginTests(Broken):
@@ -90,57 +98,53 @@ class MarginTests(Broken):
 
     words = ("margin-test", "FILE")
 
-    def places(self):
+    # What is said of an interruption behind the command under way.
+    interrupted = r"(nothing was written|\w+ is back: OPERATION 80 confirmed)"
+
+    def places(self, step=1, first=0):
         """Where something befalls the run: at each transfer."""
-        found = range(self.transfers())
-        self.assertGreater(len(found), 100)
+        found = range(first, self.transfers(), step)
+        self.assertGreater(len(found), 1)
         return found
 
     def test_the_bus_is_away_for_a_while(self):
         ends = set()
         for place in self.places():
-            length = LENGTHS[place % len(LENGTHS)]
-            for length in LENGTHS if EACH_LENGTH else [length]:
+            for length in LENGTHS if EACH_LENGTH else LENGTHS[place % len(LENGTHS):][:1]:
                 with self.subTest(place=place, length=length):
                     status, out, err, part, _ = self.run_once(["ok"] * place + ["deaf"] * length)
                     self.compare(status, out, err, part)
                     ends.add(status)
         self.assertEqual(ends, {0, 1})
 
-    def test_the_bus_is_away_as_the_way_back_begins(self):
-        """The last transfers of a rail, at each of which the bus is away for the longest."""
-        for place in range(self.transfers() - 30, self.transfers()):
-            with self.subTest(place=place):
-                self.compare(*self.run_once(["ok"] * place + ["deaf"] * 30)[:4])
-
     def test_the_bus_never_comes_back(self):
-        """The status is 1, and the rail isn't called back."""
-        for place in range(60, self.transfers(), 4):
+        """The status is 1, and no rail that stays on its margin is called back."""
+        stayed = set()
+        for place in self.places(7, 20):
             with self.subTest(place=place):
                 status, out, err, part, _ = self.run_once(["ok"] * place + ["deaf"] * 4000)
                 self.assertEqual(status, 1)
-                on_margin = [name for name, byte in zip(("core", "io"), part.held()) if byte in MARGINS]
-                for name in on_margin:
+                for name in (name for name, byte in zip(NAMES, part.held()) if byte in MARGINS):
                     self.assertNotIn(name, [name for name, _ in BACK.findall(out + err)])
                     self.assertIn(f"{name} isn't known to be back: OPERATION 80 isn't confirmed: ", err)
+                    stayed.add(name)
+        self.assertEqual(stayed, set(NAMES))
 
     def test_a_signal_at_each_transfer(self):
         for place in self.places():
-            for signal in ("sigint", "sigterm")[place % 2:][:1]:
-                with self.subTest(place=place, signal=signal):
-                    status, out, err, part, _ = self.run_once(["ok"] * place + [signal])
-                    self.compare(status, out, err, part, (130,))
-                    self.assertRegex(err, r"^pmhost: interrupted during margin-test FILE: (nothing was written|\w+ is back: OPERATION 80 confirmed)\n$")
+            with self.subTest(place=place):
+                status, out, err, part, _ = self.run_once(["ok"] * place + [("sigint", "sigterm")[place % 2]])
+                self.compare(status, out, err, part, (130,))
+                self.assertRegex(err, rf"^pmhost: interrupted during [^:]*: {self.interrupted}\n$")
 
     def test_a_signal_as_the_way_back_is_under_way(self):
         """The bus is away, so that it goes back; then the signal comes."""
-        for place in range(70, self.transfers(), 5):
+        for place in self.places(9, 30):
             with self.subTest(place=place):
-                status, out, err, part, _ = self.run_once(["ok"] * place + ["deaf"] * 10 + ["sigint"])
-                self.compare(status, out, err, part, (130,))
+                self.compare(*self.run_once(["ok"] * place + ["deaf"] * 10 + ["sigint"])[:4], (130,))
 
-    def test_a_lost_transfer_or_a_restart_at_each(self):
-        for place in self.places():
+    def test_a_lost_transfer_or_a_restart(self):
+        for place in self.places(3):
             mishap = ("lost", "false", "restart", "damaged")[place % 4]
             with self.subTest(place=place, mishap=mishap):
                 self.compare(*self.run_once(["ok"] * place + [mishap])[:4], (0, 1, 3))
@@ -151,3 +155,43 @@ class BackCalls(MarginTests):
 
     words = ("margin", "FILE", "core", "high", "--back", "read", "FILE", "core", "READ_VOUT", "+", "margin", "FILE", "io", "low", "--back", "read",
              "FILE", "io", "READ_VOUT")
+    interrupted = r"(nothing was written|((core|io) is back: OPERATION 80 confirmed(; )?){1,2})"
+
+
+class WaysBack(Broken):
+    """`apply --back-on-failure` of two rails: at the end all hold what they did, or all what is wanted, where the bus came back."""
+
+    words = ("apply", "--back-on-failure", "FILE")
+    old, new = 0x1000, 0x10CD
+    board = BOARD.replace('volts = "1V"', 'volts = "1.05V"')
+
+    def words_held(self, part):
+        return [part.bus.part.word(output, "VOUT_COMMAND") for output in range(2)]
+
+    def compare_words(self, status, out, err, part, ends=(0, 1)):
+        """None is left at another voltage than the others; and what is called back is so."""
+        held = self.words_held(part)
+        self.assertIn(status, ends, err)
+        self.assertEqual(held, [self.new] * 2 if status == 0 else [self.old] * 2, err)
+        self.assertEqual(status == 0, err == "")
+        self.assertEqual(re.findall(r"(\w+) isn't known to be back", err), [])
+        return len(re.findall(r"\w+ is back: VOUT_COMMAND 1000 confirmed", err))
+
+    def test_it_fails_at_each_transfer(self):
+        self.assertEqual(self.words_held(self.run_once([])[3]), [self.new] * 2)
+        backs = set()
+        for place in range(self.run_once([])[4].transfers):
+            length = (13, 26, 39)[place % 3]
+            with self.subTest(place=place, length=length):
+                status, out, err, part, _ = self.run_once(["ok"] * place + ["deaf"] * length)
+                backs.add(self.compare_words(status, out, err, part))
+        self.assertEqual(backs, {0, 1, 2})
+
+    def test_a_signal_at_each_transfer(self):
+        backs = set()
+        for place in range(self.run_once([])[4].transfers - 1):
+            with self.subTest(place=place):
+                status, out, err, part, _ = self.run_once(["ok"] * place + ["sigint"])
+                if self.words_held(part) != [self.new] * 2:
+                    backs.add(self.compare_words(status, out, err, part, (130,)))
+        self.assertEqual(backs, {0, 1, 2})

@@ -1,17 +1,156 @@
-"""The order of a board's rails: which files are refused, in which order frames go, and what is said."""
+"""The order of a board's rails: which files are refused, in which order frames go and how long is waited between them, and what is said."""
+import random
 import re
+import tempfile
 import unittest
+from unittest import mock
 
-from pmhost.sequence import milliseconds
+from pmhost import clock
+from pmhost.rails import Rail
+from pmhost.sequence import in_order, milliseconds
 
-from . import kernel
 from .board_kernel import BoardKernel
+from .runs import called
+from .test_margin_tests import Part, rail_of
+from .test_board_files import table_of
 from .test_runs import Blocks
 
+# PAGE_PLUS_WRITE of OPERATION: its output and its byte.
+ORDER = re.compile(r"B0 05 03 0(\d) 01 (\w\w) ")
+TIMES = {"0ms": 0, "5ms": 5, " 5 ms": 5, "12s": 12_000, "5": None, "ms": None, "5us": None, "1.5s": None, "-5ms": None}
 
-class Sequences(Blocks):
+
+class Rows(Blocks):
+    def look_at(self, trace, mishaps, part):
+        """Every line of the trace is a frame or a comment."""
+        for line in trace.splitlines():
+            self.assertTrue(line.startswith("#") or re.fullmatch("[0-9A-F ]+( / [0-9A-F ]+)?", line), line)
+
     def test_files_without_an_order_are_refused_before_the_first_frame(self):
         self.carry_out("wrong_sequences.txt")
 
     def test_rails_in_order(self):
         self.carry_out("sequences.txt")
+
+
+class Orders(unittest.TestCase):
+    def test_times(self):
+        self.assertEqual({text: milliseconds(text) for text in TIMES}, TIMES)
+
+    def test_each_rail_comes_after_those_that_it_names_and_else_as_in_the_file(self):
+        draw = random.Random(5)
+        for _ in range(300):
+            names = [f"r{number}" for number in range(draw.randint(1, 8))]
+            placed = draw.sample(names, len(names))
+            rails = [Rail(name, 0, (0, 1), after=tuple(draw.sample(placed[:placed.index(name)], min(placed.index(name), draw.randint(0, 2)))))
+                     for name in names]
+            faults = []
+            found = in_order(rails, faults)
+            self.assertEqual((faults, sorted(it.name for it in found)), ([], names))
+            for place, rail in enumerate(found):
+                before = {it.name for it in found[:place]}
+                self.assertLessEqual(set(rail.after), before)
+                # Of those that could have come here none stands earlier in the file.
+                free = [it for it in rails if it.name not in before and before.issuperset(it.after)]
+                self.assertIs(free[0], rail)
+
+
+class Slept:
+    """A clock that says how long was waited behind each order of OPERATION."""
+
+    def __init__(self, part):
+        self.part, self.waited = part, []
+
+    def wait(self, seconds):
+        if seconds:
+            self.waited.append((len(self.part.orders), round(seconds * 1000)))
+
+
+class Watched(Part):
+    """A part that keeps its orders of OPERATION: each its output and its byte."""
+
+    def __init__(self, starts):
+        super().__init__(starts)
+        self.orders = []
+
+    def hear(self, frame, ending):
+        found = ORDER.match(bytes(frame).hex(" ").upper() + " ")
+        if found and ending == "stop":
+            self.orders.append((int(found[1]), int(found[2], 16)))
+        return super().hear(frame, ending)
+
+
+class Frames(unittest.TestCase):
+    """Three rails, the file's order of which isn't that of their steps."""
+
+    board = "\n".join([table_of("u1", 7, 0x58, 3), rail_of("io", 1, 'after = ["core"]', 'wait = "20ms"', "delivers = true"), rail_of("core", 0),
+                       rail_of("aux", 2, 'after = ["io", "core"]', 'wait = "40ms"')])
+
+    def run_board(self, *words, starts=(0, 0, 0), mishaps=(), board=None):
+        part = Watched(starts)
+        slept, over = Slept(part), BoardKernel({7: {0x58: part}}, mishaps)
+        over.strikes_looks = True
+        with tempfile.NamedTemporaryFile("w", suffix=".toml") as file, mock.patch.object(clock, "wait", slept.wait):
+            file.write(board or self.board)
+            file.flush()
+            status, out, err = called([file.name if word == "FILE" else word for word in words], over)
+        return status, part.orders, slept.waited, err
+
+    def test_on_goes_in_order_and_waits(self):
+        self.assertEqual(self.run_board("on", "FILE"), (0, [(0, 0x80), (1, 0x80), (2, 0x80)], [(1, 20), (2, 40)], ""))
+
+    def test_off_goes_in_reverse_and_waits(self):
+        status, orders, waited, err = self.run_board("off", "FILE", starts=(0x80, 0x80, 0x80))
+        self.assertEqual((status, orders, waited, err), (0, [(2, 0), (1, 0), (0, 0)], [(1, 40), (2, 40)], ""))
+
+    def test_no_rail_comes_before_another_one_where_the_bus_goes_away(self):
+        for place in range(0, 60, 3):
+            with self.subTest(place=place):
+                status, orders, _, err = self.run_board("on", "FILE", mishaps=["ok"] * place + ["deaf"] * 60)
+                outputs = [output for output, _ in orders]
+                self.assertEqual(outputs, sorted(outputs))
+                self.assertEqual((status == 0, status == 0), (set(outputs) == {0, 1, 2} and err == "", err == ""))
+
+    def test_off_goes_on_behind_a_rail_that_is_not_known_to_be_off(self):
+        """The bus is away for as long as one rail is tried: the others are off, and the one is named."""
+        named = set()
+        for place in range(18):
+            part = Watched((0x80, 0x80, 0x80))
+            over = BoardKernel({7: {0x58: part}}, ["ok"] * place + ["deaf"] * 26)
+            over.strikes_looks = True
+            with self.subTest(place=place), tempfile.NamedTemporaryFile("w", suffix=".toml") as file:
+                file.write(self.board)
+                file.flush()
+                status, _, err = called(["off", file.name], over)
+                unknown = err.partition("not known to be off: ")[2].split()
+                self.assertEqual(status == 0, err == "")
+                on = {name for output, name in enumerate(("core", "io", "aux")) if part.bus.part.word(output, "OPERATION")}
+                self.assertLessEqual(on, {name.strip(",") for name in unknown})
+                named |= on
+        self.assertGreater(len(named), 1)
+
+
+class Gates(unittest.TestCase):
+    """`delivers`: what a rail that comes before another does, by the word that the part answers, is judged before the next one begins."""
+
+    def test_a_rail_that_tripped_after_its_own_step(self):
+        part = Watched((0, 0, 0))
+
+        def trip(seconds):
+            """Within the wait behind core its voltage is gone."""
+            if seconds and part.orders:
+                part.bus.part.set_reading(0, "READ_VOUT", 0)
+
+        for command, wanted in (("delivers = true", [(0, 0x80)]), ("delivers = false", [(0, 0x80), (1, 0x80)])):
+            part = Watched((0, 0, 0))
+            text = "\n".join([table_of("u1", 7, 0x58, 3), rail_of("core", 0), rail_of("io", 1, 'after = ["core"]', 'wait = "20ms"', command)])
+            with tempfile.NamedTemporaryFile("w", suffix=".toml") as file, mock.patch.object(clock, "wait", trip):
+                file.write(text)
+                file.flush()
+                status, _, err = called(["on", file.name], BoardKernel({7: {0x58: part}}))
+            with self.subTest(command=command):
+                self.assertEqual(part.orders, wanted)
+                if command == "delivers = true":
+                    self.assertEqual(status, 1)
+                    self.assertIn("core has to deliver first: ", err)
+
