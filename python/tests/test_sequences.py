@@ -1,4 +1,5 @@
 """The order of a board's rails: which files are refused, in which order frames go and how long is waited between them, and what is said."""
+import os
 import random
 import re
 import tempfile
@@ -8,9 +9,13 @@ from unittest import mock
 from pmhost import clock
 from pmhost.rails import Rail
 from pmhost.sequence import in_order, milliseconds
+from pmhost.values import CODES
 
+from . import kernel
 from .board_kernel import BoardKernel
+from .running import ROOT, stored
 from .runs import called
+from .test_board_page import blocks
 from .test_margin_tests import Part, rail_of
 from .test_board_files import table_of
 from .test_runs import Blocks
@@ -53,6 +58,33 @@ class Orders(unittest.TestCase):
                 # Of those that could have come here none stands earlier in the file.
                 free = [it for it in rails if it.name not in before and before.issuperset(it.after)]
                 self.assertIs(free[0], rail)
+
+
+class Page(unittest.TestCase):
+    maxDiff = None
+
+    """What docs/sequences.md prints."""
+
+    def test_the_three_rails_of_an_fpga(self):
+        page = stored(ROOT, "docs", "sequences.md")
+        printed, margins = blocks(page, "text")
+        parts = {0x40: kernel.Part((0x14, 0x14), address=0x40), 0x41: kernel.Part((0x14,), address=0x41)}
+        for address, output, word in ((0x40, 0, 0x0D99), (0x40, 1, 0x1CCD), (0x41, 0, 0x34CD)):
+            parts[address].converter.set((output, CODES["VOUT_COMMAND"]), word)
+            parts[address].converter.set((output, CODES["OPERATION"]), 0)
+        for register, word in (("VOUT_MARGIN_HIGH", 0x0DD0), ("VOUT_MARGIN_LOW", 0x0D60)):
+            parts[0x40].converter.set((0, CODES[register]), word)
+        with tempfile.TemporaryDirectory() as folder:
+            path = os.path.join(folder, "fpga.toml")
+            with open(path, "w", encoding="utf-8") as file:
+                file.write(blocks(page, "toml")[0])
+            run = [line.partition("#")[0].replace("fpga.toml", path).split()[1:] for block in blocks(page, "sh") for line in block.splitlines()]
+            on, apply, off, margin_test, back = run
+            self.assertEqual(called(on, BoardKernel({1: parts})), (0, "".join(printed.splitlines(True)[:3]), ""))
+            self.assertEqual(called(apply, BoardKernel({1: parts}))[::2], (0, ""))
+            self.assertEqual(called(margin_test, BoardKernel({1: parts})), (0, margins, ""))
+            self.assertEqual(called([*back[:-1], "READ_VOUT"], BoardKernel({1: parts}))[::2], (0, ""))
+            self.assertEqual(called(off, BoardKernel({1: parts})), (0, "".join(printed.splitlines(True)[3:]), ""))
 
 
 class Slept:
