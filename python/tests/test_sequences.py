@@ -69,7 +69,7 @@ class Page(unittest.TestCase):
         page = stored(ROOT, "docs", "sequences.md")
         printed, margins = blocks(page, "text")
         parts = {0x40: kernel.Part((0x14, 0x14), address=0x40), 0x41: kernel.Part((0x14,), address=0x41)}
-        for address, output, word in ((0x40, 0, 0x0D99), (0x40, 1, 0x1CCD), (0x41, 0, 0x34CD)):
+        for address, output, word in ((0x40, 0, 0x0D9A), (0x40, 1, 0x1CCD), (0x41, 0, 0x34CD)):
             parts[address].converter.set((output, CODES["VOUT_COMMAND"]), word)
             parts[address].converter.set((output, CODES["OPERATION"]), 0)
         for register, word in (("VOUT_MARGIN_HIGH", 0x0DD0), ("VOUT_MARGIN_LOW", 0x0D60)):
