@@ -10,7 +10,7 @@ from .runs import called
 
 # Words behind pmhost, the last of which is completed, and what it becomes.
 ROWS = [(["pro"], "probe"), (["-b", "m"], "model"), (["-b", "model", "set", "0", "3V", "VOUT_MARGIN_H"], "VOUT_MARGIN_HIGH"),
-        (["-b", "model", "set", "0", "3V", "+", "mar"], "margin"), (["margin", "0", "h"], "high"),
+        (["-b", "model", "set", "0", "3V", "+", "mar"], "margin margin-test"), (["margin", "0", "h"], "high"),
         (["set", "0", "3V", "--no"], "--no-limit"),
         (["apply", "--dry"], "--dry-run"), (["apply", "/etc/pass"], "/etc/passwd"), (["--trace", "/etc/pass"], "/etc/passwd"),
         (["apply", "--picture", "/etc/pass"], "/etc/passwd"), (["faults", "--seed", "1", "--pl"], "--plain-host"),
