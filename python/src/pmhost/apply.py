@@ -97,7 +97,7 @@ class Board:
     def why_not_there(self, name: str, part: BoardPart) -> str:
         """Why a part isn't the one that the file says: nothing where it is."""
         if why := self.ask_operation(name):
-            return (f"{name}: OPERATION of output 0 gave no good answer at {part.place}: {why}; pmhost probe tells why"
+            return (f"{name}: OPERATION of output 0 gave no good answer at {part.place}: {why}; pmhost probe says why"
                     if answers(self.parts[name]) else f"{name}: no part answers at {part.place}: {why}")
         return why_other_model(self.parts[name], part)
 
@@ -256,7 +256,7 @@ class Board:
             protect = only_word(part, 0, PROTECT)
             if protect != 0 and not self.is_in_the_way(name):
                 held = "not known" if protect is None else f"{protect:02X}"
-                raise Stopped(f"{f'{name}: ' * bool(name)}{PROTECT} is {held}: a store wants 00: order it by word - {PROTECT} 00")
+                raise Stopped(f"{f'{name}: ' * bool(name)}{PROTECT} is {held}: a store needs 00: order it by word - {PROTECT} 00")
 
     def apply(self) -> None:
         """Orders what differs. Stopped."""

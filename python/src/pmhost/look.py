@@ -110,7 +110,7 @@ class Delivered:
                 "power good alone": "power good is missing", "still on": "the part says that it is on"}.get(kind)
         if said is None:
             return f"whether the rail delivers isn't known: {bit.register}: {bit.fault or 'no good answer'}"
-        return f"{said}: `why` tells more"
+        return f"{said}: `why` says more"
 
     @property
     def said(self) -> str:

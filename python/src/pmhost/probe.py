@@ -186,7 +186,7 @@ class Probe:
         if not self.given:
             found.page = "the part looks at the page: page 1F doesn't answer"
         elif len(found.outputs) == 1:
-            found.page = "whether the part looks at the page wasn't asked: page 0 alone was"
+            found.page = "whether the part looks at the page wasn't asked: only page 0 was"
         elif register := self._different():
             found.page = f"the part looks at the page: the outputs hold different words of {register}"
         else:
@@ -241,7 +241,7 @@ class Probe:
         if before is None:
             return None, "not known, STATUS_CML gave no good answer"
         if before:
-            return None, f"not known, STATUS_CML is {before:02X} behind a good CLEAR_FAULTS"
+            return None, f"not known, STATUS_CML is {before:02X} after a good CLEAR_FAULTS"
         is_acknowledged, after = self._send(faulty), self._status()
         if after is None:
             return None, "not known, STATUS_CML gave no good answer"

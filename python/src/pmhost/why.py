@@ -72,7 +72,7 @@ def cause(seen: Findings) -> str:
     """The likeliest cause, and what to do about it; nothing where the rail is on and its power is good, or it is off as it is commanded."""
     status = seen.bits("STATUS_WORD")
     if seen.word("STATUS_WORD") is None:
-        return f"STATUS_WORD gives no good answer ({seen.found['STATUS_WORD'].why}): `pmhost probe` tells whether the part fits"
+        return f"STATUS_WORD gives no good answer ({seen.found['STATUS_WORD'].why}): `pmhost probe` says whether the part fits"
     config, is_on = seen.word("ON_OFF_CONFIG"), seen.state.is_on
     listens = config is None or bool(config & BY_COMMAND and config & BY_OPERATION)
     if is_on is False and listens:

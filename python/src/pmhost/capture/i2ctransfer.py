@@ -38,7 +38,7 @@ class Transfer:
             raise Refused(f"line {number}: X2 BadHex: give pairs of hexadecimal digits, as B0 03 46")
         self.frame = bytes.fromhex(b"".join(words).decode())
         if rest.strip(b" ") or not self.frame:
-            raise Refused(f"line {number}: X1 Syntax: give a frame, with a / behind it where a read follows, as B0 20 /")
+            raise Refused(f"line {number}: X1 Syntax: give a frame, with a / after it if a read follows, as B0 20 /")
         self.address = self.frame[0] >> 1
         self.answer: int | None = None
         if self.frame[0] & 1:

@@ -28,7 +28,7 @@ from .protection import Protection
 MODEL_ADDRESS, MODEL_OUTPUTS, PASSES = 0x58, 2, 3
 NOTHING = "nothing was written"
 LOOKS = Looks()
-PROBE_TELLS = "; pmhost probe tells why"
+PROBE_TELLS = "; pmhost probe says why"
 # The options that say where the one part is, and what it has: a board file has them for each part.
 OF_ONE_PART = ("bus", "address", "outputs", "limit", "no_limit", "lacks", "ready")
 
@@ -197,7 +197,7 @@ class Call:
         is_named = getattr(arguments, "named", None) is not None
         if output is not None and not is_named and output not in self.limits and not self.is_unlimited:
             raise BadCall(f"{said(arguments)}: give --limit {output}:LEAST:MOST, what the load tolerates, as "
-                          f"--limit {output}:3.135V:3.465V, or --no-limit; `probe` tells the outputs for --outputs")
+                          f"--limit {output}:3.135V:3.465V, or --no-limit; `probe` counts the outputs for --outputs")
 
     # ---- The parts ----
 

@@ -123,4 +123,4 @@ class Place:
         if self.is_held_low():
             return 2, HELD_LOW
         why = self.ask_operation(behind)
-        return (1, f"OPERATION of output 0 behind it: {why}") if why else (0, "")
+        return (1, f"OPERATION of output 0 after it: {why}") if why else (0, "")

@@ -11,6 +11,7 @@ from ..rail_course import Restarted, Setting, Stopped
 from ..rails import Rail
 from ..stores import too_hot
 from . import way
+from .about import described
 from .again import RESTARTED
 from .answer import Answer, delivery_of, in_digits, number
 from .call import Call, said
@@ -27,17 +28,17 @@ STORE_ALL = "--store-always"
 
 def add(commands: Any) -> None:
     """Adds the subparsers."""
-    for name, run, help in (("apply", apply, "brings a part, or the parts of a board, to the settings of a file of rails"),
-                            ("verify", verify, "compares them with a file of rails, and orders nothing")):
-        found = commands.add_parser(name, help=help, description=help[0].upper() + help[1:] + ".")
+    for name, run in ("apply", apply), ("verify", verify):
+        found = commands.add_parser(name, **described(name))
         completed_by(found.add_argument("file", metavar="FILE", type=file_of, help="settings of a board's rails, in TOML"), FILES)
         found.set_defaults(run=run, judge_file=judge_file, judge=way.judge, dry_run=False, picture=None, is_order=name == "apply")
         if name == "apply":
-            found.add_argument("--dry-run", action="store_true", help="reads, and says what would be ordered")
+            found.add_argument("--dry-run", action="store_true", help="reads, and only says what would be ordered")
             found.add_argument("--store", action="store_true", dest="wants_store",
-                               help="has the parts of which something was ordered store their settings, once all rails are as the file has them")
+                               help="has each part of which something was ordered store its settings, once all rails are as the file has them; one above "
+                                    "85 C, or with a rail that is cut, isn't stored; nothing is stored if left out")
             found.add_argument(STORE_ALL, action="store_true", dest="stores_all",
-                               help="the same of all parts, also where nothing was ordered; --store=always is this, too")
+                               help="the same of all parts, ordered or not; --store=always is the same")
             way.add(found)
         found.add_argument("--accept", **ACCEPT)
         bus_options(found)
@@ -143,7 +144,7 @@ def store(call: Call, board: Board, found: Answer, stores_all: bool) -> None:
         return
     for name in parts:
         if why := why_not_stored(call, board, name):
-            found.end, found.text, found.status = "refused", f"stored {', '.join(stored)} alone" if stored else "nothing is stored", 1
+            found.end, found.text, found.status = "refused", f"stored only {', '.join(stored)}" if stored else "nothing is stored", 1
             found.why = why
             return
         call.protection.lift(name)
@@ -158,7 +159,7 @@ def store(call: Call, board: Board, found: Answer, stores_all: bool) -> None:
         stored.append(name)
     found.end = "unknown" if found.status else "acknowledged"
     named = f" of {', '.join(stored)}" if any(stored) else ""
-    found.text = f"store {found.end}" if found.status else (f"store{named} acknowledged; a restart loads what was stored, where no pin overrides "
+    found.text = f"store {found.end}" if found.status else (f"store{named} acknowledged; a restart loads what was stored, if no pin overrides "
                                                             "it, which `verify` shows after a power cycle")
     if found.status and stored:
         found.why += f"; stored before: {', '.join(stored)}"

@@ -20,7 +20,7 @@ from .parser import BadCall, file_of, shown
 HELP = ("draws into this file (SVG) the way of each rail, order by order: what its output commands, by what the host knows; with "
         "--dry-run what the plan would order")
 MEASURED = f"Nothing is measured: it is {COMMANDED}."
-UNWRITTEN = "Nothing was written: these are the plan's orders, where each is confirmed."
+UNWRITTEN = "Nothing was written: these are the plan's orders, if each is confirmed."
 
 # How a rail ended: a mark, and words.
 End = tuple[str, str]

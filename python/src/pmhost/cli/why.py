@@ -5,6 +5,7 @@ import argparse
 from typing import Any
 
 from ..why import BESIDE, Findings, cause, findings
+from .about import described
 from .answer import Answer
 from .call import Call, said
 from .orders import OUTPUT
@@ -17,8 +18,7 @@ DEVICE = "WRITE_PROTECT"
 
 def add(commands: Any) -> None:
     """Adds the subparser."""
-    found = commands.add_parser("why", help="says why an output is off, and what to do about it",
-                                description="Says why an output is off: what its registers say, the likeliest cause, and what to do.")
+    found = commands.add_parser("why", **described("why"))
     found.add_argument("output", metavar="O", type=OUTPUT, help="the output, from 0")
     found.set_defaults(run=why)
     bus_options(found)

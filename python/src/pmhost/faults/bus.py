@@ -4,7 +4,7 @@
     lost          nothing arrives, and nobody acknowledges
     cut:N         the part hears the first N bytes, then a stop; what follows isn't acknowledged
     damaged:N:B   bit B of byte N is changed on the way. A part acknowledges each byte before it has the packet error
-                  code, so the damage is acknowledged, but in the address (N is 0), where nobody feels meant
+                  code, so the damage is acknowledged. Nobody acknowledges a damaged address (N is 0)
     twice         the part hears the frame twice
     mute          the part hears the frame; the acknowledgement is lost, or no answer comes
     short:N       of an answer N bytes come
@@ -14,9 +14,9 @@
     restart:N     the part hears the first N bytes, restarts, and hears no more of the frame, which nobody acknowledges
     restarted     the part hears the frame, answers, and then restarts
     ones          of an answer each byte comes as FFh
-    late          in place of an answer that to the request before comes; none where there was no request
+    late          in place of an answer that to the request before comes; none if there was no request
 
-N counts from 0, and begins again behind the last byte.
+N counts from 0, and begins again after the last byte.
 """
 from __future__ import annotations
 
@@ -35,7 +35,7 @@ DRAWN = ("lost", "cut", "damaged", "twice", "mute", "short", "garbled")
 UNHEARD = "no"
 # Faults for which a write isn't acknowledged.
 UNACKNOWLEDGED = ("lost", "cut", "mute", "restarting")
-# Faults that strike answers alone.
+# Faults that strike only answers.
 OF_ANSWERS = ("short", "garbled", "ones", "late")
 # Where a packet has its count.
 COUNT_AT = 2
