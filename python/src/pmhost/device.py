@@ -42,7 +42,7 @@ class Device:
     they can be narrowed by `set_limits`. {1: None} says that output 1 has none; an output that isn't named is ordered no voltage (L8). `lacks` names registers that the part doesn't have, as ("VOUT_MIN",). A voltage is a text with
     its unit, as "3.3V" or "850mV", or a Voltage, which is what is given back.
 
-    An order, a survey and a margin look at the rail behind their end, and raise NotDelivered where it doesn't deliver what it is commanded
+    An order, a survey and a margin look at the rail after their end, and raise NotDelivered if it doesn't deliver what it is commanded
     to; `delivered` has what was read last. `looks` says how; None doesn't look.
 
     Several threads may use it: a call waits until that of another thread has ended. `host` itself is for one thread at a time.
@@ -81,24 +81,24 @@ class Device:
 
     @alone
     def no_limits(self, output: int) -> None:
-        """Says that an output has no limits. L6 where it has some."""
+        """Says that an output has no limits. L6 if it has some."""
         self.host.no_limits(output)
 
     @alone
     def limits(self, output: int) -> tuple[Voltage, Voltage] | None:
-        """The limits of an output, None where it was given none."""
+        """The limits of an output, None if it was given none."""
         found = self.host.limits(output)
         return None if found is None else (found.least, found.most)
 
     @alone
     def limits_state(self, output: int) -> str:
-        """How the output lies to its limits, by what is known: `within`, `outside`, `not known` where that doesn't tell, or `no limits`
-        where it was given none."""
+        """How the output lies to its limits, by what is known: `within`, `outside`, `not known` if that doesn't tell, or `no limits`
+        if it was given none."""
         return self.host.limits_state(output)
 
     @alone
     def band(self, output: int) -> tuple[Voltage, Voltage] | None:
-        """Which voltages the output may be commanded to, by what is known; None where its format isn't known, or where OPERATION
+        """Which voltages the output may be commanded to, by what is known; None if its format isn't known, or if OPERATION
         may hand its voltage to AVSBus."""
         try:
             found = self.host.band(output)
@@ -115,7 +115,7 @@ class Device:
 
     @alone
     def voltage(self, output: int, register: str | int = "VOUT_COMMAND") -> Voltage | None:
-        """The voltage of a register whose word is confirmed, rounded down to microvolts; None where none is. A ValueError of a
+        """The voltage of a register whose word is confirmed, rounded down to microvolts; None if none is. A ValueError of a
         register that is no voltage."""
         if NAMES[code_of(register)] in ("OPERATION", "WRITE_PROTECT"):
             raise ValueError(f"register: {NAMES[code_of(register)]} is no voltage")
@@ -131,7 +131,7 @@ class Device:
 
     @alone
     def run(self) -> Step:
-        """Carries the job out that `host` has open, and says how it ended. `transfers` tells what became of its frames."""
+        """Carries the job out that `host` has open, and says how it ended. `transfers` says what became of its frames."""
         self.transfers = Transfers()
         return self.host.run(self.bus, self.transfers)
 
@@ -166,7 +166,7 @@ class Device:
         """Orders the word nearest to a voltage, reads it back, and says what the output commands then, by what is known.
 
         The output's format has to be learned first (H7). Raises a Refused before anything is sent, and Differs or
-        Unknown where the word wasn't confirmed."""
+        Unknown if the word wasn't confirmed."""
         wanted = Voltage(voltage)
         step = self._do(lambda: self.host.order_voltage(output, register, wanted))
         self._ended(step, f"order {output} {wanted}", (output, register))
@@ -200,8 +200,8 @@ class Device:
     @alone
     def complete(self, course: Course, before_order: Callable[[Job], None] | None = None,
                  after_order: Callable[[Job, Step], None] | None = None, job: str = "", accept: GivenVoltage | None = None) -> RailState:
-        """Carries a course out, as `Host.run_course` does, and says what the output commands then. Raises how it ended where it has not
-        reached what is wanted: a Refused, Differs, NoFormat, OtherSource or Spent, behind the words of a job; and NotDelivered. Where an
+        """Carries a course out, as `Host.run_course` does, and says what the output commands then. Raises how it ended if it has not
+        reached what is wanted: a Refused, Differs, NoFormat, OtherSource or Spent, after the words of a job; and NotDelivered. If an
         order differs and the held word is `accept` near, that is wanted instead, as by `Course.accept`."""
         self.transfers, self.delivered = Transfers(), None
         look = None if self.looks is None else Look(self, course.output, self.looks)
@@ -254,7 +254,7 @@ class Device:
     def set_voltage(self, output: int, voltage: GivenVoltage, register: str | int = "VOUT_COMMAND", tries: int = TRIES,
                     accept: GivenVoltage | None = None) -> RailState:
         """Brings a register of the output to the word of a voltage: the nearest one, of VOUT_MAX and VOUT_MIN the one that keeps the
-        bound. Says what the output commands then. With `accept="3mV"` a part may round: where the order differs, a held word whose value is
+        bound. Says what the output commands then. With `accept="3mV"` a part may round: if the order differs, a held word whose value is
         this near is taken."""
         wanted = Voltage(voltage)
         return self.complete(Course.voltage(output, wanted, register, tries), job=f"set {output} {wanted}", accept=accept)

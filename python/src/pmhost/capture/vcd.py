@@ -69,7 +69,7 @@ class Waveform:
 
 
 def fault_of(trace: str) -> str | None:
-    """Why a text is no trace to draw, or None. Its first line that is no comment tells: in a trace with times it is no packet."""
+    """Why a text is no trace to draw, or None. Its first line that is no comment decides: in a trace with times it is no packet."""
     for number, line in enumerate(trace.splitlines(), 1):
         if line.strip() and not line.startswith("#"):
             return None if PACKET.fullmatch(line.strip()) else \

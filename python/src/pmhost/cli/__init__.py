@@ -60,7 +60,7 @@ def options_of(found: argparse.ArgumentParser) -> set[str]:
 
 def parts_of(words: list[str]) -> list[list[str]]:
     """The words of each command: + stands between them. A word that begins like a negative number is no option, and argparse
-    takes one behind a blank for what it is."""
+    takes one after a blank for what it is."""
     if words[:1] and words[0] in OWN_JOBS:
         return [words]
     parts: list[list[str]] = [[]]
@@ -99,13 +99,13 @@ def read_command(part: list[str], named: names.Named | None) -> argparse.Namespa
 
 @functools.cache
 def all_valued() -> set[str]:
-    """The options behind which a value stands, of any command."""
+    """The options after which a value stands, of any command."""
     whole, commands = parser()
     return valued(whole).union(*map(valued, commands.values()))
 
 
 def valued(found: argparse.ArgumentParser) -> set[str]:
-    """The options of a parser behind which a value stands."""
+    """The options of a parser after which a value stands."""
     return {flag for action in found._actions if action.nargs != 0 for flag in action.option_strings}
 
 
@@ -159,7 +159,7 @@ def judge(call: Call) -> None:
 
 
 def fail(words: list[str], why: str, end: str, status: int, call: Call | None = None) -> int:
-    """One line on standard error, and where --json is given the object, too."""
+    """One line on standard error, and if --json is given the object, too."""
     if "--json" in words and end != "stream":
         told = Answer(call.under_way if call and call.under_way else " ".join(words), end, status=status, why=why)
         try:

@@ -38,7 +38,7 @@ BAD_LINE, INTERRUPTED = 1, 130
 
 
 def samplerate_of(word: str) -> int:
-    """Samples a second: a whole number, as sigrok-cli has it, or one with Hz, kHz, MHz or GHz behind it."""
+    """Samples a second: a whole number, as sigrok-cli has it, or one with Hz, kHz, MHz or GHz after it."""
     found = re.fullmatch(r"([1-9][0-9]{0,14})(|Hz|kHz|MHz|GHz)", word)
     if not found:
         raise argparse.ArgumentTypeError(

@@ -46,7 +46,7 @@ FRAME = re.compile(r"((?:[0-9A-Fa-f]{2} ?)+?)( ?/)?")
 
 @dataclass
 class PartJob:
-    """What is done to the part: a restart, where there is no frame."""
+    """What is done to the part: a restart, if there is no frame."""
 
     words: str
     frame: bytes
@@ -219,11 +219,11 @@ def run(arguments: argparse.Namespace) -> int:
 
 
 def silent(transfer: faults.Struck) -> None:
-    """Tells nothing of a transfer."""
+    """Prints nothing of a transfer."""
 
 
 def indented(transfer: faults.Struck) -> None:
-    """Tells of a transfer below its job."""
+    """Prints a transfer below its job."""
     streams.write(f"  {transfer.line}")
 
 

@@ -147,7 +147,7 @@ asked again for `--settle`, since a ramp takes time. This is tested, and not pro
         Message("`a line is held low: address 02, which no part may have, acknowledges: ..`",
                 "",
                 "look at SDA and SCL, then nine clocks and a stop, the part's supply last"),
-        Message("`restore: on parts where it is a reset the outputs go off: ..`", "", "give `--outputs-may-go-off` if the board tolerates it"),
+        Message("`restore: on some parts it is a reset, and the outputs go off: ..`", "", "give `--outputs-may-go-off` if the board tolerates it"),
         Message("`/dev/i2c-1: the adapter has no plain I2C transfers: ..`", "", "take another adapter"),
         Message("`address B0: .. on the wire B0 is 58h`, and others like it", "", "give the word that the line asks for"),
     )),

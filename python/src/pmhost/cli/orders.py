@@ -28,7 +28,7 @@ from .parser import BadCall, bus_options, shown, whole
 
 # What each command sends beside reads, for an interruption to say.
 STORES = "the user store may hold the old or the new settings of every output"
-GO_OFF, MAY_GO_OFF = "--outputs-may-go-off", "on parts where it is a reset the outputs go off"
+GO_OFF, MAY_GO_OFF = "--outputs-may-go-off", "on some parts it is a reset, and the outputs go off"
 RESTORES = f"{', '.join(REGISTERS)} of every output may hold the old or the stored word"
 
 
@@ -88,6 +88,16 @@ def digits_of(word: str) -> str:
     return word
 
 
+def named(*fronts: str) -> str:
+    """The readings and status registers whose names begin so."""
+    return ", ".join(name for name in KINDS if name.startswith(fronts))
+
+
+READS = (f"{', '.join(REGISTERS)}, or {DEVICE} with - in the place of O. A reading: {named('READ_')}. A status register: {named('STATUS_')}. "
+         f"Further {named('ON_', 'VOUT_', 'POWER_')}. Any other name of the standard, or a code with its shape, as DD:word, 9E:block or EF:byte. "
+         f"VOUT_COMMAND or {DEVICE} if left out")
+
+
 def add(commands: Any) -> None:
     """Adds the subparsers."""
     output = {"type": OUTPUT, "metavar": "O", "help": "the output, from 0"}
@@ -104,9 +114,7 @@ def add(commands: Any) -> None:
     found = command("read", read, judge_read)
     found.add_argument("output", **device)
     completed_by(found.add_argument("register", metavar="REG", nargs="?", type=read_register_of,
-                                    help=f"VOUT_COMMAND if left out, with - {DEVICE}; or {', '.join(REGISTERS[:-1])}, {REGISTERS[-1]}; a "
-                                         f"reading or a status register: {', '.join(KINDS)}; any other name of the standard, or a "
-                                         "code with its shape, as DD:word, 9E:block or EF:byte"), tuple(dict.fromkeys((*REGISTERS, DEVICE, *KINDS, *CODES))))
+                                    help=READS), tuple(dict.fromkeys((*REGISTERS, DEVICE, *KINDS, *CODES))))
     bus_options(found)
     found = command("survey", survey_output)
     found.add_argument("output", **output)
@@ -201,7 +209,7 @@ def judge_word(arguments: argparse.Namespace) -> None:
 # ---- The commands ----
 
 def learn_once(part: Device, output: int) -> bool:
-    """Whether the format of an output is known, after it was learned where it wasn't."""
+    """Whether the format of an output is known, after it was learned if it wasn't."""
     if part.host.format(output) is None:
         part.host.learn(output)
         part.run()
@@ -254,7 +262,7 @@ def read(arguments: argparse.Namespace) -> int:
 
 
 def survey_output(arguments: argparse.Namespace) -> int:
-    """What an output commands. The status is 0 where that is known, and lies within its limits."""
+    """What an output commands. The status is 0 if that is known, and lies within its limits."""
     call: Call = arguments.call
     state = survey(call.part(), arguments.output)
     found = answer_of(arguments, call.part(), None, "told", text=rail_words(state))
@@ -274,7 +282,7 @@ def not_told(arguments: argparse.Namespace, part: Device, doubt: NotBelieved) ->
 
 
 def carry_out(arguments: argparse.Namespace, register: str, begin: Callable[[], object]) -> int:
-    """One order alone: what became of it."""
+    """One order by itself: what became of it."""
     call: Call = arguments.call
     part, output = call.part(), arguments.output
 
@@ -304,7 +312,7 @@ def accept_in(arguments: argparse.Namespace) -> int | None:
 
 
 def run_course(arguments: argparse.Namespace, register: str, course: Course) -> Accepting | int:
-    """Carries a course out that orders a register; the status where it came to no end. Where just the WRITE_PROTECT of the file is in the
+    """Carries a course out that orders a register; the status if it came to no end. If just the WRITE_PROTECT of the file is in the
     way that is lifted, and the course carried out once more."""
     protection, anew = arguments.call.protection, course.save()
     protection.touch(arguments.call.part_name)
@@ -395,7 +403,7 @@ def turn(arguments: argparse.Namespace, byte: int) -> int:
 
 
 def send_command(arguments: argparse.Namespace) -> int:
-    """A command that nothing reads back: clear, store, restore. It is acknowledged where the part answers behind it, too."""
+    """A command that nothing reads back: clear, store, restore. It is acknowledged if the part answers after it, too."""
     call: Call = arguments.call
     part, output = call.part(), arguments.output
     hot = too_hot(part) if arguments.command == "store" and not call.is_forced else ""

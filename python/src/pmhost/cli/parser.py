@@ -54,7 +54,7 @@ PMB = ("replay", "hear", "decode", "check", "number")
 
 
 def line_of(message: str, program: str) -> str:
-    """What argparse says, with the command in front of it, and the words of this program's own judges alone."""
+    """What argparse says, with the command in front of it, and the words of this program's own judges only."""
     command, message = program.partition(" ")[2], " ".join(message.split())
     of_pmb = re.match(f"argument COMMAND: invalid choice: '({'|'.join(PMB)})' ", message)
     if of_pmb:

@@ -75,7 +75,7 @@ def next_words(call: Call) -> str:
 
 
 def look_around(arguments: argparse.Namespace, call: Call) -> int:
-    """Which addresses of the bus answer, a line each, and the command line that probes each PMBus part. The status is 1 where there is none."""
+    """Which addresses of the bus answer, a line each, and the command line that probes each PMBus part. The status is 1 if there is none."""
     complain(f"{said(arguments)}: {MAY_BE_TAKEN}; {MAY_NOTE}")
     rows, lines = [], []
     for seen in scan(call.bus_at, arguments.all_addresses):
@@ -158,7 +158,7 @@ def revision_words(revision: int | None) -> str:
 
 
 def text_words(name: str, read: Read) -> str:
-    """A block, as a text where it is one."""
+    """A block, as a text if it is one."""
     if read.payload is None:
         return f"no good {name} ({read.why})"
     return f"{name} {block_words(read.payload)}"
@@ -179,8 +179,8 @@ def registers_words(output: FoundOutput) -> str:
 
 
 def on_off_words(read: Read) -> str:
-    """ON_OFF_CONFIG: bit 4 is 0 where the output is on whenever there is power, bit 3 is 0 where OPERATION's on and off are
-    ignored, bit 2 is 1 where the CONTROL pin counts."""
+    """ON_OFF_CONFIG: bit 4 is 0 if the output is on whenever there is power, bit 3 is 0 if OPERATION's on and off are
+    ignored, bit 2 is 1 if the CONTROL pin counts."""
     if read.payload is None:
         return f"no good ON_OFF_CONFIG ({read.why}): whether OPERATION is listened to isn't known"
     word = read.payload[0]

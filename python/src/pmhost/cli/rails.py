@@ -93,7 +93,7 @@ def board_of(arguments: argparse.Namespace) -> Board:
 
 
 def run_board(arguments: argparse.Namespace, board: Board, run: Any) -> int:
-    """Carries it out, and says what became of it; the picture that is wanted comes behind that."""
+    """Carries it out, and says what became of it; the picture that is wanted comes after that."""
     call: Call = arguments.call
     is_dry: bool = arguments.dry_run
     if arguments.command == "apply" and not is_dry:
@@ -118,7 +118,7 @@ def run_board(arguments: argparse.Namespace, board: Board, run: Any) -> int:
 
 
 def answer(call: Call, board: Board, found: Answer, is_dry: bool, are_wanted: bool, stores_all: bool) -> int:
-    """Says it, and has the parts store where that is wanted."""
+    """Says it, and has the parts store if that is wanted."""
     if not call.is_json and board.settings:
         call.say_lines([*table(board, is_dry and not found.status),
                         *(line for rail in board.rails for line in rail_lines(board, rail, are_wanted))])
@@ -129,7 +129,7 @@ def answer(call: Call, board: Board, found: Answer, is_dry: bool, are_wanted: bo
 
 
 def why_not_stored(call: Call, board: Board, name: str) -> str:
-    """Why a part isn't to store now, unless --force is given: nothing where it may."""
+    """Why a part isn't to store now, unless --force is given: nothing if it may."""
     cut = [rail.name for rail in board.rails if rail.part == name and board.is_cut(rail)]
     why = too_hot(board.parts[name]) or (f"VOUT_MAX or VOUT_MIN cuts {', '.join(cut)}, whose stored word the next plan may let go" if cut else "")
     return f"{f'{name}: ' * bool(name)}{why}: --force stores all the same" if why and not call.is_forced else ""
@@ -166,7 +166,7 @@ def store(call: Call, board: Board, found: Answer, stores_all: bool) -> None:
 
 
 def stop_of(board: Board, run: Any) -> tuple[str, int]:
-    """Carries it out. Why it stopped, or nothing, and the status: that of a restart where it is no more than one."""
+    """Carries it out. Why it stopped, or nothing, and the status: that of a restart if it is no more than one."""
     try:
         run()
     except Stopped as stopped:
@@ -228,12 +228,12 @@ def rail_lines(board: Board, rail: Rail, are_wanted: bool) -> list[str]:
 
 
 def delivered_words(board: Board, rail: Rail) -> str:
-    """What a rail does, where it was looked at."""
+    """What a rail does, if it was looked at."""
     return board.delivered[rail.name].words if rail.name in board.delivered else ""
 
 
 def volts(board: Board, it: Setting, word: int | None) -> float | None:
-    """A word's volts, where the library tells them."""
+    """A word's volts, if the library says them."""
     micro = board.format(it.rail).told(word)
     return None if micro is None else number(micro)
 

@@ -135,7 +135,7 @@ def bench(arguments: argparse.Namespace, way: Way) -> int:
 
 
 def chosen(arguments: argparse.Namespace, plain: Run) -> list[tuple[int, str]]:
-    """The runs: one alone, or all, or as many as were asked for of all of them again and again."""
+    """The runs: one only, or all, or as many as were asked for of all of them again and again."""
     if arguments.again:
         return [arguments.again]
     if arguments.runs is None:

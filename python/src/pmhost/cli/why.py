@@ -25,7 +25,7 @@ def add(commands: Any) -> None:
 
 
 def why(arguments: argparse.Namespace) -> int:
-    """Tells what the registers say, and the cause. The status is 0 where the rail is on and its power is good, or it is commanded off."""
+    """Says what the registers say, and the cause. The status is 0 if the rail is on and its power is good, or it is commanded off."""
     call: Call = arguments.call
     seen = findings(call.part(), arguments.output)
     because = cause(seen)
@@ -38,7 +38,7 @@ def why(arguments: argparse.Namespace) -> int:
 
 
 def well(seen: Findings) -> str:
-    """What is said where nothing is wrong."""
+    """What is said if nothing is wrong."""
     if "OFF" in seen.bits("STATUS_WORD"):
         return f"it is off, since OPERATION turns it off: `on {seen.output}` turns it on"
     return f"it is on: {seen.value('READ_VOUT')}"
