@@ -1,5 +1,6 @@
 """The commands of docs/command-line.md and docs/board-file.md and what these say that they print, and the cases in which a register holds a
 word that its rail doesn't command."""
+import errno
 import os
 import re
 import shlex
@@ -12,7 +13,9 @@ from unittest import mock
 from pmhost import cli
 from pmhost.cli.about import COMMANDS
 from pmhost.cli.messages import GROUPS
+from pmhost.cli.outcome import commanded_words, is_well
 from pmhost.cli.parser import OPTIONS
+from pmhost.survey import Commanded
 from pmhost.values import CODES
 
 from . import kernel, odd_parts
@@ -74,7 +77,7 @@ class Examples(unittest.TestCase):
         self.assertEqual(called(words_of("read"), kernel.FakeKernel(part)), (0, COMMANDS["read"].prints, ""))
 
     def test_the_probe(self):
-        self.assertEqual(called(words_of("probe"), kernel.FakeKernel(odd_parts.Named())), (0, COMMANDS["probe"].prints, ""))
+        self.assertEqual(called(words_of("probe"), kernel.FakeKernel(odd_parts.Named()))[:2], (0, COMMANDS["probe"].prints))
 
 
 class CommandLine(unittest.TestCase):
@@ -100,9 +103,10 @@ class CommandLine(unittest.TestCase):
     def test_each_example_is_a_call_that_is_judged_well(self):
         for name, about in COMMANDS.items():
             words = shlex.split(about.example.partition(" <")[0])[1:]
-            if name not in ("apply", "verify"):
-                with self.subTest(name):
-                    self.assertTrue(cli.judged(words, None).commands)
+            with self.subTest(name):
+                # What names a file or a program is only read.
+                found = cli.commands_of(words) if name in ("apply", "verify", "torture") else cli.judged(words, None).commands
+                self.assertEqual([it.command for it in found][-1:], [name])
 
     def test_each_word_and_option_has_its_help(self):
         for parser in (self.parser, *self.commands.values()):
@@ -124,7 +128,8 @@ class CommandLine(unittest.TestCase):
         for message in (it for group in GROUPS for it in group.messages):
             for line in re.findall("`([^`]+)`", message.line):
                 words = ".*".join(re.escape(it) for it in re.split(r"\s*\.\.\s*", number_free(line)))
-                self.assertTrue(re.search(words, printed), line)
+                with self.subTest(line):
+                    self.assertTrue(re.search(words, printed))
 
 
 class Cases(unittest.TestCase):
@@ -176,6 +181,19 @@ class Cases(unittest.TestCase):
             self.assertEqual(self.ran(part, command, "FILE"), (
                 1, "io: the output is commanded off, and would command 3.300048V, within 3.135V to 3.465V",
                 f"{command} FILE: io: the output is off, and is to be on{more}"))
+
+    def test_an_adapter_with_another_error(self):
+        part = odd_parts.WithoutMinimum()
+        part.refusal = errno.EIO
+        self.assertEqual(self.ran(part, "survey", "0"), (
+            1, "survey 0: VOUT_MIN gave no good answer",
+            "survey 0: VOUT_MIN: 3 transfers failed, the last: Input/output error; STATUS_CML 00, STATUS_VOUT 00"))
+
+    def test_a_voltage_that_may_be_another_one(self):
+        found = Commanded("VOUT_COMMAND", None, True, 3300000, 3400000, (3135000, 3465000), "within")
+        self.assertEqual(commanded_words(found, "VOUT_COMMAND", 3300000),
+                         "the output commands 3.3V to 3.4V, and isn't known to command 3.3V, within 3.135V to 3.465V")
+        self.assertFalse(is_well(found, "VOUT_COMMAND", 3300000))
 
     def test_apply_does_not_step_over_its_goal(self):
         """From 3.55 V that VOUT_MAX cuts to 3.3 V the way to 3.35 V has no third voltage."""

@@ -130,7 +130,9 @@ asked again for `--settle`, since a ramp takes time. This is tested, and not pro
         Message("`zeros came, which a line held low gives .., and a second read didn't give them`",
                 "the same, and OPERATION was answered",
                 "the same"),
-        Message("`interrupted during JOB: ..`", "Ctrl-C or a signal came; the line names what the part may hold now", "`read` what it names"),
+        Message("`interrupted during word 1 VOUT_COMMAND 34CD: output 1 VOUT_COMMAND may hold the old or the ordered word`",
+                "Ctrl-C or a signal came; the line names what the part may hold now",
+                "`read` what it names"),
     )),
     Group("A call that isn't carried out", """It has one line, with status 2. Nothing was sent to the part then, unless a line is held low after `clear`,
 `store` or `restore`.""", (

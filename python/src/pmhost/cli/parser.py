@@ -181,10 +181,11 @@ def lacks_of(word: str) -> tuple[str, ...]:
 # The options of a bus: what argparse adds them with. Each stands in a list, so that one that stands twice is seen.
 OPTIONS: dict[str, tuple[tuple[str, ...], dict[str, Any]]] = {
     "bus": (("-b", "--bus"), {"type": bus_of, "metavar": "BUS",
-                              "help": "the number of /dev/i2c-BUS; or model for a fresh model part, whose two outputs are at 1 V"}),
+                              "help": "the number of /dev/i2c-BUS, as 1, or model for a fresh model part, whose two outputs are at 1 V; needed without a "
+                                      "board file"}),
     "address": (("-a", "--address"), {"type": address_of, "metavar": "ADDRESS",
-                                      "help": "the part's address of seven bits in hexadecimal digits, as 58; no order is sent to one that SMBus "
-                                              "keeps for itself: 0C, 28, 37, 61"}),
+                                      "help": "the part's address of seven bits in hexadecimal digits, as 58; needed without a board file, but by `probe`. No "
+                                              "order is sent to one that SMBus keeps for itself: 0C, 28, 37, 61"}),
     "outputs": (("--outputs",), {"type": whole(1, 8, "outputs"), "metavar": "N",
                                  "help": "how many outputs the part has, 1 to 8; what is written needs it"}),
     "lacks": (("--lacks",), {"type": lacks_of, "metavar": "REG,..",
