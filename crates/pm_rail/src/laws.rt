@@ -5,8 +5,8 @@ ghost use Rattle.pm_rail.specs.SurveyLength.{SurveysAreShort};
 
 use pm_table::{cells_are_told_apart, cells_have_places};
 
-/// Each order of the plan leaves what the output commands, or makes it what it commands at the end (`one`), and so
-/// does any number of them from any moment on (`any`), if the output isn't cut by the words at the end. So it never
+/// Each order of the plan leaves what the output commands, or makes it what it commands at the end (`one`). The
+/// same holds of any number of them from any moment on (`any`), if the output isn't cut by the words at the end. So it never
 /// commands anything but its first value and its last, and changes once at most.
 pub fn plans_are_without_glitch()
     ensures { PlansAreWithoutGlitch }

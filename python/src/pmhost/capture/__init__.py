@@ -6,8 +6,8 @@ so that a live capture can be read.
         for line in trace("saleae", lines_of(file), address=0x58):
             print(line)
 
-Transfers of other devices, those with no stop, of more than two parts, and reads with no write part become comments; so
-does an address that nobody acknowledged. Another byte that wasn't acknowledged is shown in a comment above its transfer.
+These become comments: transfers of other devices, those with no stop, of more than two parts, reads with no write part, and an
+address that nobody acknowledged. Another byte that wasn't acknowledged is shown in a comment above its transfer.
 """
 from __future__ import annotations
 

@@ -71,7 +71,7 @@ def next_words(call: Call) -> str:
     """What to do about a part that takes a write without a PEC."""
     bus = "BUS" if call.bus == MODEL_BUS else call.bus
     return (f"look into the data sheet for a bit that requires the PEC, as bit 2 of MFR_CONFIG_ALL (D1) of an LTC3887: i2cset -y {bus} "
-            f"0x{call.address or MODEL_ADDRESS:02X} 0xD1 0xNN bp writes that byte with its PEC; then probe --writes again")
+            f"0x{call.address or MODEL_ADDRESS:02X} 0xD1 0xNN bp writes that byte. Then probe --writes again")
 
 
 def look_around(arguments: argparse.Namespace, call: Call) -> int:

@@ -35,8 +35,8 @@ def add(commands: Any) -> None:
         if name == "apply":
             found.add_argument("--dry-run", action="store_true", help="reads, and only says what would be ordered")
             found.add_argument("--store", action="store_true", dest="wants_store",
-                               help="has each part of which something was ordered store its settings, once all rails are as the file has them; one above "
-                                    "85 C, or with a rail that is cut, isn't stored; nothing is stored if left out")
+                               help="has each part of which something was ordered store its settings, once all rails are as the file has them. One above "
+                                    "85 C, or with a rail that is cut, isn't stored; none is if left out")
             found.add_argument(STORE_ALL, action="store_true", dest="stores_all",
                                help="the same of all parts, ordered or not; --store=always is the same")
             way.add(found)
