@@ -72,8 +72,11 @@ class Sources(unittest.TestCase):
 
     def test_a_name_of_the_page_of_proofs_that_no_crate_has_is_found(self):
         claims = self.rules.claims
-        with mock.patch.object(claims, "read", lambda path, real=claims.read: "`own`, `one_is_none`" if path == "docs/proved.md" else real(path)):
-            self.assertEqual([line for *_, line in claims.lost_names()], ["no crate has one_is_none"])
+        pages = {"docs/proved.md": "# A\n`own`, `one_is_none`\n| what is proved | unless | law |\n|---|---|---|\n| it | nothing | `World::run` |\n| that | nothing | |\n",
+                 "README.md": "# A\n`no_law`\n\n## What is proved\n\nOne (`World::run`). Two (`two_is_none`). Three.\n\nFour.\n\n## Taking part\n`other_law`\n"}
+        with mock.patch.object(claims, "read", lambda path, real=claims.read: pages.get(path) or real(path)):
+            self.assertEqual([line for *_, line in claims.lost_names()], [
+                "no crate has one_is_none", "names no law: | that | nothing | |", "no crate has two_is_none", "names no law: Three."])
 
     def test_words_of_the_list_and_long_sentences_are_found(self):
         self.assertEqual(self.prose("A wait comes after a write. `where` is code.\n\n```text\nit tells\n```\n"), [])
