@@ -83,6 +83,13 @@ class Course:
     """One way of an output: to nothing, which is a survey of what it commands, to words, to voltages, or to a byte of OPERATION. `tries`
     is how many jobs it begins at most.
 
+    >>> course = Course.words(0, {"VOUT_COMMAND": 0x34CD, "VOUT_MAX": 0x3770})
+    >>> host = Host(0x58)
+    >>> host.no_limits(0)
+    >>> host.run_course(course, ModelBus(0x58))
+    >>> course.ended.kind
+    'reached'
+
     While `frame` hands out a frame, send it and say by `write_ended` or `read_ended` what became of it; `end` says then how the course
     ended. `Host.run_course` does it over a bus. Between two frames of a job the host does nothing else; meanwhile nothing else is ordered of
     the output, and nothing restored.
@@ -103,7 +110,7 @@ class Course:
 
     @classmethod
     def words(cls, output: int, wanted: Wanted, tries: int = TRIES) -> Course:
-        """To words."""
+        """To words of voltages, as {"VOUT_COMMAND": 0x34CD, "VOUT_MAX": 0x3770}."""
         made, image = cls(output, tries), wanted_image(wanted)
         accepted(library.pm_course_words(REFERENCE(made._image), output, REFERENCE(image), tries))
         return made

@@ -59,6 +59,13 @@ class Host:
     registers that the part doesn't have: of VOUT_MAX, VOUT_MARGIN_HIGH, VOUT_MARGIN_LOW and VOUT_MIN. Give each output limits before its
     first order, or say by `no_limits` that it has none.
 
+    >>> host, course = Host(0x58), Course.voltage(0, "3.3V")
+    >>> host.set_limits(0, "3.135V", "3.465V")
+    >>> host.run_course(course, ModelBus(0x58))
+    >>> course.end()                                # raises unless the course has reached what is wanted
+    >>> host.confirmed_word(0, "VOUT_COMMAND") == 0x34CD
+    True
+
     It says by `frame` what to send, and hears what became of it by `write_ended` or `read_ended`; `run` does both over a bus.
     Copies share nothing. It isn't for several threads at once.
     """

@@ -42,7 +42,12 @@ def format_of(mode: int, coefficients: tuple[int, int, int]) -> Format:
 
 
 class ModelPart:
-    """A model converter, with PAGE, a user store, readings and latched status.
+    """A model converter, with PAGE, a user store, readings and latched status. `address` is 08h to 77h, there are 1 to 8 outputs, and
+    `coefficients` are m, b and R of DIRECT.
+
+    >>> part = ModelPart(0x58, [Output(), Output(command=0x34CD)])
+    >>> part.hear(bytes.fromhex("B0 06 02 01 21"), is_request=True).hex(" ")
+    'b1 02 cd 34 90'
 
     A SetupRefused, V1 to V5, if no converter starts so; the library says so, and of numbers that its fields can't hold
     a ValueError."""
