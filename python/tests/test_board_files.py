@@ -244,13 +244,13 @@ class Files(unittest.TestCase):
         over.wires[8].parts[0x50] = spare = kernel.Part(address=0x50)
         status, out, err = applied(text, over, "--store")
         self.assertEqual((status, err, out.splitlines()[-1]),
-                         (0, "", "apply: store of u12, u13, u14 acknowledged; a restart loads what was stored, where no pin overrides it, which "
+                         (0, "", "apply: store of u12, u13, u14 acknowledged; a restart loads what was stored, if no pin overrides it, which "
                                  "`verify` shows after a power cycle"))
         self.assertEqual([self.codes(name)[-1] for name in self.parts], ["15"] * 3)
         self.assertEqual([line for line in spare.lines if line.startswith("A0 15")], [])
         self.parts["u14"].converter.set((None, 0x10), 0x40)
         self.assertEqual(applied(text, over, "--store")[::2],
-                         (1, "pmhost: apply FILE: u14: WRITE_PROTECT is 40: a store wants 00: order it by word - WRITE_PROTECT 00; nothing "
+                         (1, "pmhost: apply FILE: u14: WRITE_PROTECT is 40: a store needs 00: order it by word - WRITE_PROTECT 00; nothing "
                              "was ordered of core, io, pll\n"))
 
     def test_a_store_that_fails_says_which_were_done(self):

@@ -128,7 +128,7 @@ class Programs(unittest.TestCase):
         self.assertEqual((status, "transfer 1 false: not ended: NOT ENDED" in out), (1, True))
 
     def test_calls_that_are_wrong_say_what_to_give(self):
-        for words, line in (([], "torture: give a program behind --, as pmhost torture -- ./your-host"),
+        for words, line in (([], "torture: give a program after --, as pmhost torture -- ./your-host"),
                             (["--", "/no/such/host"], "torture: /no/such/host: no such program"),
                             (["--meant", "3:21=34CD", "--", "true"], "torture: --meant 3:21=34CD: give an output, a register and its word, as 1:21=34CD"),
                             (["--strike", "sparks", "--", "true"], "torture: kind sparks: give kinds of lost, cut, "),

@@ -1,6 +1,6 @@
 """Which addresses of a bus answer, and which of those are PMBus parts.
 
-Each address is first asked by a read of one byte without a command, which changes nothing in most devices. A command byte is sent only where
+Each address is first asked by a read of one byte without a command, which changes nothing in most devices. A command byte is sent only if
 that was acknowledged: a device that isn't a PMBus part may take the byte for a register's number, and the next read of its own driver then
 comes from there. Multiplexers take a byte for their channels, and sit at 70h to 77h: these are sent none unless it is asked for.
 """

@@ -35,7 +35,7 @@ class Server:
 
     @staticmethod
     def answered(came: bytes, wanted: Message) -> tuple[int, list[bytes]]:
-        """An answer as a controller reads it, which clocks as many bytes as it wants: behind the last one the line is high."""
+        """An answer as a controller reads it, which clocks as many bytes as it likes: after the last one the line is high."""
         length = wanted.length
         if not came:
             return -errno.EREMOTEIO, []
