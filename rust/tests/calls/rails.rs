@@ -60,6 +60,9 @@ fn a_set_says_what_its_own_output_commands() {
     let rail = host.set_microvolts(1, Register::VoutCommand, 3_300_000, COURSE_TRIES, &mut part).unwrap();
     assert_eq!((rail.power, rail.band), (Power::On, Ok(Band { least: 3_300_048, greatest: 3_300_049 })));
     assert_eq!(host.rail(0).unwrap().band, Err(Refusal::H7FormatUnknown));
+    // Output 0 has limits that nothing is known to be within, and output 1 none.
+    host.set_limits(0, Limits { least: 900_000, most: 1_100_000 }).unwrap();
+    assert_eq!((host.rail(0).unwrap().within, host.rail(1).unwrap().within), (LimitsState::NotKnown, LimitsState::Yes));
 }
 
 #[test]
