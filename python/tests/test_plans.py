@@ -423,6 +423,14 @@ class Exchanged(Recorded):
         return super().read(request, count)
 
 
+class Power(unittest.TestCase):
+    def test_a_course_knows_whether_it_turns_its_output_off(self):
+        for byte, is_off in ((0x00, True), (0x40, True), (0x7F, True), (0x80, False), (0xA8, False)):
+            course = Course.power(0, byte)
+            self.assertEqual((course.turns_off, course.copy().turns_off), (is_off, is_off), f"{byte:02X}")
+        self.assertFalse(Course.survey(0).turns_off)
+
+
 class Formats(unittest.TestCase):
     """A word is of the format that it was made by: in another one it is another voltage."""
 
