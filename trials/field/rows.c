@@ -251,6 +251,23 @@ static int is_said(const spoken *it) {
     return strcmp(text, it->words) == 0 || (printf("%s: %s\n", it->name, text), 0);
 }
 
+/* Whether a limit that was read is said of a course that had an order to give, and of no other. */
+static int is_said_after_an_order(void) {
+    static chain it;
+    static row from;
+    pm_course course;
+    pm_delivered said;
+    delivered_told told = {0, 0};
+    char with[ROOM], without[ROOM];
+    take_line(&from, "name: a limit is said after an order alone");
+    take_line(&from, "part: VOUT_OV_WARN_LIMIT 1080");
+    if (!set_up(&it, &from) || pm_course_microvolts(&course, 0, PM_VOUT_COMMAND, 1050000, TRIES)
+        || pm_host_deliver(&it.host, &course, it.deliveries, put, ask, pause_for_ramp, &it, &said).kind != PM_REACHED) return 0;
+    delivered_words(with, sizeof with, it.deliveries, &it.host, &course, &said, 1, &told);
+    delivered_words(without, sizeof without, it.deliveries, &it.host, &course, &said, 0, &told);
+    return (strstr(with, "is at or beyond") && !strstr(without, "is at or beyond")) || (printf("%s: %s\n", from.name, without), 0);
+}
+
 int main(int count, char **words) {
     FILE *file = fopen(count > 1 ? words[1] : "trials/field/rows.txt", "r");
     static char line[ROOM];
@@ -272,6 +289,8 @@ int main(int count, char **words) {
         int is_good = is_said(SPOKEN + at);
         passed += is_good, failed += !is_good;
     }
+    int is_good = is_said_after_an_order();
+    passed += is_good, failed += !is_good;
     printf("%d passed, %d failed\n", passed, failed);
     return failed != 0 || passed == 0;
 }
