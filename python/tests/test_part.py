@@ -121,6 +121,11 @@ class Made(unittest.TestCase):
                 made()
             self.assertEqual(raised.exception.letter, letter)
 
+    def test_each_register_has_its_own_word(self):
+        part = ModelPart(ADDRESS, [Output(0x14, 0x40, 0x1001, 0x4002, 0x1103, 0x0F04, 0x0005)])
+        found = [part.word(0, name) for name in ("OPERATION", "VOUT_COMMAND", "VOUT_MAX", "VOUT_MARGIN_HIGH", "VOUT_MARGIN_LOW", "VOUT_MIN")]
+        self.assertEqual(found, [0x40, 0x1001, 0x4002, 0x1103, 0x0F04, 0x0005])
+
     def test_it_starts_with_its_words_in_the_store(self):
         part = ModelPart(ADDRESS, RAILS, protect=0x80)
         for output, rail in enumerate(RAILS):

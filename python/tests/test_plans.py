@@ -423,7 +423,7 @@ class Exchanged(Recorded):
         return super().read(request, count)
 
 
-class Power(unittest.TestCase):
+class Kinds(unittest.TestCase):
     def test_a_course_knows_whether_it_turns_its_output_off(self):
         for byte, is_off in ((0x00, True), (0x40, True), (0x7F, True), (0x80, False), (0xA8, False)):
             course = Course.power(0, byte)
