@@ -29,7 +29,7 @@ def copies_of(language, bugs, built, folder, jobs):
         for home in homes:
             os.mkdir(home)
             python_mutants.copied(home)
-        python_mutants.look_at_tests(homes[0], sorted({it.said["test"] for it in bugs}))
+        python_mutants.look_at_tests(homes, sorted({it.said["test"] for it in bugs}))
         return [lambda bug, home=home: python_mutants.planted(home, bug) for home in homes]
     sound = c_mutants.Sound()
     return [c_mutants.Copy(os.path.join(folder, str(number)), built, sound).planted for number in range(jobs)]
