@@ -5,7 +5,7 @@
     trials/qemu/adapters.py --arm FOLDER [DRIVER ..]
 
 FOLDER has libpm_host_c.a and libpm_device_c.a for 32-bit ARM Linux, as trials/c/targets.sh --out leaves them in arm-linux. Each driver, as
-i2c_imx, takes two to eight minutes of one core; packages are fetched the first time (QEMU_CACHE, DEBIAN_MIRROR). Of each driver it is printed
+i2c_imx, takes some minutes of one core; packages are fetched the first time (QEMU_CACHE, DEBIAN_MIRROR). Of each driver it is printed
 what it says of an address that nobody has and of a refused byte. QEMU's controllers are models: what hardware does isn't shown. The last line is
 `N passed, M failed`.
 """
@@ -76,15 +76,15 @@ def rows(driver):
     yield "scan", r"(?s).*probe: 58: it answers, and is no PMBus part with packet error codes.*", 1
 
 
-def built(archives, folder):
-    """The example in C, and the package's library, for ARM."""
+def built(gcc, archives, folder):
+    """The example in C, and the package with its library, by a compiler over both archives."""
     paths_of = [os.path.join(archives, it) for it in ARCHIVES]
-    subprocess.run([GCC, "-O2", "-static", "-Wall", "-Wextra", "-Werror", "-I", os.path.join(paths.ROOT, "crates/pm_host_c/include"),
+    subprocess.run([gcc, "-O2", "-static", "-Wall", "-Wextra", "-Werror", "-I", os.path.join(paths.ROOT, "crates/pm_host_c/include"),
                     os.path.join(paths.ROOT, "examples/c/i2c_dev.c"), paths_of[0], "-o", os.path.join(folder, "i2c_dev")], check=True)
-    subprocess.run([GCC, "-shared", "-Wl,--whole-archive", *paths_of, "-Wl,--no-whole-archive", "-Wl,-z,noexecstack", "-o",
+    subprocess.run([gcc, "-shared", "-Wl,--whole-archive", *paths_of, "-Wl,--no-whole-archive", "-Wl,-z,noexecstack", "-o",
                     os.path.join(folder, "libpmhost.so")], check=True)
     package = os.path.join(paths.ROOT, "python", "src", "pmhost")
-    return {"errnos.py": ERRNOS, "i2c_dev": lambda to: shutil.copy(os.path.join(folder, "i2c_dev"), to),
+    return {"i2c_dev": lambda to: shutil.copy(os.path.join(folder, "i2c_dev"), to),
             "libpmhost.so": lambda to: shutil.copy(os.path.join(folder, "libpmhost.so"), to),
             "pmhost": lambda to: shutil.copytree(package, to, ignore=shutil.ignore_patterns("__pycache__", "*.so"))}
 
@@ -112,10 +112,10 @@ def main():
         words.error(f"no driver {unknown[0]}: there are {', '.join(guest.MACHINES)}")
     if lacking := [it for it in ARCHIVES if not os.path.isfile(os.path.join(given.arm, it))]:
         words.error(f"no {lacking[0]} in {given.arm}: trials/c/targets.sh --out OUT arm-linux makes OUT/arm-linux")
-    if not needs.are_there(*guest.TOOLS, GCC, LIBC, has_package=False):
+    if not needs.are_there("qemu-system-arm", *guest.TOOLS, GCC, LIBC, has_package=False):
         return tally.end()
     with tempfile.TemporaryDirectory() as folder:
-        files = built(given.arm, folder)
+        files = {"errnos.py": ERRNOS, **built(GCC, given.arm, folder)}
         for driver in drivers:
             try:
                 tried(tally, driver, files)
