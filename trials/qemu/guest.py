@@ -1,15 +1,16 @@
 """A machine of QEMU with Debian's own kernel and programs, unchanged, for 32-bit ARM or x86-64, and one shell script that runs there.
 
-Packages are fetched by apt-get of this machine into a folder of their own: nothing is installed, and no root is wanted.
+Packages are fetched by apt-get of this machine into a folder of their own, in which `console` is what the last guest said: nothing is
+installed, and no root is wanted. The guest's clock counts its instructions, and skips what it sleeps: on a busy machine nothing in it is late.
 """
 import glob
 import os
 import re
-import select
 import shutil
 import subprocess
 import sys
 import tempfile
+import time
 from typing import NamedTuple
 
 CACHE = os.path.expanduser(os.environ.get("QEMU_CACHE", "~/.cache/pmbus-qemu"))
@@ -22,6 +23,7 @@ UNUSED = [*("usr/share/" + it for it in "doc man locale lintian bash-completion"
           *("usr/lib/python3.11/" + it for it in ("asyncio curses dbm distutils ensurepip html idlelib lib2to3 multiprocessing pydoc_data sqlite3 "
                                                   "turtledemo unittest venv wsgiref xml xmlrpc zoneinfo").split())]
 TOOLS = ("apt-get", "dpkg-deb", "cpio")
+CONSOLE = os.path.join(CACHE, "console")
 # What the guest says before and behind what its script prints, and how long it may be silent: an emulator on a busy machine is slow.
 BEGUN, ENDED = "PMBUS-TRIAL-BEGINS", "PMBUS-TRIAL-ENDS"
 PATIENCE = 1800
@@ -191,31 +193,30 @@ def run(machine, devices, script, files=None, modules=("i2c_dev",)):
     with tempfile.TemporaryDirectory() as work:
         disk = os.path.join(work, "disk")
         memory_disk(machine, folder, modules, {**(files or {}), "script": script}, disk)
-        words = [machine.emulator, "-M", machine.name, "-m", "512", "-kernel", f"{folder}/boot/vmlinuz-{version}", "-initrd", disk,
-                 "-append", f"console={machine.console},115200n8 quiet", "-display", "none", "-monitor", "null", "-serial", "stdio", "-no-reboot",
-                 "-nic", "none"]
+        words = [machine.emulator, "-M", machine.name, "-m", "512", "-icount", "shift=2,sleep=off", "-kernel", f"{folder}/boot/vmlinuz-{version}",
+                 "-initrd", disk, "-append", f"console={machine.console},115200n8 panic=-1", "-display", "none", "-monitor", "null",
+                 "-serial", "stdio", "-no-reboot", "-nic", "none"]
         if machine.tree:
             words += ["-dtb", f"{folder}/usr/lib/linux-image-{version}/{machine.tree}"]
         for address, name in devices.items():
             words += ["-device", f"{name},address=0x{address:02x},bus={machine.bus}"]
-        with open(os.path.join(work, "errors"), "w+", encoding="utf-8") as errors:
-            with subprocess.Popen(words, stdin=subprocess.DEVNULL, stdout=subprocess.PIPE, stderr=errors) as process:
-                text = said(process.stdout)
-                process.kill()
-            errors.seek(0)
-            wrong = errors.read()
+        with open(CONSOLE, "wb") as console, subprocess.Popen(words, stdin=subprocess.DEVNULL, stdout=console, stderr=console) as process:
+            text = said(process)
+            process.kill()
     whole = re.search(rf"{BEGUN}\n(.*)^{ENDED} (\d+)$", text, re.DOTALL | re.MULTILINE)
     if not whole or whole[2] != "0":
-        raise NoGuest(f"{machine.name}: {text[-2000:]}\n{wrong[-500:]}")
+        raise NoGuest(f"{machine.name}: {text[-2000:]}")
     return whole[1].splitlines()
 
 
-def said(console):
-    """What a console says until the script has ended, QEMU has, or nothing came for so long."""
-    text = b""
-    while not re.search(rb"^%s \d+\r?\n" % ENDED.encode(), text[-100:], re.MULTILINE) and select.select([console], [], [], PATIENCE)[0]:
-        came = os.read(console.fileno(), 1 << 16)
-        if not came:
-            break
-        text += came
+def said(process):
+    """What the console says until the script has ended, QEMU has, or nothing came for so long."""
+    text, since, is_over = b"", time.monotonic(), False
+    while not is_over:
+        is_over = process.poll() is not None or time.monotonic() - since > PATIENCE or re.search(rb"^%s \d+\r?\n" % ENDED.encode(), text[-100:], re.MULTILINE)
+        with open(CONSOLE, "rb") as console:
+            now = console.read()
+        if now != text:
+            text, since = now, time.monotonic()
+        time.sleep(1)
     return text.decode("utf-8", "replace").replace("\r", "")
