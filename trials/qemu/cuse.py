@@ -27,8 +27,8 @@ from tally import Tally  # noqa: E402
 RAILS = open(os.path.join(paths.ROOT, "trials", "torture", "rails.sh"), encoding="ascii").read().replace("-y 1 ", "-y 9 ")
 STATIC = "set -e\ni2c_dev --no-limit /dev/i2c-9 58 0 1300000\ni2c_dev --no-limit /dev/i2c-9 58 1 900000\n"
 # Of each host its words, and those of the bench.
-HOSTS = {"i2c-tools": ("sh /trial/rails.sh", ""), "static": ("sh /trial/static.sh", "--runs 20"),
-         "pmhost": ("python3 -B -m pmhost -b 9 -a 58 --outputs 2 --no-limit set 0 1.3V + set 1 0.9V", "--runs 10")}
+HOSTS = {"i2c-tools": ("sh /trial/rails.sh", ""), "static": ("sh /trial/static.sh", "--runs 8"),
+         "pmhost": ("python3 -B -m pmhost -b 9 -a 58 --outputs 2 --no-limit set 0 1.3V + set 1 0.9V", "--runs 3")}
 SCRIPT = """
 export PYTHONPATH=/trial PMHOST_LIBRARY=/trial/libpmhost.so
 {0}

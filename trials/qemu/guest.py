@@ -1,7 +1,7 @@
 """A machine of QEMU with Debian's own kernel and programs, unchanged, for 32-bit ARM or x86-64, and one shell script that runs there.
 
 Packages are fetched by apt-get of this machine into a folder of their own, in which `console` is what the last guest said: nothing is
-installed, and no root is wanted. The guest's clock counts its instructions, and skips what it sleeps: on a busy machine nothing in it is late.
+installed, and no root is wanted.
 """
 import glob
 import os
@@ -193,8 +193,8 @@ def run(machine, devices, script, files=None, modules=("i2c_dev",)):
     with tempfile.TemporaryDirectory() as work:
         disk = os.path.join(work, "disk")
         memory_disk(machine, folder, modules, {**(files or {}), "script": script}, disk)
-        words = [machine.emulator, "-M", machine.name, "-m", "512", "-icount", "shift=2,sleep=off", "-kernel", f"{folder}/boot/vmlinuz-{version}",
-                 "-initrd", disk, "-append", f"console={machine.console},115200n8 panic=-1", "-display", "none", "-monitor", "null",
+        words = [machine.emulator, "-M", machine.name, "-m", "512", "-kernel", f"{folder}/boot/vmlinuz-{version}", "-initrd", disk,
+                 "-append", f"console={machine.console},115200n8 panic=-1", "-display", "none", "-monitor", "null",
                  "-serial", "stdio", "-no-reboot", "-nic", "none"]
         if machine.tree:
             words += ["-dtb", f"{folder}/usr/lib/linux-image-{version}/{machine.tree}"]
