@@ -1,7 +1,7 @@
 """A machine of QEMU with Debian's own kernel and programs, unchanged, for 32-bit ARM or x86-64, and one shell script that runs there.
 
-Packages are fetched by apt-get of this machine into a folder of their own, in which `console` is what the last guest said: nothing is
-installed, and no root is wanted.
+Packages are fetched by apt-get of this machine into a folder of their own, in which BOARD.console is what the last guest of a board
+said: nothing is installed, and no root is wanted.
 """
 import glob
 import os
@@ -20,10 +20,9 @@ PROGRAMS = ("busybox-static i2c-tools libi2c0 libc6 libgcc-s1 python3.11-minimal
             "libexpat1").split()
 # What the guest doesn't need of them, which would only make its memory disk large.
 UNUSED = [*("usr/share/" + it for it in "doc man locale lintian bash-completion".split()),
-          *("usr/lib/python3.11/" + it for it in ("asyncio curses dbm distutils ensurepip html idlelib lib2to3 multiprocessing pydoc_data sqlite3 "
+          *("usr/lib/python3.11/" + it for it in ("asyncio curses dbm distutils ensurepip idlelib lib2to3 multiprocessing pydoc_data sqlite3 "
                                                   "turtledemo unittest venv wsgiref xml xmlrpc zoneinfo").split())]
 TOOLS = ("apt-get", "dpkg-deb", "cpio")
-CONSOLE = os.path.join(CACHE, "console")
 # What the guest says before and behind what its script prints, and how long it may be silent: an emulator on a busy machine is slow.
 BEGUN, ENDED = "PMBUS-TRIAL-BEGINS", "PMBUS-TRIAL-ENDS"
 PATIENCE = 1800
@@ -200,8 +199,9 @@ def run(machine, devices, script, files=None, modules=("i2c_dev",)):
             words += ["-dtb", f"{folder}/usr/lib/linux-image-{version}/{machine.tree}"]
         for address, name in devices.items():
             words += ["-device", f"{name},address=0x{address:02x},bus={machine.bus}"]
-        with open(CONSOLE, "wb") as console, subprocess.Popen(words, stdin=subprocess.DEVNULL, stdout=console, stderr=console) as process:
-            text = said(process)
+        path = os.path.join(CACHE, machine.name + ".console")
+        with open(path, "wb") as console, subprocess.Popen(words, stdin=subprocess.DEVNULL, stdout=console, stderr=console) as process:
+            text = said(process, path)
             process.kill()
     whole = re.search(rf"{BEGUN}\n(.*)^{ENDED} (\d+)$", text, re.DOTALL | re.MULTILINE)
     if not whole or whole[2] != "0":
@@ -209,12 +209,13 @@ def run(machine, devices, script, files=None, modules=("i2c_dev",)):
     return whole[1].splitlines()
 
 
-def said(process):
-    """What the console says until the script has ended, QEMU has, or nothing came for so long."""
+def said(process, path):
+    """What the console, a file, says until the script has ended, QEMU has, or nothing came for so long."""
     text, since, is_over = b"", time.monotonic(), False
     while not is_over:
-        is_over = process.poll() is not None or time.monotonic() - since > PATIENCE or re.search(rb"^%s \d+\r?\n" % ENDED.encode(), text[-100:], re.MULTILINE)
-        with open(CONSOLE, "rb") as console:
+        is_over = (process.poll() is not None or time.monotonic() - since > PATIENCE
+                   or re.search(rb"^%s \d+\r?\n" % ENDED.encode(), text[-100:], re.MULTILINE))
+        with open(path, "rb") as console:
             now = console.read()
         if now != text:
             text, since = now, time.monotonic()
