@@ -44,7 +44,7 @@ reboot -f
 
 class Machine(NamedTuple):
     """A board of QEMU, Debian's names of its processor and of its kernel's package, its console, and of a board with parts on a bus its device
-    tree in that package, the driver of its I2C adapter, and the bus by its name in QEMU and by its number in Linux."""
+    tree in that package, the driver of its I2C adapter, and the bus by its name in QEMU and by its number in Linux; and options for the kernel."""
 
     name: str
     processor: str
@@ -54,6 +54,7 @@ class Machine(NamedTuple):
     driver: str = ""
     bus: str = ""
     number: int = 0
+    options: str = ""
 
     @property
     def emulator(self):
@@ -65,7 +66,8 @@ MACHINES = {it.driver: it for it in (
     Machine("mcimx6ul-evk", "armhf", "linux-image-armmp", "ttymxc0", "imx6ul-14x14-evk.dtb", "i2c_imx", "i2c-bus.0", 0),
     Machine("vexpress-a15", "armhf", "linux-image-armmp", "ttyAMA0", "vexpress-v2p-ca15-tc1.dtb", "i2c_versatile", "i2c", 0),
 )}
-PC = Machine("pc", "amd64", "linux-image-cloud-amd64", "ttyS0")
+# (on a busy machine the emulated timer is late, and the kernel would take it for a broken one)
+PC = Machine("pc", "amd64", "linux-image-cloud-amd64", "ttyS0", options="no_timer_check")
 
 
 def fetch(processor, *packages):
@@ -193,7 +195,7 @@ def run(machine, devices, script, files=None, modules=("i2c_dev",)):
         disk = os.path.join(work, "disk")
         memory_disk(machine, folder, modules, {**(files or {}), "script": script}, disk)
         words = [machine.emulator, "-M", machine.name, "-m", "512", "-kernel", f"{folder}/boot/vmlinuz-{version}", "-initrd", disk,
-                 "-append", f"console={machine.console},115200n8 panic=-1", "-display", "none", "-monitor", "null",
+                 "-append", f"console={machine.console},115200n8 panic=-1 {machine.options}", "-display", "none", "-monitor", "null",
                  "-serial", "stdio", "-no-reboot", "-nic", "none"]
         if machine.tree:
             words += ["-dtb", f"{folder}/usr/lib/linux-image-{version}/{machine.tree}"]
