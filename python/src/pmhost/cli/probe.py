@@ -7,7 +7,7 @@ from typing import Any
 from ..parts import MISSABLE, MODEL_BUS
 from ..probe import REGISTERS, UNFIT, WITHOUT_PEC_TAKEN, Found, FoundOutput, Probe, block_words, spaced, text_of
 from ..reads import Read
-from ..scan import LEFT_OUT, Seen, scan
+from ..scan import LEFT_OUT, Seen, bus_or_why, scan
 from .about import described
 from .answer import Answer, in_digits
 from .call import MODEL_ADDRESS, Call, complain, said
@@ -76,6 +76,9 @@ def next_words(call: Call) -> str:
 
 def look_around(arguments: argparse.Namespace, call: Call) -> int:
     """Which addresses of the bus answer, a line each, and the command line that probes each PMBus part. The status is 1 if there is none."""
+    bus = bus_or_why(call.bus_at)
+    if not isinstance(bus, str):
+        bus.close()
     complain(f"{said(arguments)}: {MAY_BE_TAKEN}; {MAY_NOTE}")
     rows, lines = [], []
     for seen in scan(call.bus_at, arguments.all_addresses):

@@ -36,6 +36,10 @@ register doesn't hold what was meant, and NOT ENDED after its seconds. STRANGE w
 status is 0 if no run is one of the first three, 1 if one is, and 2 if the program can't be judged."""
 
 
+# How long a run may take.
+SECONDS = 10
+
+
 def kinds_of(word: str) -> list[str]:
     found = word.replace(",", " ").split()
     for each in found:
@@ -63,7 +67,8 @@ def add(commands: Any) -> None:
     parser.add_argument("--runs", type=whole(1, 10**6, "runs"), metavar="N",
                         help="how many runs, drawn at random, at most 1000000; if left out each kind once at each transfer")
     parser.add_argument("--seed", type=whole(0, 10**9 - 1, "seed"), default=0, metavar="N", help="draws places and bits, 0 if left out")
-    parser.add_argument("--seconds", type=whole(1, 3600, "seconds"), default=10, metavar="N", help="how many seconds a run may take, 1 to 3600; 10 if left out")
+    parser.add_argument("--seconds", type=whole(1, 3600, "seconds"), default=SECONDS, metavar="N",
+                        help=f"how many seconds a run may take, 1 to 3600; {SECONDS} if left out")
     parser.add_argument("--outputs", type=whole(1, 8, "outputs"), default=2, metavar="N", dest="count",
                         help="how many outputs the converter has, 1 to 8; 2 if left out")
     parser.add_argument("--meant", action="append", default=[], metavar="O:CODE=WORD",
@@ -157,6 +162,8 @@ def again(arguments: argparse.Namespace, found: Verdict) -> str:
     """The line that repeats a run."""
     more = [] if arguments.cuse is None else ["--cuse", str(arguments.cuse)]
     more += ["--outputs", str(arguments.count)] * (arguments.count != 2) + ["--said", arguments.finds or ""] * (arguments.finds is not None)
+    more += ["--seconds", str(arguments.seconds)] * (arguments.seconds != SECONDS)
+    more += [word for (output, register), meant in arguments.meant for word in ("--meant", f"{output}:{register}={meant:04X}")]
     return shlex.join(["pmhost", "torture", *more, "--again", f"{found.run.number}:{found.run.fault}", "--", *arguments.program.words])
 
 

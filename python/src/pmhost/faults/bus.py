@@ -32,7 +32,7 @@ from ..texts import in_hexadecimal
 FAULT = re.compile(r"(ok|lost|twice|mute|false|restart|restarted|ones|late)|(cut|short|restart):(\d{1,3})|(damaged|garbled):(\d{1,3}):([0-7])")
 # What is drawn at random: what any bus does to any part. The others are for lists.
 DRAWN = ("lost", "cut", "damaged", "twice", "mute", "short", "garbled")
-UNHEARD = "no"
+UNHEARD, SILENT = "no", "silent"
 # Faults for which a write isn't acknowledged.
 UNACKNOWLEDGED = ("lost", "cut", "mute", "restarting")
 # Faults that strike only answers.
@@ -94,7 +94,7 @@ def heard_by(part: ModelPart, frame: bytes, is_request: bool = False) -> tuple[s
         return f"refused {refused_words(fault, part, frame, is_request)}", b""
     if answer:
         return f"answer {in_hexadecimal(answer)}", answer
-    return "taken" if frame[:1] == bytes([part.address << 1]) else "silent", b""
+    return "taken" if frame[:1] == bytes([part.address << 1]) else SILENT, b""
 
 
 def refused_words(fault: PartRefused, part: ModelPart, frame: bytes, is_request: bool) -> str:
@@ -128,13 +128,15 @@ class FaultyBus(ModelPartBus):
         self.faults, self.tell = list(faults), tell
         # The answer to the last request, for one that comes late.
         self._before = b""
+        # Whether somebody acknowledged the address of the last transfer.
+        self.is_addressed = False
 
     def write(self, frame: bytes) -> bool:
         """Whether it was acknowledged."""
         fault, kind, numbers = self._next()
         sent = arriving(frame, kind, numbers)
         heard, _ = self._heard(sent, False, kind)
-        acked = kind == "false" or kind not in UNACKNOWLEDGED and heard != "silent"
+        acked = kind == "false" or kind not in UNACKNOWLEDGED and heard != SILENT
         self.tell(Struck(frame, None, fault, heard, "acknowledged" if acked else "not acknowledged"))
         return acked
 
@@ -155,6 +157,7 @@ class FaultyBus(ModelPartBus):
         if kind == "twice":
             heard_by(self.part, sent, is_request)
         heard = heard_by(self.part, sent, is_request)
+        self.is_addressed = kind == "false" or heard[0] not in (UNHEARD, SILENT)
         if kind in ("restarting", "restarted"):
             self.part.restart()
         return heard
