@@ -41,7 +41,7 @@ class Seen:
 
 
 def bus_or_why(opened: Callable[[int], LinuxBus], address: int = FIRST) -> LinuxBus | str:
-    """The bus for an address, or why somebody else has that address. NoBus where the bus itself can't be used."""
+    """The bus for an address, or why somebody else has that address. NoBus if the bus itself can't be used."""
     try:
         return opened(address)
     except NoBus as fault:
@@ -51,7 +51,7 @@ def bus_or_why(opened: Callable[[int], LinuxBus], address: int = FIRST) -> Linux
 
 
 def scan(opened: Callable[[int], LinuxBus], asks_all: bool = False) -> Iterator[Seen]:
-    """What answers on a bus, address by address; `opened` opens the bus for one. NoBus where the bus itself can't be used."""
+    """What answers on a bus, address by address; `opened` opens the bus for one. NoBus if the bus itself can't be used."""
     for address in range(FIRST, LAST + 1):
         if address in RESERVED:
             continue
