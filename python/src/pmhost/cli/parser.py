@@ -194,15 +194,15 @@ OPTIONS: dict[str, tuple[tuple[str, ...], dict[str, Any]]] = {
     "limit": (("--limit",), {"type": limit_of, "metavar": "O:LEAST:MOST",
                              "help": f"what the load of an output tolerates, as {LIMIT_EXAMPLE}, at most 1000V: no order beyond it is sent. An order "
                                      "needs it, or --no-limit (L8)"}),
-    "no_limit": (("--no-limit",), {"const": True, "help": "orders outputs that no --limit names without limits; they are refused if it is left out"}),
+    "no_limit": (("--no-limit",), {"const": True, "help": "orders outputs that no --limit names without limits"}),
     "passes": (("--passes",), {"type": whole(1, 15, "passes"), "metavar": "N",
                                "help": "how often a job is tried at most, 1 to 15; 3 if left out. A store is sent once"}),
-    "trace": (("--trace",), {"type": file_of, "metavar": "FILE", "help": "appends what went over the wire, for `pmb decode`; none if left out"}),
+    "trace": (("--trace",), {"type": file_of, "metavar": "FILE", "help": "appends what went over the wire, for `pmb decode`"}),
     "trace_times": (("--trace-times",), {"const": True,
-                                         "help": "gives each transfer of --trace its time in microseconds, for `pmb decode --times`; none if left out"}),
+                                         "help": "gives each transfer of --trace its time in microseconds, for `pmb decode --times`"}),
     "log": (("--log",), {"type": file_of, "metavar": "FILE",
-                         "help": "appends a log with what is known after each command, for `pmb check`; none if left out"}),
-    "json": (("--json",), {"const": True, "help": "prints one object a command, of one shape for all; lines if left out"}),
+                         "help": "appends a log with what is known after each command, for `pmb check`"}),
+    "json": (("--json",), {"const": True, "help": "prints one object a command, of one shape for all, in the place of lines"}),
     "delay": (("--delay",), {"type": time_of(10, "delay"), "metavar": "TIME",
                              "help": "how long to wait before each transfer, as 5ms, at most 10s; 0ms if left out"}),
     "busy_timeout": (("--busy-timeout",), {"type": time_of(60, "busy-timeout"), "metavar": "TIME",
@@ -222,10 +222,8 @@ OPTIONS: dict[str, tuple[tuple[str, ...], dict[str, Any]]] = {
                              "help": "a busy part is ready if its byte of this command code has all of these bits, as EF:60; CAPABILITY is asked if left "
                                      "out"}),
     "share_bus": (("--share-bus",), {"const": True,
-                                     "help": "goes on beside another program that drives the address: the guarantees don't hold then; refused if left "
-                                             "out"}),
-    "force": (("--force",), {"const": True, "help": "goes on beside a driver of the kernel, and stores a part that is too hot or has a rail that is cut; "
-                                                    "refused if left out"}),
+                                     "help": "goes on beside another program that drives the address: the guarantees don't hold then"}),
+    "force": (("--force",), {"const": True, "help": "goes on beside a driver of the kernel, and stores a part that is too hot or has a rail that is cut"}),
 }
 BEHIND = "_behind"
 
