@@ -458,7 +458,7 @@ class Bounds(unittest.TestCase):
     def taken(self, mode, coefficients, word, register):
         """How a course ends that took a word, and what its register holds then."""
         part = pmhost.ModelPart(0x58, [pmhost.Output(mode, 0x80, word, word, word, word, word)], coefficients)
-        host, bus = Host(0x58), pmhost.ModelPartBus(part)
+        host, bus = free(Host(0x58)), pmhost.ModelPartBus(part)
         host.learn(0)
         host.run(bus)
         host.check(0, register)
