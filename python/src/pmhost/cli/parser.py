@@ -226,11 +226,30 @@ OPTIONS: dict[str, tuple[tuple[str, ...], dict[str, Any]]] = {
     "force": (("--force",), {"const": True, "help": "goes on beside a driver of the kernel, and stores a part that is too hot or has a rail that is cut"}),
 }
 BEHIND = "_behind"
+OF_A_BUS = "options of a bus"
+
+
+def own_options(parser: argparse.ArgumentParser) -> list[argparse.Action]:
+    """The options of a command but for those of a bus and --help."""
+    of_a_bus = [action for group in parser._action_groups if group.title == OF_A_BUS for action in group._group_actions]
+    return [it for it in parser._actions if it.option_strings and it not in of_a_bus and "--help" not in it.option_strings]
+
+
+def usage_of(name: str, parser: argparse.ArgumentParser) -> str:
+    """A command with its words, those that may be left out in brackets."""
+    words = [it for it in parser._actions if not it.option_strings and it.help != argparse.SUPPRESS]
+    return " ".join([name, *(f"[{it.metavar}]" if it.nargs == "?" else str(it.metavar) for it in words)])
+
+
+def flag_of(action: argparse.Action) -> str:
+    """An option with its value."""
+    value = action.metavar or "|".join(str(it) for it in action.choices or ())
+    return f"{action.option_strings[0]} {value if action.nargs != 0 else ''}".rstrip()
 
 
 def bus_options(parser: argparse.ArgumentParser, suffix: str = BEHIND) -> None:
     """Adds the options of a bus to the parser of a command that uses one."""
-    group = parser.add_argument_group("options of a bus")
+    group = parser.add_argument_group(OF_A_BUS)
     for name, (flags, words) in OPTIONS.items():
         action = "append_const" if "const" in words else "append"
         added = group.add_argument(*flags, dest=name + suffix, action=action, default=[], **words)
