@@ -59,6 +59,8 @@ def line_of(message: str, program: str) -> str:
     of_pmb = re.match(f"argument COMMAND: invalid choice: '({'|'.join(PMB)})' ", message)
     if of_pmb:
         return f"{of_pmb[1]}: no command here, but one of pmb: pmb {of_pmb[1]} --help shows more"
+    if message.startswith("argument COMMAND: invalid choice: 'help' "):
+        return f"help: give {program} --help, or {program} COMMAND --help"
     choice = re.match(r"argument (COMMAND|KIND): invalid choice: (.*) \(choose from (.*)\)\Z", message)
     if choice:
         words = f"{shown(ast.literal_eval(choice[2]))}: no {choice[1].lower()}; there are {choice[3].replace(chr(39), '')}"
