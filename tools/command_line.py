@@ -55,6 +55,11 @@ def said(action):
     return (action.help or "").replace("%%", "%")
 
 
+def brief(action):
+    """The first words of what is said of an option: what it is."""
+    return re.split(r"[;.] ", said(action))[0]
+
+
 # ---- Markdown ----
 
 def quoted(text):
@@ -145,16 +150,14 @@ def sentence(text):
 
 def manual(parser, commands):
     first, (example, rest) = WHOLE.partition("\n")[0], re.search(EXAMPLE, WHOLE, re.S).groups()
-    *paragraphs, status = rest.split("\n\n")
+    status = rest.split("\n\n")[-1]
     rows = [(" ".join([usage_of(name, found), *(f"[{flag(it)}]" for it in (() if name in ("faults", "torture") else own_options(found)))]),
              sentence(COMMANDS[name].brief)) for name, found in commands.items()]
     lines = [".\\\" Made by tools/command_line.py.", ".Dd November 29, 2026", ".Dt PMHOST 1", ".Os", ".Sh NAME", ".Nm pmhost",
              ".Nd supply voltages over PMBus, by a proved host", ".Sh SYNOPSIS", ".Nm", ".Op Ar options", ".Ar command", ".Op Cm + Ar command ...", ".Nm",
              ".Fl Fl completion | Fl Fl version | Fl Fl help", ".Sh DESCRIPTION", lines_of(first)]
-    for it in paragraphs:
-        lines += [".Pp", lines_of(it)]
-    lines += [".Pp", lines_of("Each command has --help, with more words and an example."), ".Ss Commands", *items(rows), ".Ss Options of a bus",
-              *items((", ".join([*it.option_strings[1:], flag(it)]), sentence(said(it))) for it in bus_options(parser)),
+    lines += [".Pp", lines_of("`pmhost --help` says more, as does `pmhost COMMAND --help`, which has an example."), ".Ss Commands", *items(rows), ".Ss Options of a bus",
+              *items((", ".join(it.option_strings) + flag(it).removeprefix(it.option_strings[0]), sentence(brief(it))) for it in bus_options(parser)),
               ".Sh EXIT STATUS", lines_of(status), ".Sh EXAMPLES", ".Bd -literal -offset indent", textwrap.dedent(example).rstrip("\n"), ".Ed",
               ".Sh SEE ALSO", ".Xr pmb 1", ".Sh CAVEATS", lines_of("The library below is proved; the command, its bus and its files are tested.")]
     return "\n".join(lines) + "\n"

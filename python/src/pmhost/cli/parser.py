@@ -196,7 +196,7 @@ OPTIONS: dict[str, tuple[tuple[str, ...], dict[str, Any]]] = {
     "limit": (("--limit",), {"type": limit_of, "metavar": "O:LEAST:MOST",
                              "help": f"what the load of an output tolerates, as {LIMIT_EXAMPLE}, at most 1000V: no order beyond it is sent. An order "
                                      "needs it, or --no-limit (L8)"}),
-    "no_limit": (("--no-limit",), {"const": True, "help": "orders outputs that no --limit names without limits"}),
+    "no_limit": (("--no-limit",), {"const": True, "help": "orders without limits the outputs that no --limit names"}),
     "passes": (("--passes",), {"type": whole(1, 15, "passes"), "metavar": "N",
                                "help": "how often a job is tried at most, 1 to 15; 3 if left out. A store is sent once"}),
     "trace": (("--trace",), {"type": file_of, "metavar": "FILE", "help": "appends what went over the wire, for `pmb decode`"}),
@@ -214,8 +214,8 @@ OPTIONS: dict[str, tuple[tuple[str, ...], dict[str, Any]]] = {
                                            "help": "what to do about a voltage at or beyond a fault limit of the part: refuse it (P8), only say so, "
                                                    "or don't read the limits; refuse if left out"}),
     "power_good": (("--power-good",), {"choices": ("judge", "tell"),
-                                       "help": "judge: a rail of which only power good is missing doesn't deliver; tell: this is only said; judge if "
-                                               "left out"}),
+                                       "help": "whether a rail of which only power good is missing doesn't deliver (judge), or this is only said (tell); "
+                                               "judge if left out"}),
     "within": (("--delivers-within",), {"type": percent_of, "metavar": "PERCENT",
                                         "help": "how far READ_VOUT may be from what is commanded, as 2.5%%; 5%% if left out"}),
     "settle": (("--settle",), {"type": time_of(60, "settle"), "metavar": "TIME",
