@@ -8,7 +8,6 @@
 The help stands in python/src/pmhost/cli/, above all in about.py and parser.py, the messages in messages.py. A test fails if a page isn't up to
 date. No library is needed.
 """
-import argparse
 import os
 import re
 import sys
@@ -22,10 +21,10 @@ NAMED, sys.argv[0] = sys.argv[0], "pmhost"
 from pmhost import cli  # noqa: E402
 from pmhost.cli.about import COMMANDS, WHOLE  # noqa: E402
 from pmhost.cli.messages import GROUPS  # noqa: E402
+from pmhost.cli.parser import flag_of, own_options, usage_of  # noqa: E402
 
 sys.argv[0] = NAMED
 PAGE, MANUAL = "docs/command-line.md", "docs/pmhost.1"
-BUS = "options of a bus"
 # Commands that have pages of their own.
 PAGES = {"apply": "board-file.md", "verify": "board-file.md", "faults": "simulation.md#both-ends-over-a-bad-bus", "torture": "torture.md",
          "capture": "captures.md"}
@@ -37,29 +36,14 @@ EXAMPLE = r"\n\n((?: {4}[^\n]*\n)+)\n(.*)"
 
 # ---- What the parser has ----
 
-def own_options(parser):
-    """The options of a command but for those of a bus and --help."""
-    of_a_bus = [action for group in parser._action_groups if group.title == BUS for action in group._group_actions]
-    return [it for it in parser._actions if it.option_strings and it not in of_a_bus and "--help" not in it.option_strings]
-
-
 def bus_options(parser):
     """Those of a bus."""
     return [it for it in parser._actions if it.option_strings and it not in own_options(parser) and "--help" not in it.option_strings]
 
 
-def usage(name, parser):
-    """A command with its words, those that may be left out in brackets."""
-    words = [name]
-    for it in (it for it in parser._actions if not it.option_strings and it.help != argparse.SUPPRESS):
-        words.append(f"[{it.metavar}]" if it.nargs == "?" else str(it.metavar))
-    return " ".join(words)
-
-
 def flag(action):
     """An option with its value, or a word of a command."""
-    value = action.metavar or "|".join(action.choices or ())
-    return f"{action.option_strings[0]} {value if action.nargs != 0 else ''}".rstrip() if action.option_strings else value
+    return flag_of(action) if action.option_strings else action.metavar
 
 
 def words_of(parser):
@@ -69,6 +53,11 @@ def words_of(parser):
 
 def said(action):
     return (action.help or "").replace("%%", "%")
+
+
+def brief(action):
+    """The first words of what is said of an option: what it is."""
+    return re.split(r"[;.] ", said(action))[0]
 
 
 # ---- Markdown ----
@@ -109,7 +98,7 @@ def sections(parser, commands):
     """The parts of the page: what stands below each heading."""
     example, rest = re.search(EXAMPLE, WHOLE, re.S).groups()
     yield "# The command line", "\n".join([MADE, "", wrapped(quoted(WHOLE.partition("\n")[0])), block("sh", textwrap.dedent(example)), wrapped(quoted(rest))])
-    rows = [(f"`{usage(name, found)}`", f"[{COMMANDS[name].brief}]({PAGES.get(name, f'#{name}')})" if name in PAGES or has_more(name, found)
+    rows = [(f"`{usage_of(name, found)}`", f"[{COMMANDS[name].brief}]({PAGES.get(name, f'#{name}')})" if name in PAGES or has_more(name, found)
              else COMMANDS[name].brief) for name, found in commands.items()]
     yield "## The commands", table(("command", "what it does"), rows)
     yield "## Options of a bus", list_of(bus_options(parser))
@@ -161,16 +150,14 @@ def sentence(text):
 
 def manual(parser, commands):
     first, (example, rest) = WHOLE.partition("\n")[0], re.search(EXAMPLE, WHOLE, re.S).groups()
-    *paragraphs, status = rest.split("\n\n")
-    rows = [(" ".join([usage(name, found), *(f"[{flag(it)}]" for it in (() if name in ("faults", "torture") else own_options(found)))]),
+    status = rest.split("\n\n")[-1]
+    rows = [(" ".join([usage_of(name, found), *(f"[{flag(it)}]" for it in (() if name in ("faults", "torture") else own_options(found)))]),
              sentence(COMMANDS[name].brief)) for name, found in commands.items()]
     lines = [".\\\" Made by tools/command_line.py.", ".Dd November 29, 2026", ".Dt PMHOST 1", ".Os", ".Sh NAME", ".Nm pmhost",
              ".Nd supply voltages over PMBus, by a proved host", ".Sh SYNOPSIS", ".Nm", ".Op Ar options", ".Ar command", ".Op Cm + Ar command ...", ".Nm",
              ".Fl Fl completion | Fl Fl version | Fl Fl help", ".Sh DESCRIPTION", lines_of(first)]
-    for it in paragraphs:
-        lines += [".Pp", lines_of(it)]
-    lines += [".Pp", lines_of("Each command has --help, with more words and an example."), ".Ss Commands", *items(rows), ".Ss Options of a bus",
-              *items((", ".join([*it.option_strings[1:], flag(it)]), sentence(said(it))) for it in bus_options(parser)),
+    lines += [".Pp", lines_of("`pmhost --help` says more, as does `pmhost COMMAND --help`, which has an example."), ".Ss Commands", *items(rows), ".Ss Options of a bus",
+              *items((", ".join(it.option_strings) + flag(it).removeprefix(it.option_strings[0]), sentence(brief(it))) for it in bus_options(parser)),
               ".Sh EXIT STATUS", lines_of(status), ".Sh EXAMPLES", ".Bd -literal -offset indent", textwrap.dedent(example).rstrip("\n"), ".Ed",
               ".Sh SEE ALSO", ".Xr pmb 1", ".Sh CAVEATS", lines_of("The library below is proved; the command, its bus and its files are tested.")]
     return "\n".join(lines) + "\n"

@@ -116,10 +116,8 @@ class CommandLine(unittest.TestCase):
 
     def test_each_option_of_a_bus_says_what_is_so_without_it(self):
         for name, (_, words) in OPTIONS.items():
-            if name not in ("bus", "address", "outputs", "limit"):
-                self.assertRegex(words["help"], "if (it is )?left out", name)
-        for name in "bus", "address", "outputs", "limit":
-            self.assertRegex(OPTIONS[name][1]["help"], "need", name)
+            if "const" not in words and name not in ("trace", "log"):
+                self.assertRegex(words["help"], "if left out|need", name)
 
     def test_each_message_is_one_that_a_test_prints(self):
         folders = [os.path.dirname(DATA), DATA]

@@ -25,7 +25,7 @@ from .again import are_several
 from .answer import Answer
 from .completion import bash
 from .call import Call, Interrupted, complain, interruptible
-from .parser import BadCall, Parser, bus_options, shown
+from .parser import OF_A_BUS, BadCall, Parser, bus_options, flag_of, own_options, shown, usage_of
 
 # The modules of the commands, in the order of the help.
 MODULES: list[ModuleType] = [probe, orders, why, known, rails, faults, torture, capture]
@@ -45,6 +45,9 @@ def parser() -> tuple[Parser, dict[str, argparse.ArgumentParser]]:
     commands = whole.add_subparsers(metavar="COMMAND", dest="command", required=True, parser_class=Parser)
     for module in MODULES:
         module.add(commands)
+    for name, found in commands.choices.items():
+        if any(group.title == OF_A_BUS for group in found._action_groups):
+            found.usage = " ".join(["pmhost [OPTIONS OF A BUS]", usage_of(name, found), *(f"[{flag_of(it)}]" for it in own_options(found))])
     return whole, dict(commands.choices)
 
 

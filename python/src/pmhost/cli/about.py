@@ -21,7 +21,8 @@ WHOLE = """Orders supply voltages over PMBus by a proved host, reads them back, 
     pmhost -b 1 -a 58 --outputs 2 --limit 0:3.135V:3.465V set 0 3.3V
     pmhost -b model read 0 + known
 
-A voltage has its unit: 3.3V, 3300mV, 3300000uV. O is an output, counted from 0.
+A voltage has its unit: 3.3V, 3300mV, 3300000uV. O is an output, counted from 0. `source <(pmhost --completion)` completes
+words in bash. On a terminal words are coloured, unless NO_COLOR is set.
 
 Several commands stand in one call with a + between them, and share one host. After one that doesn't end well only `known`
 and `band` are answered. The whole line, and each file that it names, is judged before anything is sent. Options of a bus
@@ -50,7 +51,7 @@ COMMANDS = {
 - WRITE_PROTECT, at 48 with OPERATION of output 0 before and after it, and a second time if zeros came.
 
 A part may note in STATUS_CML that it was asked for what it lacks, and pull SMBALERT#; `clear 0` takes the note away.
-An answer of nothing but FF counts as none.
+An answer of nothing but FF counts as none, and no good answer of an output's register is lost by that.
 
 --outputs 2 keeps it from any page above 1. That the part looks at the page then follows only if two outputs hold different
 words. If none do, the status is 1, unless --outputs is 1.

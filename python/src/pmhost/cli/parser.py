@@ -59,6 +59,8 @@ def line_of(message: str, program: str) -> str:
     of_pmb = re.match(f"argument COMMAND: invalid choice: '({'|'.join(PMB)})' ", message)
     if of_pmb:
         return f"{of_pmb[1]}: no command here, but one of pmb: pmb {of_pmb[1]} --help shows more"
+    if message.startswith("argument COMMAND: invalid choice: 'help' "):
+        return f"help: give {program} --help, or {program} COMMAND --help"
     choice = re.match(r"argument (COMMAND|KIND): invalid choice: (.*) \(choose from (.*)\)\Z", message)
     if choice:
         words = f"{shown(ast.literal_eval(choice[2]))}: no {choice[1].lower()}; there are {choice[3].replace(chr(39), '')}"
@@ -194,15 +196,15 @@ OPTIONS: dict[str, tuple[tuple[str, ...], dict[str, Any]]] = {
     "limit": (("--limit",), {"type": limit_of, "metavar": "O:LEAST:MOST",
                              "help": f"what the load of an output tolerates, as {LIMIT_EXAMPLE}, at most 1000V: no order beyond it is sent. An order "
                                      "needs it, or --no-limit (L8)"}),
-    "no_limit": (("--no-limit",), {"const": True, "help": "orders outputs that no --limit names without limits; they are refused if it is left out"}),
+    "no_limit": (("--no-limit",), {"const": True, "help": "orders without limits the outputs that no --limit names"}),
     "passes": (("--passes",), {"type": whole(1, 15, "passes"), "metavar": "N",
                                "help": "how often a job is tried at most, 1 to 15; 3 if left out. A store is sent once"}),
-    "trace": (("--trace",), {"type": file_of, "metavar": "FILE", "help": "appends what went over the wire, for `pmb decode`; none if left out"}),
+    "trace": (("--trace",), {"type": file_of, "metavar": "FILE", "help": "appends what went over the wire, for `pmb decode`"}),
     "trace_times": (("--trace-times",), {"const": True,
-                                         "help": "gives each transfer of --trace its time in microseconds, for `pmb decode --times`; none if left out"}),
+                                         "help": "gives each transfer of --trace its time in microseconds, for `pmb decode --times`"}),
     "log": (("--log",), {"type": file_of, "metavar": "FILE",
-                         "help": "appends a log with what is known after each command, for `pmb check`; none if left out"}),
-    "json": (("--json",), {"const": True, "help": "prints one object a command, of one shape for all; lines if left out"}),
+                         "help": "appends a log with what is known after each command, for `pmb check`"}),
+    "json": (("--json",), {"const": True, "help": "prints one object a command, of one shape for all, in the place of lines"}),
     "delay": (("--delay",), {"type": time_of(10, "delay"), "metavar": "TIME",
                              "help": "how long to wait before each transfer, as 5ms, at most 10s; 0ms if left out"}),
     "busy_timeout": (("--busy-timeout",), {"type": time_of(60, "busy-timeout"), "metavar": "TIME",
@@ -212,8 +214,8 @@ OPTIONS: dict[str, tuple[tuple[str, ...], dict[str, Any]]] = {
                                            "help": "what to do about a voltage at or beyond a fault limit of the part: refuse it (P8), only say so, "
                                                    "or don't read the limits; refuse if left out"}),
     "power_good": (("--power-good",), {"choices": ("judge", "tell"),
-                                       "help": "judge: a rail of which only power good is missing doesn't deliver; tell: this is only said; judge if "
-                                               "left out"}),
+                                       "help": "whether a rail of which only power good is missing doesn't deliver (judge), or this is only said (tell); "
+                                               "judge if left out"}),
     "within": (("--delivers-within",), {"type": percent_of, "metavar": "PERCENT",
                                         "help": "how far READ_VOUT may be from what is commanded, as 2.5%%; 5%% if left out"}),
     "settle": (("--settle",), {"type": time_of(60, "settle"), "metavar": "TIME",
@@ -222,17 +224,34 @@ OPTIONS: dict[str, tuple[tuple[str, ...], dict[str, Any]]] = {
                              "help": "a busy part is ready if its byte of this command code has all of these bits, as EF:60; CAPABILITY is asked if left "
                                      "out"}),
     "share_bus": (("--share-bus",), {"const": True,
-                                     "help": "goes on beside another program that drives the address: the guarantees don't hold then; refused if left "
-                                             "out"}),
-    "force": (("--force",), {"const": True, "help": "goes on beside a driver of the kernel, and stores a part that is too hot or has a rail that is cut; "
-                                                    "refused if left out"}),
+                                     "help": "goes on beside another program that drives the address: the guarantees don't hold then"}),
+    "force": (("--force",), {"const": True, "help": "goes on beside a driver of the kernel, and stores a part that is too hot or has a rail that is cut"}),
 }
 BEHIND = "_behind"
+OF_A_BUS = "options of a bus"
+
+
+def own_options(parser: argparse.ArgumentParser) -> list[argparse.Action]:
+    """The options of a command but for those of a bus and --help."""
+    of_a_bus = [action for group in parser._action_groups if group.title == OF_A_BUS for action in group._group_actions]
+    return [it for it in parser._actions if it.option_strings and it not in of_a_bus and "--help" not in it.option_strings]
+
+
+def usage_of(name: str, parser: argparse.ArgumentParser) -> str:
+    """A command with its words, those that may be left out in brackets."""
+    words = [it for it in parser._actions if not it.option_strings and it.help != argparse.SUPPRESS]
+    return " ".join([name, *(f"[{it.metavar}]" if it.nargs == "?" else str(it.metavar) for it in words)])
+
+
+def flag_of(action: argparse.Action) -> str:
+    """An option with its value."""
+    value = action.metavar or "|".join(str(it) for it in action.choices or ())
+    return f"{action.option_strings[0]} {value if action.nargs != 0 else ''}".rstrip()
 
 
 def bus_options(parser: argparse.ArgumentParser, suffix: str = BEHIND) -> None:
     """Adds the options of a bus to the parser of a command that uses one."""
-    group = parser.add_argument_group("options of a bus")
+    group = parser.add_argument_group(OF_A_BUS)
     for name, (flags, words) in OPTIONS.items():
         action = "append_const" if "const" in words else "append"
         added = group.add_argument(*flags, dest=name + suffix, action=action, default=[], **words)
