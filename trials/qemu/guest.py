@@ -58,7 +58,8 @@ class Machine(NamedTuple):
 
     @property
     def emulator(self):
-        return {"armhf": "qemu-system-arm", "amd64": "qemu-system-x86_64"}[self.processor]
+        """QEMU's program and words. Its plain PC lacks what the library is compiled for, x86-64-v2."""
+        return {"armhf": ["qemu-system-arm"], "amd64": ["qemu-system-x86_64", "-cpu", "Nehalem"]}[self.processor]
 
 
 MACHINES = {it.driver: it for it in (
@@ -194,7 +195,7 @@ def run(machine, devices, script, files=None, modules=("i2c_dev",)):
     with tempfile.TemporaryDirectory() as work:
         disk = os.path.join(work, "disk")
         memory_disk(machine, folder, modules, {**(files or {}), "script": script}, disk)
-        words = [machine.emulator, "-M", machine.name, "-m", "512", "-kernel", f"{folder}/boot/vmlinuz-{version}", "-initrd", disk,
+        words = [*machine.emulator, "-M", machine.name, "-m", "512", "-kernel", f"{folder}/boot/vmlinuz-{version}", "-initrd", disk,
                  "-append", f"console={machine.console},115200n8 panic=-1 {machine.options}", "-display", "none", "-monitor", "null",
                  "-serial", "stdio", "-no-reboot", "-nic", "none"]
         if machine.tree:
