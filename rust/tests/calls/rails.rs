@@ -66,6 +66,16 @@ fn a_set_says_what_its_own_output_commands() {
 }
 
 #[test]
+fn a_refusal_names_the_cell_of_its_own_output() {
+    let mut part = Part::new(0x58, &[Output::default(), Output::default()], (1, 0, 3)).unwrap();
+    let mut host = free(0x58, 2, 3);
+    let wanted = Wanted { command: Some(0x5000), ..Wanted::default() }; // VOUT_MAX is 4000h
+    let refused = host.run_course(&mut Course::words(1, &wanted, COURSE_TRIES).unwrap(), &mut part);
+    let cell = Some(Cell::Output(1, Register::VoutCommand));
+    assert_eq!(refused, Err(NotReached::Refused { refusal: Refusal::P6AboveMax, cell }));
+}
+
+#[test]
 fn a_rail_says_which_register_has_its_voltage() {
     let rows = [
         (0x40, Selected::Register(Register::VoutCommand)),
