@@ -4,8 +4,7 @@ import os
 import re
 import shutil
 import subprocess
-import sys
-import tempfile
+import threading
 
 import mutant_file
 from crate_copy import read, write
@@ -14,13 +13,42 @@ from program import ROOT
 SOURCES = os.path.join(ROOT, "rust", "src")
 # The tests that stand in rust/src.
 UNITS = {name for each in os.listdir(SOURCES) for name in re.findall(r"#\[test\]\n    fn (\w+)", read(os.path.join(SOURCES, each)))}
+# The programs with rows, by the name that a bug's test begins with: the sources, and the words that they get.
+PROGRAMS = {
+    "run_rows.c": (["trials/c/rows/run_rows.c"], []),
+    "patient_rows.c": (["trials/c/rows/patient_rows.c"], []),
+    "target_rows.c": (["trials/c/rows/target_rows.c"], []),
+    "course rows": (["trials/course/rows.c"], ["trials/course/rows.txt"]),
+    "delivery rows": (["trials/delivery/rows.c"], []),
+    "field rows": ([f"trials/field/{each}.c" for each in ("rows", "field", "frames")], ["trials/field/rows.txt"]),
+}
+WRAPPED = "-Wl," + ",".join(f"--wrap={name}" for name in ("open", "ioctl", "close", "fcntl", "clock_gettime", "nanosleep"))
+# Nobody looks at a test that fails here in a debugger.
+WITHOUT_DEBUG = {"CARGO_PROFILE_TEST_DEBUG": "0", "CARGO_PROFILE_DEV_DEBUG": "0"}
+
+
+class Broken(Exception):
+    """It doesn't compile: the compiler's words."""
+
+
+class Sound:
+    """What programs say and which tests pass without any bug: each is run once for all copies."""
+
+    def __init__(self):
+        self.said, self.lock = {}, threading.Lock()
+
+    def once(self, key, call):
+        with self.lock:
+            if key not in self.said:
+                self.said[key] = call()
+            return self.said[key]
 
 
 class Copy:
     """What is tried on: a copy of the files, with one text in the place of another."""
 
-    def __init__(self, folder, built):
-        self.folder, self.built, self.sound = folder, built, {}
+    def __init__(self, folder, built, sound):
+        self.folder, self.built, self.sound = folder, built, sound
         for each in ("crates/pm_host_c/include", "crates/pm_device_c/include", "examples/c", "trials/c/rows", "trials/course",
                      "trials/delivery", "trials/field", "rust"):
             shutil.copytree(os.path.join(ROOT, each), os.path.join(folder, each), ignore=shutil.ignore_patterns("target"))
@@ -31,77 +59,53 @@ class Copy:
         return done.returncode, done.stdout
 
     def planted(self, bug):
-        """What is wrong where its test doesn't pass without the bug, or doesn't fail with it."""
+        """Whether its test fails with the bug, and passes without it; and in words what came of it."""
         def text_of(name):
             return read(os.path.join(self.folder, name)) if os.path.exists(os.path.join(self.folder, name)) else None
 
         wrong = next((words for _, words in mutant_file.misplaced(bug, text_of)), None)
         if wrong:
-            return wrong
-        if not self.is_sound(bug):
-            return "its test fails without it"
+            return False, wrong
+        if not self.passes(bug, self.sound):
+            return False, "its test fails without it"
         was = {name: text_of(name) for name, *_ in bug.pairs}
         for name, text in mutant_file.planted(bug, text_of).items():
             write(os.path.join(self.folder, name), text)
         try:
-            return "NOT NOTICED" if self.passes(bug) else None
+            return (False, "NOT NOTICED") if self.passes(bug, Sound()) else (True, bug.said["test"])
+        except Broken as words:
+            return False, f"it doesn't compile: {words}"
         finally:
             for name, text in was.items():
                 write(os.path.join(self.folder, name), text)
 
-    def is_sound(self, bug):
-        """Whether its test passes without it, which is tried once for all bugs that name it."""
-        asked = tuple(bug.said.get(word) for word in ("test", "mishaps", "prints"))
-        if asked not in self.sound:
-            self.sound[asked] = self.passes(bug)
-        return self.sound[asked]
-
-    def passes(self, bug):
-        """Whether the test that a bug names passes."""
+    def passes(self, bug, sound):
+        """Whether the test that a bug names passes, by what programs say now or said once."""
         test, _, row = bug.said["test"].partition(", ")
-        if test == "run_rows.c":
-            return self.row(row)
+        if test in PROGRAMS:
+            status, text = sound.once(test, lambda: self.rows(test))
+            return status in (0, 1) and f"\n{row}: " not in "\n" + text
         if test == "dropped answers":
-            return self.warns(row)
-        if test == "course rows":
-            return self.course_row(row)
-        if test == "delivery rows":
-            return self.delivery_row(row)
-        if test == "field rows":
-            return self.field_row(row)
-        if test in ("patient_rows.c", "target_rows.c"):
-            return self.own_row(test, row)
+            return sound.once(bug.said["test"], lambda: self.warns(row))
         if test == "i2c_dev.c":
-            return self.transfers(row, bug.said["mishaps"], bug.said["prints"] + "\n")
-        return self.rust(bug.said["test"])
+            key = bug.said["test"], bug.said["mishaps"]
+            status, text = sound.once(key, lambda: self.transfers(row, bug.said["mishaps"]))
+            return text == bug.said["prints"] + "\n" and bug.said.get("status", str(status)) == str(status)
+        if sound is self.sound:
+            return any(test in name.split("::") or test in name for name in sound.once("rust", self.passing))
+        return self.rust(test)
 
     def program(self, name, *words):
         found = self.run("gcc", "-O1", "-Icrates/pm_host_c/include", "-Icrates/pm_device_c/include", *words, os.path.join(self.built, "libpm_host_c.a"),
                          os.path.join(self.built, "libpm_device_c.a"), "-o", name)
         if found[0]:
-            sys.exit(found[1])
+            raise Broken(found[1])
 
-    def row(self, name):
-        """Whether this row of run_rows.c is right."""
-        self.program("rows", "trials/c/rows/run_rows.c")
-        return f"\n{name}: " not in "\n" + self.run("./rows")[1]
-
-    def course_row(self, name):
-        """Whether this row of courses is right."""
-        self.program("courses", "trials/course/rows.c")
-        status, text = self.run("timeout", "60", "./courses", "trials/course/rows.txt")
-        return status in (0, 1) and f"\n{name}: " not in "\n" + text
-
-    def delivery_row(self, name):
-        """Whether this row of deliveries is right."""
-        self.program("deliveries", "trials/delivery/rows.c")
-        return f"\n{name}: " not in "\n" + self.run("timeout", "60", "./deliveries")[1]
-
-    def field_row(self, name):
-        """Whether this row over the part in the field is right."""
-        self.program("field_program", *(f"trials/field/{each}.c" for each in ("rows", "field", "frames")))
-        status, text = self.run("timeout", "60", "./field_program", "trials/field/rows.txt")
-        return status in (0, 1) and f"\n{name}: " not in "\n" + text
+    def rows(self, name):
+        """The status of a program with rows, and what it says."""
+        sources, words = PROGRAMS[name]
+        self.program("rows", *sources)
+        return self.run("timeout", "60", "./rows", *words)
 
     def warns(self, call):
         """Whether gcc warns of this call alone on a line."""
@@ -111,32 +115,24 @@ class Copy:
                        f'int main(void) {{ (void)host; (void)course; (void)wanted; (void)sending; {call}; return 0; }}\n')
         return self.run("gcc", "-Icrates/pm_host_c/include", "-Werror=unused-result", "-c", "drops.c")[0] != 0
 
-    def own_row(self, file, name):
-        """Whether this row of a program with rows of its own is right."""
-        self.program("own", f"trials/c/rows/{file}")
-        return f"\n{name}: " not in "\n" + self.run("./own")[1]
+    def transfers(self, words, mishaps):
+        """The status of i2c_dev.c over the stand-in for the kernel, and what it prints."""
+        self.program("bus", WRAPPED, "examples/c/i2c_dev.c", "trials/c/rows/stand_in.c")
+        return self.run("timeout", "60", "./bus", *words.split(), MISHAPS=mishaps)
 
-    def transfers(self, words, mishaps, wanted):
-        """Whether i2c_dev.c over the stand-in for the kernel prints this."""
-        self.program("bus", "-Wl," + ",".join(f"--wrap={name}" for name in ("open", "ioctl", "close", "fcntl", "clock_gettime", "nanosleep")),
-                     "examples/c/i2c_dev.c", "trials/c/rows/stand_in.c")
-        return self.run("./bus", *words.split(), MISHAPS=mishaps)[1] == wanted
+    def cargo(self, *words):
+        return self.run("cargo", "test", "--offline", "--manifest-path", "rust/Cargo.toml", *words, PM_ARCHIVES=self.built,
+                        CARGO_TARGET_DIR=os.path.join(self.folder, "target"), **WITHOUT_DEBUG)
+
+    def passing(self):
+        """The tests of the crate that pass, by their whole names."""
+        said = self.cargo("--all-features", "--lib", "--test=calls")[1] + self.cargo("--doc")[1]
+        return set(re.findall(r"^test (.*?)(?: - should panic)? \.\.\. ok$", said, re.M))
 
     def rust(self, test):
         """Whether a test of the crate passes: one of tests/, or those in the documentation of an item."""
         words = ["--doc" if "::" in test else "--all-features" if test in UNITS else "--test=calls", *(["--lib"] if test in UNITS else []), "--", test]
-        status, text = self.run("cargo", "test", "--offline", "--manifest-path", "rust/Cargo.toml", *words,
-                                PM_ARCHIVES=self.built, CARGO_TARGET_DIR=os.path.join(self.folder, "target"))
+        status, text = self.cargo(*words)
         if "error: could not compile" in text or not re.search(r"ok\. [1-9]\d* passed|FAILED", text):
-            sys.exit(text)
+            raise Broken(text)
         return status == 0
-
-
-def try_all(bugs, built, tally):
-    with tempfile.TemporaryDirectory() as folder:
-        copy = Copy(folder, os.path.abspath(built))
-        for bug in bugs:
-            wrong = copy.planted(bug)
-            tally.tell(bug.name, [wrong] if wrong else [])
-            if not wrong:
-                print(f"{bug.name}: noticed by {bug.said['test']}", flush=True)

@@ -111,15 +111,29 @@ def named(promise, known):
     return {word: known[word] for clause in promise.clauses for word in re.findall(r"\b[A-Z]\w+", clause) if word in known}
 
 
+# The pages that name laws, and from which heading on.
+PROOF_PAGES = (("docs/proved.md", ""), ("README.md", "\n## What is proved\n"))
+
+
 def lost_names():
-    """Names of docs/proved.md that no crate has: of a function, a clause or a definition. In the form of tools/check_sources.py."""
+    """Names of docs/proved.md, and of what README says of it, that no crate has: of a function, a clause or a definition. In the form of
+    tools/check_sources.py. Each statement has one: each row of the table of docs/proved.md, and each sentence of README's first paragraph."""
     known = set()
     for path in glob.glob("crates/*/src/**/*.rt", recursive=True) + glob.glob("crates/*/specs/**/*.antt", recursive=True):
         known.update(re.findall(r"\w+", read(path)))
-    text = re.sub(r"^```.*?^```$|Trusted: .*", "", read("docs/proved.md"), flags=re.M | re.S)
-    for name in sorted(set(re.findall(r"`([A-Za-z]\w*(?:::\w+)*)`", text))):
-        if not set(name.split("::")) <= known:
-            yield "docs/proved.md", 1, "law", f"no crate has {name}"
+    for page, heading in PROOF_PAGES:
+        text = re.sub(r"^```.*?^```$|Trusted: .*", "", read(page), flags=re.M | re.S).partition(heading or "# ")[2].partition("\n## Taking part")[0]
+        for name in sorted(set(re.findall(r"`([A-Za-z]\w*(?:::\w+)*)`", text))):
+            if not set(name.split("::")) <= known and name not in ("pmb", "pmhost"):
+                yield page, 1, "law", f"no crate has {name}"
+        yield from ((page, 1, "law", f"names no law: {said}") for said in statements(page, text) if not re.search(r"`\w+(?:_|::)\w+", said))
+
+
+def statements(page, text):
+    """The rows of the table of docs/proved.md, and the sentences of README's first paragraph."""
+    if page == "README.md":
+        return re.split(r"(?<=\.)\s+(?=[A-Z])", text.strip().partition("\n\n")[0])
+    return [row for row in re.findall(r"^\| .*$", text.partition("| law |\n")[2], re.M) if not row.startswith("|---")]
 
 
 def show(promise, known):

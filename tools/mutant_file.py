@@ -8,6 +8,7 @@
     test: what has to fail with it
     mishaps: what becomes of the transfers
     prints: what the program has to print
+    status: its status, where that counts
 
 `kind` stands where a definition changes together with its code. Of a crate's bug `test` names the crate whose tests are tried first.
 `mishaps` and `prints` stand where the test is a row of i2c_dev.c over the stand-in for the kernel, as `test: i2c_dev.c, ARGUMENTS`.

@@ -13,7 +13,7 @@ def paths(crates):
         for path in mutant_file.path_of(crate), *sorted(glob.glob(f"crates/{crate}/must-fail/*.edit")):
             if os.path.exists(path):
                 yield path, f"crates/{crate}"
-    for name in ("python", "c", "rust") if "pmb" in crates else ():
+    for name in ("python", "c", "rust", "unnoticed") if "pmb" in crates else ():
         yield mutant_file.path_of(name), "."
 
 

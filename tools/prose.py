@@ -1,4 +1,6 @@
-"""The pages as text: their words, their sentences, and the words of docs/style.md that they use in another sense than is allowed."""
+"""The pages, the help, the messages and the doc comments as text: their words, their sentences, and the words of docs/style.md that they use in
+another sense than is allowed."""
+import ast
 import os
 import re
 
@@ -16,6 +18,9 @@ END = re.compile(r"(?<=[.?!])[\"')*]*\s+(?=[A-Z`0-9\"('*\[]|[a-z-]+\.md\b)")
 MACRO = re.compile(r"(?:^\.|\b)(?:Fl|Ar|Cm|Ns|Op|Sq|Ql|Pa|Xr|Nm|Pq|Oo|Oc|No|Li)\b(?: Fl\b)? ?")
 # Headers are read too, but not counted: their comments are pages for who writes C.
 HEADERS = ("crates/pm_host_c/include/pmhost.h", "crates/pm_host_c/include/pmhost_patient.h", "crates/pm_device_c/include/pmpart.h")
+# What has doc comments that are judged: the packages, and the crates of which a user reads them.
+PYTHON, RUST = "python/src/pmhost/", ("rust/src/", *(f"crates/pm_{it}/src/" for it in ("host", "limits", "rail", "course", "delivery", "device")))
+DOC = re.compile(r"^\s*//[/!] ?(.*)$")
 
 
 def pages():
@@ -104,19 +109,89 @@ def word_list():
 
 def misused(name):
     """The words of the list that a page uses otherwise than is allowed: (word, the text around it)."""
-    words, uses = word_list()
-    listed = re.compile(r"\b(?:%s)\b" % "|".join(re.escape(it) for it in words), re.I)
-    allowed = re.compile("|".join(r"\b%s\b" % re.escape(it) for it in sorted(uses, key=len, reverse=True)), re.I)
+    patterns = word_patterns()
     for piece, _ in prose_of(name) if name != STYLE else ():
-        text = " ".join(piece.split())
-        free = [it.span() for it in allowed.finditer(text)]
-        for found in listed.finditer(text):
-            if not any(start <= found.start() and found.end() <= end for start, end in free):
-                yield found.group().lower(), text[max(0, found.start() - 40):found.end() + 30]
+        yield from misused_in(piece, *patterns)
+
+
+def word_patterns():
+    """What finds the words of the list, and what finds their allowed uses."""
+    words, uses = word_list()
+    return (re.compile(r"\b(?:%s)\b" % "|".join(re.escape(it) for it in words), re.I),
+            re.compile("|".join(r"\b%s\b" % re.escape(it) for it in sorted(uses, key=len, reverse=True)), re.I))
+
+
+def misused_in(piece, listed, allowed):
+    """The same of a text."""
+    text = " ".join(piece.split())
+    free = [it.span() for it in allowed.finditer(text)]
+    for found in listed.finditer(text):
+        if not any(start <= found.start() and found.end() <= end for start, end in free):
+            yield found.group().lower(), text[max(0, found.start() - 40):found.end() + 30]
+
+
+def python_texts(text):
+    """The doc comments of a Python source, and its strings of several words, which are help and messages: (line, text, whether it is one of
+    these). What a string takes in is one word."""
+    tree, docs, inside = ast.parse(text), set(), set()
+    for node in ast.walk(tree):
+        if isinstance(node, (ast.Module, ast.ClassDef, ast.FunctionDef)) and ast.get_docstring(node, False) is not None:
+            docs.add(node.body[0].value)
+        if isinstance(node, ast.JoinedStr):
+            inside.update(node.values)
+    for node in ast.walk(tree):
+        said = None
+        if isinstance(node, ast.JoinedStr):
+            said = "".join(str(it.value) if isinstance(it, ast.Constant) else "x" for it in node.values)
+        elif isinstance(node, ast.Constant) and isinstance(node.value, str) and node not in inside:
+            said = node.value
+        if said is not None and " " in said:
+            yield node.lineno, re.sub(r"`[^`]*`", "`x`", said), node not in docs
+
+
+def doc_comments(text):
+    """The doc comments of a Rust or Rattle source, without their examples: (line, text, False)."""
+    block, first, is_code = [], 0, False
+    for number, line in enumerate([*text.split("\n"), ""], 1):
+        found = DOC.match(line)
+        if found and "```" in found[1]:
+            is_code = not is_code
+        elif found and not is_code:
+            first = first or number
+            block.append(found[1])
+        elif not found:
+            if block:
+                yield first, re.sub(r"\]\([^)]*\)", "]", re.sub(r"`[^`]*`", "`x`", "\n".join(block))), False
+            block, first, is_code = [], 0, False
+
+
+def source_texts():
+    """Help, messages and doc comments: (file, line, text, whether it is help or a message)."""
+    for name in kept_files():
+        is_python = name.startswith(PYTHON) and name.endswith(".py")
+        if is_python or name.startswith(RUST) and name.endswith((".rs", ".rt")) and "/tests" not in name:
+            for line, text, is_said in (python_texts if is_python else doc_comments)(text_of(name)):
+                yield name, line, text, is_said
+
+
+def longest_of(text):
+    """The longest sentence of a text, and its words. Each paragraph, item and line that stands further in is a text of its own, and a line
+    that a command prints is none."""
+    pieces = re.split(r"\n\s*\n|\n(?=\s*(?:[-*|] ?| {2,}\S))", re.sub(r"^[a-z]+(?: [0-9-])?: .*$", "", text, flags=re.M))
+    sentences = [it for piece in pieces for it in END.split(" ".join(piece.split()))]
+    return max(((len(re.findall(r"\w[\w'’-]*|`x`", it)), it) for it in sentences), default=(0, ""))
 
 
 def findings():
     """What the style page refuses, in the form of tools/check_sources.py: words of its list, and sentences that are too long."""
+    patterns = word_patterns()
+    for name, line, text, is_said in source_texts():
+        yield from ((name, line, "words", f"{word}: .. {around} ..") for word, around in misused_in(text, *patterns))
+        count, sentence = longest_of(text)
+        if is_said and count > LONGEST:
+            yield name, line, "sentence", f"{count} words: {sentence}"
+    for name in HEADERS:
+        yield from ((name, 1, "words", f"{word}: .. {around} ..") for word, around in misused(name))
     for name in (it for it in pages() if it not in NOT_JUDGED):
         yield from ((name, 1, "words", f"{word}: .. {around} ..") for word, around in misused(name))
         average, longest, sentence = measure(name)

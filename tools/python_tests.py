@@ -85,7 +85,9 @@ def main():
     for why in sorted({why for _, why in result.skipped if why in ALLOWED or may_skip}):
         print(f"skipped: {sum(each == why for _, each in result.skipped)} tests: {why}")
     print(f"tests found by name {len(named & set(found))}, by content {len(found)}")
-    good = result.testsRun - len(result.failures) - len(result.errors) - len(result.unexpectedSuccesses) - len(result.skipped)
+    # (a class that skips itself, or that fails before its tests, is no test that ran)
+    ended = [*result.failures, *result.errors, *result.skipped]
+    good = result.testsRun - sum(isinstance(each, unittest.TestCase) for each, _ in ended) - len(result.unexpectedSuccesses)
     tally = Tally()
     tally.passed, tally.failed = good, bad
     return tally.end()

@@ -2,7 +2,6 @@
 and its new voltage, unless its part restarted; and what is told is so. PMHOST_BOARDS says how many boards there are."""
 import errno
 import json
-import random
 import re
 import tempfile
 import unittest
@@ -16,6 +15,7 @@ from pmhost.values import CODES
 from . import kernel, odd_parts
 from .board_kernel import BoardKernel
 from .runs import called
+from .seeded import seeded
 from .test_boards import FATES, PART_BOARDS, Rail, Watched
 from .test_runs import Blocks
 
@@ -104,8 +104,9 @@ class RandomBoards(unittest.TestCase):
             if not board.parts[name].has_restarted:
                 self.assertLess(abs(Fraction(volts) - board.parts[name].commands(int(output))), Fraction(1, 1000000), out)
 
-    def test_each_rail_goes_from_its_old_voltage_to_its_new_one(self):
-        draw, ends = random.Random(11), set()
+    @seeded(11)
+    def test_each_rail_goes_from_its_old_voltage_to_its_new_one(self, draw):
+        ends = set()
         for number in range(PART_BOARDS):
             with self.subTest(number=number):
                 board, status, err = self.run_board(draw, [])
@@ -118,15 +119,17 @@ class RandomBoards(unittest.TestCase):
                     self.assertEqual(board.parts[name].commands(rail.output), rail.commands(rail.goal()))
         self.assertEqual(ends, {(True, True), (True, False), (False, False)} if PART_BOARDS > 20 else ends, "all boards ended alike")
 
-    def test_whatever_befalls_a_transfer(self):
-        draw, ends = random.Random(12), set()
+    @seeded(12)
+    def test_whatever_befalls_a_transfer(self, draw):
+        ends = set()
         for number in range(PART_BOARDS):
             with self.subTest(number=number):
                 ends.add(self.run_board(draw, [draw.choice(BOARD_FATES) for _ in range(600)])[1])
         self.assertIn(1, ends)
 
-    def test_whenever_parts_restart(self):
-        draw, ends, seen = random.Random(13), set(), set()
+    @seeded(13)
+    def test_whenever_parts_restart(self, draw):
+        ends, seen = set(), set()
         for number in range(PART_BOARDS):
             mishaps = [draw.choice(BOARD_FATES) if draw.random() < 0.3 else "ok" for _ in range(600)]
             for _ in range(draw.randint(1, 3)):
@@ -244,13 +247,13 @@ class Files(unittest.TestCase):
         over.wires[8].parts[0x50] = spare = kernel.Part(address=0x50)
         status, out, err = applied(text, over, "--store")
         self.assertEqual((status, err, out.splitlines()[-1]),
-                         (0, "", "apply: store of u12, u13, u14 acknowledged; a restart loads what was stored, where no pin overrides it, which "
+                         (0, "", "apply: store of u12, u13, u14 acknowledged; a restart loads what was stored, if no pin overrides it, which "
                                  "`verify` shows after a power cycle"))
         self.assertEqual([self.codes(name)[-1] for name in self.parts], ["15"] * 3)
         self.assertEqual([line for line in spare.lines if line.startswith("A0 15")], [])
         self.parts["u14"].converter.set((None, 0x10), 0x40)
         self.assertEqual(applied(text, over, "--store")[::2],
-                         (1, "pmhost: apply FILE: u14: WRITE_PROTECT is 40: a store wants 00: order it by word - WRITE_PROTECT 00; nothing "
+                         (1, "pmhost: apply FILE: u14: WRITE_PROTECT is 40: a store needs 00: order it by word - WRITE_PROTECT 00; nothing "
                              "was ordered of core, io, pll\n"))
 
     def test_a_store_that_fails_says_which_were_done(self):

@@ -1,17 +1,26 @@
-"""The commands of docs/command-line.md and docs/board-file.md and what these say that they print, and the cases in which a register holds a word that its rail doesn't
-command."""
+"""The commands of docs/command-line.md and docs/board-file.md and what these say that they print, and the cases in which a register holds a
+word that its rail doesn't command."""
+import errno
+import os
 import re
 import shlex
+import sys
 import tempfile
 import unittest
 from fractions import Fraction
+from unittest import mock
 
 from pmhost import cli
+from pmhost.cli.about import COMMANDS
+from pmhost.cli.messages import GROUPS
+from pmhost.cli.outcome import commanded_words, is_well
+from pmhost.cli.parser import OPTIONS
+from pmhost.survey import Commanded
 from pmhost.values import CODES
 
 from . import kernel, odd_parts
 from .board_kernel import BoardKernel
-from .running import ROOT, stored
+from .running import DATA, ROOT, stored
 from .runs import called
 from .test_boards import Watched
 
@@ -28,19 +37,22 @@ def blocks(text, kind):
     return re.findall(rf"```{kind}\n(.*?)```", text, re.S)
 
 
+def words_of(name):
+    """The words of a command's example, for the bus of the tests."""
+    return shlex.split(COMMANDS[name].example.replace("-b 1", "-b 7"))[1:]
+
+
+def number_free(text):
+    """A text without its numbers, which one part has and another hasn't."""
+    return re.sub(r"\b[0-9][0-9A-F.]*V?\b", "0", text)
+
+
 class Examples(unittest.TestCase):
-    def test_the_margin_test(self):
-        text = section("command-line", "A margin test")
-        alias, *lines = blocks(text, "sh")[0].splitlines()
-        words = shlex.split(re.fullmatch("alias rail='pmhost (.*)'", alias)[1].replace("-b 1", "-b 7"))
-        part, said = kernel.Part(), ""
+    def test_the_margin(self):
+        part = kernel.Part()
         part.converter.set((0, CODES["VOUT_COMMAND"]), 0x34CD)
-        for line in lines:
-            status, out, err = called([*words, *shlex.split(line, comments=True)[1:]], kernel.FakeKernel(part))
-            self.assertEqual((status, err), (0, ""), line)
-            said += out
-        self.assertEqual(said, blocks(text, "text")[0])
-        self.assertEqual(part.converter.commanded(0)[0] * 4096 // part.converter.commanded(0)[1], 0x34CD)
+        self.assertEqual(called(words_of("margin"), kernel.FakeKernel(part)), (0, COMMANDS["margin"].prints, ""))
+        self.assertEqual(part.converter.commanded(0)[0] * 4096 // part.converter.commanded(0)[1], 0x3666)
 
     def test_a_margin_that_is_cut(self):
         part = kernel.Part()
@@ -60,32 +72,62 @@ class Examples(unittest.TestCase):
             self.assertEqual(called(["apply", file.name], over), (0, blocks(text, "text")[0], ""))
 
     def test_the_readings(self):
-        text = section("command-line", "Readings and status")
         part = odd_parts.Telemetry()
         part.hear([0xB0, 0x03, 0x00], "stop")
-        words = re.search("`pmhost -b 1 -a 58 (.*?)`", text)[1].split()
-        self.assertEqual(called(["-b", "7", "-a", "58", *words], kernel.FakeKernel(part)), (0, blocks(text, "text")[0], ""))
+        self.assertEqual(called(words_of("read"), kernel.FakeKernel(part)), (0, COMMANDS["read"].prints, ""))
+
+    def test_the_probe(self):
+        self.assertEqual(called(words_of("probe"), kernel.FakeKernel(odd_parts.Named()))[:2], (0, COMMANDS["probe"].prints))
 
 
 class CommandLine(unittest.TestCase):
-    """The pages of the command line name what the parser takes."""
-
-    # Those of these have pages of their own, which name more than a help does.
-    ELSEWHERE = ("faults", "torture", "capture")
+    """The help, and the pages that are made of it and of the table of messages."""
 
     def setUp(self):
         self.parser, self.commands = cli.parser()
-        self.pages = "\n".join(stored(ROOT, "docs", f"{name}.md") for name in ("getting-started", "command-line", "board-file", "adapters"))
 
-    def test_each_command_has_a_row(self):
-        rows = "\n".join(line for line in section("command-line", "The commands").splitlines() if line.startswith("| `"))
-        self.assertEqual([name for name in self.commands if not re.search(rf"`{name}[ `]", rows)], [])
+    @unittest.skipUnless(os.path.exists(os.path.join(ROOT, "tools")), "the package stands alone")
+    def test_the_pages_are_up_to_date(self):
+        with mock.patch.object(sys, "path", [os.path.join(ROOT, "tools"), *sys.path]):
+            import command_line
+        for name, text in command_line.made().items():
+            self.assertEqual(stored(ROOT, *name.split("/")), text, "tools/command_line.py --write makes it")
 
-    def test_each_option_is_named(self):
-        parsers = [self.parser, *(parser for name, parser in self.commands.items() if name not in self.ELSEWHERE)]
-        options = {flag for parser in parsers for action in parser._actions for flag in action.option_strings if flag.startswith("--")}
-        named = {"--help", "--version", "--bus", "--address"} | {it for it in options if re.search(rf"{it}\b", self.pages)}
-        self.assertEqual(sorted(options - named), [])
+    def test_each_command_has_its_help_with_an_example(self):
+        self.assertEqual([*COMMANDS], [*self.commands])
+        for name, parser in self.commands.items():
+            with self.subTest(name):
+                self.assertIn("pmhost ", parser.description)
+                self.assertRegex(COMMANDS[name].example, rf"\Apmhost .*\b{name}\b")
+
+    def test_each_example_is_a_call_that_is_judged_well(self):
+        for name, about in COMMANDS.items():
+            words = shlex.split(about.example.partition(" <")[0])[1:]
+            with self.subTest(name):
+                # What names a file or a program is only read.
+                found = cli.commands_of(words) if name in ("apply", "verify", "torture") else cli.judged(words, None).commands
+                self.assertEqual([it.command for it in found][-1:], [name])
+
+    def test_each_word_and_option_has_its_help(self):
+        for parser in (self.parser, *self.commands.values()):
+            for action in parser._actions:
+                if action.dest not in ("command", "kind"):
+                    self.assertTrue(action.help, f"{parser.prog} {action.dest}")
+
+    def test_each_option_of_a_bus_says_what_is_so_without_it(self):
+        for name, (_, words) in OPTIONS.items():
+            if "const" not in words and name not in ("trace", "log"):
+                self.assertRegex(words["help"], "if left out|need", name)
+
+    def test_each_message_is_one_that_a_test_prints(self):
+        folders = [os.path.dirname(DATA), DATA]
+        printed = "\n".join(stored(folder, name) for folder in folders for name in sorted(os.listdir(folder)) if name.endswith((".py", ".txt")))
+        printed = number_free(re.sub(r'"\s*\n\s*f?"', "", printed))
+        for message in (it for group in GROUPS for it in group.messages):
+            for line in re.findall("`([^`]+)`", message.line):
+                words = ".*".join(re.escape(it) for it in re.split(r"\s*\.\.\s*", number_free(line)))
+                with self.subTest(line):
+                    self.assertTrue(re.search(words, printed))
 
 
 class Cases(unittest.TestCase):
@@ -137,6 +179,19 @@ class Cases(unittest.TestCase):
             self.assertEqual(self.ran(part, command, "FILE"), (
                 1, "io: the output is commanded off, and would command 3.300048V, within 3.135V to 3.465V",
                 f"{command} FILE: io: the output is off, and is to be on{more}"))
+
+    def test_an_adapter_with_another_error(self):
+        part = odd_parts.WithoutMinimum()
+        part.refusal = errno.EIO
+        self.assertEqual(self.ran(part, "survey", "0"), (
+            1, "survey 0: VOUT_MIN gave no good answer",
+            "survey 0: VOUT_MIN: 3 transfers failed, the last: Input/output error; STATUS_CML 00, STATUS_VOUT 00"))
+
+    def test_a_voltage_that_may_be_another_one(self):
+        found = Commanded("VOUT_COMMAND", None, True, 3300000, 3400000, (3135000, 3465000), "within")
+        self.assertEqual(commanded_words(found, "VOUT_COMMAND", 3300000),
+                         "the output commands 3.3V to 3.4V, and isn't known to command 3.3V, within 3.135V to 3.465V")
+        self.assertFalse(is_well(found, "VOUT_COMMAND", 3300000))
 
     def test_apply_does_not_step_over_its_goal(self):
         """From 3.55 V that VOUT_MAX cuts to 3.3 V the way to 3.35 V has no third voltage."""

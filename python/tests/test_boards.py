@@ -2,7 +2,6 @@
 its new voltage, unless the part restarted; and what is told is so. PMHOST_BOARDS says how many boards there are, as 1000."""
 import math
 import os
-import random
 import re
 import tempfile
 import unittest
@@ -13,6 +12,7 @@ from pmhost.values import CODES
 
 from . import kernel
 from .runs import called
+from .seeded import seeded
 
 BOARDS = int(os.environ.get("PMHOST_BOARDS", "100"))
 # Of boards with several parts a third of that.
@@ -175,8 +175,9 @@ class Boards(unittest.TestCase):
             self.assertIn(words, ("will be", "is") if is_possible else ("is",))
         return len(told)
 
-    def test_a_rail_goes_from_its_old_voltage_to_its_new_one(self):
-        draw, ends, cuts = random.Random(1), set(), 0
+    @seeded(1)
+    def test_a_rail_goes_from_its_old_voltage_to_its_new_one(self, draw):
+        ends, cuts = set(), 0
         for number in range(BOARDS):
             with self.subTest(number=number):
                 board, status, out, err = self.run_board(draw, [])
@@ -195,15 +196,17 @@ class Boards(unittest.TestCase):
         self.assertEqual(ends, {(True, True), (True, False), (False, False)}, "all boards ended alike")
         self.assertGreater(cuts, BOARDS // 10)
 
-    def test_whatever_befalls_a_transfer(self):
-        draw, ends = random.Random(2), set()
+    @seeded(2)
+    def test_whatever_befalls_a_transfer(self, draw):
+        ends = set()
         for number in range(BOARDS):
             with self.subTest(number=number):
                 ends.add(self.run_board(draw, [draw.choice(FATES) for _ in range(300)])[1])
         self.assertEqual(ends, {0, 1}, "all boards ended alike")
 
-    def test_whenever_the_part_restarts(self):
-        draw, ends = random.Random(3), set()
+    @seeded(3)
+    def test_whenever_the_part_restarts(self, draw):
+        ends = set()
         for number in range(BOARDS):
             mishaps = [draw.choice(FATES) for _ in range(300)]
             for _ in range(draw.randint(1, 2)):
@@ -212,8 +215,8 @@ class Boards(unittest.TestCase):
                 ends.add(self.run_board(draw, mishaps)[1])
         self.assertEqual(ends, {0, 1, 3}, "all boards ended alike")
 
-    def test_a_board_that_is_as_wanted_is_not_written_to(self):
-        draw = random.Random(4)
+    @seeded(4)
+    def test_a_board_that_is_as_wanted_is_not_written_to(self, draw):
         for number in range(BOARDS // 10):
             board = self.run_board(draw, [])[0]
             with self.subTest(number=number), tempfile.NamedTemporaryFile("w", suffix=".toml") as file:

@@ -211,12 +211,35 @@ class Smbus2(unittest.TestCase):
         stand.i2c_rdwr = lambda *messages: setattr(messages[1], "data", [0xFF] * len(messages[1].data))
         self.assertEqual(Smbus2Bus(stand).read(bytes.fromhex("9410"), 2), b"")
 
+    def test_a_closed_bus_sends_nothing(self):
+        stand = Smbus2Stand()
+        bus = Smbus2Bus(stand)
+        bus.close()
+        for call in (lambda: bus.write(FRAME), lambda: bus.read(REQUEST, 4)):
+            with self.assertRaisesRegex(NoTransfer, "the bus is closed") as raised:
+                call()
+            self.assertEqual(raised.exception.errno, errno.EBADF)
+        self.assertEqual(stand.bus._kernel.part.converter.commanded(0), (4096, 4096))
+
     def test_no_bus(self):
         with self.assertRaisesRegex(TypeError, "an open smbus2.SMBus is wanted"):
             Smbus2Bus(7)
 
 
 class Model(unittest.TestCase):
+    def test_each_transfer_and_its_line(self):
+        with tempfile.NamedTemporaryFile() as file:
+            bus = ModelBus(ADDRESS, 2, file.name)
+            self.assertEqual((bus.part.outputs, bus.write(FRAME), bus.read(REQUEST, 4)), (2, True, bytes.fromhex("02CD34B9")))
+            for fails in (lambda: bus.write(FRAME[:-1] + b"\x5B"), lambda: bus.read(bytes.fromhex("B006020221"), 4)):
+                with self.assertRaises(NoTransfer) as raised:
+                    fails()
+                self.assertEqual(raised.exception.errno, errno.EREMOTEIO)
+            bus.close()
+            self.assertEqual(file.read().decode().splitlines(), [
+                "B0 05 04 00 21 CD 34 5A", "B0 06 02 00 21 / B1 02 CD 34 B9",
+                "# failed: B0 05 04 00 21 CD 34 5B: Remote I/O error", "# failed: B0 06 02 02 21: Remote I/O error"])
+
     def test_an_order_and_its_trace(self):
         with tempfile.NamedTemporaryFile() as file:
             bus = ModelBus(ADDRESS, 2, file.name)

@@ -6,7 +6,7 @@ from decimal import Decimal, localcontext
 
 import pmhost
 from pmhost import Band, Format, Host, Known, Limits, LINEAR11, Packet, Sending, Step, Voltage
-from pmhost import _library
+from pmhost import _library, packets
 from pmhost.errors import name_of, refusal
 
 from .fixtures import RAILS, free, rails
@@ -77,6 +77,13 @@ class Frames(unittest.TestCase):
         self.assertEqual(pmhost.read_request(0x58, request.frame(0x58)), request)
         self.assertEqual(pmhost.read_answer(0x58, request, bytes.fromhex("B102CD34B9")), bytes.fromhex("CD34"))
         self.assertEqual(pmhost.pec(bytes.fromhex("B005040021CD34")), 0x5A)
+
+    def test_a_read_of_any_code_names_its_page(self):
+        self.assertEqual(packets.paged_request(0x58, 1, 0x40, 2), (bytes.fromhex("B006020140"), 4))
+        self.assertEqual(packets.paged_request(0x58, 7, 0xD0, 0)[0], bytes.fromhex("B0060207D0"))
+        self.assertEqual(packets.read_paged(0x58, 0, 0x40, 2, bytes.fromhex("B102CD3C4F")), bytes.fromhex("CD3C"))
+        with self.assertRaises(pmhost.FrameRefused):
+            packets.read_paged(0x58, 1, 0x40, 2, bytes.fromhex("B102CD3C4F"))
 
     def test_numbers_stand_alone(self):
         self.assertEqual(Format("ULINEAR16", -12).word("3.3V"), 0x34CD)

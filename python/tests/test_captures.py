@@ -294,8 +294,8 @@ class Calls(unittest.TestCase):
                 self.assertEqual(called("capture", *words.split()), (2, "", f"pmhost: {said}\n"))
 
     def test_options_of_a_bus_stand_in_front_of_no_capture(self):
-        for words, said in ("-a 58 capture linux", "give it behind the kind, as capture linux --address=58"), \
-                           ("-b 1 capture linux", "give it behind the kind, as capture linux --bus=1"):
+        for words, said in ("-a 58 capture linux", "give it after the kind, as capture linux --address=58"), \
+                           ("-b 1 capture linux", "give it after the kind, as capture linux --bus=1"):
             option = said.rpartition(" ")[2].partition("=")[0]
             self.assertEqual(called(*words.split()), (
                 2, "", f"pmhost: capture: {option} in front of it is an option of a bus: {said}\n"))

@@ -13,6 +13,7 @@ from .field import ADDRESS, Field, FieldBus
 from .fixtures import free
 from .kernel import FakeKernel
 from .runs import blocks, called
+from .seeded import seeded
 from .test_runs import Blocks
 
 BOARDS = 60
@@ -155,9 +156,10 @@ class Threads(unittest.TestCase):
 
 
 class Boards(unittest.TestCase):
-    def test_status_0_means_that_each_rail_delivers(self):
+    @seeded(2)
+    def test_status_0_means_that_each_rail_delivers(self, draw):
         """trials/field/boards.py has a thousand of them."""
-        well, unsure, wrong = field_boards.counts(random.Random(2), BOARDS)
+        well, unsure, wrong = field_boards.counts(draw, BOARDS)
         self.assertEqual(wrong, [])
         self.assertGreater(well, BOARDS // 10)
         self.assertLess(unsure, BOARDS // 4)

@@ -10,8 +10,11 @@ import unittest
 
 from pmhost import cli
 from pmhost.device import Device
+from pmhost.errors import Differs, Unknown
 from pmhost.log import HostLog, Log, note_of
 from pmhost.part import ModelPart, ModelPartBus, Output
+
+from .fixtures import free
 
 # `pmb`, where it is there.
 PMB = os.environ.get("PMB")
@@ -33,7 +36,7 @@ class Deaf(ModelPartBus):
 
 def logged(bus: ModelPartBus) -> tuple[Device, HostLog, list[str]]:
     """A device whose host has a log, and its lines."""
-    device, lines = Device(bus, 0x58, 2, 2), []
+    device, lines = free(Device(bus, 0x58, 2, 2)), []
     return device, HostLog(device.host, lines.append, device.lacks), lines
 
 
@@ -59,7 +62,7 @@ class Lines(unittest.TestCase):
     def test_a_lost_write_is_a_failed_one(self) -> None:
         bus = Deaf(ModelPart(0x58, [Output()] * 2))
         device, log, lines = logged(bus)
-        with self.assertRaises(Exception):
+        with self.assertRaises(Differs):
             device.order(0, "VOUT_COMMAND", 0x34CD)
         self.assertEqual(lines[1], "#failed B0 05 04 00 21 CD 34 5A")
         self.assertEqual(lines[2], "B0 06 02 00 21 / B1 02 00 10 41")
@@ -69,7 +72,7 @@ class Lines(unittest.TestCase):
         bus.left = 1
         device, log, lines = logged(bus)
         device.check(0)
-        with self.assertRaises(Exception):
+        with self.assertRaises(Unknown):
             device.order(0, "VOUT_COMMAND", 0x34CD)
         self.assertEqual(len(device.host.possible_words(0, "VOUT_COMMAND") or ()), 2)
         log.claim()
@@ -79,7 +82,7 @@ class Lines(unittest.TestCase):
         bus = Deaf(ModelPart(0x58, [Output()] * 2))
         bus.left = 0
         device, log, lines = logged(bus)
-        with self.assertRaises(Exception):
+        with self.assertRaises(Unknown):
             device.check(0)
         self.assertEqual(lines, ["#log 58 2 2", "B0 06 02 00 21 /", "B0 06 02 00 21 /"])
 

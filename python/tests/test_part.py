@@ -84,6 +84,26 @@ class Heard(unittest.TestCase):
         self.assertEqual(self.status(), (0, 0, 0, 0))
 
 
+class Bus(unittest.TestCase):
+    """The part as a bus: what it acknowledges, and what is refused."""
+
+    def test_what_the_part_does_not_take_is_not_acknowledged(self):
+        bus = pmhost.ModelPartBus(ModelPart(ADDRESS, RAILS))
+        self.assertIs(bus.write(CARRIED), True)
+        for frame in (CARRIED[:-1] + b"\x5B", b"\xB2" + CARRIED[1:], CARRIED[:4], b""):
+            self.assertIs(bus.write(frame), False, frame.hex())
+        self.assertEqual((bus.read(bytes.fromhex("B006020721"), 4), bus.read(bytes.fromhex("B206020021"), 4)), (b"", b""))
+        self.assertEqual(bus.part.word(0, "VOUT_COMMAND"), 0x34CD)
+
+    def test_a_refused_frame_says_what_was_wrong_with_it(self):
+        part = ModelPart(ADDRESS, RAILS)
+        for frame, letter, of_frame in ((CARRIED[:-1] + b"\x5B", "K1", "F5 WrongPec"), (CARRIED[:4], "K1", "F2 Short"),
+                                        (bytes([0xB0, 0xFE, pmhost.pec(b"\xB0\xFE")]), "K2", "")):
+            with self.assertRaises(PartRefused) as raised:
+                part.hear(frame)
+            self.assertEqual((raised.exception.letter, raised.exception.of_frame), (letter, of_frame), frame.hex())
+
+
 class Made(unittest.TestCase):
     def test_what_no_part_starts_with_is_refused_by_its_first_fault(self):
         bad = Output(mode=0xFF)
@@ -100,6 +120,11 @@ class Made(unittest.TestCase):
             with self.subTest(letter=letter), self.assertRaises(SetupRefused) as raised:
                 made()
             self.assertEqual(raised.exception.letter, letter)
+
+    def test_each_register_has_its_own_word(self):
+        part = ModelPart(ADDRESS, [Output(0x14, 0x40, 0x1001, 0x4002, 0x1103, 0x0F04, 0x0005)])
+        found = [part.word(0, name) for name in ("OPERATION", "VOUT_COMMAND", "VOUT_MAX", "VOUT_MARGIN_HIGH", "VOUT_MARGIN_LOW", "VOUT_MIN")]
+        self.assertEqual(found, [0x40, 0x1001, 0x4002, 0x1103, 0x0F04, 0x0005])
 
     def test_it_starts_with_its_words_in_the_store(self):
         part = ModelPart(ADDRESS, RAILS, protect=0x80)

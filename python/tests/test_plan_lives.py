@@ -3,7 +3,6 @@ way, the host restarts, and other jobs come between. The converter is watched af
 the wanted one, and changes once at most. PMHOST_PLAN_LIVES says how many lives there are, as 50000."""
 import collections
 import os
-import random
 import unittest
 from fractions import Fraction
 
@@ -11,6 +10,7 @@ from pmhost import Course, Host
 
 from . import plain_model  # noqa: F401
 from .fixtures import free
+from .seeded import seeded
 from plain.converter import COMMAND, HIGH, LOW, MAX, MIN, OPERATION, Converter, format_of
 from plain.numbers import value_of
 from plain.packets import CODES
@@ -131,8 +131,9 @@ class Life:
 
 
 class Lives(unittest.TestCase):
-    def test_each_output_commands_its_old_voltage_or_the_wanted_one(self):
-        draw, counted = random.Random(1), collections.Counter()
+    @seeded(1)
+    def test_each_output_commands_its_old_voltage_or_the_wanted_one(self, draw):
+        counted = collections.Counter()
         for number in range(LIVES):
             with self.subTest(number=number):
                 life = Life(draw)

@@ -4,7 +4,6 @@ says how many goals are drawn for each start, or `all`."""
 import functools
 import itertools
 import os
-import random
 import unittest
 
 from pmhost import Course, Host, pec
@@ -13,6 +12,7 @@ from pmhost.values import CODES
 
 from . import plain_model  # noqa: F401
 from .fixtures import free
+from .seeded import seeded
 from plain.rail import VOLTAGES, WORDS, commands, next_register, planned
 from plain.packets import name_of
 
@@ -110,8 +110,9 @@ class Space(unittest.TestCase):
         """The goals of a start."""
         return goals if GOALS == "all" else [draw.choice(goals) for _ in range(int(GOALS))]
 
-    def test_four_values_of_all_five_registers(self):
-        draw, values = random.Random(1), range(1, 5)
+    @seeded(1)
+    def test_four_values_of_all_five_registers(self, draw):
+        values = range(1, 5)
         for mode, word in FORMATS.items():
             goals = [Goal(word, dict(zip(VOLTAGES, them))) for them in itertools.product(values, repeat=5)]
             for operation in OPERATIONS:
@@ -120,8 +121,9 @@ class Space(unittest.TestCase):
         self.assertEqual(set(self.ends), {None, "P5", "P6", *map(name_of, VOLTAGES)}, "no plan ended so")
         self.told("four values of five registers")
 
-    def test_wishes_that_name_some_registers_alone(self):
-        draw, values = random.Random(2), range(1, 5)
+    @seeded(2)
+    def test_wishes_that_name_some_registers_alone(self, draw):
+        values = range(1, 5)
         for mode, word in FORMATS.items():
             wishes = [{register: volts for register, volts in zip(VOLTAGES, them) if volts}
                       for them in itertools.product((0, *values), repeat=5)]
@@ -132,8 +134,9 @@ class Space(unittest.TestCase):
                     self.compare(mode, operation, dict(zip(VOLTAGES, start)), [draw.choice(goals) for _ in range(many)])
         self.told("wishes of some registers")
 
-    def test_six_values_of_the_selected_word_and_the_bounds(self):
-        draw, values = random.Random(3), range(1, 7)
+    @seeded(3)
+    def test_six_values_of_the_selected_word_and_the_bounds(self, draw):
+        values = range(1, 7)
         for mode, word in FORMATS.items():
             for operation, selected in OPERATIONS.items():
                 moved = (selected, MIN, MAX)

@@ -423,6 +423,25 @@ class Exchanged(Recorded):
         return super().read(request, count)
 
 
+class Kinds(unittest.TestCase):
+    def test_a_course_knows_whether_it_turns_its_output_off(self):
+        for byte, is_off in ((0x00, True), (0x40, True), (0x7F, True), (0x80, False), (0xA8, False)):
+            course = Course.power(0, byte)
+            self.assertEqual((course.turns_off, course.copy().turns_off), (is_off, is_off), f"{byte:02X}")
+        self.assertFalse(Course.survey(0).turns_off)
+
+    def test_a_job_has_a_word_where_it_is_an_order(self):
+        host, course = free(Host(0x58)), Course.power(0, 0x40)
+        self.assertEqual((course.next(host), course.job()), (Job("order", "OPERATION", 0x40), None))
+        host.check(0, "OPERATION")
+        host.give_up()
+        learn = Course.survey(0)
+        self.assertEqual(learn.next(host), Job("learn", "VOUT_MODE", None))
+        learn.frame(host)
+        learn.read_ended(host, bytes([0xB1, 1, 0x14]) + bytes([pmhost.pec(bytes([0xB0, 6, 2, 0, 0x20, 0xB1, 1, 0x14]))]))
+        self.assertEqual(learn.next(host), Job("check", "OPERATION", None))
+
+
 class Formats(unittest.TestCase):
     """A word is of the format that it was made by: in another one it is another voltage."""
 
@@ -458,7 +477,7 @@ class Bounds(unittest.TestCase):
     def taken(self, mode, coefficients, word, register):
         """How a course ends that took a word, and what its register holds then."""
         part = pmhost.ModelPart(0x58, [pmhost.Output(mode, 0x80, word, word, word, word, word)], coefficients)
-        host, bus = Host(0x58), pmhost.ModelPartBus(part)
+        host, bus = free(Host(0x58)), pmhost.ModelPartBus(part)
         host.learn(0)
         host.run(bus)
         host.check(0, register)

@@ -5,13 +5,13 @@ import unittest
 from unittest import mock
 
 from pmhost import ModelPart, ModelPartBus, Output, pec, reads
+from pmhost.cli.messages import GROUPS
 from pmhost.cli.probe import revision_words
 from pmhost.probe import Probe
 
 from . import runs
 from .odd_parts import ADDRESS, Late, Proved
 from .kernel import FakeKernel
-from .running import ROOT, stored
 from .test_runs import Blocks
 
 BEFORE = "the part may note in STATUS_CML that it was asked for what it lacks, and pull SMBALERT#"
@@ -47,7 +47,7 @@ class Rows(Blocks):
             "odd.PecOptional": ("fits but for a frame that is both damaged and cut before its last byte, which is not proved", 0),
             "odd.AnyPec": ("this host can't drive the part: a write with a wrong PEC is taken", 1),
             "odd.WithoutMinimum": ("--lacks VOUT_MIN", 0), "odd.Vid": ("1 VID (VOUT_MODE 21)", 1),
-            "odd.Late": ("answered at a second or third try alone: the part is busy, or the bus loses transfers", 0),
+            "odd.Late": ("answered only at a second or third try: the part is busy, or the bus loses transfers", 0),
             "odd.High": ("nothing but FFh, which counts as none", 0)}
         for part, (words, status) in wanted.items():
             rows = [run for run in runs.blocks("probe.txt") if run.part == part]
@@ -55,18 +55,12 @@ class Rows(Blocks):
                 self.assertTrue(any(words in run.out and run.status == status for run in rows), [run.out for run in rows])
 
 
-class Page(unittest.TestCase):
-    """What docs/command-line.md says of probe."""
-
-    def setUp(self):
-        self.part = stored(ROOT, "docs", "command-line.md").partition("\n## Probe\n")[2].partition("\n## ")[0]
-
-    def test_the_whole_answer_is_that_of_a_run(self):
-        self.assertEqual(re.findall("```text\n(.*?)```", self.part, re.S), [probed("-b 7 -a 58 probe", "odd.Named").out])
+class Messages(unittest.TestCase):
+    """What the table of messages says of probe."""
 
     def test_each_line_of_the_table_is_one_of_a_run(self):
         printed = "".join(run.out for name in ("probe.txt", "parts.txt", "jobs.txt") for run in runs.blocks(name))
-        lines = re.findall("^\\| `(.*?)` \\|", self.part, re.M)
+        lines = [it.line.strip("`") for group in GROUPS if group.title == "What probe prints" for it in group.messages]
         self.assertGreater(len(lines), 10)
         for line in lines:
             with self.subTest(line=line):
@@ -91,7 +85,7 @@ class Frames(unittest.TestCase):
         self.assertEqual([frame for frame in frames if not isinstance(frame, tuple) and len(frame) > 1], [])
 
     def test_the_writes_with_a_fault(self):
-        """Each stands, twice, behind a good CLEAR_FAULTS and a read of STATUS_CML, and before another read of it."""
+        """Each stands, twice, after a good CLEAR_FAULTS and a read of STATUS_CML, and before another read of it."""
         frames = asked(probed("-b 7 -a 58 probe --writes", "odd.Proved").trace)
         at = frames.index(b"\x03\x46")
         without, wrong = ([b"\x03\x46", b"\x7E", faulty, b"\x7E"] * 2 for faulty in (b"\x03", b"\x03\xB9"))

@@ -27,7 +27,7 @@ DONE = ("word 0: OPERATION 40 off confirmed; what the output commands isn't know
 READ = "read 1: OPERATION 80 on confirmed\n"
 PROBING = "pmhost: probe: the part may note in STATUS_CML that it was asked for what it lacks, and pull SMBALERT#\n"
 PROBED = """probe: PEC yes, PAGE_PLUS yes, 1 output: 0 ULINEAR16 -12
-probe: whether the part looks at the page wasn't asked: page 0 alone was
+probe: whether the part looks at the page wasn't asked: only page 0 was
 probe: PMBUS_REVISION 33, Part II 1.3, no good MFR_ID (Remote I/O error), no good MFR_MODEL (Remote I/O error), \
 no good MFR_REVISION (Remote I/O error)
 probe: WRITE_PROTECT 00

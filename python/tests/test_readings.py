@@ -215,13 +215,5 @@ class Rows(Blocks):
         self.carry_out("readings.txt")
 
 
-class Page(unittest.TestCase):
-    def test_the_page_names_each(self):
-        part = stored(ROOT, "docs", "command-line.md").partition("\n## Readings and status\n")[2].partition("\n## ")[0]
-        for name in KINDS:
-            short = name.removeprefix("STATUS_") if name.startswith("STATUS_") else name
-            self.assertTrue(short in part or name[:-1] in part, name)
-
-
 if __name__ == "__main__":
     unittest.main()

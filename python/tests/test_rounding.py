@@ -8,6 +8,7 @@ from pmhost import Course, Device, Differs, Host, HostRefused, LimitRefused, Pla
 from . import field_rounding
 from .board_kernel import BoardKernel
 from .field import ADDRESS, Field, FieldBus
+from .fixtures import free
 from .runs import called, writes
 
 BOARDS = 20
@@ -199,7 +200,7 @@ class Api(unittest.TestCase):
             self.assertRaises(ValueError, course.accept, device.host, near)
         self.assertRaises(TypeError, course.accept, device.host, 3)
         self.assertEqual(course.save(), memory)
-        again = Host(ADDRESS, 2)
+        again = free(Host(ADDRESS, 2))
         again.learn(0)
         again.run(FieldBus(part))
         again.check(0, "VOUT_COMMAND")

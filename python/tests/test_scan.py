@@ -110,6 +110,9 @@ class Kept(unittest.TestCase):
         self.assertEqual([why_reserved(address) for address in (0x08, 0x58, 0x70, 0x77)], [""] * 4)
 
     def test_a_bus_that_is_not_there(self):
-        found = list(scan.scan(lambda address: LinuxBus(9, address, kernel=BoardKernel({7: {}}))))
-        self.assertTrue(all("/dev/i2c-9" in each.why for each in found) and len(found) == 108)
-        self.assertRaises(NoBus, LinuxBus, 9, 0x58, kernel=BoardKernel({7: {}}))
+        self.assertRaises(NoBus, list, scan.scan(lambda address: LinuxBus(9, address, kernel=BoardKernel({7: {}}))))
+        out, err = io.StringIO(), io.StringIO()
+        with contextlib.redirect_stdout(out), contextlib.redirect_stderr(err):
+            status = cli.main(["-b", "9", "probe"], BoardKernel({7: {}}))
+        self.assertEqual((status, out.getvalue(), err.getvalue()),
+                         (2, "", "pmhost: /dev/i2c-9: No such file or directory: load i2c-dev (modprobe i2c-dev), and look for the bus (ls /dev/i2c-*)\n"))

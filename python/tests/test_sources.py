@@ -67,13 +67,16 @@ class Sources(unittest.TestCase):
         """What the rules on pages find in a page of this text."""
         prose = self.rules.prose
         with mock.patch.object(prose, "pages", lambda: ["docs/words.md"]), mock.patch.object(prose, "HEADERS", ()), \
-                mock.patch.object(prose, "text_of", lambda name, real=prose.text_of: real(name) if name == prose.STYLE else text):
+                mock.patch.object(prose, "source_texts", lambda: ()), mock.patch.object(prose, "text_of", lambda name, real=prose.text_of: real(name) if name == prose.STYLE else text):
             return [f"{kind}: {line}" for _, _, kind, line in prose.findings()]
 
     def test_a_name_of_the_page_of_proofs_that_no_crate_has_is_found(self):
         claims = self.rules.claims
-        with mock.patch.object(claims, "read", lambda path, real=claims.read: "`own`, `one_is_none`" if path == "docs/proved.md" else real(path)):
-            self.assertEqual([line for *_, line in claims.lost_names()], ["no crate has one_is_none"])
+        pages = {"docs/proved.md": "# A\n`own`, `one_is_none`\n| what is proved | unless | law |\n|---|---|---|\n| it | nothing | `World::run` |\n| that | nothing | |\n",
+                 "README.md": "# A\n`no_law`\n\n## What is proved\n\nOne (`World::run`). Two (`two_is_none`). Three.\n\nFour.\n\n## Taking part\n`other_law`\n"}
+        with mock.patch.object(claims, "read", lambda path, real=claims.read: pages.get(path) or real(path)):
+            self.assertEqual([line for *_, line in claims.lost_names()], [
+                "no crate has one_is_none", "names no law: | that | nothing | |", "no crate has two_is_none", "names no law: Three."])
 
     def test_words_of_the_list_and_long_sentences_are_found(self):
         self.assertEqual(self.prose("A wait comes after a write. `where` is code.\n\n```text\nit tells\n```\n"), [])
@@ -82,6 +85,19 @@ class Sources(unittest.TestCase):
         long = " ".join(["word"] * 36)
         self.assertEqual(self.prose(f"| a |\n|---|\n| {long} |\n"), [f"sentence: 36 words: {long}"])
         self.assertEqual(self.prose(" ".join(["Word"] * 21) + ".\n"), ["sentence: 21.0 words a sentence"])
+
+    def test_words_of_help_messages_and_doc_comments_are_found(self):
+        prose, long = self.rules.prose, " ".join(["word"] * 36)
+        sources = {"python/src/pmhost/clock.py": f'"""It waits behind `where`."""\nsaid = f"give {{it}} where it is", "{long}"\n',
+                   "rust/src/lib.rs": "/// It tells a word.\n/// ```\n/// tells()\n/// ```\n// told\nfn f() {}\n", "rust/build.rs": "/// It tells.\n"}
+        with mock.patch.object(prose, "kept_files", lambda: [*sources]), mock.patch.object(prose, "pages", lambda: []), \
+                mock.patch.object(prose, "HEADERS", ()), mock.patch.object(prose, "text_of", lambda name, real=prose.text_of: sources.get(name) or real(name)):
+            found = [(name, line, kind, said) for name, line, kind, said in prose.findings()]
+        self.assertEqual(sorted(found), [
+            ("python/src/pmhost/clock.py", 1, "words", "behind: .. It waits behind `x`. .."),
+            ("python/src/pmhost/clock.py", 2, "sentence", f"36 words: {long}"),
+            ("python/src/pmhost/clock.py", 2, "words", "where: .. give x where it is .."),
+            ("rust/src/lib.rs", 1, "words", "tells: .. It tells a word. ..")])
 
 
 if __name__ == "__main__":

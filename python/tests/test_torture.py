@@ -111,6 +111,8 @@ class Programs(unittest.TestCase):
         status, out, _ = tortured(said, "--said", "^rails: all", "--again", "4:false")
         self.assertEqual((status, "status 3, well: WRONG" in out), (1, True))
         self.assertIn("--said '^rails: all' --again 4:false --", out)
+        _, out, _ = tortured(said, "--said", "^rails: all", "--seconds", "60", "--meant", "1:21=2346", "--again", "4:false")
+        self.assertIn("pmhost torture --said '^rails: all' --seconds 60 --meant 1:VOUT_COMMAND=2346 --again 4:false --", out)
         status, _, err = tortured(said, "--again", "4:false")
         self.assertEqual((status, err), (2, "pmhost: torture: without a fault the program didn't end well (status 3): nothing can be judged\n"))
 
@@ -128,7 +130,7 @@ class Programs(unittest.TestCase):
         self.assertEqual((status, "transfer 1 false: not ended: NOT ENDED" in out), (1, True))
 
     def test_calls_that_are_wrong_say_what_to_give(self):
-        for words, line in (([], "torture: give a program behind --, as pmhost torture -- ./your-host"),
+        for words, line in (([], "torture: give a program after --, as pmhost torture -- ./your-host"),
                             (["--", "/no/such/host"], "torture: /no/such/host: no such program"),
                             (["--meant", "3:21=34CD", "--", "true"], "torture: --meant 3:21=34CD: give an output, a register and its word, as 1:21=34CD"),
                             (["--strike", "sparks", "--", "true"], "torture: kind sparks: give kinds of lost, cut, "),
@@ -250,7 +252,7 @@ class Watching(unittest.TestCase):
 class Answers(unittest.TestCase):
     def test_a_controller_clocks_as_many_bytes_as_it_wants(self):
         for came, flags, length, result in ((b"\x02\x34\x12\xA5", 1, 4, (2, [b"\x02\x34\x12\xA5"])), (b"\x02\x34", 1, 4, (2, [b"\x02\x34\xFF\xFF"])),
-                                            (b"\x02\x34\x12", 1, 2, (2, [b"\x02\x34"])), (b"", 1, 4, (-121, [])),
+                                            (b"\x02\x34\x12", 1, 2, (2, [b"\x02\x34"])),
                                             (b"\x02\x34\x12\xA5", 0x401, 2, (2, [b"\x02\x34\x12\xA5"])), (b"\x00", 0x401, 1, (-71, [])),
                                             (b"\x21" + bytes(40), 0x401, 1, (-71, []))):
             self.assertEqual(Server.answered(came, Message(0x58, flags, length)), result, (came, flags, length))
@@ -263,6 +265,16 @@ class Answers(unittest.TestCase):
         self.assertEqual(server.transfer([Message(0x58, 1, 1)]), (1, [b"\xFF"]))
         self.assertEqual(server.transfer([Message(0x58, 0, 3, bytes.fromhex("00 01 ED"))]), (1, []))
         self.assertEqual((part.page, part.number), (1, 2))
+
+    def test_what_an_adapter_says_of_a_transfer_that_failed(self):
+        """No such device where nobody acknowledged the address, a remote I/O error where a byte behind it wasn't, or no answer came."""
+        write, read = [Message(0x58, 0, 3, bytes.fromhex("00 01 ED"))], [Message(0x58, 0, 1, b"\x19"), Message(0x58, 1, 2)]
+        for fault, of_write, of_read in (("lost", -6, -6), ("cut:0", -6, -6), ("damaged:0:3", -6, -6), ("cut:1", -121, -121), ("mute", -121, -121),
+                                         ("restart:1", -121, -121), ("false", 1, -121), ("ok", 1, 2)):
+            for messages, result in ((write, of_write), (read, of_read)):
+                part = WatchedPart(2)
+                server = Server(part, FaultyBus(part, [fault], lambda struck: None))
+                self.assertEqual(server.transfer(messages)[0], result, (fault, len(messages)))
 
 
 class NewFaults(unittest.TestCase):

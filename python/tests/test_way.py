@@ -160,7 +160,7 @@ class Ways(unittest.TestCase):
         planned = [(words, "would be ordered", *more) for words, _, *more in (RAISED, ORDERED, IO_ORDERED)]
         self.assertEqual((status, rails["core"].rows, rails["io"].rows), (0, [START, *planned[:2]], [IO_START, planned[2]]))
         self.assertEqual(said, ["apply rails.toml: would order", "Nothing is measured: it is commanded, by what the host knows.",
-                                "Nothing was written: these are the plan's orders, where each is confirmed."])
+                                "Nothing was written: these are the plan's orders, if each is confirmed."])
         self.assertEqual(rails["core"].end, "now: the output commands 1V, within 0.9V to 3.6V")
 
     def test_a_rail_that_is_cut_at_its_start_is_drawn_where_it_is_cut(self):

@@ -86,7 +86,7 @@ pub enum Operation<'a> {
 /// # assert!(learn(Dead, Ticks::default()).unwrap_err().to_string().ends_with("a transfer failed"));
 /// ```
 pub trait Bus {
-    /// Why a transaction failed. The last one is handed on by `NotDone::Unknown`, as its source where this type is an
+    /// Why a transaction failed. The last one is handed on by `NotDone::Unknown`, as its source if this type is an
     /// error of `core`.
     type Error;
 

@@ -307,8 +307,8 @@ impl Course {
         (number == 0).then(|| self.job_of(found)).flatten()
     }
 
-    /// The word that it wants of VOUT_COMMAND or of a margin, by the format that the host knows now; of a course to a byte that leaves the
-    /// output on the word that the register is known to hold that the byte selects. `None` where it has none of this register.
+    /// The word that it orders of VOUT_COMMAND or of a margin, by the format that the host knows now; of a course to a byte that leaves the
+    /// output on the word that the register is known to hold that the byte selects. `None` if it has none of this register.
     #[must_use]
     pub fn goal(&self, host: &Host, register: Register) -> Option<u16> {
         let mut word = 0;
@@ -328,7 +328,7 @@ impl Course {
 }
 
 impl AnswerFault {
-    /// The fault of a number; `None` where the answer was good.
+    /// The fault of a number; `None` if the answer was good.
     pub(crate) fn of(number: u8) -> Option<AnswerFault> {
         match number {
             0 => None,

@@ -1,4 +1,4 @@
-//! What an output does, with all that is told of it, and why it doesn't do what is wanted.
+//! What an output does, with all that is said of it, and why it doesn't do what is wanted.
 
 use core::{error, fmt};
 
@@ -19,7 +19,7 @@ pub(crate) const LIMIT_CODES: [u8; 4] = [0x40, 0x42, 0x43, 0x44];
 /// The voltages that a course may want.
 pub(crate) const GOALS: [Register; 3] = [Register::VoutCommand, Register::VoutMarginHigh, Register::VoutMarginLow];
 
-/// A word that a course wants, and the codes of the fault limit and of the limit of a warning that it is at or beyond, or 0.
+/// A word that a course orders, and the codes of the fault limit and of the limit of a warning that it is at or beyond, or 0.
 #[derive(Clone, Copy, Debug, PartialEq, Eq)]
 pub(crate) struct Goal {
     pub(crate) word: u16,
@@ -39,7 +39,7 @@ pub struct Delivered {
     pub status: Option<u16>,
     /// STATUS_WORD before the first order, if it was asked and a good answer came.
     pub before: Option<u16>,
-    /// POWER_GOOD_ON, asked where POWER_GOOD# alone speaks against it.
+    /// POWER_GOOD_ON, asked if only POWER_GOOD# speaks against it.
     pub power_good_on: Option<u16>,
     pub(crate) registers: [Option<u8>; 4],
     pub(crate) format: Option<Format>,
@@ -87,7 +87,7 @@ impl Delivered {
         Ok(())
     }
 
-    /// The status registers behind words that they don't decide.
+    /// The status registers after words that they don't decide.
     fn tell_rest(&self, to: &mut fmt::Formatter<'_>) -> fmt::Result {
         if self.status.unwrap_or(0) == 0 {
             return Ok(());
@@ -156,7 +156,7 @@ impl Delivered {
         }
     }
 
-    /// What is said of limits, behind these signs.
+    /// What is said of limits, after these signs.
     fn tell_limits(&self, mut between: &str, to: &mut fmt::Formatter<'_>) -> fmt::Result {
         let silent = self.silent.iter().filter(|it| **it).count();
         for (code, _) in LIMIT_CODES.iter().zip(self.silent).filter(|it| it.1) {
@@ -189,7 +189,7 @@ fn tell_unknown(code: u8, fault: Option<AnswerFault>, to: &mut fmt::Formatter<'_
 }
 
 impl fmt::Display for Delivered {
-    /// One line; nothing where a part without STATUS_WORD was told before.
+    /// One line; nothing if a part without STATUS_WORD was named before.
     fn fmt(&self, to: &mut fmt::Formatter<'_>) -> fmt::Result {
         if self.is_absent && self.is_told {
             return self.tell_limits("", to);

@@ -12,19 +12,19 @@ use crate::loops::{Failures, Frames};
 use crate::refusal::{accepted, Refusal};
 use crate::verdict::Verdict;
 
-/// How far READ_VOUT may be from what the output commands, in thousandths of that, where a caller has no number of his own: 5 %.
+/// How far READ_VOUT may be from what the output commands, in thousandths of that, if a caller has no number of his own: 5 %.
 pub const DELIVERS_WITHIN: u16 = 50;
 
-/// How often all is asked until an output does what it is to, where a caller has no number of his own.
+/// How often all is asked until an output does what it is to, if a caller has no number of his own.
 pub const DELIVERY_ROUNDS: u16 = 25;
 
-/// What is done where a word is at or beyond VOUT_OV_FAULT_LIMIT or VOUT_UV_FAULT_LIMIT, which would trip the rail.
+/// What is done if a word is at or beyond VOUT_OV_FAULT_LIMIT or VOUT_UV_FAULT_LIMIT, which would trip the rail.
 #[derive(Clone, Copy, Debug, Default, PartialEq, Eq)]
 pub enum FaultLimits {
     /// Nothing is ordered (P8).
     #[default]
     Refuse,
-    /// It is ordered, and [`Delivered`] tells.
+    /// It is ordered, and [`Delivered`] says so.
     Tell,
     /// They aren't read.
     Skip,
@@ -36,7 +36,7 @@ pub enum PowerGood {
     /// It doesn't deliver.
     #[default]
     Judge,
-    /// It does, and [`Delivered`] tells.
+    /// It does, and [`Delivered`] says so.
     Tell,
 }
 
@@ -45,7 +45,7 @@ pub enum PowerGood {
 pub struct DeliveryOptions {
     /// What is done about fault limits.
     pub fault_limits: FaultLimits,
-    /// What is made of power good that alone is missing.
+    /// What is made of it if only power good is missing.
     pub power_good: PowerGood,
     /// Whether READ_VOUT is one of the part's registers: the data sheet says it. One that gives no answer at all in two rounds counts as
     /// missing.
@@ -86,7 +86,7 @@ pub struct Judgement {
     pub warning: Option<Limit>,
 }
 
-/// What an output does, by reads of PAGE_PLUS beside the host's jobs: it writes nothing, and no job is told of what it hears. One for an
+/// What an output does, by reads of PAGE_PLUS beside the host's jobs: it writes nothing, and no job hears of it. One for an
 /// output and a call, or a chain of calls: which faults stood before the first order is asked once. [`Host::deliver`] is the loop.
 #[derive(Clone)]
 #[must_use = "a delivery asks nothing until it is carried out"]
@@ -131,7 +131,7 @@ impl fmt::Debug for Delivery {
 // SAFETY of each call of the library: references are valid and aligned, the one that is written overlaps nothing, a
 // slice's pointer and count are its own.
 impl Delivery {
-    /// Of an output, of which nothing was asked. H4 above 7; NoDelivery where the library is of another version.
+    /// Of an output, of which nothing was asked. H4 above 7; NoDelivery if the library is of another version.
     pub fn new(output: u8, options: &DeliveryOptions) -> Result<Delivery, Refusal> {
         let found = unsafe { (ffi::pm_delivery_version(), ffi::pm_delivery_size()) };
         if found != (ffi::DELIVERY_VERSION, ffi::DELIVERY_SIZE as u64) {
@@ -167,7 +167,7 @@ impl Delivery {
         accepted(unsafe { ffi::pm_delivery_after(&mut self.image, u8::from(is_off)) })
     }
 
-    /// The request that is to be sent now; `Sending::Nothing` where nothing is left to ask. Wait before one of which
+    /// The request that is to be sent now; `Sending::Nothing` if nothing is left to ask. Wait before one of which
     /// [`Delivery::is_again`] is true.
     pub fn frame(&mut self, host: &Host) -> Sending {
         let mut found = ffi::SendingImage::default();
@@ -185,7 +185,7 @@ impl Delivery {
         self.image.round != 0 && self.image.status_word.asked == 0
     }
 
-    /// A request was sent, and these bytes came back, the read address first; none where there was no answer.
+    /// A request was sent, and these bytes came back, the read address first; none if there was no answer.
     pub fn read_ended(&mut self, host: &Host, bytes: &[u8]) -> Result<(), Refusal> {
         accepted(unsafe { ffi::pm_delivery_read_ended(&mut self.image, &host.image, bytes.as_ptr(), bytes.len() as u64) })
     }
@@ -197,7 +197,7 @@ impl Delivery {
         Ok(Verdict::of(&found))
     }
 
-    /// Which limits a word of the output's voltage is at or beyond, of those that gave a good answer. H7 where the format isn't known.
+    /// Which limits a word of the output's voltage is at or beyond, of those that gave a good answer. H7 if the format isn't known.
     pub fn judge(&self, host: &Host, word: u16) -> Result<Judgement, Refusal> {
         let mut found = ffi::JudgementImage::default();
         match unsafe { ffi::pm_delivery_judge(&self.image, &host.image, word, &mut found) } {
@@ -209,25 +209,25 @@ impl Delivery {
         }
     }
 
-    /// What was heard of STATUS_WORD before the first order; `None` where no good answer came.
+    /// What was heard of STATUS_WORD before the first order; `None` if no good answer came.
     #[must_use]
     pub fn status_before(&self) -> Option<u16> {
         word_of(self.image.before)
     }
 
-    /// STATUS_WORD of the last round; `None` where no good answer came.
+    /// STATUS_WORD of the last round; `None` if no good answer came.
     #[must_use]
     pub fn status(&self) -> Option<u16> {
         word_of(self.image.status_word)
     }
 
-    /// POWER_GOOD_ON, asked where POWER_GOOD# alone speaks against the output; `None` where no good answer came.
+    /// POWER_GOOD_ON, asked if only POWER_GOOD# speaks against the output; `None` if no good answer came.
     #[must_use]
     pub fn power_good_on(&self) -> Option<u16> {
         word_of(self.image.power_good_on)
     }
 
-    /// What a course wants that is at or beyond a fault limit, by which nothing is ordered; `None` where that is told alone.
+    /// What a course orders that is at or beyond a fault limit, by which nothing is ordered; `None` if that is only shown.
     fn refuses(&mut self, course: &Course, host: &Host) -> Result<Option<BeyondFaultLimit>, Refusal> {
         self.goals = [None; 3];
         for (at, register) in GOALS.into_iter().enumerate() {
@@ -241,7 +241,7 @@ impl Delivery {
         Ok(None)
     }
 
-    /// What the output does, with all that is told of it; nothing that was told once is told again.
+    /// What the output does, with all that is said of it; nothing is said twice.
     pub fn delivered(&mut self, host: &Host) -> Result<Delivered, Refusal> {
         let verdict = match self.is_absent {
             true => Verdict::NotKnown { code: STATUS_WORD, fault: Some(AnswerFault::NoAnswer) },
@@ -306,7 +306,7 @@ impl Delivery {
     }
 }
 
-/// P8, by which a judgement is told too.
+/// P8, by which a judgement is shown too.
 const P8: u8 = Refusal::P8BeyondFaultLimit.number();
 
 const STATUS_WORD: u8 = 0x79;
@@ -333,7 +333,7 @@ fn is_off(job: Option<Job>) -> bool {
 
 impl Host {
     /// Carries a course out over a bus, and asks what its output does then. Before the course's first order, unless that turns the output
-    /// off, STATUS_WORD and the fault limits are read, and nothing is ordered where what is wanted is at or beyond one (P8). `pause` is
+    /// off, STATUS_WORD and the fault limits are read, and nothing is ordered if what is wanted is at or beyond one (P8). `pause` is
     /// called before all is asked again of an output that doesn't do yet what it is to.
     ///
     /// ```

@@ -16,7 +16,7 @@ pub enum Done {
     Acknowledged,
 }
 
-/// Why a job wasn't done. `E` is the error of the bus. If that is an error of `core`, so is this, and its source is what
+/// Why a job wasn't done. `E` is the error of the bus. If that is an error of `core`, this is one too, and its source is what
 /// the bus said of the last transaction that failed.
 #[derive(Clone, Copy, Debug, PartialEq, Eq)]
 pub enum NotDone<E> {

@@ -39,7 +39,7 @@ pub(crate) struct Message<'a> {
 }
 
 impl<'a> Message<'a> {
-    /// `None` where it is longer than the kernel takes.
+    /// `None` if it is longer than the kernel takes.
     pub(crate) fn of(address: u8, operation: &'a mut Operation<'_>) -> Option<Message<'a>> {
         let (flags, bytes, length) = match operation {
             // The kernel reads what is written, and no more.

@@ -17,7 +17,7 @@ pub(crate) const ENXIO: i32 = 6;
 pub enum NoTransfer {
     /// The kernel's error, by its number.
     Errno(i32),
-    /// Fewer messages went than were sent, and the adapter told of no error.
+    /// Fewer messages went than were sent, and the adapter showed no error.
     Went {
         /// How many went.
         went: usize,
@@ -37,7 +37,7 @@ pub enum NoTransfer {
 }
 
 impl Unheard for NoTransfer {
-    /// ENXIO alone says so: with some adapters the other errors are of a byte behind the address, too.
+    /// Only ENXIO says so: with some adapters the other errors are of a byte after the address, too.
     fn is_unheard(&self) -> bool {
         *self == NoTransfer::Errno(ENXIO)
     }

@@ -122,7 +122,7 @@ where
         self.bus
     }
 
-    /// Waits twice as long as the last time, to the end of the patience at most. False at once where that is over.
+    /// Waits twice as long as the last time, to the end of the patience at most. False at once if that is over.
     fn has_waited(&mut self, waits: &mut Waits) -> bool {
         let passed = self.clock.now().wrapping_sub(waits.begun);
         if passed >= waits.patience {

@@ -7,7 +7,7 @@ use crate::ffi;
 /// Declares the refusals: each with its number and its name.
 macro_rules! refusals {
     ($($(#[$says:meta])* $name:ident = $number:literal),+ $(,)?) => {
-        /// Why a call is refused. A refused call changes nothing and sends nothing, but for a bit of STATUS_CML that a part sets where
+        /// Why a call is refused. A refused call changes nothing and sends nothing, but for a bit of STATUS_CML that a part sets if
         /// it refuses a frame, by K1 to K7.
         #[derive(Clone, Copy, Debug, PartialEq, Eq, Hash)]
         #[non_exhaustive]
@@ -161,7 +161,7 @@ refusals! {
     NoBand = 0xEB,
     /// The memory holds no delivery. Of one that is made: the linked library's have another layout than this crate's.
     NoDelivery = 0xEC,
-    /// The course wants no word of this register.
+    /// The course orders no word of this register.
     NoGoal = 0xED,
 }
 

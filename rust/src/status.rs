@@ -135,3 +135,39 @@ impl fmt::Display for Status {
         Ok(())
     }
 }
+
+#[cfg(test)]
+mod tests {
+    extern crate std;
+
+    use super::*;
+    use std::string::ToString;
+
+    #[test]
+    fn voltages_have_their_sign_and_no_zeros_at_the_end() {
+        for (microvolts, words) in [
+            (Some(3_300_000), "3.3V"),
+            (Some(-1_500_000), "-1.5V"),
+            (Some(-50), "-0.00005V"),
+            (Some(12_000_000), "12V"),
+            (Some(0), "0V"),
+            (None, "beyond 10^15 microvolts"),
+        ] {
+            assert_eq!(Volts(microvolts).to_string(), words);
+        }
+    }
+
+    #[test]
+    fn each_status_register_has_its_own_bits() {
+        for (code, word, words) in [
+            (0x79, 0x4840, "STATUS_WORD 4840 IOUT_POUT, POWER_GOOD#, OFF"),
+            (0x7A, 0x90, "STATUS_VOUT 90 VOUT_OV_FAULT, VOUT_UV_FAULT"),
+            (0x7B, 0x81, "STATUS_IOUT 81 IOUT_OC_FAULT, POUT_OP_WARNING"),
+            (0x7C, 0x18, "STATUS_INPUT 18 VIN_UV_FAULT, UNIT_OFF_LOW_VIN"),
+            (0x7D, 0x81, "STATUS_TEMPERATURE 81 OT_FAULT, bit 0"),
+            (0x7A, 0x00, "STATUS_VOUT 00"),
+        ] {
+            assert_eq!(Status(code, word).to_string(), words);
+        }
+    }
+}

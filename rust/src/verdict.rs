@@ -4,7 +4,7 @@ use crate::course::AnswerFault;
 use crate::ffi;
 
 /// What an output does. A good end is `Delivers`, `WentOff` after an order that turned it off, and `CommandedOff` or `NotKnownOn`
-/// where the output isn't asked.
+/// if the output isn't asked.
 #[derive(Clone, Copy, Debug, PartialEq, Eq)]
 #[must_use = "a rail that is off, or that tripped, is told by this alone"]
 pub enum Verdict {
@@ -54,7 +54,7 @@ pub enum Verdict {
     NotKnown {
         /// Its command code.
         code: u8,
-        /// What was wrong with the last answer; `None` of READ_VOUT where that was good, and what the output commands isn't known.
+        /// What was wrong with the last answer; `None` of READ_VOUT if that was good, and what the output commands isn't known.
         fault: Option<AnswerFault>,
     },
     /// OFF is 1 after an order that turned the output off.
@@ -70,7 +70,7 @@ impl Verdict {
         matches!(self, Verdict::Delivers { .. } | Verdict::WentOff | Verdict::CommandedOff | Verdict::NotKnownOn)
     }
 
-    /// READ_VOUT in microvolts, where it is known.
+    /// READ_VOUT in microvolts, if it is known.
     #[must_use]
     pub fn microvolts(&self) -> Option<i64> {
         match *self {

@@ -2,6 +2,7 @@
  * locks there and its waits go to the stand-in, and all others to the C library. trials/c/run.sh has the command pmhost and
  * the Rust example make their own calls of the kernel so, with the kernel's own structures on the other side. */
 #define _GNU_SOURCE
+#define IS_PRELOADED
 #include "rows/stand_in.c"
 #include <dlfcn.h>
 

@@ -110,6 +110,7 @@ count|--no-limit --share-bus /dev/i2c-5 58 0 3300000|0|ended done, confirmed 34C
 |--no-limit /dev/i2c-5 57 0 3300000|1||learn: 3 of 3 transfers failed, the last: Remote I/O error
 |--no-limit /dev/i2c-6 58 0 3300000|2||a line is held low: address 02, which no part may have, acknowledges
 |/dev/i2c-6 58 store|2||a line is held low: address 02, which no part may have, acknowledges
+low|/dev/i2c-1 58 store|2||a line is held low: address 02, which no part may have, acknowledges
 |--no-limit --patience=x /dev/i2c-1 58 0 3300000|2||patience 'x': give milliseconds, 0 to 60000
 |--no-limit --patience=-1 /dev/i2c-1 58 0 3300000|2||patience '-1': give milliseconds, 0 to 60000
 |/dev/i2c-1 58 0 3300000|2||give what the load tolerates, as --limit=3135000:3465000 in microvolts, or --no-limit
@@ -127,6 +128,7 @@ count ok deaf*5|--no-limit /dev/i2c-1 58 0 3300000|0|ended done, confirmed 34CD,
 count ok deaf*3 ok ones|--no-limit /dev/i2c-1 58 0 3300000|0|ended done, confirmed 34CD, 3300048 uV\n8 transfers, 100 ms|
 count ok ok deaf*20|--no-limit /dev/i2c-1 58 0 3300000|1|ended unknown, the output may hold the old or the ordered word\n22 transfers, 600 ms|order: 5 of 6 transfers failed, the last: No such device or address; no answer was good
 count ok deaf|--no-limit /dev/i2c-1 58 0 3300000|0|ended done, confirmed 34CD, 3300048 uV\n5 transfers, 20 ms|
+count ok ok short1|--no-limit /dev/i2c-1 58 0 3300000|0|ended done, confirmed 34CD, 3300048 uV\n5 transfers, 30 ms|
 count ok nacked ok ok|--no-limit /dev/i2c-1 58 0 3300000|0|ended done, confirmed 34CD, 3300048 uV\n7 transfers, 20 ms|
 count|--no-limit --patience=0 /dev/i2c-1 58 0 3300000|0|ended done, confirmed 34CD, 3300048 uV\n3 transfers, 0 ms|
 count ok deaf ok deaf ok deaf|--no-limit --patience=0 /dev/i2c-1 58 0 3300000|1|ended differs, confirmed 1000, 1000000 uV\n7 transfers, 0 ms|order: 3 of 6 transfers failed, the last: No such device or address; the write was lost, or the part refused, limited or rounded the word

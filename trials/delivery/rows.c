@@ -13,11 +13,13 @@
  *   m  it ramps: READ_VOUT is right and power good there after three rounds
  *   n  it stays on when it is turned off                               f  the fault limits give no answer
  *   b  STATUS_WORD gives no answer before an order                     i  a fault of IOUT_OC comes, STATUS_IOUT gives no answer
- *   h  READ_VOUT is 4 % above what is commanded                        c  BUSY and CML come with each order */
+ *   h  READ_VOUT is 4 % above what is commanded                        c  BUSY and CML come with each order
+ *   d  READ_VOUT comes with another PEC in the first round, and then gives no answer */
 typedef struct {
     const char *name;
     char call;           /* s set to 1.1 V, S to 1.3 V, U to 0.7 V, n on, o off, m margin high (1.15 V), y survey, O survey of an output
-                          * that is off */
+                          * that is off, p off whose frame was handed out before, b set to 0.7 V with a margin of 1.3 V, B set to 1.3 V
+                          * with one of 1.15 V */
     const char *wrong;
     uint8_t fault_limits, has_read_vout;
     uint16_t rounds;
@@ -41,6 +43,8 @@ static const row rows[] = {
     {"fault limits that give no answer", 'S', "tf", REFUSE, 1, 5, 1, 0, 4, 0x79, 0, 0, 0x8860, NONE, 22, 1, 0},
     {"a margin below the fault limits", 'm', "t", REFUSE, 1, 5, 1, 0, 1, 0, 0, 0, 0, 1149902, 20, 1, 0},
     {"a margin at VOUT_OV_FAULT_LIMIT", 'm', "tH", REFUSE, 1, 5, 2, 0x68, 13, 0x40, 0, 0, 0x14CD, NONE, 12, 0, 0},
+    {"two goals at fault limits", 'b', "", REFUSE, 1, 5, 2, 0x68, 13, 0x44, 0, 0, 0x0B33, NONE, 12, 0, 0},
+    {"a goal at a fault limit, and one that isn't", 'B', "t", REFUSE, 1, 5, 2, 0x68, 13, 0x40, 0, 0, 0x14CD, NONE, 12, 0, 0},
     {"a goal at VOUT_UV_FAULT_LIMIT", 'U', "", REFUSE, 1, 5, 2, 0x68, 13, 0x44, 0, 0, 0x0B33, NONE, 11, 0, 0},
     {"a RUN pin that is low", 's', "r", REFUSE, 1, 5, 1, 0, 4, 0x79, 0, 0, 0x0840, NONE, 23, 1, 4},
     {"power good that begins above", 's', "g", REFUSE, 1, 3, 1, 0, 8, 0x79, 0, 0, 0x0800, 1100097, 26, 1, 2},
@@ -59,11 +63,13 @@ static const row rows[] = {
     {"READ_VOUT that gives no answer in two rounds", 's', "v", REFUSE, 1, 2, 1, 0, 1, 0, 0, 0, 0, NONE, 24, 1, 1},
     {"READ_VOUT that gives no answer, and power good is missing", 's', "vg", REFUSE, 1, 2, 1, 0, 9, 0x79, 0, 0, 0x0800, NONE, 24, 1, 1},
     {"READ_VOUT that gives no answer in one round", 's', "v", REFUSE, 1, 1, 1, 0, 10, 0x8B, 0, 1, 0, NONE, 21, 1, 0},
+    {"READ_VOUT with another PEC, and then no answer", 's', "d", REFUSE, 1, 3, 1, 0, 10, 0x8B, 0, 1, 0, NONE, 27, 1, 2},
     {"READ_VOUT with another PEC", 's', "p", REFUSE, 1, 1, 1, 0, 10, 0x8B, 0, 0x35, 0, NONE, 21, 1, 0},
     {"an older fault, and no answer before the order", 's', "bo", REFUSE, 1, 5, 1, 0, 5, 0x79, 5, 0, 0x8020, NONE, 21, 1, 0},
     {"on", 'n', "", REFUSE, 1, 5, 1, 0, 1, 0, 0, 0, 0, 1000000, 19, 1, 0},
     {"on, with a RUN pin that is low", 'n', "r", REFUSE, 1, 2, 1, 0, 4, 0x79, 0, 0, 0x0840, NONE, 19, 1, 1},
     {"off", 'o', "", REFUSE, 1, 5, 1, 0, 11, 0, 0, 0, 0, NONE, 2, 1, 0},
+    {"off, whose frame was handed out before", 'p', "", REFUSE, 1, 5, 1, 0, 11, 0, 0, 0, 0, NONE, 2, 1, 0},
     {"off, and it stays on", 'o', "n", REFUSE, 1, 3, 1, 0, 12, 0x79, 0, 0, 0, NONE, 4, 1, 2},
     {"off, and STATUS_WORD gives no answer", 'o', "s", REFUSE, 1, 1, 1, 0, 10, 0x79, 0, 1, 0, NONE, 3, 1, 0},
     {"a survey", 'y', "", REFUSE, 1, 5, 1, 0, 1, 0, 0, 0, 0, 1000000, 7, 0, 0},
@@ -132,7 +138,7 @@ static int held(uint8_t code, uint16_t *word) {
         return is('s') || (is('b') && !has_ordered) ? 0 : 2;
     case 0x7A: *word = is('u') ? 0x10 : 0x20; return 1;
     case 0x7B: *word = 0x80; return is('i') ? 0 : 1;
-    case 0x8B: *word = read_vout(); return is('v') ? 0 : 2;
+    case 0x8B: *word = read_vout(); return is('v') || (is('d') && status_words > 1) ? 0 : 2;
     default: return 0;
     }
 }
@@ -170,7 +176,7 @@ static uint64_t ask(void *context, const uint8_t *request, uint64_t count, uint8
         answer[at++] = (uint8_t)(word >> 8);
     all[count] = request[0] | 1;
     memcpy(all + count + 1, answer, at);
-    answer[at] = (uint8_t)(pm_pec(all, count + 1 + at) ^ (request[4] == 0x8B && is('p')));
+    answer[at] = (uint8_t)(pm_pec(all, count + 1 + at) ^ (request[4] == 0x8B && (is('p') || is('d'))));
     return at + 1;
 }
 
@@ -179,13 +185,27 @@ static void rest(void *context) {
     pauses++;
 }
 
-static int begin(pm_course *course) {
+/* A course to a voltage, and to one of VOUT_MARGIN_HIGH. */
+static int begin_both(pm_course *course, int64_t microvolts, int64_t margin) {
+    return pm_course_microvolts(course, 0, PM_VOUT_COMMAND, microvolts, 40) != 0 || pm_course_want(course, PM_VOUT_MARGIN_HIGH, margin) != 0;
+}
+
+/* A course that turns the output off, and has handed out its frame. */
+static int begin_off(pm_course *course, pm_host *host) {
+    pm_sending sending;
+    return pm_course_power(course, 0, 0x00, 40) != 0 || pm_course_frame(course, host, &sending) != 0;
+}
+
+static int begin(pm_course *course, pm_host *host) {
     switch (now->call) {
     case 's': return pm_course_microvolts(course, 0, PM_VOUT_COMMAND, 1100000, 40);
     case 'S': return pm_course_microvolts(course, 0, PM_VOUT_COMMAND, 1300000, 40);
     case 'U': return pm_course_microvolts(course, 0, PM_VOUT_COMMAND, 700000, 40);
     case 'n': return pm_course_power(course, 0, 0x80, 40);
     case 'o': return pm_course_power(course, 0, 0x00, 40);
+    case 'p': return begin_off(course, host);
+    case 'b': return begin_both(course, 700000, 1300000);
+    case 'B': return begin_both(course, 1300000, 1150000);
     case 'm': return pm_course_power(course, 0, 0xA8, 40);
     default: return pm_course_survey(course, 0, 40);
     }
@@ -196,6 +216,56 @@ static int differs(const pm_course_end *end, const pm_delivered *said) {
         || said->bit != now->bit || said->fault != now->fault || said->word != now->word
         || (said->has_microvolts ? said->microvolts : NONE) != now->microvolts || reads != now->reads || writes != now->writes
         || pauses != now->pauses;
+}
+
+/* One call says what is wrong with it, and the number of those. */
+static int is_wrong(const char *name, int found, int wanted) {
+    if (found != wanted)
+        printf("%s: %02X and not %02X\n", name, (unsigned)found, (unsigned)wanted);
+    return found != wanted;
+}
+
+/* Which ends are good, by their kinds, and of a part without STATUS_WORD; and what calls beside pm_host_deliver answer. */
+static int calls(void) {
+    static const uint8_t good[14] = {0, 1, 1, 1, 0, 0, 0, 0, 0, 0, 0, 1, 0, 0};
+    pm_host host;
+    pm_course course;
+    pm_delivery delivery;
+    pm_delivered said = {0, 0, 0, 0, 0, 0, 0, 0};
+    pm_judgement judgement = {0, 0, 0, 0};
+    int failed = 0;
+    now = rows;
+    if (pm_host_new(&host, 0x58, 1, 2) != 0 || pm_host_set_limits(&host, 0, 500000, 2000000) != 0
+        || pm_delivery_new(&delivery, 0, REFUSE, 1, 50, 5) != 0)
+        return 1;
+    delivery.status_word.asked = 1;
+    for (said.kind = 0; said.kind < sizeof good; said.kind++)
+        failed += is_wrong("a kind of end", pm_is_delivered(&delivery, &said), good[said.kind]);
+    said.kind = 10, said.code = 0x79;
+    failed += is_wrong("STATUS_WORD that gave no answer", pm_is_delivered(&delivery, &said), 0);
+    delivery.status_word.asked = 0;
+    failed += is_wrong("a part without STATUS_WORD", pm_is_delivered(&delivery, &said), 1);
+    said.code = 0x8B;
+    failed += is_wrong("READ_VOUT that gave no answer", pm_is_delivered(&delivery, &said), 0);
+
+    operation = 0x80, command = 0x1000, high = 0x1266, reads = has_ordered = 0;
+    if (begin_both(&course, 1100000, 1150000) != 0 || pm_host_deliver(&host, &course, &delivery, put, ask, rest, NULL, &said).kind != 1)
+        return failed + 1;
+    reads = 0;
+    if (pm_course_microvolts(&course, 0, PM_VOUT_COMMAND, 1050000, 40) != 0)
+        return failed + 1;
+    failed += is_wrong("the second call of a chain", pm_host_deliver(&host, &course, &delivery, put, ask, rest, NULL, &said).kind, 1);
+    failed += is_wrong("reads of the second call of a chain", reads, 15);
+    if (begin_both(&course, 700000, 1300000) != 0)
+        return failed + 1;
+    failed += is_wrong("a judgement", pm_delivery_judge_course(&delivery, &course, &host, &judgement), 0x68);
+    failed += is_wrong("its fault limit", judgement.fault << 16 | judgement.fault_word, 0x44 << 16 | 0x0B33);
+    failed += is_wrong("its warning", judgement.warning << 16 | judgement.warning_word, 0x43 << 16 | 0x0CCD);
+
+    if (pm_delivery_new(&delivery, 1, REFUSE, 1, 50, 5) != 0 || pm_delivery_before(&delivery) != 0)
+        return failed + 1;
+    failed += is_wrong("an output that isn't there", pm_delivery_ask(&delivery, &host, ask, rest, NULL), PM_H4_UNKNOWN_OUTPUT);
+    return failed;
 }
 
 int main(void) {
@@ -211,7 +281,7 @@ int main(void) {
         operation = now->call == 'n' || now->call == 'O' ? 0x00 : 0x80;
         command = 0x1000;
         high = is('H') ? 0x14CD : 0x1266;
-        if (pm_host_new(&host, 0x58, 1, 2) != 0 || pm_host_set_limits(&host, 0, 500000, 2000000) != 0 || begin(&course) != 0
+        if (pm_host_new(&host, 0x58, 1, 2) != 0 || pm_host_set_limits(&host, 0, 500000, 2000000) != 0 || begin(&course, &host) != 0
             || pm_delivery_new(&delivery, 0, now->fault_limits, now->has_read_vout, 50, now->rounds) != 0)
             return 1;
         end = pm_host_deliver(&host, &course, &delivery, put, ask, rest, NULL, &said);
@@ -223,5 +293,6 @@ int main(void) {
         }
     }
     printf("deliveries: %d rows passed, %d failed\n", count - failed, failed);
+    failed += calls();
     return failed != 0;
 }

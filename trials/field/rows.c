@@ -218,6 +218,56 @@ static int is_right(const row *from) {
     return !differs(from->name, "again", again, from->again);
 }
 
+/* ---- Words of what the part in the field doesn't do ---- */
+
+typedef struct { const char *name; uint16_t status_word; uint8_t code, byte; pm_delivered said; const char *words; } spoken;
+
+static const spoken SPOKEN[] = {
+    {"a new fault of the current", 0x4010, 0x7B, 0x80, {5, 0x7B, 7, 0, 0, 0, 0x80, 0},
+     "STATUS_WORD 4010 IOUT_POUT, IOUT_OC_FAULT and STATUS_IOUT 80 IOUT_OC_FAULT: IOUT_OC_FAULT came with this call"},
+    {"a new fault of the input", 0x2008, 0x7C, 0x10, {5, 0x7C, 4, 0, 0, 0, 0x10, 0},
+     "STATUS_WORD 2008 INPUT, VIN_UV_FAULT and STATUS_INPUT 10 VIN_UV_FAULT: VIN_UV_FAULT came with this call"},
+    {"a new fault of the temperature", 0x0004, 0x7D, 0x81, {5, 0x7D, 7, 0, 0, 0, 0x81, 0},
+     "STATUS_WORD 0004 TEMPERATURE and STATUS_TEMPERATURE 81 OT_FAULT, bit 0: OT_FAULT came with this call"},
+    {"READ_VOUT with another PEC", 0, 0x7A, 0, {10, 0x8B, 0, PM_F5_WRONG_PEC, 0, 0, 0, 0},
+     "delivery not known: READ_VOUT gave no good answer: F5 WrongPec"},
+    {"READ_VOUT of a rail of which nothing is known", 0, 0x7A, 0, {10, 0x8B, 0, 0, 0, 0, 0, 0},
+     "delivery not known: what the output commands isn't known"},
+    {"a rail below 0 V", 0, 0x7A, 0, {1, 0, 0, 0, 1, 0, 0, -1500050}, "delivers -1.50005V"},
+};
+
+/* Whether an end is said in these words. */
+static int is_said(const spoken *it) {
+    pm_host host;
+    pm_course course;
+    pm_delivery delivery;
+    delivered_told told = {0, 0};
+    char text[ROOM];
+    if (pm_host_new(&host, ADDRESS, 1, PASSES) || pm_course_survey(&course, 0, TRIES) || pm_delivery_new(&delivery, 0, 2, 1, 50, 1)) return 0;
+    pm_heard *const bytes[4] = {&delivery.status_vout, &delivery.status_iout, &delivery.status_input, &delivery.status_temperature};
+    delivery.status_word = (pm_heard){1, 0, it->status_word};
+    *bytes[it->code - 0x7A] = (pm_heard){it->byte != 0, 0, it->byte};
+    delivered_words(text, sizeof text, &delivery, &host, &course, &it->said, 0, &told);
+    return strcmp(text, it->words) == 0 || (printf("%s: %s\n", it->name, text), 0);
+}
+
+/* Whether a limit that was read is said of a course that had an order to give, and of no other. */
+static int is_said_after_an_order(void) {
+    static chain it;
+    static row from;
+    pm_course course;
+    pm_delivered said;
+    delivered_told told = {0, 0};
+    char with[ROOM], without[ROOM];
+    take_line(&from, "name: a limit is said after an order alone");
+    take_line(&from, "part: VOUT_OV_WARN_LIMIT 1080");
+    if (!set_up(&it, &from) || pm_course_microvolts(&course, 0, PM_VOUT_COMMAND, 1050000, TRIES)
+        || pm_host_deliver(&it.host, &course, it.deliveries, put, ask, pause_for_ramp, &it, &said).kind != PM_REACHED) return 0;
+    delivered_words(with, sizeof with, it.deliveries, &it.host, &course, &said, 1, &told);
+    delivered_words(without, sizeof without, it.deliveries, &it.host, &course, &said, 0, &told);
+    return (strstr(with, "is at or beyond") && !strstr(without, "is at or beyond")) || (printf("%s: %s\n", from.name, without), 0);
+}
+
 int main(int count, char **words) {
     FILE *file = fopen(count > 1 ? words[1] : "trials/field/rows.txt", "r");
     static char line[ROOM];
@@ -235,6 +285,12 @@ int main(int count, char **words) {
         }
     }
     fclose(file);
+    for (size_t at = 0; at < sizeof SPOKEN / sizeof *SPOKEN; at++) {
+        int is_good = is_said(SPOKEN + at);
+        passed += is_good, failed += !is_good;
+    }
+    int is_good = is_said_after_an_order();
+    passed += is_good, failed += !is_good;
     printf("%d passed, %d failed\n", passed, failed);
     return failed != 0 || passed == 0;
 }

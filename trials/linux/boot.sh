@@ -9,7 +9,7 @@
 # the wire's waveform. The status is 0 where the trial's was 0.
 set -u
 case " $* " in *" --help "* | *" -h "*) sed -n '2,/^[^#]/s/^# \{0,1\}//p' "$0"; exit 0 ;; esac
-[ $# -ge 2 ] || { echo "boot.sh: give a folder and a trial; --help tells more" >&2; exit 2; }
+[ $# -ge 2 ] || { echo "boot.sh: give a folder and a trial; --help shows more" >&2; exit 2; }
 here=$(cd "$(dirname "$0")" && pwd)
 folder=$(realpath -m "$1"); shift
 trial=$(IFS=,; echo "$*")

@@ -9,7 +9,7 @@
 # Packages of Debian 12: linux-source-6.1 flex bison bc gcc make xz-utils.
 set -u
 case " $* " in *" --help "* | *" -h "*) sed -n '2,/^[^#]/s/^# \{0,1\}//p' "$0"; exit 0 ;; esac
-[ $# = 1 ] || { echo "build.sh: give a folder for the kernel's source and objects; --help tells more" >&2; exit 2; }
+[ $# = 1 ] || { echo "build.sh: give a folder for the kernel's source and objects; --help shows more" >&2; exit 2; }
 here=$(cd "$(dirname "$0")" && pwd)
 root=$(cd "$here/../.." && pwd)
 cache=$(realpath -m "$1")

@@ -10,9 +10,9 @@ start() {
             --part) part=$(realpath -m "${2-}"); shift ;;
             --at-once) at_once=${2-}; shift ;;
             --plain) is_plain=1 ;;
-            *) refuse "$1: there are --cache FOLDER, --archive FILE, --part FILE, --at-once N and --plain; --help tells more" ;;
+            *) refuse "$1: there are --cache FOLDER, --archive FILE, --part FILE, --at-once N and --plain; --help shows more" ;;
         esac
-        shift || refuse "give a value behind the last option; --help tells more"
+        shift || refuse "give a value after the last option; --help shows more"
     done
     case $at_once in [1-9]) ;; *) refuse "--at-once $at_once: give a number from 1 to 9" ;; esac
     command -v python3 > /dev/null || refuse "no python3: install it"

@@ -11,7 +11,8 @@ trials/ is held by its parse alone, since it takes many minutes: the crate is th
 no test runs (a board's own tools) has to stand on its page in a line that begins with "No test runs". Lines that begin with `$` are those
 of tools/try_pages.py, which compares what they print.
 
-Each page of which a command was tried counts once, and so does the package's install; the last line is `N passed, M failed`.
+Of README.md each command that is run has a line with its time. Each page of which a command was tried counts once, and so does the package's
+install; the last line is `N passed, M failed`.
 """
 import glob
 import os
@@ -30,7 +31,7 @@ from tally import Tally  # noqa: E402
 
 ORDINARY = 65534
 LIBRARIES, PROGRAMS = ("pm_host_c", "pm_device_c"), ("pmb",)
-# What a machine or a bus of its own is wanted for.
+# What needs a machine or a bus of its own.
 NOT_RUN = re.compile(r"sigrok-cli|^i2ctransfer|capture i2ctransfer 1 --run|trials/linux/|echo .*/sys/")
 RT = re.compile(r"\(cd crates/(\w+) && rt (lib|check|run|try)\b[^)]*\)")
 # What wants a part as the commands before it left it: each call has a fresh model part, so that the status may be 1. The tests of the
@@ -139,7 +140,7 @@ def faults(place, name, has_minutes):
         if kind == "script":
             place.write(line.split()[0], over_a_model(rest))
             count += 1
-            script += [f"echo '== {count}'", f"./{line}"]
+            script += [f"echo == {count} $EPOCHREALTIME", f"./{line}"]
             continue
         if NOT_RUN.search(line):
             tool = NOT_RUN.search(line)[0].strip().split("/")[0]
@@ -156,13 +157,18 @@ def faults(place, name, has_minutes):
             held += 1
         else:
             line, count = over_a_model(line), count + 1
-            script.append(f"echo '== {count}'")
+            script.append(f"echo == {count} $EPOCHREALTIME")
             script.append(f"{line} || [ $? = 1 ]" if UNLIKE.search(line) else line)
     if count:
-        ran = place.shell("\n".join(script))
+        ran = place.shell("\n".join([*script, "echo == 0 $EPOCHREALTIME"]))
+        marks = [(int(at), float(time)) for at, time in re.findall(r"^== (\d+) ([0-9.]+)$", ran.stdout, re.M)]
+        commands = {int(mark.split()[2]): line for mark, line in zip(script, script[1:]) if mark.startswith("echo == ")}
+        if name == "README.md":
+            for (at, began), (_, ended) in zip(marks, marks[1:]):
+                print(f"README.md: {ended - began:.1f} s: {commands[at]}", flush=True)
         if ran.returncode or "Traceback" in ran.stderr:
-            at = re.findall(r"^== (\d+)$", ran.stdout, re.M)
-            found.append(f"command {at[-1] if at else 0} of {count} ends with {ran.returncode}: {script[4 + 2 * int(at[-1] if at else 1):][:1]} {ran.stderr[-300:]}")
+            at = marks[-1][0] if marks else 0
+            found.append(f"command {at} of {count} ends with {ran.returncode}: {commands.get(at)} {ran.stderr[-300:]}")
     if count or held:
         print(f"{name}: {count} commands run", flush=True)
     return found, count + held

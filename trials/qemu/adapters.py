@@ -5,7 +5,7 @@
     trials/qemu/adapters.py --arm FOLDER [DRIVER ..]
 
 FOLDER has libpm_host_c.a and libpm_device_c.a for 32-bit ARM Linux, as trials/c/targets.sh --out leaves them in arm-linux. Each driver, as
-i2c_imx, takes two to eight minutes of one core; packages are fetched the first time (QEMU_CACHE, DEBIAN_MIRROR). Of each driver it is printed
+i2c_imx, takes some minutes of one core; packages are fetched the first time (QEMU_CACHE, DEBIAN_MIRROR). Of each driver it is printed
 what it says of an address that nobody has and of a refused byte. QEMU's controllers are models: what hardware does isn't shown. The last line is
 `N passed, M failed`.
 """
@@ -33,31 +33,41 @@ NOBODY, NO_ADDRESS = "No such device or address", 6
 SAID = {"i2c_aspeed": ((NO_ADDRESS, NOBODY), (5, "Input/output error")),
         "i2c_imx": ((110, "Connection timed out"), (110, "Connection timed out")),
         "i2c_versatile": ((NO_ADDRESS, NOBODY), (5, "Input/output error"))}
-ORDER = "--outputs 2 --limit 0:3.135V:3.465V set 0 3.3V"
 SCRIPT = """
 export PYTHONPATH=/trial PMHOST_LIBRARY=/trial/libpmhost.so COLUMNS=100
 call() {{ echo "== $1"; shift; "$@" > /tmp/said 2>&1; ended=$?; cat /tmp/said; echo "status $ended"; }}
-pmhost() {{ python3 -B -m pmhost "$@"; }}
 call "a part answers" i2ctransfer -y {0} w1@0x58 0x98 r1
-call "nobody" python3 -B errnos.py {0} 33 03
-call "a refused byte" python3 -B errnos.py {0} 20 000000
 call "C, a part without PEC" i2c_dev --limit=3135000:3465000 /dev/i2c-{0} 58 0 3300000
 call "C, nobody" i2c_dev --limit=3135000:3465000 /dev/i2c-{0} 33 0 3300000
-call "probe" pmhost -b {0} -a 58 --outputs 2 --no-limit probe
-call "read" pmhost -b {0} -a 58 --outputs 2 --no-limit read 0 STATUS_WORD
-call "set, nobody" pmhost -b {0} -a 33 {order}
-call "set, a model" pmhost -b model {order}
-call "scan" pmhost -b {0} probe
+python3 -B calls.py {0}
 """
-ERRNOS = """import sys
-from pmhost import LinuxBus, NoTransfer
-number, address, data = sys.argv[1:]
-with LinuxBus(int(number), int(address, 16)) as bus:
-    try:
-        bus.write(bytes([int(address, 16) << 1]) + bytes.fromhex(data))
-        print("written")
-    except NoTransfer as failed:
-        print(failed.errno, failed)
+# The calls of pmhost, all in one process: on an emulated processor each start of Python takes long.
+CALLS = """import contextlib, io, sys
+from pmhost import LinuxBus, NoTransfer, cli
+bus = sys.argv[1]
+order = "--outputs 2 --limit 0:3.135V:3.465V set 0 3.3V"
+def written(address, data):
+    with LinuxBus(int(bus), address) as of:
+        try:
+            of.write(bytes([address << 1]) + data)
+            print("written")
+        except NoTransfer as failed:
+            print(failed.errno, failed)
+    return 0
+def call(name, function, *words):
+    said = io.StringIO()
+    with contextlib.redirect_stdout(said), contextlib.redirect_stderr(said):
+        status = function(*words)
+    print(f"== {name}\\n{said.getvalue()}status {status}", flush=True)
+def pmhost(name, words):
+    call(name, cli.main, f"-b {words}".split())
+call("nobody", written, 0x33, bytes([3]))
+call("a refused byte", written, 0x20, bytes(3))
+pmhost("probe", f"{bus} -a 58 --outputs 2 --no-limit probe")
+pmhost("read", f"{bus} -a 58 --outputs 2 --no-limit read 0 STATUS_WORD")
+pmhost("set, nobody", f"{bus} -a 33 {order}")
+pmhost("set, a model", f"model {order}")
+pmhost("scan", f"{bus} probe")
 """
 
 
@@ -76,15 +86,15 @@ def rows(driver):
     yield "scan", r"(?s).*probe: 58: it answers, and is no PMBus part with packet error codes.*", 1
 
 
-def built(archives, folder):
-    """The example in C, and the package's library, for ARM."""
+def built(gcc, archives, folder):
+    """The example in C, and the package with its library, by a compiler over both archives."""
     paths_of = [os.path.join(archives, it) for it in ARCHIVES]
-    subprocess.run([GCC, "-O2", "-static", "-Wall", "-Wextra", "-Werror", "-I", os.path.join(paths.ROOT, "crates/pm_host_c/include"),
+    subprocess.run([gcc, "-O2", "-static", "-Wall", "-Wextra", "-Werror", "-I", os.path.join(paths.ROOT, "crates/pm_host_c/include"),
                     os.path.join(paths.ROOT, "examples/c/i2c_dev.c"), paths_of[0], "-o", os.path.join(folder, "i2c_dev")], check=True)
-    subprocess.run([GCC, "-shared", "-Wl,--whole-archive", *paths_of, "-Wl,--no-whole-archive", "-Wl,-z,noexecstack", "-o",
+    subprocess.run([gcc, "-shared", "-Wl,--whole-archive", *paths_of, "-Wl,--no-whole-archive", "-Wl,-z,noexecstack", "-o",
                     os.path.join(folder, "libpmhost.so")], check=True)
     package = os.path.join(paths.ROOT, "python", "src", "pmhost")
-    return {"errnos.py": ERRNOS, "i2c_dev": lambda to: shutil.copy(os.path.join(folder, "i2c_dev"), to),
+    return {"i2c_dev": lambda to: shutil.copy(os.path.join(folder, "i2c_dev"), to),
             "libpmhost.so": lambda to: shutil.copy(os.path.join(folder, "libpmhost.so"), to),
             "pmhost": lambda to: shutil.copytree(package, to, ignore=shutil.ignore_patterns("__pycache__", "*.so"))}
 
@@ -92,7 +102,7 @@ def built(archives, folder):
 def tried(tally, driver, files):
     """The calls in the guest, each beside its row."""
     machine = guest.MACHINES[driver]
-    said = guest.run(machine, PARTS, SCRIPT.format(machine.number, order=ORDER), files)
+    said = guest.run(machine, PARTS, SCRIPT.format(machine.number), files)
     calls = {it[0]: it[1:] for it in re.findall(r"^== (.*)\n((?:.*\n)*?)status (\d+)$", "\n".join(said), re.MULTILINE)}
     for name, pattern, status in rows(driver):
         text, found = calls.get(name, ("it isn't there", "-1"))
@@ -112,10 +122,10 @@ def main():
         words.error(f"no driver {unknown[0]}: there are {', '.join(guest.MACHINES)}")
     if lacking := [it for it in ARCHIVES if not os.path.isfile(os.path.join(given.arm, it))]:
         words.error(f"no {lacking[0]} in {given.arm}: trials/c/targets.sh --out OUT arm-linux makes OUT/arm-linux")
-    if not needs.are_there(*guest.TOOLS, GCC, LIBC, has_package=False):
+    if not needs.are_there("qemu-system-arm", *guest.TOOLS, GCC, LIBC, has_package=False):
         return tally.end()
     with tempfile.TemporaryDirectory() as folder:
-        files = built(given.arm, folder)
+        files = {"calls.py": CALLS, **built(GCC, given.arm, folder)}
         for driver in drivers:
             try:
                 tried(tally, driver, files)

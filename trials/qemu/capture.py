@@ -50,7 +50,7 @@ def main():
     words = program.Words(__doc__, "nothing, or --keep")
     words.add_argument("--keep", action="store_true")
     given, tally = words.read(), Tally()
-    if not needs.are_there(*guest.TOOLS):
+    if not needs.are_there("qemu-system-arm", *guest.TOOLS):
         return tally.end()
     from pmhost.capture import trace
     said = guest.run(guest.MACHINES["i2c_aspeed"], {0x58: "max34451"}, SCRIPT, modules=("i2c_dev", "pmbus"))

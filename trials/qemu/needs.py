@@ -4,9 +4,8 @@ import shutil
 import sys
 
 # The package of Debian 12 that has each program.
-PACKAGES = {"qemu-system-arm": "qemu-system-arm", "dpkg-deb": "dpkg", "apt-get": "apt", "cpio": "cpio", "gzip": "gzip",
-            "fdtput": "device-tree-compiler", "arm-linux-gnueabihf-gcc": "gcc-arm-linux-gnueabihf",
-            "/usr/arm-linux-gnueabihf/lib/libc.a": "libc6-dev-armhf-cross"}
+PACKAGES = {"qemu-system-arm": "qemu-system-arm", "qemu-system-x86_64": "qemu-system-x86", "dpkg-deb": "dpkg", "apt-get": "apt", "cpio": "cpio",
+            "gcc": "gcc", "arm-linux-gnueabihf-gcc": "gcc-arm-linux-gnueabihf", "/usr/arm-linux-gnueabihf/lib/libc.a": "libc6-dev-armhf-cross"}
 
 
 def are_there(*tools, has_package=True):

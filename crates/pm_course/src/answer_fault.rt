@@ -24,7 +24,7 @@ pub enum AnswerFault {
 impl AnswerFault {
     ghost use Rattle.pm_course.specs.AnswerFault.{answer_fault_number, answer_fault_words, of_frame as spec_of_frame};
 
-    /// The fault as programs print it, with its letter where it has one: `F5 WrongPec`, `no answer`.
+    /// The fault as programs print it, with its letter if it has one: `F5 WrongPec`, `no answer`.
     pub fn words(self) -> &'static str
         ensures { result.now ≡ answer_fault_words self }
     {
@@ -39,7 +39,7 @@ impl AnswerFault {
         }
     }
 
-    /// The number of the fault as `pmhost.h` has it: 1 where no answer came, 2 where a write wasn't acknowledged, 31h to 35h.
+    /// The number of the fault as `pmhost.h` has it: 1 if no answer came, 2 if a write wasn't acknowledged, 31h to 35h.
     pub fn number(self) -> u8
         ensures number { result ≡ answer_fault_number self }
         ensures some { result ≢ 0 }

@@ -11,7 +11,7 @@ use pm_table::{Code, Reg};
 pub struct Refusal {
     /// The number.
     pub number: u8,
-    /// The command code of the register that it is about, where it is about one.
+    /// The command code of the register that it is about, if it is about one.
     pub register: Option<Code>,
 }
 
@@ -21,7 +21,7 @@ pub enum CourseEnd {
     /// What is wanted is held, by answers that all came after the last order, unless the converter restarted since the course
     /// began; of a survey: all that it asks for is known.
     Reached,
-    /// H3 where a job is open that isn't the course's: it goes on once that job has ended. Otherwise nothing more is ordered: L2,
+    /// H3 if a job is open that isn't the course's: it goes on once that job has ended. Otherwise nothing more is ordered: L2,
     /// L3, L4, L5 or L7 by the limits and the part, N3, N4 or N5 of a voltage that has no word, P4, P5, P6 or P7 of the plan, H5
     /// or H6 of an order.
     Refused(Refusal),
@@ -36,7 +36,7 @@ pub enum CourseEnd {
     Spent {
         /// The command code of what the next job is about; VOUT_MODE of a learn.
         code: Code,
-        /// What was wrong with the last answer in this course; `None` where nothing was.
+        /// What was wrong with the last answer in this course; `None` if nothing was.
         fault: Option<AnswerFault>,
     },
 }
@@ -73,7 +73,7 @@ impl Refusal {
 }
 
 impl CourseEnd {
-    /// The end where a job is open that isn't the course's.
+    /// The end if a job is open that isn't the course's.
     pub(crate) fn busy() -> CourseEnd
         ensures { result ≡ CourseEnd.Refused (refusal_of_plan PlanFault.Busy) }
     {

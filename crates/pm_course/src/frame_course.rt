@@ -52,7 +52,7 @@ impl FrameCourse {
     }
 
     /// The way to a byte of OPERATION. One that turns the output off is ordered at once; before one that leaves it on
-    /// WRITE_PROTECT is read too, and P7 refuses it where that doesn't allow it; and the register that it selects, by which limits
+    /// WRITE_PROTECT is read too, and P7 refuses it if that doesn't allow it; and the register that it selects, by which limits
     /// judge it.
     pub fn power(output: u8, byte: u16, tries: u16) -> FrameCourse
         ensures { result ≡ to_byte output byte tries }

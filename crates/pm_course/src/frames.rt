@@ -49,7 +49,7 @@ impl Sending {
     }
 }
 
-/// The frame that a guard's host is sending, whoever began its open job; `None` where none is open.
+/// The frame that a guard's host is sending, whoever began its open job; `None` if none is open.
 pub fn sent_by(guard: &Guard) -> Option<Sending>
     ensures { IsSent guard.now result }
 {
@@ -61,8 +61,8 @@ pub fn sent_by(guard: &Guard) -> Option<Sending>
 }
 
 impl FrameCourse {
-    /// The frame of the course's open job, which stays the same until `write_ended` or `read_ended`; where none is open, what is next is
-    /// begun. `None` once the course has ended, as `end` says: also where the guard refuses the job, which changes nothing else.
+    /// The frame of the course's open job, which stays the same until `write_ended` or `read_ended`; if none is open, what is next is
+    /// begun. `None` once the course has ended, as `end` says: also if the guard refuses the job, which changes nothing else.
     pub fn frame(&mut self, guard: &mut Guard) -> Option<Sending>
         requires { self.old.course.survey.output < guard.old.host.setup.outputs }
         ensures { HandsOut guard.old self.old result guard.new self.new }
@@ -91,15 +91,15 @@ impl FrameCourse {
         }
     }
 
-    /// A write was sent, and acknowledged or not. S2 where nothing is being sent, S3 where a request is: then nothing changes.
+    /// A write was sent, and acknowledged or not. S2 if nothing is being sent, S3 if a request is: then nothing changes.
     pub fn write_ended(&mut self, guard: &mut Guard, acked: bool) -> Result<(), Untold>
         ensures { Hears guard.old self.old (Finished acked) result guard.new self.new }
     {
         self.told(guard, Told::Finished { acked })
     }
 
-    /// A request was sent, and these bytes came back, the read address first; none where there was no answer. S2 where nothing
-    /// is being sent, S3 where a write is: then nothing changes.
+    /// A request was sent, and these bytes came back, the read address first; none if there was no answer. S2 if nothing
+    /// is being sent, S3 if a write is: then nothing changes.
     pub fn read_ended(&mut self, guard: &mut Guard, bytes: &[u8]) -> Result<(), Untold>
         ensures { Hears guard.old self.old (Got bytes.now) result guard.new self.new }
     {

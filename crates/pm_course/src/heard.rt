@@ -19,7 +19,7 @@ use pm_table::Cell;
 
 impl FrameCourse {
     /// What became of the frame of a stage, whether that [`surprises`](crate::surprises), and how the host says that the job
-    /// stands: where the job is the course's, it notes what was wrong and how the job ended. What surprises shows that the part
+    /// stands: if the job is the course's, it notes what was wrong and how the job ended. What surprises shows that the part
     /// restarted or was exchanged, so the format is learned anew before anything else is asked for.
     pub fn heard(&mut self, address: u8, stage: Stage, told: Told<'_>, surprised: bool, step: Step)
         requires address { IsAddress address }

@@ -4,7 +4,7 @@
 //! to nothing, which is a survey. [`FrameCourse::frame`] hands out what is to be sent now, [`FrameCourse::write_ended`] and
 //! [`FrameCourse::read_ended`] hear what became of it; once it hands out nothing, [`FrameCourse::end`] says how the course ended. It asks a [`pm_rail::Course`] for
 //! each job, and orders nothing that this doesn't name but a byte of OPERATION over one that the cell doesn't take. What it adds: words of voltages by the format that the host knows
-//! at that moment, an end at once where VOUT_MODE names no format or where OPERATION holds a byte that its cell doesn't
+//! at that moment, an end at once if VOUT_MODE names no format or if OPERATION holds a byte that its cell doesn't
 //! take, WRITE_PROTECT before an output is turned on, what was wrong with the last answer, and a new learn of the format after an
 //! answer that shows that the part restarted or was exchanged.
 //!

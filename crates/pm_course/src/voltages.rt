@@ -6,7 +6,7 @@ use pm_table::Reg;
 /// The voltages that are wanted of an output's registers, in microvolts.
 #[derive(Clone, Copy, Debug, PartialEq, Eq)]
 pub struct Voltages {
-    /// The voltage of VOUT_COMMAND, where one is wanted.
+    /// The voltage of VOUT_COMMAND, if one is wanted.
     pub command: i64,
     /// That of VOUT_MAX.
     pub max: i64,

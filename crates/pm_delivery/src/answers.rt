@@ -20,7 +20,7 @@ pub fn request(addr: u8, output: u8, question: Question) -> [u8; 5]
 }
 
 /// What the bytes that came back say, the read address first: the word or byte of a good answer, or the number of what was wrong,
-/// 1 where none came.
+/// 1 if none came.
 pub fn answer_of(addr: u8, output: u8, question: Question, bytes: &[u8]) -> Result<u16, u8>
     requires { IsAddress addr }
     ensures { result ≡ answer_in addr output question bytes.now }

@@ -43,7 +43,7 @@ impl Delivery {
         }
     }
 
-    /// P8 where a word is at or beyond a fault limit, and these aren't told alone.
+    /// P8 if a word is at or beyond a fault limit, and these aren't only shown.
     pub fn refuse(&self, judgement: &Judgement) -> Option<DeliveryFault>
         ensures { result ≡ refusal_of self.now judgement.now.fault }
     {

@@ -28,7 +28,7 @@ pub const LOOK_OFF: u8 = 3;
 /// What is done about fault limits: a word at or beyond one is refused.
 pub const LIMITS_REFUSE: u8 = 0;
 
-/// It is told and not refused.
+/// It is shown and not refused.
 pub const LIMITS_TELL: u8 = 1;
 
 /// They aren't read.
@@ -44,7 +44,7 @@ pub struct Delivery {
     pub look: u8,
     /// What is done about fault limits: [`LIMITS_TELL`], [`LIMITS_SKIP`], any other number to refuse.
     pub fault_limits: u8,
-    /// 0 where the part has no READ_VOUT.
+    /// 0 if the part has no READ_VOUT.
     pub has_read_vout: u8,
     /// How far READ_VOUT may be from what the output commands, in thousandths of that.
     pub within: u16,
@@ -228,7 +228,7 @@ impl Delivery {
         self.status_word.is_good() && has_bit(self.status_word.word, place)
     }
 
-    /// Whether this bit of STATUS_WORD is 1 and wasn't known to be before the first order. Where nothing was asked before, since
+    /// Whether this bit of STATUS_WORD is 1 and wasn't known to be before the first order. If nothing was asked before, since
     /// nothing is ordered, no bit is new.
     pub fn is_new(&self, place: u8) -> bool
         ensures { result ≡ spec_is_new self.now place }

@@ -23,7 +23,7 @@ pub enum Due {
 }
 
 impl Delivery {
-    /// What is due, where each question is asked at most so often until a good answer comes, of an output with this power whose
+    /// What is due, if each question is asked at most so often until a good answer comes, of an output with this power whose
     /// last reading of READ_VOUT stands so.
     pub fn due(&self, passes: u8, power: Power, reading: Reading) -> Due
         ensures { result ≡ due_of self.now passes power reading }

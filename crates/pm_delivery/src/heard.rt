@@ -7,7 +7,7 @@ ghost use Rattle.pm_delivery.specs.Heard.{asked_more as spec_asked_more, heard_a
 pub struct Heard {
     /// How often it was asked.
     pub asked: u8,
-    /// What was wrong with the last answer: 0 where it was good, 1 where none came, 31h to 35h for F1 to F5.
+    /// What was wrong with the last answer: 0 if it was good, 1 if none came, 31h to 35h for F1 to F5.
     pub fault: u8,
     /// The word or byte of a good answer, otherwise 0.
     pub word: u16,

@@ -1,7 +1,7 @@
 //! What a rail does, beside what its registers hold: a good end of an order says that a register has a word, and this says whether
 //! the output delivers it.
 //!
-//! A [`Delivery`] is a machine without I/O, of plain numbers. It reads by PAGE_PLUS alone, beside the host's jobs: no job is told of
+//! A [`Delivery`] is a machine without I/O, of plain numbers. It reads by PAGE_PLUS only, beside the host's jobs: no job hears of
 //! its answers. Before the first order it asks for STATUS_WORD and the fault limits, and [`Delivery::judge`] says which of these a
 //! word is at or beyond. After a good end it asks for STATUS_WORD and READ_VOUT, and [`Delivery::verdict`] says what the rail does.
 //!

@@ -21,7 +21,7 @@ use pm_rail::Power;
 pub enum Verdict {
     /// Something is still to be asked, or nothing was looked at.
     NotYet,
-    /// It delivers: OFF and POWER_GOOD# are 0, no fault is new, and READ_VOUT, where the part has it, is right.
+    /// It delivers: OFF and POWER_GOOD# are 0, no fault is new, and READ_VOUT, if the part has it, is right.
     Delivers,
     /// It isn't asked: the output is commanded off.
     CommandedOff,
@@ -39,7 +39,7 @@ pub enum Verdict {
     PowerGoodAlone,
     /// POWER_GOOD# is 1 of a part that has no READ_VOUT.
     NoPowerGood,
-    /// This register gave no good answer: the number says what was wrong with the last one. 0 of READ_VOUT where that was good, and
+    /// This register gave no good answer: the number says what was wrong with the last one. 0 of READ_VOUT if that was good, and
     /// what the output commands isn't known.
     NotKnown(Question, u8),
     /// OFF is 1 after an order that turned the output off.
@@ -49,7 +49,7 @@ pub enum Verdict {
 }
 
 impl Delivery {
-    /// What the rail does, where each question is asked at most so often until a good answer comes, of an output with this power
+    /// What the rail does, if each question is asked at most so often until a good answer comes, of an output with this power
     /// whose last reading of READ_VOUT stands so.
     pub fn verdict(&self, passes: u8, power: Power, reading: Reading) -> Verdict
         ensures value { result ≡ verdict_of self.now passes power reading }

@@ -75,7 +75,7 @@ impl CmlLatches {
         }
     }
 
-    /// Sets the bit of a refusal: bit 7 of K2, K5, K6 and K7, bit 6 of K3 and K4, bit 5 of K1 where
+    /// Sets the bit of a refusal: bit 7 of K2, K5, K6 and K7, bit 6 of K3 and K4, bit 5 of K1 if
     /// the PEC is wrong, bit 1 of every other K1.
     pub(crate) fn note(&mut self, fault: DeviceFault)
         ensures { self.new ≡ faults_by self.old (Heard (verdict.Refuses fault)) }

@@ -30,7 +30,7 @@ impl ConfigFault {
     ghost use Rattle.pm_device.specs.FaultWords.{config_fault_number, config_fault_words, config_fault_output, config_fault_detail};
 
     /// The letter and the name of the fault, as programs print them: `V2 BadStart`. After them stand
-    /// its output and its detail, where it has them.
+    /// its output and its detail, if it has them.
     pub fn words(self) -> &'static str
         ensures { result.now ≡ config_fault_words self }
     {
@@ -57,7 +57,7 @@ impl ConfigFault {
         }
     }
 
-    /// The output of V4, and of V2 where the cell is an output's.
+    /// The output of V4, and of V2 if the cell is an output's.
     pub fn output(self) -> Option<u8>
         ensures { result ≡ config_fault_output self }
     {

@@ -140,7 +140,7 @@ impl Converter {
 
     /// Gives a reading another word: one of [`OUTPUT_READINGS`](crate::OUTPUT_READINGS) of an output, or one of
     /// [`DEVICE_READINGS`](crate::DEVICE_READINGS) of the device, for which the output isn't looked at.
-    /// `false` where the output isn't there or the code is no READ code; then nothing changes.
+    /// `false` if the output isn't there or the code is no READ code; then nothing changes.
     #[tactic(auto, unfolding(crate::specs::History::next, crate::specs::History::after))]
     pub fn set_reading(&mut self, output: u8, code: Code, word: u16) -> bool
         ensures answer { result ≡ is_reading self.old.config.count output code.0 }
@@ -150,10 +150,10 @@ impl Converter {
         self.readings.set(self.config.count, output, code, word)
     }
 
-    /// Hears the bytes of one frame, of any number, and answers: [`Heard::Silent`] where the frame is
+    /// Hears the bytes of one frame, of any number, and answers: [`Heard::Silent`] if the frame is
     /// for another device, [`Heard::Taken`] for a write, [`Heard::Answer`] for a read, otherwise
     /// [`Heard::Refused`] with the first of K1, K2, K6, K7, K4, K5 and K3 that applies; of a request of a code
-    /// alone K2 and K7 come before the K1 of bytes behind it. A refusal
+    /// only K2 and K7 come before the K1 of bytes after it. A refusal
     /// changes no setting, no word in the store and no PAGE, and sets one bit of STATUS_CML.
     #[tactic(auto, unfolding(crate::specs::Reply::reply_of, crate::specs::History::next, crate::specs::History::after))]
     pub fn hear(&mut self, bytes: &[u8], ending: Ending) -> Heard
@@ -212,7 +212,7 @@ impl Converter {
     }
 
     /// The voltage that an output which is there commands, in volts, on or off: the value of the
-    /// word that OPERATION selects, cut to those of VOUT_MIN and VOUT_MAX; where VOUT_MIN is above
+    /// word that OPERATION selects, cut to those of VOUT_MIN and VOUT_MAX; if VOUT_MIN is above
     /// VOUT_MAX, what is cut is VOUT_MAX.
     pub fn commanded(&self, output: u8) -> Frac
         requires { output < self.now.config.count }

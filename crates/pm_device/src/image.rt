@@ -115,7 +115,7 @@ impl ConfigImage {
     }
 }
 
-/// What is latched of STATUS_CML, as plain numbers. A bit is latched where its number is 1.
+/// What is latched of STATUS_CML, as plain numbers. A bit is latched if its number is 1.
 #[repr(C)]
 #[derive(Clone, Copy, Debug)]
 pub struct LatchesImage {
@@ -156,7 +156,7 @@ pub struct PartImage {
     pub unused: u8,
     /// What is latched of STATUS_CML.
     pub latches: LatchesImage,
-    /// Bit 3 of each output's STATUS_VOUT is latched where this is 1.
+    /// Bit 3 of each output's STATUS_VOUT is latched if this is 1.
     pub cut: [u8; 8],
     /// The readings.
     pub readings: ReadingsImage,

@@ -1,4 +1,4 @@
-//! The laws of the converter over its whole past and over one event, over the definitions alone:
+//! The laws of the converter over its whole past and over one event, over the definitions only:
 //! each is the contract of a function that does nothing, or calls laws of the crates below. A past
 //! is a list of events, newest first. What each says in full stands in `specs/Laws.antt`.
 
@@ -20,7 +20,7 @@ pub fn pasts_are_followed()
     outputs_stand_alone();
 }
 
-/// A configuration is sound exactly where it has no fault, so [`Converter::new`](crate::Converter::new)
+/// A configuration is sound exactly if it has no fault, so [`Converter::new`](crate::Converter::new)
 /// makes a converter of each sound one.
 pub fn sound_configurations_have_no_fault()
     ensures { SoundConfigurationsHaveNoFault }
@@ -57,9 +57,9 @@ pub fn latches_stay()
 }
 
 /// What the words of the cells, the store and PAGE are after one frame: a write of a cell's code, plain
-/// or carried, reaches that cell where its page is there, WRITE_PROTECT allows the code and the cell
+/// or carried, reaches that cell if its page is there, WRITE_PROTECT allows the code and the cell
 /// accepts the word; a write of PAGE selects an output; STORE_USER_ALL copies the outputs' words to the
-/// store and RESTORE_USER_ALL brings them back, each where its page is there and WRITE_PROTECT allows it;
+/// store and RESTORE_USER_ALL brings them back, each if its page is there and WRITE_PROTECT allows it;
 /// everything else leaves all of them.
 pub fn writes_reach_one_cell()
     ensures { WritesReachOneCell }
@@ -100,7 +100,7 @@ pub fn unknown_codes_are_refused()
 }
 
 /// A code of the device, as STATUS_CML, acts and answers alike on every page that exists, and
-/// whatever PAGE is: two frames that differ in such a page alone are answered alike, requests with one payload, and the converter
+/// whatever PAGE is: two frames that differ in such a page only are answered alike, requests with one payload, and the converter
 /// holds the same after the one as after the other.
 pub fn device_codes_ignore_pages()
     ensures { DeviceCodesIgnorePages }

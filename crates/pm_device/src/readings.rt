@@ -82,7 +82,7 @@ impl Readings {
         }
     }
 
-    /// Gives a reading of a converter with this many outputs, at most 8, another word. `false` where there is no
+    /// Gives a reading of a converter with this many outputs, at most 8, another word. `false` if there is no
     /// such output or the code is no READ code; then nothing changes. The output means nothing for
     /// a reading of the device.
     pub(crate) fn set(&mut self, count: u8, output: u8, code: Code, word: u16) -> bool

@@ -46,7 +46,7 @@ impl Command {
         }
     }
 
-    /// The command of a code, at an output or at the device; `None` where no job sends the code there.
+    /// The command of a code, at an output or at the device; `None` if no job sends the code there.
     pub(crate) fn of(code: Code, output: Option<u8>) -> Option<Command>
         ensures command { result ≡ command_of code.0 output }
         ensures code { IfSome result (λ command. command_code command ≡ code.0) }

@@ -3,13 +3,13 @@ ghost use Rattle.std.specs.Prelude.{◌≡◌, ◌≢◌};
 use pm_num::NumFault;
 use thiserror::Error;
 
-/// Why a host can't be told what became of a frame. Then nothing changes.
+/// Why a host can't hear what became of a frame. Then nothing changes.
 #[derive(Clone, Copy, Debug, PartialEq, Eq, Error)]
 #[error("{words}", words = self.words())]
 pub enum Untold {
     /// S2: no frame is being sent.
     NothingSent,
-    /// S3: it is told the end of a write while a read is being sent, or an answer while a write is.
+    /// S3: it hears the end of a write while a read is being sent, or an answer while a write is.
     WrongKind,
 }
 
@@ -53,7 +53,7 @@ impl HostFault {
     ghost use Rattle.pm_host.specs.FaultWords.{host_fault_number, host_fault_words};
 
     /// The letter and the name of the fault, as programs print them: `H6 TooUncertain`. The fault of a
-    /// number is told as that: `N3 BelowLeast`.
+    /// number is shown as that: `N3 BelowLeast`.
     pub fn words(self) -> &'static str
         ensures { result.now ≡ host_fault_words self }
     {

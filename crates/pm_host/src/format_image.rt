@@ -14,9 +14,9 @@ use pm_table::{Coefficients, VoutMode, format_of};
 #[repr(C)]
 #[derive(Clone, Copy, Debug, PartialEq, Eq)]
 pub struct FormatImage {
-    /// The byte of VOUT_MODE; FFh, which names no format, where none is known.
+    /// The byte of VOUT_MODE; FFh, which names no format, if none is known.
     pub mode: u8,
-    /// The five bytes of COEFFICIENTS where the mode is DIRECT; otherwise FFh each.
+    /// The five bytes of COEFFICIENTS if the mode is DIRECT; otherwise FFh each.
     pub coefficients: [u8; 5],
 }
 

@@ -43,9 +43,9 @@ pub enum Step {
 pub enum Turn<'a> {
     /// No job is open: nothing.
     Idle,
-    /// A write: the whole packet, which a stop ends. `told` then wants `Told::Finished`.
+    /// A write: the whole packet, which a stop ends. `told` then takes `Told::Finished`.
     Write(&'a Frame),
-    /// The request of a read, which a repeated start ends. `told` then wants `Told::Got` with what came
+    /// The request of a read, which a repeated start ends. `told` then takes `Told::Got` with what came
     /// back.
     Request {
         /// The bytes before the repeated start, address first.
@@ -62,11 +62,11 @@ pub enum Told<'a> {
     /// A write was sent. `acked` says whether every byte was acknowledged; the host never takes that
     /// for the cell's having the word.
     Finished { acked: bool },
-    /// A request was sent, and these bytes came back: none where there was no answer.
+    /// A request was sent, and these bytes came back: none if there was no answer.
     Got(&'a [u8]),
 }
 
-/// The host: it says which frame to send next, and is told what came of it. It believes a setting only
+/// The host: it says which frame to send next, and hears what came of it. It believes a setting only
 /// after a good answer, one that has the layout of an answer to its own request, which the packet
 /// error code covers too.
 ///
@@ -104,8 +104,8 @@ impl Model for Host {
 
 impl Host {
     /// A host for the device at this address, 08h to 77h, which has this many outputs, 1 to 8; a job
-    /// has at most this many passes or tries, 1 to 15. Nothing is known and no job is open. H1 where the
-    /// outputs aren't 1 to 8, otherwise H2 where the passes aren't 1 to 15.
+    /// has at most this many passes or tries, 1 to 15. Nothing is known and no job is open. H1 if the
+    /// outputs aren't 1 to 8, otherwise H2 if the passes aren't 1 to 15.
     pub fn new(addr: u8, outputs: u8, passes: u8) -> Result<Host, HostFault>
         requires { IsAddress addr }
         ensures made { let setup : Setup = record { addr = addr; outputs = outputs; passes = passes } in
@@ -123,11 +123,11 @@ impl Host {
 
     /// Begins a job, whose first frame `turn` then shows.
     ///
-    /// The first that applies refuses: H3 where a job is open, H4 where its output isn't there. An order
-    /// is then refused with H5 where the cell doesn't accept the word, and H6 where the cell may hold any
-    /// of 16 words and this is another. An order in microvolts is refused, in this order, with H5 where the
-    /// cell isn't a voltage, H7 where the format isn't known, N5 where the number is beyond 10^15 in size,
-    /// N3 or N4 where it lies outside the format's range, and H6 as for an order.
+    /// The first that applies refuses: H3 if a job is open, H4 if its output isn't there. An order
+    /// is then refused with H5 if the cell doesn't accept the word, and H6 if the cell may hold any
+    /// of 16 words and this is another. An order in microvolts is refused, in this order, with H5 if the
+    /// cell isn't a voltage, H7 if the format isn't known, N5 if the number is beyond 10^15 in size,
+    /// N3 or N4 if it lies outside the format's range, and H6 as for an order.
     ///
     /// Once it is accepted it is the open job (`begun`), and the word of an order is one that its cell may hold, of
     /// which none is confirmed (`uncertain`).
@@ -197,7 +197,7 @@ impl Host {
     }
 
     /// What to do now: nothing, to send a write, or to send a request and read its answer. It stays the
-    /// same until `told` or `restart` is called or, where no job is open, one begins.
+    /// same until `told` or `restart` is called or, if no job is open, one begins.
     pub fn turn(&self) -> Turn<'_>
         ensures { Shows self.now result }
     {
@@ -217,8 +217,8 @@ impl Host {
     }
 
     /// The frame to put on the wire, address first: a whole packet for a write, the request before the
-    /// repeated start for a read. `None` exactly where no job is open. It stays the same until `told`
-    /// or `restart` is called or, where no job is open, one begins.
+    /// repeated start for a read. `None` exactly if no job is open. It stays the same until `told`
+    /// or `restart` is called or, if no job is open, one begins.
     pub fn sending(&self) -> Option<&Frame>
         ensures { MatchOption (sending_in self.now) (IsNone result)
             (λ message. IsSomeAnd result
@@ -230,8 +230,8 @@ impl Host {
         }
     }
 
-    /// Whether what `sending` shows is a request, whose answer `told` wants as `Got`, and not a write;
-    /// false where nothing is being sent.
+    /// Whether what `sending` shows is a request, whose answer `told` takes as `Got`, and not a write;
+    /// false if nothing is being sent.
     pub fn sending_reads(&self) -> bool
         ensures { result ≡ sends_read self.now }
     {
@@ -243,12 +243,12 @@ impl Host {
 
     /// What became of the frame that `turn` showed: `Finished` for a write, `Got` for a request, with
     /// whatever came back. Ask `turn` first, or `sending` and `sending_reads`: it may be called only
-    /// where a frame of that kind is being sent. `Step::Next` asks to send what `turn` shows now;
+    /// if a frame of that kind is being sent. `Step::Next` asks to send what `turn` shows now;
     /// `Step::Ended` says how the job ended, and that nothing is being sent. With each call the job
     /// has fewer frames left to send, so that a loop of these two calls ends.
     ///
-    /// What an end says (`tells`): an order that is `Done` has its cell confirmed with its word, and possible is that
-    /// word alone; one that `Differs` the same with the word that was read, which is another; one that is `Unknown` has
+    /// What an end says (`says`): an order that is `Done` has its cell confirmed with its word, and possible is that
+    /// word only; one that `Differs` the same with the word that was read, which is another; one that is `Unknown` has
     /// its word among the possible ones, and none confirmed. A check that is `Done` has its cell confirmed with the word
     /// that came, one that is `Unknown` changes nothing of what is known. A learn that has `Learned` has left a format,
     /// any other end keeps the formats. `Step::Next` keeps the job.
@@ -326,8 +326,8 @@ impl Host {
         self.state.passes
     }
 
-    /// What is known of a cell's word: confirmed where a good answer for the cell came after every write
-    /// of it and, where it is an output's, every restore that began to be sent. The cell's output is
+    /// What is known of a cell's word: confirmed if a good answer for the cell came after every write
+    /// of it and, if it is an output's, every restore that began to be sent. The cell's output is
     /// there.
     pub fn standing(&self, cell: Cell) -> Standing
         requires { IsCell self.now.setup.outputs cell }
@@ -337,8 +337,8 @@ impl Host {
     }
 
     /// The words that a cell may hold: the word of its last good answer, and those that were put on the
-    /// wire for it since. Any word where there was no good answer for it since the host started, saw a
-    /// restart of the device or, where the cell is an output's, last began to send a restore. The cell's
+    /// wire for it since. Any word if there was no good answer for it since the host started, saw a
+    /// restart of the device or, if the cell is an output's, last began to send a restore. The cell's
     /// output is there.
     pub fn possible(&self, cell: Cell) -> Possible
         requires { IsCell self.now.setup.outputs cell }
@@ -347,7 +347,7 @@ impl Host {
         self.state.known.possible(cell).possible()
     }
 
-    /// The words of `possible`, without a copy of them; `None` where the cell may hold any word. The cell's output is there.
+    /// The words of `possible`, without a copy of them; `None` if the cell may hold any word. The cell's output is there.
     pub fn listed(&self, cell: Cell) -> Option<&[u16]>
         requires { IsCell self.now.setup.outputs cell }
         ensures { MatchOption result (possible_at self.now cell ≡ Possible.Any)
@@ -356,7 +356,7 @@ impl Host {
         self.state.known.possible(cell).listed()
     }
 
-    /// The format of an output's voltages, which the last learn of it found; `None` where none did since
+    /// The format of an output's voltages, which the last learn of it found; `None` if none did since
     /// the host started. The output is there.
     pub fn format(&self, output: u8) -> Option<AnyFormat>
         requires { output < self.now.setup.outputs }

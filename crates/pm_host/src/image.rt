@@ -1,5 +1,5 @@
 //! A host in memory that a caller keeps who isn't Rattle: plain numbers, and what they mean. The calls of a
-//! state see typed stages alone.
+//! state see typed stages only.
 
 ghost use Rattle.std.specs.Prelude.{◌≡◌, true, Some, None, IfOk, OnOk, OnErr};
 ghost use Rattle.std.specs.Result.{result_err, result_ok};
@@ -24,7 +24,7 @@ use pm_table::{Cell, Code, address_ok, cell_of};
 #[derive(Clone, Copy, Debug, PartialEq, Eq)]
 pub struct NoHost;
 
-/// A host in memory that a caller keeps who isn't Rattle: after the mark and the number of its layout, where
+/// A host in memory that a caller keeps who isn't Rattle: after the mark and the number of its layout, if
 /// the open job stands, and the state. It has no padding, holds no address of memory, and may be copied.
 #[repr(C)]
 #[derive(Debug, Drop)]
@@ -43,7 +43,7 @@ impl HostImage {
     /// The mark of an image.
     pub const MARK: u16 = 0x504D;
 
-    /// The number of the layout that this is a part of: `pm_host_c` keeps registers and limits behind it.
+    /// The number of the layout that this is a part of: `pm_host_c` keeps registers and limits after it.
     pub const VERSION: u16 = 6;
 
     /// Zeros, which are the image of no host.
@@ -76,7 +76,7 @@ impl HostImage {
     }
 
     /// The stage of the open job of the host whose image it is, `None` if none is open: each call of its
-    /// state wants it. `NoHost` if it isn't the image of a host.
+    /// state asks for it. `NoHost` if it isn't the image of a host.
     #[inline(never)]
     #[tactic(auto, unfolding(crate::specs::Image::host_of))]
     pub fn read_stage(&self) -> Result<Option<Stage>, NoHost>
@@ -95,7 +95,7 @@ impl HostImage {
         Ok(stage)
     }
 
-    /// Keeps where the open job stands after a call of the state.
+    /// Keeps if the open job stands after a call of the state.
     #[inline(always)]
     #[tactic(auto, unfolding(crate::specs::Image::host_of))]
     pub fn write_stage(&mut self, stage: Option<Stage>)
@@ -148,7 +148,7 @@ impl State {
 #[repr(C)]
 #[derive(Clone, Copy, Debug, PartialEq, Eq)]
 pub struct StageImage {
-    /// 0 where no job is open; 1 and 2 for an order that writes or reads; 3, 4 and 5 for a question, of a
+    /// 0 if no job is open; 1 and 2 for an order that writes or reads; 3, 4 and 5 for a question, of a
     /// cell's word, of VOUT_MODE or of COEFFICIENTS; 6 for a command that is sent to an output, 7 for one
     /// that is sent to the device. No host has another number.
     pub kind: u8,
@@ -240,7 +240,7 @@ impl StageImage {
         }
     }
 
-    /// What the numbers mean: where the open job stands, or `None` for no open job. `NoHost` for a kind or a
+    /// What the numbers mean: if the open job stands, or `None` for no open job. `NoHost` for a kind or a
     /// command code that means nothing.
     #[tactic(auto, unfolding(crate::specs::Image::stage_held))]
     fn stage(&self) -> Result<Option<Stage>, NoHost>

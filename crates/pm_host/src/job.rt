@@ -24,17 +24,17 @@ pub enum Job {
     /// hold, and no word of the cell is confirmed.
     ///
     /// A good answer with the ordered word ends it as `Done`. After the last pass the end is
-    /// `Differs(word)` where that pass's answer was good, otherwise `Unknown`.
+    /// `Differs(word)` if that pass's answer was good, otherwise `Unknown`.
     Order(Cell, u16),
     /// An order for the word that is nearest to a number of microvolts, in the format that the last learn
     /// of the cell's output found.
     OrderMicro(Cell, i64),
     /// A check: the cell is read at most `passes` times. The first good answer ends it as `Done`, and its
-    /// word is confirmed; `Unknown` where none came.
+    /// word is confirmed; `Unknown` if none came.
     Check(Cell),
-    /// A learn of the format of an output's voltages: VOUT_MODE is read at most `passes` times and, where
+    /// A learn of the format of an output's voltages: VOUT_MODE is read at most `passes` times and, if
     /// it says DIRECT, the coefficients of VOUT_COMMAND at most `passes` times. It ends as `Learned`, or as
-    /// `Unknown` where no good answer came or what came has no format; then a format from before stays.
+    /// `Unknown` if no good answer came or what came has no format; then a format from before stays.
     Learn(u8),
     /// A command is sent until it is acknowledged, at most `passes` times. `Done` says no more than this
     /// acknowledgement, `Unknown` that none came.

@@ -14,7 +14,7 @@ use pm_table::Cell;
 /// The words that a cell may hold, as far as the host knows.
 #[derive(Clone, Debug, PartialEq, Eq, Drop)]
 pub enum Possible {
-    /// Any word: the host has no good answer for the cell since it started, saw a restart or, where the
+    /// Any word: the host has no good answer for the cell since it started, saw a restart or, if the
     /// cell is an output's, last began to send a restore.
     Any,
     /// One of these: the word of the last good answer for the cell, and then the words that were put
@@ -37,10 +37,10 @@ impl Possible {
 /// What the host says of a cell's word.
 #[derive(Clone, Copy, Debug, PartialEq, Eq)]
 pub enum Standing {
-    /// The host read this word from the cell, and has since begun no write of the cell and, where it is
+    /// The host read this word from the cell, and has since begun no write of the cell and, if it is
     /// an output's, no restore.
     Confirmed(u16),
-    /// The host started after its last read of the cell, or has since begun to write the cell or, where
+    /// The host started after its last read of the cell, or has since begun to write the cell or, if
     /// it is an output's, to send a restore, or never read it.
     Unknown,
 }
@@ -54,7 +54,7 @@ pub struct Knowledge {
     pub possible: [WordsImage; Cell::PLACES],
     /// What is said of each cell's word.
     pub standing: [StandingImage; Cell::PLACES],
-    /// 1 where a restart of the device was seen.
+    /// 1 if a restart of the device was seen.
     pub seen: u16,
 }
 
@@ -133,7 +133,7 @@ impl Knowledge {
         self.standing[place] = said;
     }
 
-    /// A write of the cell begins to be sent, where its word has room among those that the cell may hold;
+    /// A write of the cell begins to be sent, if its word has room among those that the cell may hold;
     /// says whether it has.
     #[tactic(auto, unfolding(crate::specs::Image::known_held))]
     pub(crate) fn put(&mut self, cell: Cell, word: u16) -> bool

@@ -1,4 +1,4 @@
-//! The laws of a host over its whole transcript, over the definitions alone. A transcript is newest
+//! The laws of a host over its whole transcript, over the definitions only. A transcript is newest
 //! first.
 
 ghost use Rattle.pm_host.specs.Laws.{TranscriptsAreFollowed, EndsAreTold, JobsAreBounded, FramesAreNamed, OpenOrdersAreUncertain, OpenRestoresAreUncertain, PossibleWordsAreFollowed};
@@ -18,7 +18,7 @@ pub fn transcripts_are_followed()
 
 /// What the end of a job says of what a host then knows, over its whole transcript: the open job is the one that its
 /// stage says (`job`), and each entry that says what came of a frame leaves it open, or ends it with what
-/// [`Host::told`](crate::Host::told) says then (`tells`).
+/// [`Host::told`](crate::Host::told) says then (`says`).
 pub fn ends_are_told()
     ensures { EndsAreTold }
 {

@@ -15,7 +15,7 @@ pub enum Progress {
 }
 
 impl Progress {
-    /// The stage of the open job; `None` where none is open.
+    /// The stage of the open job; `None` if none is open.
     pub fn stage(self) -> Option<Stage>
         ensures { result ≡ stage_after self }
     {
@@ -25,7 +25,7 @@ impl Progress {
         }
     }
 
-    /// What a call answers that tells what became of the frame.
+    /// What a call answers that says what became of the frame.
     pub fn step(self) -> Step
         ensures { result ≡ step_after self }
     {

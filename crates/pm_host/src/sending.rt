@@ -7,7 +7,7 @@ ghost use Rattle.pm_host.specs.Summary.{stage_message};
 use crate::stage::Stage;
 use pm_frame::{Frame, Message, write_part};
 
-/// What is being sent: where the open job stands, its message, and the frame that carries it.
+/// What is being sent: if the open job stands, its message, and the frame that carries it.
 #[derive(Debug, Drop)]
 pub(crate) struct Sending {
     pub(crate) stage: Stage,

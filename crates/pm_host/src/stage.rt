@@ -41,7 +41,7 @@ impl Stage {
         }
     }
 
-    /// Whether what is told is of the kind of its frame: `Finished` of a write, `Got` of a request.
+    /// Whether what is heard is of the kind of its frame: `Finished` of a write, `Got` of a request.
     pub fn awaits(&self, told: &Told<'_>) -> bool
         ensures { result ≡ is_awaited self.now told.now }
     {

@@ -7,9 +7,9 @@ use crate::knowledge::Standing;
 #[repr(C)]
 #[derive(Clone, Copy, Debug, PartialEq, Eq)]
 pub struct StandingImage {
-    /// 1 where the word is confirmed; any other number says that none is.
+    /// 1 if the word is confirmed; any other number says that none is.
     pub is_confirmed: u16,
-    /// The word that is confirmed; 0 where none is, as the host leaves it.
+    /// The word that is confirmed; 0 if none is, as the host leaves it.
     pub word: u16,
 }
 

@@ -32,7 +32,7 @@ use pm_table::Cell;
 pub(crate) const OUTPUTS: usize = 8;
 
 /// What a host holds beside its open job, in the caller's memory, and its calls. They are those of `Host`,
-/// which says what each does. Where the open job stands is given to each call that asks for it, and is
+/// which says what each does. If the open job stands is given to each call that asks for it, and is
 /// answered by each that changes it.
 #[repr(C)]
 #[derive(Debug, Drop)]
@@ -123,7 +123,7 @@ impl State {
         }
     }
 
-    /// Forgets all that is known, as `Host::restart`. Of what it held the setup alone has to be sound. No
+    /// Forgets all that is known, as `Host::restart`. Of what it held the setup only has to be sound. No
     /// job is open.
     #[tactic(auto, unfolding(crate::specs::Summary::next, crate::specs::Image::formats_held, crate::specs::Summary::no_formats))]
     pub fn restart(&mut self)

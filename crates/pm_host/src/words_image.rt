@@ -6,8 +6,8 @@ ghost use Rattle.pm_host.specs.Possible.{is_possible, has_room, joined, only as 
 use crate::knowledge::Possible;
 use arrayvec::ArrayVec;
 
-/// The words that a cell may hold, as plain numbers: the first `count` of `words`, where that is 1 to
-/// 16; any word where `count` is another number.
+/// The words that a cell may hold, as plain numbers: the first `count` of `words`, if that is 1 to
+/// 16; any word if `count` is another number.
 #[repr(C)]
 #[derive(Clone, Copy, Debug)]
 pub struct WordsImage {
@@ -24,7 +24,7 @@ impl WordsImage {
         words: [0; 16],
     };
 
-    /// The words that are listed; `None` where any word is possible.
+    /// The words that are listed; `None` if any word is possible.
     pub fn listed(&self) -> Option<&[u16]>
         ensures { MatchOption result (words_held self.now ≡ Possible.Any)
             (λ words. words_held self.now ≡ listing words.now) }

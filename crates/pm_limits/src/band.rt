@@ -28,12 +28,12 @@ pub struct Band {
 }
 
 /// Between which voltages an output may be, by what a host knows: the least and the greatest that it commands
-/// with the words that its registers may hold; where a register may hold any, the ends of its format stand, and where
-/// the part doesn't have VOUT_MIN or VOUT_MAX, neither cuts. OPERATION may be any where it may be a byte that its cell
-/// doesn't take, as A0h. `None` exactly where the format isn't known, or where such a byte hands the voltage to AVSBus:
+/// with the words that its registers may hold; if a register may hold any, the ends of its format stand, and if
+/// the part doesn't have VOUT_MIN or VOUT_MAX, neither cuts. OPERATION may be any if it may be a byte that its cell
+/// doesn't take, as A0h. `None` exactly if the format isn't known, or if such a byte hands the voltage to AVSBus:
 /// its bits 5 and 4 are 11, as of B0h. The output is there.
 ///
-/// What the device commands lies in it, unless it restarted since the good answers that the band rests on, and where no
+/// What the device commands lies in it, unless it restarted since the good answers that the band rests on, and if no
 /// VOUT_MIN or VOUT_MAX that it is said to lack cuts the output. At most 16 words a register are looked at, and no combination is tried.
 pub fn band_of(host: &Host, registers: PartRegisters, output: u8) -> Option<Band>
     requires { output < host.now.setup.outputs }

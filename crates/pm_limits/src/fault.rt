@@ -26,7 +26,7 @@ pub enum LimitFault {
     /// L8: no limits are known of the output: of an order of a voltage, and of one of OPERATION that leaves the output on.
     /// Give it limits, or say that it has none.
     NoLimits,
-    /// H1 to H7 or N3 to N5: the host's own refusal, or N5 where a limit is beyond 10^15.
+    /// H1 to H7 or N3 to N5: the host's own refusal, or N5 if a limit is beyond 10^15.
     Host(HostFault),
 }
 
@@ -34,7 +34,7 @@ impl LimitFault {
     ghost use Rattle.pm_limits.specs.FaultWords.{limit_fault_number, limit_fault_words};
 
     /// The letter and the name of the fault, as programs print them: `L3 BelowLimit`. A refusal of the host
-    /// is told as that: `H6 TooUncertain`.
+    /// is shown as that: `H6 TooUncertain`.
     pub fn words(self) -> &'static str
         ensures { result.now ≡ limit_fault_words self }
     {

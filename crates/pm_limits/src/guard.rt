@@ -50,7 +50,7 @@ const OUTPUTS: usize = 8;
 /// were any given, nor was it said that there are none. Turning an output off is never refused by a limit, and an output that
 /// is said to have none is as at a host.
 ///
-/// It is told once which registers the part has. It refuses a job on another, and an order of OPERATION that selects
+/// It learns once which registers the part has. It refuses a job on another, and an order of OPERATION that selects
 /// a missing margin.
 ///
 /// Limits can be narrowed, never widened. Words that were ordered before limits were narrowed stay
@@ -135,8 +135,8 @@ impl Guard {
 
     /// Begins a job, as [`Host::begin`], or refuses it. A refusal changes nothing.
     ///
-    /// An order of a word is refused, in this order, with H3, H4, L7 where the part doesn't have the register or the
-    /// margin that a byte of OPERATION selects, then by the limits, L8 where none are known, L2 where the format isn't known, L3
+    /// An order of a word is refused, in this order, with H3, H4, L7 if the part doesn't have the register or the
+    /// margin that a byte of OPERATION selects, then by the limits, L8 if none are known, L2 if the format isn't known, L3
     /// below them and L4 above them, then H5, L8, L2 or L5 for a byte of OPERATION that leaves the output on, and H6. An order in
     /// microvolts with H3, H4, L7, H5, H7, N5, N3, N4, then L8, L3 and L4, by the value of the nearest word, and H6. A check with
     /// H3, H4 and L7. Every other job is refused as the host refuses it.
@@ -221,9 +221,9 @@ impl Guard {
         self.limits.get(usize::from(output))
     }
 
-    /// Gives an output narrower limits of these microvolts; an output without any takes these. H4 where the output
-    /// isn't there, N5 where a limit is beyond 10^15 in size, L1 where the least is above the most, L6 where the
-    /// output has limits and these let through what those don't, H3 where an order of the output is open that these
+    /// Gives an output narrower limits of these microvolts; an output without any takes these. H4 if the output
+    /// isn't there, N5 if a limit is beyond 10^15 in size, L1 if the least is above the most, L6 if the
+    /// output has limits and these let through what those don't, H3 if an order of the output is open that these
     /// refuse, since its frame may be sent again; then nothing changes.
     ///
     /// A word that was ordered before stays possible, and one that the device holds stays there: ask
@@ -245,8 +245,8 @@ impl Guard {
         }
     }
 
-    /// Says that an output has no limits: its orders are then refused for the host's reasons alone. H4 where it isn't
-    /// there, L6 where it has limits; then nothing changes. Limits that are given later end it.
+    /// Says that an output has no limits: its orders are then refused for the host's reasons only. H4 if it isn't
+    /// there, L6 if it has limits; then nothing changes. Limits that are given later end it.
     pub fn no_limits(&mut self, output: u8) -> Result<(), LimitFault>
         ensures fault { result_err result ≡ unlimited_fault self.old output }
         ensures ok { OnOk result (self.new ≡ unlimited self.old output) }
@@ -286,11 +286,11 @@ impl Guard {
         band_of(&self.host, self.registers, output)
     }
 
-    /// Whether an output's voltage lies within its limits, by the words that its registers may hold: `Yes` where its
-    /// whole band does or it is said to have no limits, `No` where the whole band lies below the limits or above them,
+    /// Whether an output's voltage lies within its limits, by the words that its registers may hold: `Yes` if its
+    /// whole band does or it is said to have no limits, `No` if the whole band lies below the limits or above them,
     /// otherwise `NotKnown`. The output is there.
     ///
-    /// The limits hold for good where each word lies within them that the registers of the output, and the device's user
+    /// The limits hold for good if each word lies within them that the registers of the output, and the device's user
     /// store, had before the guard, or that was ordered before these limits were given. Check the registers, and see that this answers `Yes`. What the store
     /// holds no host can read: a restore or a restart of the device may bring it out.
     pub fn within(&self, output: u8) -> Within

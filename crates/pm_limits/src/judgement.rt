@@ -200,7 +200,7 @@ pub(crate) fn output_of(cell: Cell) -> u8
     }
 }
 
-/// Whether a band lies within limits; any does where there are none, and of unknown ones nothing is known.
+/// Whether a band lies within limits; any does if there are none, and of unknown ones nothing is known.
 pub fn within_limits(limits: &OutputLimits, band: Option<Band>) -> Within
     ensures { result ≡ within_of limits.now band }
 {
@@ -211,7 +211,7 @@ pub fn within_limits(limits: &OutputLimits, band: Option<Band>) -> Within
     }
 }
 
-/// Refuses where a job is open, or the cell isn't there.
+/// Refuses if a job is open, or the cell isn't there.
 pub(crate) fn refuse_cell(state: &State, stage: Option<Stage>, cell: Cell) -> Result<(), LimitFault>
     requires { IsSound (held stage state.now) }
     ensures fault { result_err result ≡ of_host (cell_fault (held stage state.now) cell) }
@@ -369,7 +369,7 @@ fn may_command_beyond(
 }
 
 /// Limits of these microvolts in the place of those that an output has, or of none, as [`crate::Guard::narrow`] says: N5,
-/// L1, L6, then H3 where an order of the output is open that these refuse, since its frame may be sent again.
+/// L1, L6, then H3 if an order of the output is open that these refuse, since its frame may be sent again.
 pub fn narrower_limits(
     state: &State,
     stage: Option<Stage>,

@@ -4,14 +4,14 @@
 //! a value outside them, and a byte of OPERATION that leaves the output on while what it would command isn't
 //! known to lie within. An output of which no limits are known is ordered no voltage: say that it has none by
 //! [`Guard::no_limits`]. [`band_of`] says between which voltages an output may be by what a host knows, as
-//! exact fractions; no narrower band is true where the possible words are exact
+//! exact fractions; no narrower band is true if the possible words are exact
 //! (`possible_words_are_exact` of `pm_world`).
 //!
 //! A guard knows what was ordered through it and what was read. What a device or its user store held before
 //! it can't know: check the registers first, and ask [`Guard::within`].
 //!
 //! A part may lack VOUT_MAX, VOUT_MIN or a margin: [`PartRegisters`] says so to [`Guard::of_part`]. A guard refuses a job
-//! on a register that isn't there, and a missing VOUT_MIN or VOUT_MAX stands at the end of the format, where it cuts nothing.
+//! on a register that isn't there, and a missing VOUT_MIN or VOUT_MAX stands at the end of the format, if it cuts nothing.
 //!
 //! A 3.3 V rail that takes 3.200 V to 3.465 V:
 //!

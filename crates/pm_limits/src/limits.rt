@@ -40,7 +40,7 @@ impl Model for Limits {
 }
 
 impl Limits {
-    /// Limits of these microvolts. N5 where one is beyond 10^15 in size, otherwise L1 where the least is
+    /// Limits of these microvolts. N5 if one is beyond 10^15 in size, otherwise L1 if the least is
     /// above the most.
     pub fn new(least: i64, most: i64) -> Result<Limits, LimitFault>
         ensures made { IfOk result (λ limits. limits ≡ record { least = least; most = most }) }
@@ -70,7 +70,7 @@ impl Limits {
         self.most
     }
 
-    /// Limits of these microvolts in the place of those that an output has, or of none. N5 and L1 as for new ones, then L6 where these
+    /// Limits of these microvolts in the place of those that an output has, or of none. N5 and L1 as for new ones, then L6 if these
     /// let through what those don't.
     pub fn narrower(old: &OutputLimits, least: i64, most: i64) -> Result<Limits, LimitFault>
         ensures made { IfOk result (λ limits. limits ≡ record { least = least; most = most }) }

@@ -19,8 +19,8 @@ pub enum ApplyEnd {
 /// Why a course stopped.
 #[derive(Clone, Copy, Debug, PartialEq, Eq)]
 pub enum StopCause {
-    /// H3 where a job is open, which changes nothing: carry that out first. Otherwise the plan is refused: L7, L3, L4, P5,
-    /// P6 or P7, and P4 where OPERATION selects a margin that the part doesn't have.
+    /// H3 if a job is open, which changes nothing: carry that out first. Otherwise the plan is refused: L7, L3, L4, P5,
+    /// P6 or P7, and P4 if OPERATION selects a margin that the part doesn't have.
     Refused(PlanFault),
     /// An order of this register ended twice with the register read with another word, at last with this one.
     Differs(Reg, u16),

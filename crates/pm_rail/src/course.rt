@@ -27,9 +27,9 @@ pub struct Differing {
 /// How far an output's way to its settings has come.
 #[derive(Clone, Copy, Debug, PartialEq, Eq)]
 pub struct Course {
-    /// What is read next, how many tries are left, and the job that was named and of whose end it wasn't told.
+    /// What is read next, how many tries are left, and the job that was named and of whose end it didn't hear.
     pub survey: Survey,
-    /// The byte that is wanted of OPERATION, where the course is to one.
+    /// The byte that is wanted of OPERATION, if the course is to one.
     pub byte: Option<u16>,
     /// Whether something was ordered since the survey began.
     pub ordered: bool,
@@ -37,7 +37,7 @@ pub struct Course {
     pub done: bool,
     /// The registers of which an order differed once.
     pub differed: Reads,
-    /// The order that differed a second time, where one did.
+    /// The order that differed a second time, if one did.
     pub twice: Option<Differing>,
 }
 
@@ -145,7 +145,7 @@ impl Course {
         }
     }
 
-    /// How the job ended that `next` named. Where it isn't told, nothing that the job read counts, and `next` goes on from
+    /// How the job ended that `next` named. If nothing says so, nothing that the job read counts, and `next` goes on from
     /// what the host knows.
     pub fn told(&mut self, end: JobEnd)
         ensures { self.new ≡ told_of self.old end }

@@ -24,7 +24,7 @@ pub(crate) struct OutputForm {
     pub format: AnyFormat,
 }
 
-/// The word that a cell is known to hold: the only one that it may hold, where it is one that the cell takes.
+/// The word that a cell is known to hold: the only one that it may hold, if it is one that the cell takes.
 pub(crate) fn known_at(host: &State, form: &OutputForm, cell: Cell) -> Option<u16>
     requires { IsCell 8 cell }
     ensures { result ≡ spec_known_at (cells_of form.now.registers (shape_of form.now.format) (held None host.now)) cell }
@@ -56,7 +56,7 @@ fn accepted(cell: Cell, word: u16) -> Option<u16>
     if cell.accepts(word) { Some(word) } else { None }
 }
 
-/// The word of a cell, or 0 where it isn't known.
+/// The word of a cell, or 0 if it isn't known.
 pub(crate) fn known_or(host: &State, form: &OutputForm, cell: Cell) -> u16
     requires { IsCell 8 cell }
     ensures { result ≡ spec_known_or (cells_of form.now.registers (shape_of form.now.format) (held None host.now)) cell }

@@ -1,31 +1,31 @@
-//! The laws of a plan, over the definitions alone: each is the contract of a function that does nothing.
+//! The laws of a plan, over the definitions only: each is the contract of a function that does nothing.
 
 ghost use Rattle.pm_rail.specs.Laws.{CoursesEnd, PlansAreAccepted, PlansAreOfWhatIsHeld, PlansAreWithoutGlitch, PlansCutNothing, PlansEnd, SurveysEndKnown};
 ghost use Rattle.pm_rail.specs.SurveyLength.{SurveysAreShort};
 
 use pm_table::{cells_are_told_apart, cells_have_places};
 
-/// Each order of the plan leaves what the output commands, or makes it what it commands at the end (`one`), and so
-/// does any number of them from any moment on (`any`), if the output isn't cut by the words at the end. So it never
+/// Each order of the plan leaves what the output commands, or makes it what it commands at the end (`one`). The
+/// same holds of any number of them from any moment on (`any`), if the output isn't cut by the words at the end. So it never
 /// commands anything but its first value and its last, and changes once at most.
 pub fn plans_are_without_glitch()
     ensures { PlansAreWithoutGlitch }
 {}
 
-/// Each order is of a wanted word that its register doesn't have (`due`); where none is left, each register has its
+/// Each order is of a wanted word that its register doesn't have (`due`); if none is left, each register has its
 /// wanted word (`done`), and that is so after five orders at most (`five`).
 pub fn plans_end()
     ensures { PlansEnd }
 {}
 
 /// No order cuts an output that isn't cut, neither by its words nor by those at the end; and no order cuts what any
-/// other byte of OPERATION would select for such an output, where that isn't cut either.
+/// other byte of OPERATION would select for such an output, if that isn't cut either.
 pub fn plans_cut_nothing()
     ensures { PlansCutNothing }
 {}
 
 /// What a plan answers by what is known is what it answers for the words that are held, whichever of the possible ones
-/// these are: the next order is theirs (`next`), the output isn't cut by the words at the end (`uncut`), and where no
+/// these are: the next order is theirs (`next`), the output isn't cut by the words at the end (`uncut`), and if no
 /// order is left each wanted word is held (`done`).
 pub fn plans_are_of_what_is_held()
     ensures { PlansAreOfWhatIsHeld }
@@ -37,17 +37,17 @@ pub fn plans_are_accepted()
 {}
 
 /// A survey that has ended by its own rule has its answers: since it began the format was learned and is known (`format`),
-/// each register that is needed is known, and was read where the part has it (`known`), and for a plan WRITE_PROTECT too
-/// (`protection`). Where it has tries left it asks as long as this isn't so, and each job takes one (`asks`), unless it is
+/// each register that is needed is known, and was read if the part has it (`known`), and for a plan WRITE_PROTECT too
+/// (`protection`). If it has tries left it asks as long as this isn't so, and each job takes one (`asks`), unless it is
 /// stuck at a needed register that the part doesn't have; of a part with every register it never is (`whole`). It never
-/// asks for a register that the part doesn't have (`unread`). Where it has ended by its own rule the output has a band
+/// asks for a register that the part doesn't have (`unread`). If it has ended by its own rule the output has a band
 /// (`band`).
 pub fn surveys_end_known()
     ensures { SurveysEndKnown }
 {}
 
-/// A survey that has read nothing takes a check for each cell that it reads, where each has a good answer of a word that
-/// its cell takes and none surprises (`calm`); and at most one less than two for each where one surprises at most (`short`), as
+/// A survey that has read nothing takes a check for each cell that it reads, if each has a good answer of a word that
+/// its cell takes and none surprises (`calm`); and at most one less than two for each if one surprises at most (`short`), as
 /// it is unless the converter restarts after the first of them.
 pub fn surveys_are_short()
     ensures { SurveysAreShort }
@@ -57,7 +57,7 @@ pub fn surveys_are_short()
 }
 
 /// Each job that a course names takes a try, so that it names as many as it has tries at most (`takes`, `told`). What a course
-/// to wanted words or to nothing names is refused by nothing (`free`). One to nothing orders nothing (`reads`); and where one to
+/// to wanted words or to nothing names is refused by nothing (`free`). One to nothing orders nothing (`reads`); and if one to
 /// words or to nothing has reached its end, its survey has ended by its own rule (`surveyed`).
 pub fn courses_end()
     ensures { CoursesEnd }

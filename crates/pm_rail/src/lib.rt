@@ -9,7 +9,7 @@
 //! the whole way, job after job: it surveys, orders, and surveys once more.
 //!
 //! OPERATION has to be known and is no part of a plan: turning an output on, off or to a margin is an order of its own.
-//! A register is known where one word alone is possible, and not where one is called confirmed: after a restart that was
+//! A register is known if one word only is possible, and not if one is called confirmed: after a restart that was
 //! seen a confirmed word may be stale. The crate takes no memory and sends nothing.
 //!
 //! A host that has just started knows nothing, so that a plan is refused and a survey begins with a learn:
@@ -18,7 +18,7 @@
 //! fn asked() -> Result<(Option<PlanFault>, Option<Job>), HostFault> {
 //!     let guard = Guard::new(0x58, 1, 2, [OutputLimits::Unknown; 8])?;
 //!     let wanted = Wanted {
-//!         command: Some(0x34CD), // 3.3 V where VOUT_MODE says ULINEAR16 with the exponent -12
+//!         command: Some(0x34CD), // 3.3 V if VOUT_MODE says ULINEAR16 with the exponent -12
 //!         max: Some(0x3770),
 //!         margin_high: None,
 //!         margin_low: None,

@@ -26,14 +26,14 @@ pub struct PlanOrder {
     pub word: u16,
 }
 
-/// The next order of an output's plan, by what the guard's host knows and within the output's limits; `None` where each
+/// The next order of an output's plan, by what the guard's host knows and within the output's limits; `None` if each
 /// register has its wanted word. The output is there.
 ///
-/// Refused, of several the first: H3 where a job is open; L7 where a word is wanted of a register that the part doesn't
-/// have; P1 where the output's format isn't learned; L8 where a word is wanted and no limits of the output are known; L3 and L4
-/// where a wanted word lies below or above the output's limits; P4 where OPERATION, the register that it selects, VOUT_MAX,
-/// VOUT_MIN or one of which a word is wanted isn't known, and WRITE_PROTECT where an order is due; P5 and P6 where a
-/// wanted word or the selected one will be below VOUT_MIN or above VOUT_MAX; P7 where WRITE_PROTECT doesn't allow each
+/// Refused, of several the first: H3 if a job is open; L7 if a word is wanted of a register that the part doesn't
+/// have; P1 if the output's format isn't learned; L8 if a word is wanted and no limits of the output are known; L3 and L4
+/// if a wanted word lies below or above the output's limits; P4 if OPERATION, the register that it selects, VOUT_MAX,
+/// VOUT_MIN or one of which a word is wanted isn't known, and WRITE_PROTECT if an order is due; P5 and P6 if a
+/// wanted word or the selected one will be below VOUT_MIN or above VOUT_MAX; P7 if WRITE_PROTECT doesn't allow each
 /// order that is still to come.
 pub fn next_order(
     guard: &Guard,
@@ -157,7 +157,7 @@ fn planned(
     }
 }
 
-/// Begins the next order of an output's plan, as [`next_order`] gives it, and says which. Where there is none, or it is
+/// Begins the next order of an output's plan, as [`next_order`] gives it, and says which. If there is none, or it is
 /// refused, nothing changes. The output is there.
 pub fn begin_next(
     guard: &mut Guard,

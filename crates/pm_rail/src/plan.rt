@@ -8,7 +8,7 @@ use crate::wanted::Wanted;
 use pm_num::AnyFormat;
 use pm_table::{Operation, Reg};
 
-/// The register that is ordered next; `None` where each has its wanted word.
+/// The register that is ordered next; `None` if each has its wanted word.
 pub fn next_register(format: &AnyFormat, held: &Registers, wanted: &Wanted) -> Option<Reg>
     ensures { result ≡ spec_next_register (any_value format.now) (held_by held.now) (wants_of wanted.now) }
 {

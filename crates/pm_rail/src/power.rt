@@ -43,7 +43,7 @@ pub struct Rail {
     /// Which register has its voltage.
     pub selected: Selected,
     /// Between which voltages it commands, in volts, as [`Guard::band`] says; an output that is off has its band too,
-    /// of the register that OPERATION selects then. `None` exactly where its format isn't learned, or where a byte that
+    /// of the register that OPERATION selects then. `None` exactly if its format isn't learned, or if a byte that
     /// hands the voltage to AVSBus is one of those that OPERATION is known to be able to hold.
     pub band: Option<Band>,
     /// Whether the band lies within its limits, as [`Guard::within`] says.

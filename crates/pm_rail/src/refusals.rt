@@ -26,7 +26,7 @@ use std::cmp::Ordering;
 pub(crate) struct Settings {
     /// The output's number.
     pub output: u8,
-    /// The words that its registers hold; 0 where that isn't known.
+    /// The words that its registers hold; 0 if that isn't known.
     pub held: Registers,
     /// The words that are wanted.
     pub wanted: Wanted,

@@ -119,14 +119,14 @@ impl Reads {
 /// A survey of an output: it asks for one job after another until all that decides what the output commands, or all
 /// that a plan needs, is known by good answers that came since it began. It is a plain value, and holds no guard.
 ///
-/// Ask `next` for a job while the guard's host is idle, carry the job out, and tell `told` how it ended; where `next` answers
-/// `None`, the survey has ended. It has ended by its own rule where [`Survey::is_done`] says so, and otherwise because it has
-/// no tries left, or stands at a margin that OPERATION selects, or that a plan wants, and that the part lacks.
+/// Ask `next` for a job while the guard's host is idle, carry the job out, and tell `told` how it ended; if `next` answers
+/// `None`, the survey has ended. It has ended by its own rule if [`Survey::is_done`] says so, and otherwise because it has
+/// no tries left, or stands at a margin that OPERATION selects, or that a plan asks for, and that the part lacks.
 #[derive(Clone, Copy, Debug, PartialEq, Eq)]
 pub struct Survey {
     /// The output's number, from 0.
     pub output: u8,
-    /// The words that a plan wants, where the survey is for one.
+    /// The words that a plan is to reach, if the survey is for one.
     pub plan: Option<Wanted>,
     /// How many jobs it may still ask for.
     pub left: u16,
@@ -134,7 +134,7 @@ pub struct Survey {
     pub learned: bool,
     /// Which cells had a good answer since it began.
     pub read: Reads,
-    /// The job that it asked for and of whose end it wasn't told.
+    /// The job that it asked for and of whose end it didn't hear.
     pub asked: Option<Job>,
 }
 
@@ -157,7 +157,7 @@ impl Survey {
 
     /// What to ask the guard for now: a learn of the output first, then a check of each needed cell that had no good
     /// answer since the survey began, then one of each that isn't known, as after an answer that showed a restart. A
-    /// register that the part doesn't have is never asked for. `None` where nothing is left to ask for, or no try. The
+    /// register that the part doesn't have is never asked for. `None` if nothing is left to ask for, or no try. The
     /// output is there.
     pub fn next(&mut self, guard: &Guard) -> Option<Job>
         requires { self.old.output < guard.now.host.setup.outputs }

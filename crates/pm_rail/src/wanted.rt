@@ -2,7 +2,7 @@ ghost use Rattle.std.specs.Prelude.{◌≡◌};
 
 use pm_table::Reg;
 
-/// The words that are wanted of an output's voltages; `None` where a register is to stay as it is.
+/// The words that are wanted of an output's voltages; `None` if a register is to stay as it is.
 #[derive(Clone, Copy, Debug, PartialEq, Eq)]
 pub struct Wanted {
     /// VOUT_COMMAND.

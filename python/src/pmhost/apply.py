@@ -1,8 +1,8 @@
-"""Brings the parts of a board to the settings of a file of rails, and tells rail by rail what became of it.
+"""Brings the parts of a board to the settings of a file of rails, and says rail by rail what became of it.
 
 Everything is read and judged before the first write: each part of a board file has to answer and to be the model that the file says,
 each rail's course goes up to its first order, and its margins are read. Then the courses go on to their ends, one rail after another in
-their order. What comes next, and what isn't ordered at all, is said by the library alone: no rail commands anything on its way but what it
+their order. What comes next, and what isn't ordered at all, is said by the library only: no rail commands anything on its way but what it
 commanded and what is wanted.
 """
 from __future__ import annotations
@@ -33,9 +33,9 @@ AS_WANTED = ("confirmed", "accepted")
 @dataclass
 class Board:
     """The rails of a file, and the parts that have them, by their names. `described` has what a board file says of its parts; why a
-    part doesn't answer is said by `ask_operation`, with nothing where it answers. `accept` is how near a held word has to be
-    to a wanted voltage, in microvolts, of rails that don't say it themselves; `before_order` is told of each order before its first frame, `after_order` behind its last
-    one whether it is confirmed, and `seen` of a rail behind what was read, and behind each order how that ended."""
+    part doesn't answer is said by `ask_operation`, with nothing if it answers. `accept` is how near a held word has to be
+    to a wanted voltage, in microvolts, of rails that don't say it themselves; `before_order` hears of each order before its first frame, `after_order` after its last
+    one whether it is confirmed, and `seen` of a rail after what was read, and after each order how that ended."""
 
     parts: dict[str, Device]
     rails: list[Rail]
@@ -86,7 +86,7 @@ class Board:
     # ---- Who is there ----
 
     def identify(self) -> None:
-        """Stops where parts of a board file don't answer, or aren't of the model that it says; says so of each."""
+        """Stops if parts of a board file don't answer, or aren't of the model that it says; says so of each."""
         faults = [why for name, part in self.described.items() if (why := self.why_not_there(name, part))]
         if faults:
             raise Stopped("; ".join(faults))
@@ -99,9 +99,9 @@ class Board:
                 self.faults.update({rail.name: stopped for rail in self.rails if rail.part == name} or {f"part {name}": stopped})
 
     def why_not_there(self, name: str, part: BoardPart) -> str:
-        """Why a part isn't the one that the file says: nothing where it is."""
+        """Why a part isn't the one that the file says: nothing if it is."""
         if why := self.ask_operation(name):
-            return (f"{name}: OPERATION of output 0 gave no good answer at {part.place}: {why}; pmhost probe tells why"
+            return (f"{name}: OPERATION of output 0 gave no good answer at {part.place}: {why}; pmhost probe says why"
                     if answers(self.parts[name]) else f"{name}: no part answers at {part.place}: {why}")
         return why_other_model(self.parts[name], part)
 
@@ -152,7 +152,7 @@ class Board:
         return self.formats[rail.name]
 
     def other_format(self, rail: Rail) -> Format | None:
-        """The format that a rail's voltages have now, where that is another one than its words were made by."""
+        """The format that a rail's voltages have now, if that is another one than its words were made by."""
         form = self.on(rail).host.format(rail.output)
         return None if form == self.format(rail) else form
 
@@ -188,7 +188,7 @@ class Board:
         return next(each for each in self.of(rail) if each.register == register)
 
     def read_margins(self, rail: Rail) -> None:
-        """Reads each margin of a rail that isn't in the file, nor selected, whatever comes: bounds may cut it. Stops where a restart
+        """Reads each margin of a rail that isn't in the file, nor selected, whatever comes: bounds may cut it. Stops if a restart
         was seen."""
         part, held = self.on(rail), self.margins.setdefault(rail.name, {})
         for register in MARGINS:
@@ -204,7 +204,7 @@ class Board:
         return self.on(rail).restart_seen and rail.part not in self.had_restarted
 
     def look(self, rail: Rail) -> None:
-        """Stops where a rail's part restarted: what was read before isn't known any more; and where its voltages have another
+        """Stops if a rail's part restarted: what was read before isn't known any more; and if its voltages have another
         format than its words were made by."""
         form = self.other_format(rail)
         if form is not None:
@@ -214,7 +214,7 @@ class Board:
             raise Restarted(f"{rail.part or 'the part'} restarted meanwhile: nothing that was read before holds: run this again")
 
     def judge_refused(self, rail: Rail) -> None:
-        """Stops where the course of a rail is refused."""
+        """Stops if the course of a rail is refused."""
         end = self.courses[rail.name].course.ended
         if end is not None and end.kind == "refused":
             raise self.refused(rail, refusal(end.number, end.register))
@@ -250,7 +250,7 @@ class Board:
         return end is not None and end.kind == "refused" and refusal(end.number).letter == "P7"
 
     def unlock(self) -> None:
-        """Lifts WRITE_PROTECT of the parts where just that of the file is in the way of an order, and judges their rails anew."""
+        """Lifts WRITE_PROTECT of the parts if just that of the file is in the way of an order, and judges their rails anew."""
         for rail in self.rails:
             if self.is_protected(rail):
                 self.lift(rail.part)
@@ -258,12 +258,12 @@ class Board:
                 self.judge_refused(rail)
 
     def judge_store(self) -> None:
-        """Stops where WRITE_PROTECT of a part isn't known to let it store."""
+        """Stops if WRITE_PROTECT of a part isn't known to let it store."""
         for name, part in self.having_rails().items():
             protect = only_word(part, 0, PROTECT)
             if protect != 0 and not self.is_in_the_way(name):
                 held = "not known" if protect is None else f"{protect:02X}"
-                raise Stopped(f"{f'{name}: ' * bool(name)}{PROTECT} is {held}: a store wants 00: order it by word - {PROTECT} 00")
+                raise Stopped(f"{f'{name}: ' * bool(name)}{PROTECT} is {held}: a store needs 00: order it by word - {PROTECT} 00")
 
     def apply(self) -> None:
         """Orders what differs. Stopped."""
@@ -281,7 +281,7 @@ class Board:
         self.finish()
 
     def verify(self) -> None:
-        """Reads each rail, goes on where a part or a rail gives no good answer, and orders nothing. Stopped."""
+        """Reads each rail, goes on if a part or a rail gives no good answer, and orders nothing. Stopped."""
         self.identify_each()
         self.learn_each()
         for rail in self.rails:
@@ -291,7 +291,7 @@ class Board:
         self.finish()
 
     def keep_fault(self, rail: Rail, read: Callable[[Rail], None]) -> None:
-        """Reads something of a rail that had no fault; what stops it is told at the end."""
+        """Reads something of a rail that had no fault; what stops it is said at the end."""
         if rail.name not in self.faults:
             try:
                 read(rail)
@@ -299,7 +299,7 @@ class Board:
                 self.faults[rail.name] = stopped
 
     def finish(self) -> None:
-        """Stops where a setting isn't as it is wanted, or a rail doesn't command its voltage within its limits, or doesn't deliver it."""
+        """Stops if a setting isn't as it is wanted, or a rail doesn't command its voltage within its limits, or doesn't deliver it."""
         self.take()
         read = [rail for rail in self.rails if rail.name in self.courses and rail.name not in self.faults]
         wrong = [it.name for it in self.settings if it.state not in AS_WANTED and it.rail in read]
@@ -313,14 +313,14 @@ class Board:
             raise Stopped("; ".join(faults))
 
     def why_dead(self, rail: Rail) -> str:
-        """Why a rail doesn't deliver. Stopped where something was ordered and its part restarted, which is told then."""
+        """Why a rail doesn't deliver. Stopped if something was ordered and its part restarted, which is said then."""
         why = self.courses[rail.name].deliver()
         if why and self.orders:
             self.look_at(rail)
         return why
 
     def why_not_well(self, rail: Rail) -> str:
-        """Why a rail isn't as the file has it, though its registers are: nothing where it is."""
+        """Why a rail isn't as the file has it, though its registers are: nothing if it is."""
         found = self.state(rail)
         wanted = next(it.wanted for it in self.of(rail) if it.key == "volts")
         if found.is_on is not rail.is_on:
@@ -357,7 +357,7 @@ class Board:
         return found
 
     def cuts(self, rail: Rail, are_wanted: bool) -> list[Cut]:
-        """The margins that aren't selected and that VOUT_MIN and VOUT_MAX cut: as all of these are to be where `are_wanted`, or as they
+        """The margins that aren't selected and that VOUT_MIN and VOUT_MAX cut: as all of these are to be if `are_wanted`, or as they
         are."""
         if self.has_restarted(rail):
             return []
@@ -367,7 +367,7 @@ class Board:
         return cuts(self.format(rail), margins, *(words[each] for each in BOUNDS))
 
     def take(self) -> None:
-        """What is known of each setting: the only word that is possible, where it is of the format that the wanted ones are of."""
+        """What is known of each setting: the only word that is possible, if it is of the format that the wanted ones are of."""
         for it in self.settings:
             it.last = None if self.other_format(it.rail) else only_word(self.on(it.rail), it.rail.output, it.register)
             if it.last is None:
@@ -398,7 +398,7 @@ class Board:
                 f"{f'to be {held}' if bound in wanted else f'{held}, and not in the file'}")
 
     def value(self, rail: Rail, wanted: Wanted, register: str | None) -> int | None:
-        """The microvolts of a register as it is to be, rounded down; None where they are beyond what the library tells."""
+        """The microvolts of a register as it is to be, rounded down; None if they are beyond what the library says."""
         assert register is not None
         word = wanted.get(register, only_word(self.on(rail), rail.output, register))
         return self.format(rail).told(word or 0)

@@ -5,7 +5,7 @@ import time
 
 
 def until(moment: float = 0.0) -> float:
-    """Waits until a moment of this clock, in seconds, and says what time it is then; at once where the moment is over."""
+    """Waits until a moment of this clock, in seconds, and says what time it is then; at once if the moment is over."""
     left = moment - time.monotonic()
     if left > 0:
         time.sleep(left)

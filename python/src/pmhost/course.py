@@ -45,7 +45,7 @@ class Job:
 @dataclass(frozen=True)
 class CourseEnd:
     """How a course ended: `reached`; `refused`, with a refusal's number; `differs`, with the word that was read; `spent`, with what was
-    wrong with the last answer, nothing where all were good; `format`, with VOUT_MODE; or `source`, with the byte of OPERATION.
+    wrong with the last answer, nothing if all were good; `format`, with VOUT_MODE; or `source`, with the byte of OPERATION.
     `register` is what it is about."""
 
     kind: str
@@ -72,7 +72,7 @@ def wanted_image(wanted: Wanted) -> at.WantedImage:
 
 
 def job_of(image: at.CourseJobImage) -> Optional[Job]:
-    """A job as the library says it, None where there is none."""
+    """A job as the library says it, None if there is none."""
     if image.kind == 0:
         return None
     kind = JOBS[image.kind]
@@ -83,8 +83,15 @@ class Course:
     """One way of an output: to nothing, which is a survey of what it commands, to words, to voltages, or to a byte of OPERATION. `tries`
     is how many jobs it begins at most.
 
+    >>> course = Course.words(0, {"VOUT_COMMAND": 0x34CD, "VOUT_MAX": 0x3770})
+    >>> host = Host(0x58)
+    >>> host.no_limits(0)
+    >>> host.run_course(course, ModelBus(0x58))
+    >>> course.ended.kind
+    'reached'
+
     While `frame` hands out a frame, send it and say by `write_ended` or `read_ended` what became of it; `end` says then how the course
-    ended. `Host.run_course` does so over a bus. Between two frames of a job the host does nothing else; meanwhile nothing else is ordered of
+    ended. `Host.run_course` does it over a bus. Between two frames of a job the host does nothing else; meanwhile nothing else is ordered of
     the output, and nothing restored.
     """
 
@@ -103,7 +110,7 @@ class Course:
 
     @classmethod
     def words(cls, output: int, wanted: Wanted, tries: int = TRIES) -> Course:
-        """To words."""
+        """To words of voltages, as {"VOUT_COMMAND": 0x34CD, "VOUT_MAX": 0x3770}."""
         made, image = cls(output, tries), wanted_image(wanted)
         accepted(library.pm_course_words(REFERENCE(made._image), output, REFERENCE(image), tries))
         return made
@@ -132,7 +139,7 @@ class Course:
     def accept(self, host: Host, voltage: GivenVoltage) -> None:
         """For parts that round: the word that a register holds is wanted in the place of what was, and the course begins anew, by the tries
         that are left. The register is the one of which an order differed, or else the first of which something is wanted. H3, H4, P1, P4
-        where the word isn't known, P9 where its value isn't this near to what was wanted, or nothing is, L3 and L4 by the limits; then
+        if the word isn't known, P9 if its value isn't this near to what was wanted, or nothing is, L3 and L4 by the limits; then
         nothing changes."""
         near = whole(given_microvolts(voltage, "accept"), 0, 0xFFFF_FFFF, "accept", "microvolts")
         accepted(library.pm_course_accept(REFERENCE(self._image), host.reference, near))
@@ -145,7 +152,7 @@ class Course:
     # ---- Frames ----
 
     def next(self, host: Host) -> Optional[Job]:
-        """The job that it would begin now, None where it would end."""
+        """The job that it would begin now, None if it would end."""
         found = at.CourseJobImage()
         number = library.pm_course_next(REFERENCE(self._image), host.reference, REFERENCE(found))
         if number == ENDED:
@@ -163,7 +170,7 @@ class Course:
         return host.sending_of(found)
 
     def job(self) -> Optional[Job]:
-        """The job that is under way, None where none is."""
+        """The job that is under way, None if none is."""
         found = at.CourseJobImage()
         accepted(library.pm_course_job_now(REFERENCE(self._image), REFERENCE(found)))
         return job_of(found)
@@ -175,7 +182,7 @@ class Course:
         return host.step_of(library.pm_course_write_ended(REFERENCE(self._image), host.reference, acked))
 
     def read_ended(self, host: Host, answer: bytes) -> Step:
-        """A request was sent, and these bytes came back, the read address first; none where there was no answer."""
+        """A request was sent, and these bytes came back, the read address first; none if there was no answer."""
         taken = frame_bytes(answer, 2**16, "answer")
         return host.step_of(library.pm_course_read_ended(REFERENCE(self._image), host.reference, taken, len(taken)))
 
@@ -190,7 +197,7 @@ class Course:
         self._image = at.CourseImage.from_buffer_copy(memory)
 
     def copy(self) -> Course:
-        """Another course, which stands where this one does."""
+        """Another course, which stands if this one does."""
         other = Course(self.output, self.tries)
         other.load(self.save())
         other.turns_off = self.turns_off
@@ -200,7 +207,7 @@ class Course:
 
     @property
     def ended(self) -> Optional[CourseEnd]:
-        """How it ended, None where it goes on."""
+        """How it ended, None if it goes on."""
         found = at.CourseEndImage()
         accepted(library.pm_course_ended(REFERENCE(self._image), REFERENCE(found)))
         if found.kind == 0:
@@ -211,8 +218,8 @@ class Course:
         return CourseEnd(kind, register, found.number, word, FAULTS.get(number) or (name_of(number) if number else ""))
 
     def end(self) -> None:
-        """Nothing where it has reached what is wanted. Raises a Refused, Differs, NoFormat, OtherSource or Spent, with the register that this
-        is about; a ValueError where the course goes on."""
+        """Nothing if it has reached what is wanted. Raises a Refused, Differs, NoFormat, OtherSource or Spent, with the register that this
+        is about; a ValueError if the course goes on."""
         found = self.ended
         if found is None:
             raise ValueError("end: the course goes on: send its frame first")
@@ -238,10 +245,10 @@ class Course:
 
 
 def in_hexadecimal(register: Optional[str], word: int) -> str:
-    """A word in two digits where its register has one byte, otherwise in four."""
+    """A word in two digits if its register has one byte, otherwise in four."""
     return f"{word:02X}" if register in ("OPERATION", "WRITE_PROTECT") else f"{word:04X}"
 
 
 def avsbus(byte: int) -> str:
-    """That a byte of OPERATION selects AVSBus, where its bits 5:4 are 11."""
+    """That a byte of OPERATION selects AVSBus, if its bits 5:4 are 11."""
     return ", AVSBus" if byte & 0x30 == 0x30 else ""

@@ -1,4 +1,4 @@
-"""The margins that VOUT_MIN and VOUT_MAX cut: what an output would command where one of them is selected."""
+"""The margins that VOUT_MIN and VOUT_MAX cut: what an output would command if one of them is selected."""
 from __future__ import annotations
 
 from dataclasses import dataclass

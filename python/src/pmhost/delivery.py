@@ -41,7 +41,7 @@ class Heard:
 @dataclass(frozen=True)
 class Verdict:
     """What a rail does, one of VERDICTS; the register that says so, of a fault the number of its bit, and of `not known` what was wrong
-    with the last answer. `microvolts` is READ_VOUT, None where it isn't known."""
+    with the last answer. `microvolts` is READ_VOUT, None if it isn't known."""
 
     kind: str
     register: Optional[str] = None
@@ -52,7 +52,7 @@ class Verdict:
 
 @dataclass(frozen=True)
 class Judgement:
-    """The fault limit and the limit of a warning that a word is at or beyond: each its register and its word, None where there is none."""
+    """The fault limit and the limit of a warning that a word is at or beyond: each its register and its word, None if there is none."""
 
     fault: Optional[tuple[str, int]]
     warning: Optional[tuple[str, int]]
@@ -89,11 +89,11 @@ class Delivery:
 
     @property
     def round(self) -> int:
-        """Which of its rounds it is, from 0: where it has grown, some time is to pass before the next frame."""
+        """Which of its rounds it is, from 0: if it has grown, some time is to pass before the next frame."""
         return int(self._image.round)
 
     def frame(self, host: Host) -> Optional[Sending]:
-        """The request that is to be sent now, None where nothing is to be asked any more."""
+        """The request that is to be sent now, None if nothing is to be asked any more."""
         found = at.SendingImage()
         number = library.pm_delivery_frame(REFERENCE(self._image), host.reference, REFERENCE(found))
         if number == ENDED:
@@ -102,7 +102,7 @@ class Delivery:
         return host.sending_of(found)
 
     def read_ended(self, host: Host, answer: bytes) -> None:
-        """It was sent, and these bytes came back, the read address first; none where there was no answer."""
+        """It was sent, and these bytes came back, the read address first; none if there was no answer."""
         taken = frame_bytes(answer, 2**16, "answer")
         accepted(library.pm_delivery_read_ended(REFERENCE(self._image), host.reference, taken, len(taken)))
 
@@ -120,7 +120,7 @@ class Delivery:
                        found.microvolts if found.has_microvolts else None)
 
     def judge(self, host: Host, word: int) -> Judgement:
-        """Which limits a word of the output's voltage is at or beyond. P8 where that is a fault limit, unless these are told alone."""
+        """Which limits a word of the output's voltage is at or beyond. P8 if that is a fault limit, unless these are only shown."""
         found = at.JudgementImage()
         number = library.pm_delivery_judge(REFERENCE(self._image), host.reference, whole(word, 0, 0xFFFF, "word"), REFERENCE(found))
         register, held = NAMES.get(found.fault), found.fault_word
@@ -134,7 +134,7 @@ class Delivery:
 
 
 def goal_of(course: Course, host: Host, code: int) -> Optional[int]:
-    """The word that an output is to command once a course has ended, of VOUT_COMMAND or a margin; None where the course has none of it."""
+    """The word that an output is to command once a course has ended, of VOUT_COMMAND or a margin; None if the course has none of it."""
     found = ctypes.c_uint16()
     number = library.pm_course_goal(course.reference, host.reference, code, REFERENCE(found))
     if number == NO_GOAL:

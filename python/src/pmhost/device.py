@@ -38,13 +38,21 @@ ANOTHER = 0x30
 
 
 class Device:
-    """A part on a bus, through a host of its own.
+    """A part on a bus, through a host of its own. `address` has seven bits, 08h to 77h, `outputs` is 1 to 8, and a job is tried at most
+    `passes` times, 1 to 15.
 
-    `limits` gives outputs a least and a most, as {0: ("3.2V", "3.465V")}: no order beyond them leaves this host, and
-    they can be narrowed by `set_limits`. {1: None} says that output 1 has none; an output that isn't named is ordered no voltage (L8). `lacks` names registers that the part doesn't have, as ("VOUT_MIN",). A voltage is a text with
-    its unit, as "3.3V" or "850mV", or a Voltage, which is what is given back.
+    >>> device = Device(ModelBus(0x58), 0x58, outputs=2, limits={0: ("3.135V", "3.465V")})
+    >>> print(device.set_voltage(0, "3.3V").band.least)
+    3.300048V
+    >>> device.set_voltage(0, "5V")
+    Traceback (most recent call last):
+    pmhost.errors.LimitRefused: VOUT_COMMAND: L4 AboveLimit: above the output's limits: give a voltage within them
 
-    An order, a survey and a margin look at the rail behind their end, and raise NotDelivered where it doesn't deliver what it is commanded
+    `limits` gives outputs a least and a most: no order beyond them leaves this host, and `set_limits` can narrow them. {1: None} says that
+    output 1 has none; an output that isn't named is ordered no voltage (L8). `lacks` names registers that the part doesn't have, as
+    ("VOUT_MIN",). A voltage is a text with its unit, as "3.3V" or "850mV", or a Voltage, which is what is given back.
+
+    An order, a survey and a margin look at the rail after their end, and raise NotDelivered if it doesn't deliver what it is commanded
     to; `delivered` has what was read last. `looks` says how; None doesn't look.
 
     Several threads may use it: a call waits until that of another thread has ended. `host` itself is for one thread at a time.
@@ -83,24 +91,24 @@ class Device:
 
     @alone
     def no_limits(self, output: int) -> None:
-        """Says that an output has no limits. L6 where it has some."""
+        """Says that an output has no limits. L6 if it has some."""
         self.host.no_limits(output)
 
     @alone
     def limits(self, output: int) -> tuple[Voltage, Voltage] | None:
-        """The limits of an output, None where it was given none."""
+        """The limits of an output, None if it was given none."""
         found = self.host.limits(output)
         return None if found is None else (found.least, found.most)
 
     @alone
     def limits_state(self, output: int) -> str:
-        """How the output lies to its limits, by what is known: `within`, `outside`, `not known` where that doesn't tell, or `no limits`
-        where it was given none."""
+        """How the output lies to its limits, by what is known: `within`, `outside`, `not known` if that doesn't tell, or `no limits`
+        if it was given none."""
         return self.host.limits_state(output)
 
     @alone
     def band(self, output: int) -> tuple[Voltage, Voltage] | None:
-        """Which voltages the output may be commanded to, by what is known; None where its format isn't known, or where OPERATION
+        """Which voltages the output may be commanded to, by what is known; None if its format isn't known, or if OPERATION
         may hand its voltage to AVSBus."""
         try:
             found = self.host.band(output)
@@ -117,7 +125,7 @@ class Device:
 
     @alone
     def voltage(self, output: int, register: str | int = "VOUT_COMMAND") -> Voltage | None:
-        """The voltage of a register whose word is confirmed, rounded down to microvolts; None where none is. A ValueError of a
+        """The voltage of a register whose word is confirmed, rounded down to microvolts; None if none is. A ValueError of a
         register that is no voltage."""
         if NAMES[code_of(register)] in ("OPERATION", "WRITE_PROTECT"):
             raise ValueError(f"register: {NAMES[code_of(register)]} is no voltage")
@@ -133,7 +141,7 @@ class Device:
 
     @alone
     def run(self) -> Step:
-        """Carries the job out that `host` has open, and says how it ended. `transfers` tells what became of its frames."""
+        """Carries the job out that `host` has open, and says how it ended. `transfers` says what became of its frames."""
         self.transfers = Transfers()
         return self.host.run(self.bus, self.transfers)
 
@@ -151,7 +159,7 @@ class Device:
 
     @alone
     def learn(self, output: int) -> str:
-        """Learns the format of an output's voltages, and says it: ULINEAR16 or DIRECT."""
+        """Learns the format of an output's voltages, and says it: ULINEAR16 or DIRECT. Raises Unknown if none was found. H3, H4."""
         self._ended(self._do(lambda: self.host.learn(output)), f"learn {output}", None)
         form = self.host.format(output)
         assert form is not None
@@ -165,10 +173,11 @@ class Device:
 
     @alone
     def order_voltage(self, output: int, voltage: GivenVoltage, register: str | int = "VOUT_COMMAND") -> RailState:
-        """Orders the word nearest to a voltage, reads it back, and says what the output commands then, by what is known.
+        """Orders the word nearest to a voltage, reads it back, and says what the output commands then, by what is known. `set_voltage`
+        reads all that decides, too.
 
-        The output's format has to be learned first (H7). Raises a Refused before anything is sent, and Differs or
-        Unknown where the word wasn't confirmed."""
+        The output's format has to be learned first (H7). Raises a Refused before anything is sent, of H3 to H7, N3 to N5 or L2 to L8, and
+        Differs or Unknown if the word wasn't confirmed."""
         wanted = Voltage(voltage)
         step = self._do(lambda: self.host.order_voltage(output, register, wanted))
         self._ended(step, f"order {output} {wanted}", (output, register))
@@ -176,13 +185,14 @@ class Device:
 
     @alone
     def order(self, output: int, register: str | int, word: int) -> None:
-        """Orders a word and reads it back."""
+        """Orders a word of 0 to FFFFh, of OPERATION and WRITE_PROTECT to FFh, and reads it back. Raises Differs or Unknown if it wasn't
+        confirmed, and before anything is sent a Refused of H3 to H6 or L2 to L8."""
         step = self._do(lambda: self.host.order(output, register, word))
         self._ended(step, f"order {output} {NAMES[code_of(register)]}", (output, register))
 
     @alone
     def check(self, output: int, register: str | int = "VOUT_COMMAND") -> int:
-        """Reads a register back, and answers its word."""
+        """Reads a register, and answers its word, which is confirmed then. Raises Unknown if no good answer came. H3, H4, L7."""
         step = self._do(lambda: self.host.check(output, register))
         self._ended(step, f"check {output} {NAMES[code_of(register)]}", (output, register))
         word = self.host.confirmed_word(output, register)
@@ -202,8 +212,8 @@ class Device:
     @alone
     def complete(self, course: Course, before_order: Callable[[Job], None] | None = None,
                  after_order: Callable[[Job, Step], None] | None = None, job: str = "", accept: GivenVoltage | None = None) -> RailState:
-        """Carries a course out, as `Host.run_course` does, and says what the output commands then. Raises how it ended where it has not
-        reached what is wanted: a Refused, Differs, NoFormat, OtherSource or Spent, behind the words of a job; and NotDelivered. Where an
+        """Carries a course out, as `Host.run_course` does, and says what the output commands then. Raises how it ended if it has not
+        reached what is wanted: a Refused, Differs, NoFormat, OtherSource or Spent, after the words of a job; and NotDelivered. If an
         order differs and the held word is `accept` near, that is wanted instead, as by `Course.accept`."""
         self.transfers, self.delivered = Transfers(), None
         look = None if self.looks is None else Look(self, course.output, self.looks)
@@ -250,20 +260,22 @@ class Device:
         return False
 
     def survey(self, output: int, tries: int = SURVEY_TRIES) -> RailState:
-        """Reads all that decides what the output commands, and says it."""
+        """Reads all that decides what the output commands, and says it, in at most `tries` jobs. Orders nothing."""
         return self.complete(Course.survey(output, tries), job=f"survey {output}")
 
     def set_voltage(self, output: int, voltage: GivenVoltage, register: str | int = "VOUT_COMMAND", tries: int = TRIES,
                     accept: GivenVoltage | None = None) -> RailState:
         """Brings a register of the output to the word of a voltage: the nearest one, of VOUT_MAX and VOUT_MIN the one that keeps the
-        bound. Says what the output commands then. With `accept="3mV"` a part may round: where the order differs, a held word whose value is
+        bound. Says what the output commands then. With `accept="3mV"` a part may round: if the order differs, a held word whose value is
         this near is taken."""
         wanted = Voltage(voltage)
         return self.complete(Course.voltage(output, wanted, register, tries), job=f"set {output} {wanted}", accept=accept)
 
     def apply(self, output: int, wanted: Wanted, tries: int = TRIES, before_order: Callable[[Job], None] | None = None,
               after_order: Callable[[Job, Step], None] | None = None, accept: GivenVoltage | None = None) -> RailState:
-        """Brings the output's registers to the wanted words, and says what it commands then. `accept` is that of `set_voltage`."""
+        """Brings the output's registers to the wanted words, as {"VOUT_COMMAND": 0x34CD}, in an order in which the output commands its old
+        value or its new one, and says what it commands then. `before_order` and `after_order` are those of `Host.run_course`, `accept`
+        that of `set_voltage`."""
         return self.complete(Course.words(output, wanted, tries), before_order, after_order, f"apply {output}", accept)
 
     def turn_on(self, output: int, tries: int = TRIES) -> RailState:
@@ -284,17 +296,18 @@ class Device:
 
     @alone
     def clear(self, output: int) -> None:
-        """Clears the latched faults of an output: acknowledged, and no more than that."""
+        """Clears the latched faults of an output: acknowledged, and no more than that. Raises Unknown if it wasn't."""
         self._ended(self._do(lambda: self.host.clear(output)), f"clear {output}", None)
 
     @alone
     def store(self) -> None:
-        """Has the part store its settings: acknowledged, and no more than that."""
+        """Has the part store its settings: acknowledged, and no more than that. It is sent once. Raises Unknown if it wasn't acknowledged."""
         self._ended(self._do(self.host.store), "store", None)
 
     @alone
     def restore(self) -> None:
-        """Has the part bring its stored settings back: acknowledged, and no more than that."""
+        """Has the part load its stored settings: acknowledged, and no more than that; the outputs may go off, and nothing is known of them
+        then. Raises Unknown if it wasn't acknowledged."""
         self._ended(self._do(self.host.restore), "restore", None)
 
     @property

@@ -63,7 +63,7 @@ class PmhostError(Exception):
 class Refused(PmhostError):
     """A call that the library refused: it changed nothing and sent nothing, but a part that refuses a frame (K) may set a bit of
     STATUS_CML. A course, as of `set_voltage`, may have ordered something before it was refused. `register` is the one that the
-    refusal of a course is about, where it is about one."""
+    refusal of a course is about, if it is about one."""
 
     def __init__(self, number: int, register: str | None = None) -> None:
         self.number, self.register = number, register

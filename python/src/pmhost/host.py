@@ -59,7 +59,14 @@ class Host:
     registers that the part doesn't have: of VOUT_MAX, VOUT_MARGIN_HIGH, VOUT_MARGIN_LOW and VOUT_MIN. Give each output limits before its
     first order, or say by `no_limits` that it has none.
 
-    It says by `frame` what to send, and is told what became of it by `write_ended` or `read_ended`; `run` does so over a bus.
+    >>> host, course = Host(0x58), Course.voltage(0, "3.3V")
+    >>> host.set_limits(0, "3.135V", "3.465V")
+    >>> host.run_course(course, ModelBus(0x58))
+    >>> course.end()                                # raises unless the course has reached what is wanted
+    >>> host.confirmed_word(0, "VOUT_COMMAND") == 0x34CD
+    True
+
+    It says by `frame` what to send, and hears what became of it by `write_ended` or `read_ended`; `run` does both over a bus.
     Copies share nothing. It isn't for several threads at once.
     """
 
@@ -109,11 +116,11 @@ class Host:
 
     def no_limits(self, output: int) -> None:
         """Says that an output has no limits. Without this and without limits an order of a voltage, and one of OPERATION that leaves the
-        output on, is refused (L8); turning it off isn't. L6 where it has limits."""
+        output on, is refused (L8); turning it off isn't. L6 if it has limits."""
         accepted(library.pm_host_no_limits(REFERENCE(self._image), self._there(output)))
 
     def limits(self, output: int) -> Limits | None:
-        """The limits of an output, None where it was given none."""
+        """The limits of an output, None if it was given none."""
         found = at.LimitsImage()
         number = library.pm_host_limits(REFERENCE(self._image), self._there(output), REFERENCE(found))
         if number == NO_LIMITS:
@@ -122,15 +129,15 @@ class Host:
         return Limits(of_microvolts(found.least), of_microvolts(found.most))
 
     def limits_state(self, output: int) -> str:
-        """How an output's voltage lies to its limits, by what is known: `within`, `outside`, `not known` where that doesn't tell, or
-        `no limits` where it was given none."""
+        """How an output's voltage lies to its limits, by what is known: `within`, `outside`, `not known` if that doesn't tell, or
+        `no limits` if it was given none."""
         number = library.pm_host_limits_state(REFERENCE(self._image), self._there(output))
         if number not in LIMITS_STATES:
             raise refusal(number)
         return state_of(number, self.limits(output))
 
     def band(self, output: int) -> Band:
-        """Which voltages an output may be commanded to. H7 where its format isn't known, NoBand where OPERATION may hand its voltage
+        """Which voltages an output may be commanded to. H7 if its format isn't known, NoBand if OPERATION may hand its voltage
         to AVSBus, N5."""
         found = at.BandImage()
         accepted(library.pm_host_band(REFERENCE(self._image), self._there(output), REFERENCE(found)))
@@ -186,7 +193,7 @@ class Host:
     # ---- Frames ----
 
     def frame(self) -> Sending | None:
-        """What to send now, None where no job is open."""
+        """What to send now, None if no job is open."""
         found = at.SendingImage()
         accepted(library.pm_host_frame(REFERENCE(self._image), REFERENCE(found)))
         return self.sending_of(found)
@@ -206,7 +213,7 @@ class Host:
         return self.step_of(library.pm_host_write_ended(REFERENCE(self._image), acked))
 
     def read_ended(self, answer: bytes) -> Step:
-        """A request was sent, and these bytes came back, the read address first; none where there was no answer."""
+        """A request was sent, and these bytes came back, the read address first; none if there was no answer."""
         taken = frame_bytes(answer, 2**16, "answer")
         return self.step_of(library.pm_host_read_ended(REFERENCE(self._image), taken, len(taken)))
 
@@ -219,10 +226,10 @@ class Host:
 
     def run(self, bus: Bus, transfers: Transfers | None = None) -> Step:
         """Carries the open job out over a bus, and says how it ended. An OSError of the bus is a frame that failed. STORE_USER_ALL
-        is sent once: its later passes are told as not acknowledged, unsent.
+        is sent once: its later passes count as not acknowledged, unsent.
 
-        `transfers` is told what became of each. Whatever else is raised meanwhile, as by Ctrl-C, goes on to the caller: the
-        host is told before of each frame that is left, unsent, as failed, so that the job has ended as unknown then."""
+        `transfers` hears what became of each. Whatever else is raised meanwhile, as by Ctrl-C, goes on to the caller: the
+        host hears before of each frame that is left, unsent, as failed, so that the job has ended as unknown then."""
         step, kept = None, Transfers() if transfers is None else transfers
         kept.has_stored = False
         try:
@@ -239,8 +246,8 @@ class Host:
                    after_order: Callable[[Job, Step], None] | None = None) -> None:
         """Carries a course out over a bus, frame after frame, as `run` does a job; `course.end()` says how it ended.
 
-        `before_order` is told of each order before its first frame: where it raises, the order hasn't begun, and the host is free.
-        `after_order` is told of how it ended. Whatever is raised meanwhile goes on to the caller, with the job that was under way ended as
+        `before_order` hears of each order before its first frame: if it raises, the order hasn't begun, and the host is free.
+        `after_order` hears how it ended. Whatever is raised meanwhile goes on to the caller, with the job that was under way ended as
         unknown; another call goes on from there. `transfers` has those of the last job."""
         kept, order, is_open, has_hooks = Transfers() if transfers is None else transfers, None, False, before_order or after_order
         try:
@@ -264,7 +271,7 @@ class Host:
             raise
 
     def _tell(self, before_order: Callable[[Job], None], order: Job, course: Course, host: bytes, way: bytes) -> None:
-        """Tells of an order that has begun; where that raises, host and course hold what they did before it."""
+        """Says of an order that has begun; if that raises, host and course hold what they did before it."""
         try:
             before_order(order)
         except BaseException:
@@ -273,12 +280,12 @@ class Host:
             raise
 
     def give_up(self, course: Course | None = None) -> None:
-        """Ends the open job, which may be a course's: its frames that are left aren't sent, and are told as failed."""
+        """Ends the open job, which may be a course's: its frames that are left aren't sent, and count as failed."""
         while (sending := self.frame()) is not None:
             self._hear(sending, b"" if sending.is_request else False, course)
 
     def _hear(self, sending: Sending, came: bytes | bool, course: Course | None = None) -> Step:
-        """The host, and the course that it carries out, are told what came of a frame."""
+        """The host, and the course that it carries out, hear what came of a frame."""
         if self.listener is not None:
             self.listener.told(sending, came)
         if isinstance(came, bool):
@@ -326,7 +333,7 @@ class Host:
     # ---- What is known ----
 
     def confirmed_word(self, output: int, register: str | int) -> int | None:
-        """The word of a register, where it is confirmed."""
+        """The word of a register, if it is confirmed."""
         code, found = code_of(register), at.StandingImage()
         accepted(library.pm_host_confirmed_word(REFERENCE(self._image), self._there(output), code, REFERENCE(found)))
         return word_of(found)
@@ -338,7 +345,7 @@ class Host:
         return words_of(found)
 
     def format(self, output: int) -> Format | None:
-        """The format of an output's voltages, None where it wasn't learned."""
+        """The format of an output's voltages, None if it wasn't learned."""
         found = at.FormatImage()
         accepted(library.pm_host_format(REFERENCE(self._image), self._there(output), REFERENCE(found)))
         return Format.read(found)

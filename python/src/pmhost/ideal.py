@@ -1,4 +1,4 @@
-"""The rails of a model part, which has registers alone: each delivers what its output commands, and no limit of theirs trips it."""
+"""The rails of a model part, which has registers only: each delivers what its output commands, and no limit of theirs trips it."""
 from __future__ import annotations
 
 from typing import TYPE_CHECKING

@@ -1,6 +1,6 @@
-"""Logs that `pmb check` proves: what a host sent to a part and was told of it, and what it then knows.
+"""Logs that `pmb check` proves: what a host sent to a part and heard of it, and what it then knows.
 
-Each host has a log of its own, from a head on; docs/formats.md has the lines. A log has what the host was told, no more: what is
+Each host has a log of its own, from a head on; docs/formats.md has the lines. A log has what the host heard, no more: what is
 read beside its jobs changes no setting, and isn't written.
 """
 from __future__ import annotations
@@ -25,7 +25,7 @@ def note_of(words: str) -> str:
 
 
 class HostLog:
-    """The log of one host: what it is told, and what it knows."""
+    """The log of one host: what it hears, and what it knows."""
 
     def __init__(self, host: Host, note: Callable[[str], None], lacks: frozenset[str] = frozenset()) -> None:
         self._host, self._note, self._lacks = host, note, lacks
@@ -46,7 +46,7 @@ class HostLog:
         self._note(f"#log {self._host.address:02X} {self._host.outputs} {self._host.passes}")
 
     def claim(self) -> None:
-        """Claims what the host knows, if it was told something since the last claims: each register of which one word is possible, and
+        """Claims what the host knows, if it heard something since the last claims: each register of which one word is possible, and
         what each output commands whose band is known."""
         if not self._has_news:
             return
@@ -70,7 +70,7 @@ class HostLog:
 
 class Log:
     """The file of a call's logs, which is appended to. That of a single host grows line by line; those of several stand in it one after
-    another once it is closed. A fault of the file ends the lines and not the jobs: `raise_fault` tells of it."""
+    another once it is closed. A fault of the file ends the lines and not the jobs: `raise_fault` raises it."""
 
     def __init__(self, path: str | None, words: str, is_single: bool = True) -> None:
         self._file, self._is_single = Trace(path), is_single
@@ -94,7 +94,7 @@ class Log:
             each.claim()
 
     def raise_fault(self) -> None:
-        """A NoBus where the file has failed."""
+        """A NoBus if the file has failed."""
         self._file.raise_fault()
 
     def close(self) -> None:

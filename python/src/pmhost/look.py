@@ -29,8 +29,8 @@ FAULTS = {"VOUT", "IOUT_POUT", "INPUT", "VOUT_OV_FAULT", "IOUT_OC_FAULT", "VIN_U
 
 @dataclass(frozen=True)
 class Looks:
-    """How rails are looked at. `fault_limits` refuses a voltage at or beyond a fault limit (`refuse`), says so alone (`tell`), or doesn't
-    read them (`skip`). `power_good` judges a rail whose power good alone is missing (`judge`), or says so (`tell`). READ_VOUT may be
+    """How rails are looked at. `fault_limits` refuses a voltage at or beyond a fault limit (`refuse`), says so only (`tell`), or doesn't
+    read them (`skip`). `power_good` judges a rail of which only power good is missing (`judge`), or says so (`tell`). READ_VOUT may be
     `within` thousandths away from what is commanded, and a rail is given `settle` milliseconds until it delivers."""
 
     fault_limits: str = "refuse"
@@ -101,7 +101,7 @@ class Delivered:
 
     @property
     def why(self) -> str:
-        """Why it is bad, in a sentence; nothing where it isn't."""
+        """Why it is bad, in a sentence; nothing if it isn't."""
         kind, bit = self.verdict.kind, self.verdict
         if not self.is_bad:
             return ""
@@ -110,11 +110,11 @@ class Delivered:
                 "power good alone": "power good is missing", "still on": "the part says that it is on"}.get(kind)
         if said is None:
             return f"whether the rail delivers isn't known: {bit.register}: {bit.fault or 'no good answer'}"
-        return f"{said}: `why` tells more"
+        return f"{said}: `why` says more"
 
     @property
     def said(self) -> str:
-        """What it does, in words that stand alone; nothing where the same was told before."""
+        """What it does, in words that stand by themselves; nothing if the same was said before."""
         words = "" if self.is_absent and self.is_told else self._verdict_words()
         return "; ".join([*[words] * bool(words), *self.notes])
 
@@ -150,7 +150,7 @@ class Delivered:
         return f"{found.register} gave no good answer{': ' * bool(found.fault)}{found.fault}"
 
     def _missing(self) -> str:
-        """Power good is missing, and where it begins."""
+        """Power good is missing, and at which voltage it begins."""
         begins, there = self.power_good_on, self.verdict.microvolts
         if begins is None:
             return "power good is missing"
@@ -158,7 +158,7 @@ class Delivered:
         return f"power good {'' if is_below else 'is missing, and '}begins at {voltages.shown(begins)}"
 
     def _rest(self) -> str:
-        """The status registers behind words that they don't decide."""
+        """The status registers after words that they don't decide."""
         return f"; {self.status_words}" if self.status else ""
 
 
@@ -173,7 +173,7 @@ def name_of_bit(found: Verdict) -> str:
 
 
 class Look:
-    """Of an output of a part: `before` ahead of its first order, `after` behind its end."""
+    """Of an output of a part: `before` ahead of its first order, `after` after its end."""
 
     def __init__(self, part: Device, output: int, how: Looks) -> None:
         self.part, self.output, self.how = part, output, how
@@ -183,7 +183,7 @@ class Look:
         self.answered, self.silent = set[str](), set[tuple[str, int]]()
 
     def before(self, course: Course, order: Job) -> None:
-        """Reads what stands before the first order, unless that turns the output off. P8 where the course's goal is at or beyond a fault
+        """Reads what stands before the first order, unless that turns the output off. P8 if the course's goal is at or beyond a fault
         limit."""
         if self.has_looked_before or order.register == "OPERATION" and (order.word or 0) < 0x80:
             return
@@ -250,7 +250,7 @@ class Look:
                 self.delivery.without_read_vout()
 
     def _is_silent(self, question: str) -> bool:
-        """Whether a register that is asked behind an order gave no answer at all in two rounds, that before the order among them."""
+        """Whether a register that is asked after an order gave no answer at all in two rounds, that before the order among them."""
         heard, rounds = self.delivery.heard(question), [(question, self.delivery.round)]
         if question == "status_word":
             self._hear("before", [(question, -1)])
@@ -266,7 +266,7 @@ class Look:
             self.answered.update(name for name, _ in rounds)
 
     def _read(self, sending: Sending) -> bytes:
-        """What came back, the read address first; nothing where nobody answered."""
+        """What came back, the read address first; nothing if nobody answered."""
         try:
             came = bytes(self.part.bus.read(sending.frame, sending.answer))
         except OSError:

@@ -8,7 +8,7 @@ from .reads import Reads
 
 
 def why_other_model(device: Device, part: BoardPart) -> str:
-    """Why a part isn't the model that a board file says: nothing where it is, or the file doesn't say."""
+    """Why a part isn't the model that a board file says: nothing if it is, or the file doesn't say."""
     if not part.model:
         return ""
     read = Reads(device.bus, part.address).block(probe.MFR_BLOCKS["MFR_MODEL"])

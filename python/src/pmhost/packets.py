@@ -1,4 +1,4 @@
-"""Packets of PMBus alone: their bytes, what bytes say, and what came back."""
+"""Packets of PMBus only: their bytes, what bytes say, and what came back."""
 from __future__ import annotations
 
 import ctypes
@@ -43,7 +43,7 @@ class Packet:
 
     @property
     def answer(self) -> int:
-        """How many bytes the answer of a request has behind the read address, its packet error code among them; 0 of a
+        """How many bytes the answer of a request has after the read address, its packet error code among them; 0 of a
         write."""
         whole_answer: int = self._sending(0x58).answer
         return max(whole_answer - 1, 0)
@@ -95,7 +95,7 @@ def code_request(address: int, code: int) -> bytes:
 
 def paged_request(address: int, page: int, code: int, size: int) -> tuple[bytes, int]:
     """The bytes before the repeated start of a read by PAGE_PLUS of any code, of so many bytes or, with a size of 0, of a block; and how many
-    bytes a whole answer has behind the read address."""
+    bytes a whole answer has after the read address."""
     found = SendingImage()
     accepted(library.pm_paged_request(whole(address, 0, 255, "address"), whole(page, 0, 255, "page"), whole(code, 0, 255, "code"),
                                       whole(size, 0, 32, "size"), ctypes.byref(found)))

@@ -42,9 +42,14 @@ def format_of(mode: int, coefficients: tuple[int, int, int]) -> Format:
 
 
 class ModelPart:
-    """A model converter, with PAGE, a user store, readings and latched status.
+    """A model converter, with PAGE, a user store, readings and latched status. `address` is 08h to 77h, there are 1 to 8 outputs, and
+    `coefficients` are m, b and R of DIRECT.
 
-    A SetupRefused, V1 to V5, where no converter starts so; the library says so, and of numbers that its fields can't hold
+    >>> part = ModelPart(0x58, [Output(), Output(command=0x34CD)])
+    >>> part.hear(bytes.fromhex("B0 06 02 01 21"), is_request=True).hex(" ")
+    'b1 02 cd 34 90'
+
+    A SetupRefused, V1 to V5, if no converter starts so; the library says so, and of numbers that its fields can't hold
     a ValueError."""
 
     def __init__(self, address: int, outputs: tuple[Output, ...] | list[Output] = (Output(),),
@@ -103,7 +108,7 @@ class ModelPart:
 
     def hear(self, frame: bytes, is_request: bool = False) -> bytes:
         """It hears one frame, the address byte first, which a repeated start ends or else a stop: its answer with the read
-        address, or no bytes. A PartRefused where it refuses the frame, which sets a bit of STATUS_CML and no more."""
+        address, or no bytes. A PartRefused if it refuses the frame, which sets a bit of STATUS_CML and no more."""
         taken, reply = frame_bytes(frame, 2**16, "frame"), ReplyImage()
         number = library.pm_part_hear(ctypes.byref(self._image), taken, len(taken), bool(is_request), ctypes.byref(reply))
         if number not in (SILENT, TAKEN, ANSWERED):

@@ -1,4 +1,4 @@
-"""The parts of a board file: where each one is, and what it has.
+"""The parts of a board file: the place of each one, and what it has.
 
     [parts.u12]
     bus = 1                   # /dev/i2c-1; "model" for a model part
@@ -6,8 +6,8 @@
     outputs = 2
     model = "LTC3880"         # MFR_MODEL has to begin with this
     lacks = ["VOUT_MIN"]      # registers that the part doesn't have
-    ready = "EF:60"           # the part is ready where its byte EFh has these bits
-    protect = "80"            # WRITE_PROTECT, written last; lifted where the part holds just this
+    ready = "EF:60"           # the part is ready if its byte EFh has these bits
+    protect = "80"            # WRITE_PROTECT, written last; lifted if the part holds just this
 
 A multiplexer that the kernel drives is part of the adapter: each of its channels is a bus with a number of its own.
 """
@@ -37,7 +37,7 @@ class BadRails(Exception):
 
 @dataclass(frozen=True)
 class BoardPart:
-    """A part: its bus, `model` or the number of one of Linux, and its address, which are empty and 0 where the command line has them;
+    """A part: its bus, `model` or the number of one of Linux, and its address, which are empty and 0 if the command line has them;
     how many outputs it has, what its MFR_MODEL begins with, the registers that it doesn't have, the byte and its bits by which it is
     ready, and what WRITE_PROTECT is to be."""
 
@@ -125,14 +125,14 @@ def part_of(name: str, table: object) -> BoardPart:
 
 
 def protect_of(at: str, byte: object) -> int | None:
-    """What WRITE_PROTECT is to be, where a file has it."""
+    """What WRITE_PROTECT is to be, if a file has it."""
     if byte is None or isinstance(byte, str) and byte in PROTECTIONS:
         return None if byte is None else int(str(byte), 16)
     raise BadRails(f'{at}: {byte}: give "80", "40" or "20", which let WRITE_PROTECT, OPERATION and PAGE, or these and VOUT_COMMAND be written')
 
 
 def ready_in(at: str, table: dict[str, object]) -> tuple[int, int] | None:
-    """The byte and its bits by which a part is ready, where its table has them."""
+    """The byte and its bits by which a part is ready, if its table has them."""
     ready = table.get("ready")
     if ready is None:
         return None

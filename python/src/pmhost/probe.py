@@ -1,4 +1,4 @@
-"""Whether the host can drive a part: what its answers to reads show, and to two writes with a fault where these are wished."""
+"""Whether the host can drive a part: what its answers to reads show, and to two writes with a fault if these are wished."""
 from __future__ import annotations
 
 from dataclasses import dataclass, field
@@ -46,7 +46,7 @@ class FoundOutput:
 @dataclass
 class Found:
     """What a part has. `unit` has the blocks that say which unit it is, of those that it has. `verdict` is why the host can't drive a part whose outputs couldn't be looked at; `page` says whether
-    the part looks at the page, `faults` has every other reason why the host can't drive it, `doubt` why that can't be told,
+    the part looks at the page, `faults` has every other reason why the host can't drive it, `doubt` why that isn't known,
     `writes` what became of the two writes with a fault, `is_pec_optional` says that the part takes one without its packet error code and none
     with a wrong one, `late` and `high` are those of `Reads`."""
 
@@ -76,7 +76,7 @@ class Found:
 
 
 class Probe:
-    """The questions to the part at an address: those of `run` are reads alone, `write` sends CLEAR_FAULTS. `lacks` names registers
+    """The questions to the part at an address: those of `run` are reads only, `write` sends CLEAR_FAULTS. `lacks` names registers
     that the part doesn't have: it isn't asked for them."""
 
     def __init__(self, bus: Bus, address: int, outputs: int | None = None, lacks: tuple[str, ...] = ()) -> None:
@@ -186,7 +186,7 @@ class Probe:
         if not self.given:
             found.page = "the part looks at the page: page 1F doesn't answer"
         elif len(found.outputs) == 1:
-            found.page = "whether the part looks at the page wasn't asked: page 0 alone was"
+            found.page = "whether the part looks at the page wasn't asked: only page 0 was"
         elif register := self._different():
             found.page = f"the part looks at the page: the outputs hold different words of {register}"
         else:
@@ -194,7 +194,7 @@ class Probe:
             found.doubt = "probe it without --outputs, which asks page 1F"
 
     def _different(self) -> str:
-        """A register of which two outputs hold different words, read in turn to be sure; nothing where there is none."""
+        """A register of which two outputs hold different words, read in turn to be sure; nothing if there is none."""
         first, *others = self.found.outputs
         for other in others:
             for register, word in first.words.items():
@@ -235,13 +235,13 @@ class Probe:
         return False, words if words.startswith("not known") else f"not known, two tries of three failed; in the other: {words}"
 
     def _try(self, faulty: bytes) -> tuple[bool | None, str]:
-        """Whether a write with a fault is taken, by STATUS_CML before it and behind it, and in words; None where that isn't known."""
+        """Whether a write with a fault is taken, by STATUS_CML before it and after it, and in words; None if that isn't known."""
         self._send(CLEAR.frame(self.address))
         before = self._status()
         if before is None:
             return None, "not known, STATUS_CML gave no good answer"
         if before:
-            return None, f"not known, STATUS_CML is {before:02X} behind a good CLEAR_FAULTS"
+            return None, f"not known, STATUS_CML is {before:02X} after a good CLEAR_FAULTS"
         is_acknowledged, after = self._send(faulty), self._status()
         if after is None:
             return None, "not known, STATUS_CML gave no good answer"
@@ -272,13 +272,13 @@ def spaced(data: bytes) -> str:
 
 
 def text_of(payload: bytes) -> str | None:
-    """A block that is a text of ASCII, without the blanks and zeros behind it."""
+    """A block that is a text of ASCII, without the blanks and zeros after it."""
     kept = payload.rstrip(b" \0")
     return kept.decode("ascii") if kept and all(0x20 <= byte < 0x7F for byte in kept) else None
 
 
 def block_words(payload: bytes) -> str:
-    """A block in words: as a text where it is one."""
+    """A block in words: as a text if it is one."""
     text = text_of(payload)
     return f'"{text}"' if text else spaced(payload) or "empty"
 
@@ -291,7 +291,7 @@ def format_words(form: Format) -> str:
 
 
 def mode_of(transfers: Transfers, page: int) -> int | None:
-    """VOUT_MODE of a page, where a good answer told it."""
+    """VOUT_MODE of a page, if a good answer had it."""
     for asked, payload in transfers.payloads.items():
         if (asked.kind, asked.code, asked.page) == ("PAGE_PLUS_READ", VOUT_MODE, page):
             return payload[0]
@@ -313,7 +313,7 @@ def mode_words(mode: int) -> str:
 
 
 def coefficients_words(transfers: Transfers) -> str:
-    """m, b and R with what is wrong with them, where a good answer told them."""
+    """m, b and R with what is wrong with them, if a good answer had them."""
     for asked, payload in transfers.payloads.items():
         if asked.kind == "COEFFICIENTS":
             m, b = (int.from_bytes(payload[at:at + 2], "little", signed=True) for at in (0, 2))

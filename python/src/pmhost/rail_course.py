@@ -1,4 +1,4 @@
-"""A rail's course under `apply`: it goes up to its first order, or on to its end, and its settings are told what becomes of them."""
+"""A rail's course under `apply`: it goes up to its first order, or on to its end, and its settings hear what becomes of them."""
 from __future__ import annotations
 
 from dataclasses import dataclass
@@ -23,7 +23,7 @@ OUTSIDE = "the output commands a voltage outside its limits"
 
 
 class Stopped(Exception):
-    """Why no further frame is sent; behind a job that ended badly with the part, and the output where the job was about one."""
+    """Why no further frame is sent; after a job that ended badly with the part, and the output if the job was about one."""
 
     def __init__(self, why: str, part: str | None = None, output: int | None = None) -> None:
         super().__init__(why)
@@ -64,7 +64,7 @@ class Setting:
 
 
 class RailCourse:
-    """A rail's course from its start. What stops it is told as Stopped."""
+    """A rail's course from its start. What stops it is raised as Stopped."""
 
     def __init__(self, board: Board, rail: Rail) -> None:
         self.board, self.rail, self.part = board, rail, board.on(rail)
@@ -72,7 +72,7 @@ class RailCourse:
 
     @property
     def accept(self) -> int | None:
-        """How near a held word has to be, None where only the very word will do."""
+        """How near a held word has to be, None if only the very word will do."""
         return self.board.accept if self.rail.accept is None else self.rail.accept
 
     def begun(self) -> Course:
@@ -80,8 +80,8 @@ class RailCourse:
         return Course.words(self.rail.output, self.board.wanted(self.rail), TRIES)
 
     def go(self, may_order: bool) -> None:
-        """Goes on, to its end or, where nothing may be ordered, up to its first order. Stops where a register gives no good answer, or a
-        restart was seen, or the course ended otherwise. What it refuses is told by the board, since one that orders nothing reads on."""
+        """Goes on, to its end or, if nothing may be ordered, up to its first order. Stops if a register gives no good answer, or a
+        restart was seen, or the course ended otherwise. What it refuses is said by the board, since one that orders nothing reads on."""
         self.may_order = may_order
         board, rail = self.board, self.rail
         try:
@@ -143,7 +143,7 @@ class RailCourse:
             raise self.stopped(self.unconfirmed(it, step.word, "it restarted, or rounds: --accept takes a word that is near"))
 
     def near(self, it: Setting) -> int | None:
-        """The word that a setting's register holds, where it is near enough to what the file has."""
+        """The word that a setting's register holds, if it is near enough to what the file has."""
         if self.accept is None:
             return None
         return near_word(self.part, self.rail.output, it.register, of_microvolts(self.rail.settings[it.key]), self.accept)
@@ -158,7 +158,7 @@ class RailCourse:
         return self.board.wanted(self.rail) != was
 
     def deliver(self) -> str:
-        """Looks at what the rail does: why it doesn't deliver, nothing where it does."""
+        """Looks at what the rail does: why it doesn't deliver, nothing if it does."""
         look = self.board.look_of(self.rail)
         if look is None:
             return ""
@@ -168,7 +168,7 @@ class RailCourse:
         return f"{self.rail.name}: {OUTSIDE if is_outside else found.why}" if found.is_bad else ""
 
     def judge(self) -> None:
-        """Stops where it has ended, and neither as it is wanted nor refused."""
+        """Stops if it has ended, and neither as it is wanted nor refused."""
         board, rail, found, end = self.board, self.rail, self.board.surveys[self.rail.name], self.course.ended
         for register, why in found.missing.items():
             it = next((each for each in board.of(rail) if each.register == register and each.is_ordered), None)
@@ -188,7 +188,7 @@ class RailCourse:
         return self.stopped(self.silent(register, why))
 
     def stopped(self, why: str) -> Stopped:
-        """Why it stops, behind a job that ended badly."""
+        """Why it stops, after a job that ended badly."""
         return Stopped(why, self.rail.part, self.rail.output)
 
     def silent(self, register: str, why: str) -> str:

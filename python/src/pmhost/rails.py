@@ -11,7 +11,7 @@
     on = true
     accept = "3mV"
 
-A rail has an output, its volts and its limits; margins, min and max (VOUT_MIN, VOUT_MAX) only where they are to be set. It is on,
+A rail has an output, its volts and its limits; margins, min and max (VOUT_MIN, VOUT_MAX) only if they are to be set. It is on,
 unless `on = false` says that it is off. `accept` is for a part that rounds: a held word that is this near is as wanted. Voltages are texts with their unit, exactly as they are written, to a whole microvolt.
 `after`, `wait` and `delivers` say a rail's place among the others (`sequence`).
 
@@ -72,7 +72,7 @@ class Rails:
 
     @property
     def is_board(self) -> bool:
-        """Whether the file says where its parts are."""
+        """Whether the file has the places of its parts."""
         return ONLY not in self.parts
 
     def limits(self, part: str) -> dict[int, tuple[int, int]]:

@@ -1,7 +1,7 @@
-"""Readings and status registers: which there are, and what their words say. They are read beside the host's jobs, and no job is told
+"""Readings and status registers: which there are, and what their words say. They are read beside the host's jobs, and no job hears
 of them.
 
-A reading of an output is asked for by PAGE_PLUS, one of the device by the code alone.
+A reading of an output is asked for by PAGE_PLUS, one of the device by the code only.
 """
 from __future__ import annotations
 
@@ -44,7 +44,7 @@ IN_OUTPUTS_FORMAT = {name for name, kind in KINDS.items() if kind.unit == "V" an
 
 @dataclass
 class Reading:
-    """What was read: the word, None where no good answer came, and `why` none did; its value in the unit, None where its format isn't
+    """What was read: the word, None if no good answer came, and `why` none did; its value in the unit, None if its format isn't
     known; the names of the bits that are 1 of a status register."""
 
     name: str
@@ -69,7 +69,7 @@ class Reading:
 
 def read(bus: Bus, address: int, output: int | None, name: str, form: Format | None) -> Reading:
     """A reading of an output, or of the device. `form` is the learned format of the output's voltages; None is none. A voltage of no
-    output has its word alone, since the part's PAGE decides whose it is."""
+    output has its word only, since the part's PAGE decides whose it is."""
     reads, kind = Reads(bus, address), KINDS[name]
     answer = reads.code(kind.code, kind.size, output)
     if answer.payload is None:
@@ -84,14 +84,14 @@ def read(bus: Bus, address: int, output: int | None, name: str, form: Format | N
 
 def format_of(reads: Reads, name: str, form: Format | None) -> Format | None:
     """The format of a reading: that of the output's voltages for these; otherwise LINEAR11 beside ULINEAR16, and beside DIRECT
-    what COEFFICIENTS answers for this code. None where it isn't known."""
+    what COEFFICIENTS answers for this code. None if it isn't known."""
     if form is None or name in IN_OUTPUTS_FORMAT:
         return form
     return LINEAR11 if form.kind != "DIRECT" else coefficients_of(reads.coefficients(KINDS[name].code, OF_READING))
 
 
 def coefficients_of(answer: Read) -> Format | None:
-    """The format of m, b and R; None where no good answer came, or they are those of no format."""
+    """The format of m, b and R; None if no good answer came, or they are those of no format."""
     if answer.payload is None:
         return None
     m, b, r = (int.from_bytes(answer.payload[at:at + size], "little", signed=True) for at, size in ((0, 2), (2, 2), (4, 1)))
@@ -102,7 +102,7 @@ def coefficients_of(answer: Read) -> Format | None:
 
 
 def read_notes(bus: Bus, address: int, output: int | None) -> str:
-    """What the part noted behind a job that ended badly: STATUS_CML and STATUS_VOUT of the output. Nothing where it gives no good
+    """What the part noted after a job that ended badly: STATUS_CML and STATUS_VOUT of the output. Nothing if it gives no good
     answer."""
     found = [read(bus, address, None, "STATUS_CML", None)]
     if found[0].word is not None and output is not None:

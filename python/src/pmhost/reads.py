@@ -1,6 +1,6 @@
 """Reads beside the host's jobs: each in three tries, and judged by the library's packet error code.
 
-The host isn't told of them. An answer of nothing but FFh is one that nobody gave.
+The host doesn't hear of them. An answer of nothing but FFh is one that nobody gave.
 """
 from __future__ import annotations
 
@@ -22,7 +22,7 @@ MOST_BLOCK = 32
 
 @dataclass(frozen=True)
 class Read:
-    """What came of a read: its payload, where a good answer came; otherwise the last bytes that came, and why it failed."""
+    """What came of a read: its payload, if a good answer came; otherwise the last bytes that came, and why it failed."""
 
     payload: bytes | None
     came: bytes = b""
@@ -45,7 +45,7 @@ def is_known(asked: Packet) -> bool:
 
 class Reads:
     """The bus of a part, over which nothing but FFh is no answer. `late` counts the requests that were answered at a second
-    or third try alone, `high` the answers of nothing but FFh."""
+    or third try only, `high` the answers of nothing but FFh."""
 
     def __init__(self, bus: Bus, address: int) -> None:
         self.bus, self.address = bus, address
@@ -61,7 +61,7 @@ class Reads:
         return is_acknowledged
 
     def read(self, request: bytes, count: int) -> bytes:
-        """What came back; an OSError where it is nothing but FFh. A request that nobody answered waits before it is sent again."""
+        """What came back; an OSError if it is nothing but FFh. A request that nobody answered waits before it is sent again."""
         is_again = self._wait(request)
         came = self.bus.read(request, count)
         if isinstance(came, NoAnswer) or is_ones(came):
@@ -88,7 +88,7 @@ class Reads:
         return self.packet(asked) if is_known(asked) else Read(None)
 
     def code(self, code: int, size: int, page: int | None) -> Read:
-        """One or two bytes of any code, of a page by PAGE_PLUS or of the device: by a packet of the library's table where it has the
+        """One or two bytes of any code, of a page by PAGE_PLUS or of the device: by a packet of the library's table if it has the
         code."""
         asked = Packet("read", code) if page is None else Packet("PAGE_PLUS_READ", code, page=page)
         if is_known(asked):
@@ -105,7 +105,7 @@ class Reads:
         return self._try(code_request(self.address, code), size + 1, lambda came: read_plain(self.address, code, size, came))
 
     def block(self, code: int) -> Read:
-        """A block of at most 32 bytes, of any code. What was read behind its packet error code is nothing."""
+        """A block of at most 32 bytes, of any code. What was read after its packet error code is nothing."""
         def payload(came: bytes) -> bytes:
             return read_block(self.address, code, came[:came[1] + 3] if came[1] <= MOST_BLOCK else came)
 
@@ -119,7 +119,7 @@ class Reads:
         return bytes([self.address << 1 | 1])
 
     def _try(self, request: bytes, count: int, payload: Callable[[bytes], bytes]) -> Read:
-        """What three tries give; `payload` judges what came behind the read address, which stands in front."""
+        """What three tries give; `payload` judges what came after the read address, which stands in front."""
         last, why = b"", ""
         for _ in range(TRIES):
             try:

@@ -5,5 +5,5 @@ RESERVED = {0x0C: "the SMBus alert response", 0x28: "ACCESS.bus hosts", 0x37: "A
 
 
 def why_reserved(address: int) -> str:
-    """Why nothing may be ordered at an address; nothing where it may."""
+    """Why nothing may be ordered at an address; nothing if it may."""
     return f"{address:02X} is kept for {RESERVED[address]}: no part may have it" if address in RESERVED else ""

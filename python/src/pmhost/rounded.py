@@ -1,5 +1,5 @@
-"""Parts that round: the word that a register holds may be taken in the place of the wanted one, where its value is near enough. Whether it
-is the library says, by a course of the register alone."""
+"""Parts that round: the word that a register holds may be taken in the place of the wanted one, if its value is near enough. Whether it
+is the library says, by a course of the register only."""
 from __future__ import annotations
 
 from .course import Course, Job
@@ -10,11 +10,11 @@ from .voltages import Voltage, of_microvolts
 
 
 class Taken(Exception):
-    """Held words are taken: a course that wants them begins."""
+    """Held words are taken: a course to them begins."""
 
 
 def near_word(part: Device, output: int, register: str, wanted: int | Voltage, accept: int) -> int | None:
-    """The word that a register is known to hold, where its value is that near to a word's, or to a voltage, and within the limits;
+    """The word that a register is known to hold, if its value is that near to a word's, or to a voltage, and within the limits;
     otherwise None."""
     course = Course.words(output, {register: wanted}) if isinstance(wanted, int) else Course.voltage(output, wanted, register)
     try:
@@ -27,7 +27,7 @@ def near_word(part: Device, output: int, register: str, wanted: int | Voltage, a
 
 
 class Accepting:
-    """The course of one register, of which a word that is `accept` microvolts near is taken where an order differs: `taken` has it by its
+    """The course of one register, of which a word that is `accept` microvolts near is taken if an order differs: `taken` has it by its
     register. Without `accept` none is."""
 
     def __init__(self, part: Device, course: Course, accept: int | None) -> None:

@@ -1,11 +1,12 @@
 """Which addresses of a bus answer, and which of those are PMBus parts.
 
-Each address is first asked by a read of one byte without a command, which changes nothing in most devices. A command byte is sent only where
+Each address is first asked by a read of one byte without a command, which changes nothing in most devices. A command byte is sent only if
 that was acknowledged: a device that isn't a PMBus part may take the byte for a register's number, and the next read of its own driver then
 comes from there. Multiplexers take a byte for their channels, and sit at 70h to 77h: these are sent none unless it is asked for.
 """
 from __future__ import annotations
 
+import errno
 from collections.abc import Callable, Iterator
 from dataclasses import dataclass, field
 
@@ -39,15 +40,24 @@ class Seen:
         return self.capability.payload is not None or self.revision.payload is not None
 
 
+def bus_or_why(opened: Callable[[int], LinuxBus], address: int = FIRST) -> LinuxBus | str:
+    """The bus for an address, or why somebody else has that address. NoBus if the bus itself can't be used."""
+    try:
+        return opened(address)
+    except NoBus as fault:
+        if fault.errno != errno.EBUSY:
+            raise
+        return str(fault)
+
+
 def scan(opened: Callable[[int], LinuxBus], asks_all: bool = False) -> Iterator[Seen]:
-    """What answers on a bus, address by address; `opened` opens the bus for one, and says by NoBus why it can't."""
+    """What answers on a bus, address by address; `opened` opens the bus for one. NoBus if the bus itself can't be used."""
     for address in range(FIRST, LAST + 1):
         if address in RESERVED:
             continue
-        try:
-            bus = opened(address)
-        except NoBus as fault:
-            yield Seen(address, str(fault))
+        bus = bus_or_why(opened, address)
+        if isinstance(bus, str):
+            yield Seen(address, bus)
             continue
         with bus:
             if bus.is_there():

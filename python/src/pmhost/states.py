@@ -15,12 +15,12 @@ class Bus(Protocol):
 
     def read(self, request: bytes, count: int) -> bytes:
         """Sends a request and a repeated start, and answers what came after the read address: at most `count` bytes,
-        none where there was no answer."""
+        none if there was no answer."""
 
 
 @dataclass(frozen=True)
 class Sending:
-    """The frame that is to be sent now: a write, or a request whose whole answer has `answer` bytes behind the read
+    """The frame that is to be sent now: a write, or a request whose whole answer has `answer` bytes after the read
     address."""
 
     frame: bytes
@@ -41,11 +41,11 @@ class Step:
 
 
 class Listener(Protocol):
-    """What is told of what a host is told, as for a log."""
+    """What hears all that a host hears, as for a log."""
 
     def told(self, sending: Sending, came: bytes | bool) -> None:
         """What came of a frame: of a write whether it was acknowledged, of a request the answer, the read address first, or nothing.
-        A frame that was given up unsent is told as one that failed."""
+        A frame that was given up unsent counts as one that failed."""
 
     def restarted(self) -> None:
         """The host forgets all."""
@@ -53,7 +53,7 @@ class Listener(Protocol):
 
 @dataclass(frozen=True)
 class Known:
-    """What is known of a register: its word, where that is confirmed, and the words that it may hold, None for any."""
+    """What is known of a register: its word, if that is confirmed, and the words that it may hold, None for any."""
 
     output: int | None
     register: str
@@ -79,10 +79,10 @@ class Band:
 
 @dataclass(frozen=True)
 class RailState:
-    """What an output commands, by what is known: whether it is on, None where OPERATION doesn't tell; its band, None where its
-    format isn't known, where OPERATION may hand its voltage to AVSBus, or where an end is beyond 10^15 microvolts; and how that
-    lies to its `limits`: `within`, `outside`, `not known`, or `no limits` where it was given none. `selected` is the register that has its
-    voltage, `AVSBus`, or None where that isn't known."""
+    """What an output commands, by what is known: whether it is on, None if OPERATION doesn't tell; its band, None if its
+    format isn't known, if OPERATION may hand its voltage to AVSBus, or if an end is beyond 10^15 microvolts; and how that
+    lies to its `limits`: `within`, `outside`, `not known`, or `no limits` if it was given none. `selected` is the register that has its
+    voltage, `AVSBus`, or None if that isn't known."""
 
     is_on: bool | None
     band: Band | None

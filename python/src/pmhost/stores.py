@@ -1,4 +1,4 @@
-"""When a part's settings aren't stored: where it is too hot for its memory, or a rail doesn't command the word that would be stored."""
+"""When a part's settings aren't stored: if it is too hot for its memory, or a rail doesn't command the word that would be stored."""
 from __future__ import annotations
 
 from decimal import Decimal
@@ -10,7 +10,7 @@ TEMPERATURE, MOST = "READ_TEMPERATURE_1", 85
 
 
 def too_hot(part: Device) -> str:
-    """Why a part is too hot to store, nothing where it isn't: by READ_TEMPERATURE_1 of output 0, or of the device. One that doesn't
+    """Why a part is too hot to store, nothing if it isn't: by READ_TEMPERATURE_1 of output 0, or of the device. One that doesn't
     answer it, or not in LINEAR11, isn't judged."""
     if part.host.format(0) is None:
         part.host.learn(0)

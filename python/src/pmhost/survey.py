@@ -31,7 +31,7 @@ OFF_TRIES = 4
 @dataclass
 class Commanded:
     """What an output commands, by what is known. Voltages are in microvolts; what isn't known is None. `value` is that of the
-    selected register, `form` the format of its words, and `cells` has what is known of each register. Behind a course `missing` has the
+    selected register, `form` the format of its words, and `cells` has what is known of each register. After a course `missing` has the
     register that gave no good answer, and why, and `unended` says why it came to no end otherwise."""
 
     selected: str | None = None
@@ -48,7 +48,7 @@ class Commanded:
 
     @property
     def is_within(self) -> bool | None:
-        """Whether it lies within its limits, None where that isn't known, or where it has none."""
+        """Whether it lies within its limits, None if that isn't known, or if it has none."""
         return {"within": True, "outside": False}.get(self.limits_state or "")
 
     @property
@@ -62,13 +62,13 @@ class Commanded:
         return self.least == microvolts and self.greatest in (microvolts, microvolts + 1)
 
     def only_word(self, register: str) -> int | None:
-        """The word of a register where no other is possible. One that is called confirmed may be stale behind a restart."""
+        """The word of a register if no other is possible. One that is called confirmed may be stale after a restart."""
         found = self.cells[register].possible
         return found[0] if found is not None and len(found) == 1 else None
 
 
     def would(self, operation: int) -> int | None:
-        """What it would command by a byte of OPERATION, where that is known."""
+        """What it would command by a byte of OPERATION, if that is known."""
         selected = {ON: "VOUT_COMMAND", MARGINS["high"]: "VOUT_MARGIN_HIGH", MARGINS["low"]: "VOUT_MARGIN_LOW"}.get(operation)
         words = [] if selected is None else [self.only_word(each) for each in (selected, "VOUT_MIN", "VOUT_MAX")]
         values = [None if self.form is None else self.form.told(word) for word in words]
@@ -107,7 +107,7 @@ class Nobody(Exception):
 
 
 class Listening(Transfers):
-    """Those of a course to a part that may not be there: it is Silent where the first job's requests are all unanswered."""
+    """Those of a course to a part that may not be there: it is Silent if the first job's requests are all unanswered."""
 
     def __init__(self, passes: int) -> None:
         super().__init__()
@@ -139,8 +139,8 @@ def believed(part: Device) -> Bus:
 
 def complete(part: Device, course: Course, before_order: Callable[[Job], None] | None = None,
              after_order: Callable[[Job, Step], None] | None = None, ask: Callable[[], str] | None = None) -> None:
-    """Carries a course out, as `Host.run_course` does. Where nobody answers its first job `ask` says why, nothing where the part answers,
-    and it goes on: Nobody, and without `ask` at once. NotBelieved where zeros of WRITE_PROTECT aren't believed."""
+    """Carries a course out, as `Host.run_course` does. If nobody answers its first job `ask` says why, nothing if the part answers,
+    and it goes on: Nobody, and without `ask` at once. NotBelieved if zeros of WRITE_PROTECT aren't believed."""
     bus = believed(part)
     part.transfers = Listening(part.host.passes)
     try:
@@ -166,7 +166,7 @@ def survey(part: Device, output: int) -> Commanded:
 
 
 def behind(part: Device, course: Course, end: CourseEnd | None = None) -> Commanded:
-    """What an output commands behind a course, and what this has missed."""
+    """What an output commands after a course, and what this has missed."""
     found, end = commanded(part, course.output), end or course.ended or CourseEnd("")
     if end.kind == "format":
         found.missing = {FORMAT: probe.why_not_learned(part, course.output)}
@@ -182,7 +182,7 @@ def behind(part: Device, course: Course, end: CourseEnd | None = None) -> Comman
 
 
 def ask_operation(part: Device) -> str:
-    """Why a check of OPERATION of output 0 gives no good answer, nothing where it gives one: by a host of its own, since a job is open
+    """Why a check of OPERATION of output 0 gives no good answer, nothing if it gives one: by a host of its own, since a job is open
     or its end isn't believed yet."""
     host, transfers = Host(part.host.address, 1, part.host.passes), Transfers()
     host.check(0, "OPERATION")

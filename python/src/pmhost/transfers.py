@@ -18,7 +18,7 @@ class Transfers:
         self._answers: list[tuple[int, bytes, bytes]] = []
 
     def begin(self) -> None:
-        """A course's next job begins: nothing is told of the transfers before but whether there was a write."""
+        """A course's next job begins: nothing is said of the transfers before but whether there was a write."""
         self.failed, self.error, self._answers = [], None, []
 
     def fault(self, error: OSError) -> None:
@@ -54,7 +54,7 @@ class Transfers:
                 yield asked, f"{fault.letter} {fault.name}"
 
     def why(self) -> str:
-        """Why the job ended badly, as far as its transfers say it; nothing where they all went well."""
+        """Why the job ended badly, as far as its transfers say it; nothing if they all went well."""
         found = (counted(self.failed, "1 transfer failed, the last: {}", "{} transfers failed, the last: {}"),
                  counted(self.faults, "1 answer wasn't good: {}", "{} answers weren't good: {}"))
         return "; ".join(words for words in found if words)

@@ -83,7 +83,7 @@ class Format:
 
     @classmethod
     def read(cls, image: FormatImage) -> Format | None:
-        """What the library says, None where no format is known."""
+        """What the library says, None if no format is known."""
         if image.kind == 0:
             return None
         return cls(cls.KINDS[image.kind], image.exponent, image.m, image.b)
@@ -96,7 +96,7 @@ class Format:
         return microvolts_of(self, whole(word, 0, 0xFFFF, "word"))
 
     def told(self, word: int | None) -> int | None:
-        """The same; None of no word, and where the value is beyond the 10^15 microvolts that the library tells."""
+        """The same; None of no word, and if the value is beyond the 10^15 microvolts that the library says."""
         try:
             return None if word is None else self.microvolts(word)
         except NumberRefused:

@@ -38,7 +38,7 @@ class Voltage(Decimal):
         return f"Voltage('{self}')"
 
     def __format__(self, form: str, /, *more: object) -> str:
-        """As it prints where no form is given, and by one as a Decimal."""
+        """As it prints if no form is given, and by one as a Decimal."""
         return super().__format__(form) if form else str(self)
 
     def __reduce__(self) -> tuple[type[Voltage], tuple[str]]:

@@ -1,4 +1,4 @@
-"""The way of rails under `apply`: what the host knows of each at its start, and behind each order. Nothing is sent for it."""
+"""The way of rails under `apply`: what the host knows of each at its start, and after each order. Nothing is sent for it."""
 from __future__ import annotations
 
 from dataclasses import dataclass
@@ -21,7 +21,7 @@ PLANNED = "would be ordered"
 
 @dataclass(frozen=True)
 class Knowledge:
-    """What is known of an output: whether it is on; the microvolts between which it is commanded, None where nothing is known of
+    """What is known of an output: whether it is on; the microvolts between which it is commanded, None if nothing is known of
     them; and those of its bounds, of one that isn't known None."""
 
     is_on: bool | None
@@ -30,7 +30,7 @@ class Knowledge:
 
     @property
     def value(self) -> int | None:
-        """The one value that it commands, rounded down; None where several are possible."""
+        """The one value that it commands, rounded down; None if several are possible."""
         return self.band[0] if self.band is not None and self.band[1] - self.band[0] <= 1 else None
 
 
@@ -62,14 +62,14 @@ class Way:
         board.seen = self.see
 
     def see(self, rail: Rail, it: Setting | None, step: Step | None) -> None:
-        """Behind an order and how it ended, or behind a survey."""
+        """After an order and how it ended, or after a survey."""
         if it is None or step is None:
             self.look(rail, "surveyed")
         else:
             self.ordered(rail, it, step)
 
     def look(self, rail: Rail, words: str) -> None:
-        """What is known now of a rail, where it is another than before. The first row is its start."""
+        """What is known now of a rail, if it is another than before. The first row is its start."""
         rows, known = self.rows[rail.name], self.known(rail, self.board.on(rail))
         if not rows or rows[-1].known != known:
             rows.append(WayRow(words if rows else "start", "", "", known))
@@ -82,7 +82,7 @@ class Way:
         self.rows[rail.name].append(WayRow(words, step.kind, f"given again: {end}" if is_again else end, self.known(rail, part)))
 
     def rehearse(self, rail: Rail) -> None:
-        """What the course of a rail orders where each order is confirmed: copies of the host and of the course are told so, and nothing is
+        """What the course of a rail orders if each order is confirmed: copies of the host and of the course hear this, and nothing is
         sent."""
         part = copied(self.board.on(rail))
         for order in rehearsed(part, self.board.courses[rail.name].course.copy()):

@@ -28,7 +28,7 @@ class Findings:
     found: dict[str, Reading] = field(default_factory=dict)
 
     def bits(self, name: str) -> list[str]:
-        """The bits that are 1 of a status register; none where it wasn't read."""
+        """The bits that are 1 of a status register; none if it wasn't read."""
         return self.found[name].bits if name in self.found else []
 
     def word(self, name: str) -> int | None:
@@ -47,7 +47,7 @@ class Findings:
 
 
 def findings(part: Device, output: int) -> Findings:
-    """Reads all that tells why an output is off."""
+    """Reads all that says why an output is off."""
     seen = Findings(output, survey(part, output))
     form = part.host.format(output)
 
@@ -69,10 +69,10 @@ def findings(part: Device, output: int) -> Findings:
 
 
 def cause(seen: Findings) -> str:
-    """The likeliest cause, and what to do about it; nothing where the rail is on and its power is good, or it is off as it is commanded."""
+    """The likeliest cause, and what to do about it; nothing if the rail is on and its power is good, or it is off as it is commanded."""
     status = seen.bits("STATUS_WORD")
     if seen.word("STATUS_WORD") is None:
-        return f"STATUS_WORD gives no good answer ({seen.found['STATUS_WORD'].why}): `pmhost probe` tells whether the part fits"
+        return f"STATUS_WORD gives no good answer ({seen.found['STATUS_WORD'].why}): `pmhost probe` says whether the part fits"
     config, is_on = seen.word("ON_OFF_CONFIG"), seen.state.is_on
     listens = config is None or bool(config & BY_COMMAND and config & BY_OPERATION)
     if is_on is False and listens:
@@ -84,7 +84,7 @@ def cause(seen: Findings) -> str:
 
 
 def fault(seen: Findings) -> str:
-    """The fault that most likely turned the output off; nothing where it isn't off, or none is noted."""
+    """The fault that most likely turned the output off; nothing if it isn't off, or none is noted."""
     if "OFF" not in seen.bits("STATUS_WORD") and "POWER_GOOD#" not in seen.bits("STATUS_WORD"):
         return ""
     again = f"then `off {seen.output} + on {seen.output}`, and `clear {seen.output}` takes the fault away"

@@ -1,9 +1,9 @@
-"""Zeros, which a data line that is held low gives, where they are a good answer: to a read of WRITE_PROTECT at 48h, by its packet
+"""Zeros, which a data line that is held low gives, if they are a good answer: to a read of WRITE_PROTECT at 48h, by its packet
 error code.
 
-So OPERATION of output 0 is checked before each such read and behind it. Zeros are no good answer of it at any address, since their
-count is wrong. Where zeros came between two good answers they are read a second time, since the line may have been low for that one
-transfer alone.
+So OPERATION of output 0 is checked before each such read and after it. Zeros are no good answer of it at any address, since their
+count is wrong. If zeros came between two good answers they are read a second time, since the line may have been low for that one
+transfer only.
 """
 from __future__ import annotations
 
@@ -32,7 +32,7 @@ class Believing:
         return self.bus.write(frame)
 
     def read(self, request: bytes, count: int) -> bytes:
-        """What the bus below gives, of WRITE_PROTECT where it is believed."""
+        """What the bus below gives, of WRITE_PROTECT if it is believed."""
         def read() -> bytes:
             return self.bus.read(request, count)
 
@@ -42,10 +42,10 @@ class Believing:
 
 
 def guard(address: int, register: str, ask_operation: Callable[[], str], read: Callable[[], T], is_held: Callable[[T], bool]) -> T:
-    """What a read of a register gives, or a job that ends by one. NotBelieved where zeros would be a good answer of it and a check of
-    OPERATION before or behind isn't good: `ask_operation` carries one out, and says why it gave no good answer, nothing where it gave one.
-    Where the one before isn't good nothing is read. `is_held` says that no zeros came, or that a second read gives them too;
-    NotBelieved where it doesn't."""
+    """What a read of a register gives, or a job that ends by one. NotBelieved if zeros would be a good answer of it and a check of
+    OPERATION before or after isn't good: `ask_operation` carries one out, and says why it gave no good answer, nothing if it gave one.
+    If the one before isn't good nothing is read. `is_held` says that no zeros came, or that a second read gives them too;
+    NotBelieved if it doesn't."""
     is_guarded = (address, register) == (ADDRESS, REGISTER)
     if is_guarded and (why := ask_operation()):
         raise beside(why)

@@ -82,7 +82,7 @@ JOBS = [
      "refused K1 Frame F4 WrongCount 2\n" + HELD, ""),
 ]
 EXAMPLE = "as word 1 VOUT_COMMAND 34CD"
-BESIDE = f"the plain host takes orders of words alone, {EXAMPLE}"
+BESIDE = f"the plain host takes only orders of words, {EXAMPLE}"
 NO_OPTION = "the bus with faults has no such option"
 # Command lines that aren't carried out, and what they say: status 2.
 REFUSED = [

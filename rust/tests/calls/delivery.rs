@@ -6,18 +6,22 @@ use pmhost::*;
 /// `t` it trips at 1.3 V and above, `r` its RUN pin is low, `n` it stays on, `l` READ_VOUT is 90 %, `s` STATUS_WORD gives no answer,
 /// `v` READ_VOUT gives none, `f` the fault limits give none, `g` power good is missing, `u` a fault of VOUT_UV comes with an order,
 /// `o` VOUT_OV_FAULT stands from the beginning, `c` CML comes with an order, `q` STATUS_WORD gives no answer after one, `p` READ_VOUT comes
-/// with another PEC, `i` a fault of IOUT comes with an order and STATUS_IOUT gives no answer.
+/// with another PEC, `i` a fault of IOUT comes with an order and STATUS_IOUT gives no answer, `d` READ_VOUT comes with another PEC in the
+/// first round and gives no answer then, `x` READ_VOUT is nothing but FFh, `k` no write is acknowledged.
 struct Rail {
     part: Part,
     wrong: &'static str,
     has_ordered: bool,
     writes: u32,
+    /// The codes that were asked for by PAGE_PLUS, and 0 for each write.
+    asked: Vec<u8>,
+    rounds: u32,
 }
 
 impl Rail {
     fn of(wrong: &'static str, operation: u8) -> Rail {
         let part = Part::new(0x58, &[Output { operation, max: 0x2000, ..Output::default() }], (1, 0, 3)).unwrap();
-        Rail { part, wrong, has_ordered: false, writes: 0 }
+        Rail { part, wrong, has_ordered: false, writes: 0, asked: Vec::new(), rounds: 0 }
     }
 
     fn is(&self, what: char) -> bool {
@@ -57,7 +61,7 @@ impl Rail {
             0x79 => (!self.is('s') && !(self.is('q') && self.has_ordered)).then_some((self.status(), 2)),
             0x7B => None,
             0x7A => Some((if self.is('u') { 0x10 } else { 0x80 }, 1)),
-            0x8B => (!self.is('v')).then_some((read, 2)),
+            0x8B => (!self.is('v') && !(self.is('d') && self.rounds > 1)).then_some((read, 2)),
             _ => return None,
         })
     }
@@ -69,16 +73,26 @@ impl Bus for Rail {
     fn transaction(&mut self, address: u8, operations: &mut [Operation<'_>]) -> Result<(), NoAnswer> {
         if let [Operation::Write(request), Operation::Read(answer)] = operations {
             if let [0x06, 0x02, page, code] = **request {
+                self.asked.push(code);
+                self.rounds += u32::from(code == 0x79 && self.has_ordered);
+                if code == 0x8B && self.is('x') {
+                    answer.fill(0xFF);
+                    return Ok(());
+                }
                 if let Some(held) = self.held(code) {
                     let (word, size) = held.ok_or(NoAnswer)?;
                     let mut whole = vec![address << 1, 0x06, 0x02, page, code, address << 1 | 1, size as u8];
                     whole.extend_from_slice(&word.to_le_bytes()[..size]);
-                    whole.push(pec(&whole) ^ u8::from(code == 0x8B && self.is('p')));
+                    whole.push(pec(&whole) ^ u8::from(code == 0x8B && (self.is('p') || self.is('d'))));
                     answer.copy_from_slice(&whole[6..]);
                     return Ok(());
                 }
             }
         } else {
+            self.asked.push(0);
+            if self.is('k') {
+                return Err(NoAnswer);
+            }
             self.has_ordered = true;
             self.writes += 1;
         }
@@ -150,6 +164,8 @@ fn an_end_says_what_the_rail_does() {
         ("v", "1100000", Refuse, "well: delivers by STATUS_WORD", 1),
         ("vg", "1100000", Refuse, "STATUS_WORD 0800 POWER_GOOD#: power good is missing", 1),
         ("p", "1100000", Refuse, "delivery not known: READ_VOUT gave no good answer: F5 WrongPec", 1),
+        ("d", "1100000", Refuse, "delivery not known: READ_VOUT gave no good answer: no answer", 1),
+        ("x", "1100000", Refuse, "well: delivers by STATUS_WORD", 1),
         ("i", "1100000", Refuse, "delivery not known: STATUS_IOUT gave no good answer: no answer", 1),
         ("", "off", Refuse, "well: the part says that it is off", 1),
         ("n", "off", Refuse, "commanded off, and the part says that it is on: STATUS_WORD 0000", 1),
@@ -157,6 +173,87 @@ fn an_end_says_what_the_rail_does() {
     ] {
         assert_eq!(delivered(wrong, what, limits), (said.to_string(), writes), "{wrong:?} {what}");
     }
+}
+
+/// A host whose output has limits, and a delivery of it in so many rounds.
+fn host_and_delivery(rounds: u16, has_read_vout: bool) -> (Host, Delivery) {
+    let mut host = Host::new(0x58, 1, 2).unwrap();
+    host.set_limits(0, Limits { least: 500_000, most: 2_000_000 }).unwrap();
+    let options = DeliveryOptions { rounds, has_read_vout, ..DeliveryOptions::default() };
+    (host, Delivery::new(0, &options).unwrap())
+}
+
+/// A set of an output over a bus, and what it says.
+fn set(host: &mut Host, delivery: &mut Delivery, rail: &mut Rail, microvolts: i64) -> Result<Delivered, NotDelivered<NoAnswer>> {
+    let mut course = Course::voltage(0, Register::VoutCommand, microvolts, COURSE_TRIES).unwrap();
+    host.deliver(&mut course, delivery, rail, || ())
+}
+
+#[test]
+fn a_register_is_missing_after_two_rounds_and_no_sooner() {
+    for (wrong, rounds, said) in [
+        ("v", 1, "delivery not known: READ_VOUT gave no good answer: no answer"),
+        ("v", 2, "delivers by STATUS_WORD"),
+        // The look before an order is a round of STATUS_WORD.
+        ("s", 1, "delivery not known: STATUS_WORD gave no good answer"),
+        ("q", 1, "delivery not known: STATUS_WORD gave no good answer: no answer"),
+    ] {
+        let (mut host, mut delivery) = host_and_delivery(rounds, true);
+        let found = match set(&mut host, &mut delivery, &mut Rail::of(wrong, 0x80), 1_100_000) {
+            Ok(verdict) => verdict.to_string(),
+            Err(why) => why.to_string(),
+        };
+        assert_eq!(found, said, "{wrong} {rounds}");
+    }
+}
+
+#[test]
+fn nothing_is_asked_twice_in_a_chain_nor_of_a_register_that_is_missing() {
+    let (mut host, mut delivery) = host_and_delivery(3, true);
+    let mut rail = Rail::of("", 0x80);
+    let asked = |rail: &Rail, code| rail.asked.iter().filter(|it| **it == code).count();
+    for microvolts in [1_100_000, 1_050_000] {
+        assert!(set(&mut host, &mut delivery, &mut rail, microvolts).is_ok());
+    }
+    // STATUS_WORD once before both and once after each, the limits once.
+    assert_eq!((asked(&rail, 0x79), asked(&rail, 0x40), asked(&rail, 0x44), asked(&rail, 0x8B)), (3, 1, 1, 2));
+    let (mut host, mut delivery) = host_and_delivery(3, false);
+    let mut rail = Rail::of("", 0x80);
+    let found = set(&mut host, &mut delivery, &mut rail, 1_100_000).unwrap();
+    assert_eq!((found.to_string().as_str(), asked(&rail, 0x8B)), ("delivers by STATUS_WORD", 0));
+}
+
+#[test]
+fn nothing_is_asked_before_an_order_that_turns_the_output_off() {
+    for is_begun in [false, true] {
+        let (mut host, mut delivery) = host_and_delivery(3, true);
+        let mut rail = Rail::of("", 0x80);
+        let mut course = Course::power(0, 0x00, COURSE_TRIES).unwrap();
+        if is_begun {
+            assert!(matches!(course.frame(&mut host), Sending::Write(_)));
+        }
+        let found = host.deliver(&mut course, &mut delivery, &mut rail, || ()).unwrap();
+        assert_eq!((found.to_string().as_str(), &rail.asked[..]), ("the part says that it is off", &[0, 0x01, 0x79][..]), "{is_begun}");
+    }
+}
+
+#[test]
+fn what_an_earlier_call_wanted_is_told_of_no_later_one() {
+    use std::error::Error;
+    let (mut host, mut delivery) = host_and_delivery(3, true);
+    let mut rail = Rail::of("k", 0x80);
+    // 1.25 V is above VOUT_OV_WARN_LIMIT, and no write arrives.
+    let mut course = Course::voltage(0, Register::VoutMarginHigh, 1_250_000, COURSE_TRIES).unwrap();
+    let lost = host.deliver(&mut course, &mut delivery, &mut rail, || ()).unwrap_err();
+    assert!(matches!(lost, NotDelivered::NotReached(NotReached::Differs { register: Register::VoutMarginHigh, .. })), "{lost}");
+    assert!(lost.source().is_none());
+    rail.wrong = "";
+    assert_eq!(set(&mut host, &mut delivery, &mut rail, 1_100_000).unwrap().to_string(), "delivers 1.100097V");
+    rail.wrong = "k";
+    let mut course = Course::voltage(0, Register::VoutCommand, 1_050_000, 7).unwrap();
+    let spent = host.deliver(&mut course, &mut delivery, &mut rail, || ()).unwrap_err();
+    assert!(matches!(spent, NotDelivered::NotReached(NotReached::Spent { .. })), "{spent}");
+    assert_eq!(spent.source().unwrap().to_string(), NoAnswer.to_string());
 }
 
 #[test]

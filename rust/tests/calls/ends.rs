@@ -255,6 +255,16 @@ fn microvolts_are_exact() {
 }
 
 #[test]
+fn a_bound_is_no_nearest_word() {
+    // 34CCh is 3.299804 V and 34CDh 3.300048 V, at 2 to the -12th of a volt.
+    let format = Format::Ulinear16(-12);
+    for (microvolts, below, nearest, above) in [(3_299_850, 0x34CC, 0x34CC, 0x34CD), (3_300_000, 0x34CC, 0x34CD, 0x34CD)] {
+        let found = (format.at_most(microvolts), format.nearest_word(microvolts), format.at_least(microvolts));
+        assert_eq!(found, (Ok(below), Ok(nearest), Ok(above)), "{microvolts}");
+    }
+}
+
+#[test]
 fn an_output_that_isnt_there_is_h4() {
     let (host, cell) = (host(), Cell::Output(9, Register::VoutCommand));
     let found = [
@@ -279,6 +289,10 @@ fn an_error_is_one_line() {
         (NotDone::NoFormat, "the output's voltages have a format that this host doesn't have"),
         (NotDone::Differs { word: 0x34C8 }, "the part holds 34C8: the order was lost, refused, limited or rounded"),
         (unknown(None, None), "it isn't known what became of the job: no good answer or acknowledgement came"),
+        (
+            unknown(None, Some(Refusal::F2Short)),
+            "it isn't known what became of the job: no good answer or acknowledgement came; the last answer: F2 Short",
+        ),
         (
             unknown(Some(Broken(2)), Some(Refusal::F5WrongPec)),
             "it isn't known what became of the job: no good answer or acknowledgement came; the last answer: F5 WrongPec; \

@@ -265,6 +265,17 @@ fn a_part_has_a_page_and_a_store() {
 }
 
 #[test]
+fn a_part_starts_with_its_words_and_hears_its_own_address() {
+    let words = Output { mode: 0x14, operation: 0x40, command: 0x1001, max: 0x4002, margin_high: 0x1103, margin_low: 0x0F04, min: 0x0005 };
+    let mut part = Part::new(0x58, &[words], (1, 0, 3)).unwrap();
+    let held = Register::ALL.map(|register| part.register(0, register).unwrap());
+    assert_eq!(held, [0x40, 0x1001, 0x4002, 0x1103, 0x0F04, 0x0005]);
+    let order = &mut [Operation::Write(&CARRIED[1..])];
+    assert_eq!(part.transaction(0x59, order), Err(NoAnswer));
+    assert_eq!((part.transaction(0x58, order), part.word(COMMAND)), (Ok(()), Ok(0x34CD)));
+}
+
+#[test]
 fn a_part_has_readings_and_status() {
     let mut part = Part::new(0x58, &[Output::default(); 2], (1, 0, 3)).unwrap();
     part.set_reading(Reading::Vin, 0xD300).unwrap();

@@ -53,6 +53,29 @@ fn a_rail_is_told_by_what_is_known() {
 }
 
 #[test]
+fn a_set_says_what_its_own_output_commands() {
+    let output = |command| Output { command, ..Output::default() };
+    let mut part = Part::new(0x58, &[output(0x1000), output(0x1000)], (1, 0, 3)).unwrap();
+    let mut host = free(0x58, 2, 3);
+    let rail = host.set_microvolts(1, Register::VoutCommand, 3_300_000, COURSE_TRIES, &mut part).unwrap();
+    assert_eq!((rail.power, rail.band), (Power::On, Ok(Band { least: 3_300_048, greatest: 3_300_049 })));
+    assert_eq!(host.rail(0).unwrap().band, Err(Refusal::H7FormatUnknown));
+    // Output 0 has limits that nothing is known to be within, and output 1 none.
+    host.set_limits(0, Limits { least: 900_000, most: 1_100_000 }).unwrap();
+    assert_eq!((host.rail(0).unwrap().within, host.rail(1).unwrap().within), (LimitsState::NotKnown, LimitsState::Yes));
+}
+
+#[test]
+fn a_refusal_names_the_cell_of_its_own_output() {
+    let mut part = Part::new(0x58, &[Output::default(), Output::default()], (1, 0, 3)).unwrap();
+    let mut host = free(0x58, 2, 3);
+    let wanted = Wanted { command: Some(0x5000), ..Wanted::default() }; // VOUT_MAX is 4000h
+    let refused = host.run_course(&mut Course::words(1, &wanted, COURSE_TRIES).unwrap(), &mut part);
+    let cell = Some(Cell::Output(1, Register::VoutCommand));
+    assert_eq!(refused, Err(NotReached::Refused { refusal: Refusal::P6AboveMax, cell }));
+}
+
+#[test]
 fn a_rail_says_which_register_has_its_voltage() {
     let rows = [
         (0x40, Selected::Register(Register::VoutCommand)),

@@ -8,7 +8,8 @@
  *   a  a write is acknowledged, a read has a good answer    u  nobody acknowledges the address, nothing comes
  *   n  a byte isn't acknowledged, nothing comes             o  a read has nothing but FFh
  *   m  a read says one byte more than its room              k, l  as a from 440 ms and from 4,100 ms on, and as u before
- *   b  the byte of readiness is 20h                         x  it is 60h, with a wrong packet error code */
+ *   b  the byte of readiness is 20h                         x  it is 60h, with a wrong packet error code
+ *   f  CAPABILITY is FFh, and its packet error code isn't */
 typedef struct {
     const char *name;
     uint8_t address;
@@ -51,6 +52,7 @@ static const row rows[] = {
     {"ones are no answer", 0x58, 'v', 3, 0, "o", 3, 0, 0, 0, 3, 0, 0},
     {"nor where their packet error code is right", 0x4A, 'p', 1, 0, "o", 3, 0, 0, 0, 1, 0, 0},
     {"more bytes than there is room for", 0x58, 'v', 1, 0, "m", 3, 0, 0, 0, 1, 0, 0},
+    {"CAPABILITY of FFh", 0x58, 'o', 1, 0, "afa", 1, 0, 1, 1, 1, 10, 0},
     {"more of a question", 0x58, 'o', 1, 0, "amaa", 1, 0, 1, 2, 1, 30, 0},
     {"a byte of readiness", 0x58, 'o', 1, 0, "abba", 1, 0, 1, 3, 1, 70, 0x60},
     {"a byte of readiness of which one bit is asked for", 0x58, 'o', 1, 0, "aba", 1, 0, 1, 1, 1, 10, 0x20},
@@ -91,6 +93,8 @@ static uint8_t put(void *context, const uint8_t *bytes, uint64_t count) {
 static void say(const row *of, const uint8_t *request, char does, uint8_t *answer) {
     uint8_t frame[4] = {request[0], request[1], (uint8_t)(request[0] | 1), (uint8_t)(does == 'b' ? 0x20 : 0x60)};
     memcpy(answer, capability, sizeof capability);
+    if (does == 'f')
+        answer[0] = 0xFF;
     if (of->mask != 0) {
         answer[0] = frame[3];
         answer[1] = (uint8_t)(pm_pec(frame, 4) ^ (does == 'x'));

@@ -13,13 +13,15 @@
  *     ones      the answer is nothing but FFh
  *     empty     a read succeeds, and nothing was written into its buffer
  *     int       SIGINT comes in the midst of it, and it goes on; so with term, quit and hup
+ *     low       the data line is held low from now on
  *
  * The word `count`, which is no transfer's, has it print at the end how many transfers there were, and for how long was waited.
  * Nobody acknowledges a read of one byte from address 02h, which is no transfer of MISHAPS. /dev/i2c-2 is held by a driver of
  * the kernel, /dev/i2c-3 may not be opened, /dev/i2c-4 is no bus. Another program drives address 58h of /dev/i2c-5, which is
  * otherwise as /dev/i2c-1; the data line of /dev/i2c-6 is held low. There are no others. With LOCKS, a path, the buses are open
  * files of that path, and locks are the kernel's. The clock stands but for waits. Of a transfer that went well the answer is
- * the number of messages, as a kernel's; one while a signal could come says so. */
+ * the number of messages, as a kernel's; one while a signal could come says so. A bus is opened for both directions, and a message has
+ * the flag of its own: anything else is EACCES and EINVAL. A program that leaves a bus open is told so, but not one that preload.c is below. */
 #ifndef _GNU_SOURCE
 #define _GNU_SOURCE /* the lock of an open file */
 #endif
@@ -40,7 +42,7 @@ enum { FIRST_FILE = 76, BUSES = 6, ADDRESS = 0x58 };
 static const pm_part_config config = {ADDRESS, 1, 0, 0, 1, 0, 0, {{0x14, 0, 0x80, 0x1000, 0x4000, 0x1100, 0x0F00, 0x0000}}};
 static pm_part part;
 static long long waited; /* nanoseconds */
-static int transfers;
+static int transfers, open_buses, has_fallen;
 
 int __real_open(const char *path, int flags, ...);
 int __real_fcntl(int file, int request, ...);
@@ -58,8 +60,18 @@ int __wrap_open(const char *path, int flags, ...) {
         return fails(ENOENT);
     if (getenv("LOCKS"))
         locked_file = __real_open(getenv("LOCKS"), flags);
-    return number == 3 ? fails(EACCES) : FIRST_FILE + number;
+    if (number == 3 || (flags & O_ACCMODE) != O_RDWR)
+        return fails(EACCES);
+    open_buses++;
+    return FIRST_FILE + number;
 }
+
+#ifndef IS_PRELOADED
+__attribute__((destructor)) static void say_left_open(void) {
+    if (open_buses > 0)
+        printf("%d bus left open\n", open_buses);
+}
+#endif
 
 /* The mishap of this transfer. */
 static const char *mishap_of(int place) {
@@ -118,10 +130,15 @@ static void ask_signals(void) {
 
 static int transfer(const struct i2c_rdwr_ioctl_data *whole, int is_low) {
     int reads = whole->nmsgs == 2;
+    is_low |= has_fallen;
     ask_signals();
     if (whole->nmsgs == 1 && whole->msgs[0].addr == 2 && whole->msgs[0].flags == I2C_M_RD && whole->msgs[0].len == 1)
         return is_low ? 1 : fails(ENXIO);
+    if (whole->msgs[0].flags != 0 || (reads && whole->msgs[1].flags != I2C_M_RD))
+        return fails(EINVAL);
     const char *mishap = mishap_of(transfers++);
+    has_fallen |= strcmp(mishap, "low") == 0;
+    is_low |= has_fallen;
     int number = signalled(mishap);
     pm_part_reply reply = {0, 0, {0}};
     if (is_low)
@@ -187,6 +204,7 @@ int __wrap_close(int bus) {
         printf("%d transfers, %lld ms\n", transfers, waited / 1000000);
         fflush(stdout);
     }
+    open_buses -= bus > FIRST_FILE;
     return bus > FIRST_FILE ? 0 : fails(EBADF);
 }
 

@@ -25,7 +25,7 @@ impl Converter {
         self.cut[output] || self.is_output_cut(output)
     }
 
-    /// Latches that an output's selected value is outside its limits, where it is.
+    /// Latches that an output's selected value is outside its limits, if it is.
     pub(super) fn latch(&mut self, output: u8)
         requires { output < self.old.config.count }
         ensures { self.new ≡ record self.old {

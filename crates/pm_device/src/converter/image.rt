@@ -15,7 +15,7 @@ use pm_model::Plain;
 use pm_table::Cell;
 
 impl Converter {
-    /// The converter whose image it is. None where it is the image of none: another mark or version, a configuration
+    /// The converter whose image it is. None if it is the image of none: another mark or version, a configuration
     /// that [`Converter::new`] refuses, a word that its cell doesn't accept, a PAGE with no output, or in the store
     /// another word of WRITE_PROTECT than its start word.
     pub fn read(image: &PartImage) -> Option<Converter>

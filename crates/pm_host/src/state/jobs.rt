@@ -19,7 +19,7 @@ use crate::state::{State, nearest_word};
 use pm_table::Cell;
 
 impl State {
-    /// Begins a job where none is open, as `Host::begin`: the stage at which it stands then.
+    /// Begins a job if none is open, as `Host::begin`: the stage at which it stands then.
     #[tactic(auto, unfolding(crate::specs::Summary::next))]
     pub fn begin(&mut self, stage: Option<Stage>, job: Job) -> Result<Stage, HostFault>
         requires sound { IsSound (held stage self.old) }
@@ -84,7 +84,7 @@ impl State {
         Ok(Stage::Asks { question, tries: 0 })
     }
 
-    /// Refuses where the cell isn't there.
+    /// Refuses if the cell isn't there.
     pub(super) fn refuse_cell(&self, cell: Cell) -> Result<(), HostFault>
         requires { IsSound (held None self.now) }
         ensures fault { result_err result ≡ cell_fault (held None self.now) cell }

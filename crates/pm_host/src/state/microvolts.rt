@@ -19,7 +19,7 @@ use pm_num::{AnyFormat, Frac, NumFault, NumFormat, micro, nearest_words_hold};
 use pm_table::Cell;
 
 impl State {
-    /// The format of the cell's output, where the cell is a voltage that may be ordered now.
+    /// The format of the cell's output, if the cell is a voltage that may be ordered now.
     // It isn't inlined: it would weigh on each order of a word.
     #[inline(never)]
     pub(super) fn voltage_format(&self, cell: Cell) -> Result<AnyFormat, HostFault>
@@ -47,8 +47,8 @@ impl State {
     }
 }
 
-/// The word of a format that is nearest to a number of microvolts. N5 where the number is beyond
-/// 10^15 in size, N3 and N4 where it lies outside the format's least and greatest value.
+/// The word of a format that is nearest to a number of microvolts. N5 if the number is beyond
+/// 10^15 in size, N3 and N4 if it lies outside the format's least and greatest value.
 pub fn nearest_word(format: &AnyFormat, x: i64) -> Result<u16, HostFault>
     ensures fault { result_err result ≡ range_fault (shape_of format.now) x }
     ensures nearest { let shape = shape_of format.now in

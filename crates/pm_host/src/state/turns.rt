@@ -25,7 +25,7 @@ use crate::state::{OUTPUTS, State};
 use pm_table::{Cell, VoutMode};
 
 impl State {
-    /// The write of an order begins to be sent; `None` where its word has no room among those that the cell
+    /// The write of an order begins to be sent; `None` if its word has no room among those that the cell
     /// may hold.
     pub(super) fn begin_write(&mut self, cell: Cell, word: u16, pass: u8) -> Option<Stage>
         requires sound { IsSound (held None self.old) }

@@ -172,7 +172,7 @@ fn a_rail_is_told_by_what_is_known(rt: HostRuntime) {
 fn asked() -> Result<(Option<PlanFault>, Option<Job>), HostFault> {
     let guard = Guard::new(0x58, 1, 2, [OutputLimits::Unknown; 8])?;
     let wanted = Wanted {
-        command: Some(0x34CD), // 3.3 V where VOUT_MODE says ULINEAR16 with the exponent -12
+        command: Some(0x34CD), // 3.3 V if VOUT_MODE says ULINEAR16 with the exponent -12
         max: Some(0x3770),
         margin_high: None,
         margin_low: None,

@@ -131,7 +131,7 @@ impl Guard {
         self.host.format(output)
     }
 
-    /// The host, for what else it tells.
+    /// The host, for what else it says.
     pub fn host(&self) -> &Host
         ensures { result.now ≡ self.now.host }
     {

@@ -8,7 +8,7 @@ from .linux import NoTransfer, Trace
 
 
 class ModelBus(ModelPartBus):
-    """A bus with one model part, which tells its transfers to a trace as LinuxBus does."""
+    """A bus with one model part, whose transfers go to a trace as those of LinuxBus do."""
 
     def __init__(self, address: int, outputs: int = 2, trace: str | Trace | None = None) -> None:
         super().__init__(ModelPart(address, [Output()] * outputs))

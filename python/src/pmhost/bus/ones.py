@@ -1,7 +1,7 @@
 """An answer of nothing but ones, which nobody gave: a bus that nobody drives is high, and a busy part may answer so.
 
 Its last byte can even be the right packet error code, as that of WRITE_PROTECT at 4Ah. No true answer of the host's jobs is
-nothing but FFh behind the read address: of PAGE_PLUS_READ and COEFFICIENTS the count would be wrong, and WRITE_PROTECT takes
+nothing but FFh after the read address: of PAGE_PLUS_READ and COEFFICIENTS the count would be wrong, and WRITE_PROTECT takes
 no FFh.
 """
 from __future__ import annotations

@@ -1,9 +1,9 @@
-"""A bus that waits for a busy part: one that doesn't acknowledge, or reads as ones, for a while behind a write.
+"""A bus that waits for a busy part: one that doesn't acknowledge, or reads as ones, for a while after a write.
 
 The wait stands at the end of a write's call, so that the next transfer meets a part that is ready: after 10 ms CAPABILITY is read, and then
 after twice the wait each time, until an answer came; or a byte of the part's own, until its bits say that it is ready. A part may note each
 question that comes while it is busy, and pull SMBALERT#, so that few are asked. A write whose address nobody acknowledged was heard by
-nobody, and is sent again after such waits, but for a store: some adapters of the kernel say the same of a byte behind the address, and a
+nobody, and is sent again after such waits, but for a store: some adapters of the kernel say the same of a byte after the address, and a
 store wears the memory. A read that may have been heard is never repeated.
 """
 from __future__ import annotations
@@ -37,7 +37,7 @@ class Waits:
         self._deadline, self._next = deadline, FIRST_WAIT
 
     def wait(self) -> bool:
-        """Waits, where the moment isn't there yet; otherwise False at once."""
+        """Waits, if the moment isn't there yet; otherwise False at once."""
         now = clock.until()
         if now >= self._deadline:
             return False
@@ -62,9 +62,9 @@ class Bare(Protocol):
 
 
 class PatientBus:
-    """A bus over another one. `delay` is the wait before each transfer and `busy_timeout` how long it waits for a busy part behind
-    each write, both in milliseconds; without `busy_timeout` 200, 1,000 behind a restore and 5,000 behind a store. `ready` is a command code
-    and bits: the part is ready where a plain read of this byte has all of these bits, by a right packet error code."""
+    """A bus over another one. `delay` is the wait before each transfer and `busy_timeout` how long it waits for a busy part after
+    each write, both in milliseconds; without `busy_timeout` 200, 1,000 after a restore and 5,000 after a store. `ready` is a command code
+    and bits: the part is ready if a plain read of this byte has all of these bits, by a right packet error code."""
 
     def __init__(self, bus: Bare, delay: int = 0, busy_timeout: int | None = None, ready: tuple[int, int] | None = None) -> None:
         self.bus, self.delay, self._busy_timeout, self.ready = bus, delay, busy_timeout, ready
@@ -73,12 +73,12 @@ class PatientBus:
         return f"PatientBus({self.bus!r}, {self.delay}, {self._busy_timeout})"
 
     def busy_timeout(self, frame: bytes) -> int:
-        """For how many milliseconds a busy part is waited for behind a frame."""
+        """For how many milliseconds a busy part is waited for after a frame."""
         command = "store" if is_command(frame, STORE_USER_ALL) else "restore" if is_command(frame, RESTORE_USER_ALL) else ""
         return timeout_of(self._busy_timeout, command)
 
     def write(self, frame: bytes) -> bool:
-        """Sends a packet, again where its address wasn't acknowledged, and waits until the part is ready. The end is that of the
+        """Sends a packet, again if its address wasn't acknowledged, and waits until the part is ready. The end is that of the
         last try."""
         deadline = clock.until() + self.busy_timeout(frame) / 1000
         try:

@@ -15,7 +15,7 @@ class Smbus2Bus:
     Its `i2c_rdwr` doesn't tell how many messages went, so an adapter of the kernel that goes with fewer and says nothing
     is taken for one that went with all: the packet error code of the answer is all that stands between. LinuxBus asks.
 
-    An address is locked at its first transfer, on a file of the bus of its own: NoBus where another program drives it, unless
+    An address is locked at its first transfer, on a file of the bus of its own: NoBus if another program drives it, unless
     `share` is given. `close` frees the addresses, and leaves the bus that was handed in open. A bus that has no number of an
     open file as `fd` isn't one of this machine, and nothing is locked."""
 
@@ -52,7 +52,7 @@ class Smbus2Bus:
             self._locked.add(address)
 
     def close(self) -> None:
-        """Frees the addresses; a transfer behind that is NoTransfer."""
+        """Frees the addresses; a transfer after that is NoTransfer."""
         self._is_closed = True
         if self._file is not None:
             self._kernel.close(self._file)

@@ -6,8 +6,8 @@ so that a live capture can be read.
         for line in trace("saleae", lines_of(file), address=0x58):
             print(line)
 
-Transfers of other devices, those with no stop, of more than two parts, and reads with no write part become comments; so
-does an address that nobody acknowledged. Another byte that wasn't acknowledged is told in a comment above its transfer.
+These become comments: transfers of other devices, those with no stop, of more than two parts, reads with no write part, and an
+address that nobody acknowledged. Another byte that wasn't acknowledged is shown in a comment above its transfer.
 """
 from __future__ import annotations
 
@@ -47,8 +47,8 @@ def clock_of(form: str, samplerate: int | None = None) -> Clock:
 def trace(form: str, lines: Iterable[str], address: int | None = None, bus: int | None = None,
           clock: Clock | None = None) -> Iterator[str]:
     """The lines of the trace, one after another as the capture's lines come: of the transfers with the device at an address
-    where one is given, and of the kernel's events of one bus where one is given. With a clock transfers have their times.
-    NoCapture where the text is none of this format, or has no transfer."""
+    if one is given, and of the kernel's events of one bus if one is given. With a clock transfers have their times.
+    NoCapture if the text is none of this format, or has no transfer."""
     is_empty, first = True, list[str]()
     lines = beginning_kept(lines, first)
     try:
@@ -74,7 +74,7 @@ def beginning_kept(lines: Iterable[str], first: list[str]) -> Iterator[str]:
 
 
 def instead(form: str, first: list[str], bus: int | None) -> str:
-    """What the first lines of a text without a packet are, behind a colon; nothing where that isn't known."""
+    """What the first lines of a text without a packet are, after a colon; nothing if that isn't known."""
     if not first:
         return ": the text is empty"
     for number, line in enumerate(first, 1):

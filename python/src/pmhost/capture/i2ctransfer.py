@@ -1,7 +1,7 @@
 """Frames of `pmb hear` as commands of i2ctransfer for a bus of Linux, and back.
 
-A command is `i2ctransfer -y BUS w7@0x58 0x05 ..`: the address byte goes behind the `@`, the packet error code is data. A
-read asks for as many bytes as its code has, which docs/commands.md tells.
+A command is `i2ctransfer -y BUS w7@0x58 0x05 ..`: the address byte goes after the `@`, the packet error code is data. A
+read asks for as many bytes as its code has, which docs/commands.md says.
 """
 from __future__ import annotations
 
@@ -38,7 +38,7 @@ class Transfer:
             raise Refused(f"line {number}: X2 BadHex: give pairs of hexadecimal digits, as B0 03 46")
         self.frame = bytes.fromhex(b"".join(words).decode())
         if rest.strip(b" ") or not self.frame:
-            raise Refused(f"line {number}: X1 Syntax: give a frame, with a / behind it where a read follows, as B0 20 /")
+            raise Refused(f"line {number}: X1 Syntax: give a frame, with a / after it if a read follows, as B0 20 /")
         self.address = self.frame[0] >> 1
         self.answer: int | None = None
         if self.frame[0] & 1:
@@ -56,8 +56,8 @@ class Transfer:
         return ["i2ctransfer", "-y", bus, f"w{len(data)}@0x{self.address:02x}", *data, *read]
 
     def told(self, tool: str, bus: str) -> tuple[str, bool]:
-        """Runs the command: the line of the trace, and whether it went well. i2ctransfer has status 0 where an adapter tells
-        of a failure by a number of messages alone: any word on standard error is a failure, and so is a byte that lacks."""
+        """Runs the command: the line of the trace, and whether it went well. i2ctransfer has status 0 if an adapter
+        shows a failure only by a number of messages: any word on standard error is a failure, as is a byte that is missing."""
         ran = subprocess.run([tool, *self.words(bus)[1:]], capture_output=True, text=True)
         sent, back = in_hexadecimal(self.frame), BYTES.findall(ran.stdout)
         wanted = self.answer or 0
@@ -96,8 +96,8 @@ def commands(text: bytes, bus: str) -> list[str]:
 
 @contextlib.contextmanager
 def locked(kernel: Calls, bus: str, addresses: set[int]) -> Iterator[None]:
-    """The addresses are of this program alone meanwhile. NoBus where another one drives one of them. Of a bus that can't be opened
-    i2ctransfer itself tells."""
+    """The addresses are this program's meanwhile. NoBus if another one drives one of them. If a bus can't be opened,
+    i2ctransfer itself says so."""
     path = f"/dev/i2c-{bus}"
     try:
         file = kernel.open(path)
@@ -114,7 +114,7 @@ def locked(kernel: Calls, bus: str, addresses: set[int]) -> Iterator[None]:
 
 def run(text: bytes, bus: str, share: bool = False, kernel: Calls | None = None) -> Iterator[tuple[str, bool]]:
     """Runs the command of each frame: the lines of the trace, and whether each went well. i2ctransfer is looked for in PATH,
-    /usr/sbin and /sbin. A faulty line is refused before any command is run, and so is an address that another program drives
+    /usr/sbin and /sbin. A faulty line is refused before any command is run, and an address that another program drives
     (NoBus), unless `share` is given."""
     found = transfers(text)
     tool = shutil.which("i2ctransfer", path=os.pathsep.join([os.environ.get("PATH", os.defpath), *MORE_PLACES]))

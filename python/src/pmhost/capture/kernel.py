@@ -62,7 +62,7 @@ def cut(buses: dict[str, Messages], ending: str) -> list[Transfer]:
 
 
 def transfers(lines: Iterable[str], clock: Clock | None = None, wanted: int | None = None) -> Iterator[Transfer]:
-    """Each transfer as the kernel tells its result, of all buses or of the one that is wanted."""
+    """Each transfer as the kernel shows its result, of all buses or of the one that is wanted."""
     buses: dict[str, Messages] = {}
     smbus = is_told = False
     for number, line in enumerate(lines, 1):

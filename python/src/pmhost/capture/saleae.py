@@ -20,7 +20,7 @@ class NoTable(NoCapture):
 
 
 def transfers(lines: Iterable[str], clock: Clock | None = None) -> Iterator[Transfer]:
-    """Each transfer as its stop comes. A start before it is a repeated one: Logic 2 tells both alike."""
+    """Each transfer as its stop comes. A start before it is a repeated one: Logic 2 shows both alike."""
     rows = csv.DictReader(lines)
     names = set(rows.fieldnames or ())
     if not COLUMNS <= names:

@@ -11,7 +11,7 @@ MOST_BYTES, MOST_PARTS = 300, 4
 
 class Transfer:
     """Parts of bytes, each acknowledged or not; `ending` says what is wrong with its end, if anything is. `time` is that of
-    its start, or None where times aren't asked for. One without parts is a note of what the capture doesn't show."""
+    its start, or None if times aren't asked for. One without parts is a note of what the capture doesn't show."""
 
     def __init__(self, time: int | None = None, ending: str | None = "no stop") -> None:
         self.parts: list[list[tuple[int, bool]]] = []
@@ -62,7 +62,7 @@ class Transfer:
         return "the second part is no read of the device" if firsts[1:] not in ([], [firsts[0] + 1]) else None
 
     def is_unheard(self) -> bool:
-        """The address alone was sent, and wasn't acknowledged: no frame, so no fault of one."""
+        """Only the address was sent, and wasn't acknowledged: no frame, so no fault of one."""
         return len(self.parts) == 1 and [is_acknowledged for _, is_acknowledged in self.parts[0]] == [False]
 
     def unacknowledged(self) -> Iterator[str]:
@@ -74,7 +74,7 @@ class Transfer:
                     break
 
     def lines(self, address: int | None) -> list[str]:
-        """What the trace has of it, where only transfers with an address are wanted, or all."""
+        """What the trace has of it, if only transfers with an address are wanted, or all."""
         refusal = self.refusal(address)
         if refusal:
             return [f"# {refusal}: {self.bytes()}" if self.parts else f"# {refusal}"]

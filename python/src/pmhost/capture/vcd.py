@@ -1,7 +1,11 @@
 """The packets of a trace as a waveform (VCD) of SCL and SDA, as a logic analyser has it: a bus of 100 kHz, a microsecond a
-step. Bytes of a line's write part are acknowledged, and of its read part all but the last; a byte after which `!` stands
-isn't, and a line that ends in `..` has no stop. Lines that are no packet aren't drawn. A text whose first line that is no comment
-is no packet is refused, as that of a trace with times is, but where its first time has an even number of digits.
+step.
+
+    pmhost capture waveform < board.trace > board.vcd
+
+Bytes of a line's write part are acknowledged, and of its read part all but the last. A byte after which `!` stands isn't, and
+a line that ends in `..` has no stop. Lines that are no packet aren't drawn. A text is refused if its first line that is no
+comment is no packet. A trace with times is refused too, unless its first time has an even number of digits.
 """
 from __future__ import annotations
 
@@ -65,7 +69,7 @@ class Waveform:
 
 
 def fault_of(trace: str) -> str | None:
-    """Why a text is no trace to draw, or None. Its first line that is no comment tells: in a trace with times it is no packet."""
+    """Why a text is no trace to draw, or None. Its first line that is no comment decides: in a trace with times it is no packet."""
     for number, line in enumerate(trace.splitlines(), 1):
         if line.strip() and not line.startswith("#"):
             return None if PACKET.fullmatch(line.strip()) else \

@@ -20,11 +20,12 @@ from ..bus import NoBus
 from ..bus.linux import Calls
 from ..errors import PmhostError
 from . import capture, faults, known, margins, names, orders, probe, rails, sequence, streams, torture, why
+from .about import WHOLE
 from .again import are_several
 from .answer import Answer
 from .completion import bash
 from .call import Call, complain
-from .parser import BadCall, Parser, bus_options, shown
+from .parser import OF_A_BUS, BadCall, Parser, bus_options, flag_of, own_options, shown, usage_of
 from .signals import Interrupted, interruptible
 
 # The modules of the commands, in the order of the help.
@@ -32,32 +33,22 @@ MODULES: list[ModuleType] = [probe, orders, why, known, rails, margins, faults, 
 # The commands that have jobs of their own, between which a + stands: the call has no other command.
 OWN_JOBS = ("faults", "torture")
 
-ABOUT = """Supply voltages over PMBus, by a proved host.
-
-    pmhost -b 1 -a 58 probe
-    pmhost -b 1 -a 58 --outputs 2 --limit 0:3.135V:3.465V set 0 3.3V
-    pmhost -b model read 0 + known
-
-Several commands stand in one call with a + between them, and share one host. Options of a bus stand before or behind a
-command's words, those of one command behind its name. After a command that doesn't end well none is begun, and only known
-and band are answered.
-
-The status is 0 where every command ended well, 1 where one didn't, 2 where the call can't be carried out or a stream
-fails (1 of capture), 3 where a part restarted and nothing else went wrong, so that the same call may end well, and 130 after
-an interruption, which says what is now unknown."""
 BAD_CALL, INTERRUPTED = 2, 130
 
 
 @functools.cache
 def parser() -> tuple[Parser, dict[str, argparse.ArgumentParser]]:
     """The whole parser, and that of each command. They are built once: to build them takes longer than most calls."""
-    whole = Parser(prog="pmhost", description=ABOUT)
+    whole = Parser(prog="pmhost", description=WHOLE)
     bus_options(whole, "")
     whole.add_argument("--version", action="version", version=f"pmhost {__version__}")
     whole.add_argument("--completion", action="store_true", help="prints the completion for bash")
     commands = whole.add_subparsers(metavar="COMMAND", dest="command", required=True, parser_class=Parser)
     for module in MODULES:
         module.add(commands)
+    for name, found in commands.choices.items():
+        if any(group.title == OF_A_BUS for group in found._action_groups):
+            found.usage = " ".join(["pmhost [OPTIONS OF A BUS]", usage_of(name, found), *(f"[{flag_of(it)}]" for it in own_options(found))])
     return whole, dict(commands.choices)
 
 
@@ -73,7 +64,7 @@ def options_of(found: argparse.ArgumentParser) -> set[str]:
 
 def parts_of(words: list[str]) -> list[list[str]]:
     """The words of each command: + stands between them. A word that begins like a negative number is no option, and argparse
-    takes one behind a blank for what it is."""
+    takes one after a blank for what it is."""
     if words[:1] and words[0] in OWN_JOBS:
         return [words]
     parts: list[list[str]] = [[]]
@@ -83,7 +74,7 @@ def parts_of(words: list[str]) -> list[list[str]]:
         else:
             parts[-1].append(f" {word}" if re.match(r"-[.0-9]", word) else word)
     if len(parts) > 1 and not all(parts):
-        raise BadCall("+: a command stands before it and behind it, as learn 0 + clear 0")
+        raise BadCall("+: a command stands before it and after it, as learn 0 + clear 0")
     return parts
 
 
@@ -95,7 +86,7 @@ def commands_of(words: list[str]) -> list[argparse.Namespace]:
     for part in [each for part in whole for each in names.parted(part, all_valued())]:
         for word in () if part[:1] and part[0] in OWN_JOBS else part:
             if word.startswith("--") and word.partition("=")[0] not in options:
-                raise BadCall(f"{shown(word)}: no such option; --help tells which there are")
+                raise BadCall(f"{shown(word)}: no such option; --help shows which there are")
         found += [read_command(each, named) for each, named in names.expanded(part, all_valued())]
     return found
 
@@ -115,13 +106,13 @@ def read_command(part: list[str], named: names.Named | None) -> argparse.Namespa
 
 @functools.cache
 def all_valued() -> set[str]:
-    """The options behind which a value stands, of any command."""
+    """The options after which a value stands, of any command."""
     whole, commands = parser()
     return valued(whole).union(*map(valued, commands.values()))
 
 
 def valued(found: argparse.ArgumentParser) -> set[str]:
-    """The options of a parser behind which a value stands."""
+    """The options of a parser after which a value stands."""
     return {flag for action in found._actions if action.nargs != 0 for flag in action.option_strings}
 
 
@@ -190,7 +181,7 @@ def judge(call: Call) -> None:
 
 
 def fail(words: list[str], why: str, end: str, status: int, call: Call | None = None) -> int:
-    """One line on standard error, and where --json is given the object, too."""
+    """One line on standard error, and if --json is given the object, too."""
     if "--json" in words and end != "stream":
         told = Answer(call.under_way if call and call.under_way else " ".join(words), end, status=status, why=why)
         try:

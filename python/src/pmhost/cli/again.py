@@ -1,4 +1,4 @@
-"""A call looks again: behind its last command each register that it ordered is read once more, since a part that restarts in the
+"""A call looks again: after its last command each register that it ordered is read once more, since a part that restarts in the
 middle of a call brings its stored words back."""
 from __future__ import annotations
 
@@ -30,7 +30,7 @@ class Ordered:
         self._words = {}
 
     def look(self, call: Call) -> int:
-        """Reads each of them once more. The status: RESTARTED where one holds another word, 1 where one gives no good answer."""
+        """Reads each of them once more. The status: RESTARTED if one holds another word, 1 if one gives no good answer."""
         for (name, output, register), (word, command) in self._words.items():
             part, where = call.places()[name].pmbus(), register if output is None else f"{register} of output {output}"
             whose = f" of {name}" * bool(name)

@@ -49,7 +49,7 @@ class Answer:
     rows: list[dict[str, object]] = field(default_factory=list)
 
     def place(self) -> str:
-        """The output behind the command, - for the device's register."""
+        """The output after the command, - for the device's register."""
         return f" {self.name}" if self.name else f" {self.output}" if self.output is not None else " -" if self.register is not None else ""
 
     def as_json(self, where: Mapping[str, object] | None = None) -> str:
@@ -69,7 +69,7 @@ class Answer:
 
 
 def delivery_of(found: Delivered | None) -> dict[str, object]:
-    """What a rail does: the verdict, READ_VOUT in volts, and STATUS_WORD; each None where nothing was looked at."""
+    """What a rail does: the verdict, READ_VOUT in volts, and STATUS_WORD; each None if nothing was looked at."""
     if found is None:
         return {"delivery": None, "read_vout": None, "status_word": None}
     return {"delivery": found.verdict.kind, "read_vout": number(found.verdict.microvolts), "status_word": in_digits(None, found.status)}
@@ -86,7 +86,7 @@ def in_digits(register: str | None, word: int | None) -> str | None:
 
 
 def between(least: int, greatest: int) -> str:
-    """A band in volts: one voltage where its ends are one, but for rounding."""
+    """A band in volts: one voltage if its ends are one, but for rounding."""
     return voltages.shown(least) if greatest - least <= 1 else f"{voltages.shown(least)} to {voltages.shown(greatest)}"
 
 
@@ -95,7 +95,7 @@ def has_colours() -> bool:
 
 
 def coloured(line: str) -> str:
-    """The line in colours, where standard output is a terminal and NO_COLOR isn't set."""
+    """The line in colours, if standard output is a terminal and NO_COLOR isn't set."""
     if not has_colours():
         return line
     return BAD.sub(rf"{RED}\1{PLAIN}", GOOD.sub(rf"{GREEN}\1{PLAIN}", line))

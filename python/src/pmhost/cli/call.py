@@ -27,13 +27,13 @@ from .protection import Protection
 MODEL_ADDRESS, MODEL_OUTPUTS, PASSES = 0x58, 2, 3
 NOTHING = "nothing was written"
 LOOKS = Looks()
-PROBE_TELLS = "; pmhost probe tells why"
+PROBE_TELLS = "; pmhost probe says why"
 # The options that say where the one part is, and what it has: a board file has them for each part.
 OF_ONE_PART = ("bus", "address", "outputs", "limit", "no_limit", "lacks", "ready")
 
 
 def complain(words: str) -> None:
-    """A line on standard error. Nobody is left to tell where that fails; what is left of it is dropped, or Python would end
+    """A line on standard error. Nobody is left to tell if that fails; what is left of it is dropped, or Python would end
     with a status of its own."""
     try:
         print(f"pmhost: {words}", file=sys.stderr, flush=True)
@@ -42,7 +42,7 @@ def complain(words: str) -> None:
 
 
 class Call:
-    """The options of a call, which stand before or behind any of its commands, and the parts that they share: one, or those of a
+    """The options of a call, which stand before or after any of its commands, and the parts that they share: one, or those of a
     board file.
 
     `maybe` says what the part may hold if the job under way is broken off once it has written, and `settled` what is certain
@@ -128,7 +128,7 @@ class Call:
         return len(self.commands) == 1 and getattr(self.commands[0], "can_scan", False)
 
     def take_rails(self, arguments: argparse.Namespace, found: Rails) -> None:
-        """What the parts have, and the limits, by a file of rails, is so of the whole call; a board file says where the parts are,
+        """What the parts have, and the limits, by a file of rails, counts for the whole call; a board file has their places,
         too. BadCall."""
         for name in OF_ONE_PART if found.is_board else OF_ONE_PART[2:]:
             if self._all(name) and (name != "ready" or found.is_board):
@@ -164,7 +164,7 @@ class Call:
         is_named = getattr(arguments, "named", None) is not None
         if output is not None and not is_named and output not in self.limits and not self.is_unlimited:
             raise BadCall(f"{said(arguments)}: give --limit {output}:LEAST:MOST, what the load tolerates, as "
-                          f"--limit {output}:3.135V:3.465V, or --no-limit; `probe` tells the outputs for --outputs")
+                          f"--limit {output}:3.135V:3.465V, or --no-limit; `probe` counts the outputs for --outputs")
 
     # ---- The parts ----
 
@@ -211,11 +211,11 @@ class Call:
         return None if self.looks is None else Look(self.part(), output, self.looks)
 
     def patient(self, busy_timeout: int | None = None) -> ModelPartBus | PatientBus:
-        """The bus of the one part, which waits for it where it is busy."""
+        """The bus of the one part, which waits for it if it is busy."""
         return self.only().patient(busy_timeout)
 
     def no_part(self, arguments: argparse.Namespace) -> int:
-        """Before the first command that writes something without a course the part has to answer. 0, or the status where it doesn't:
+        """Before the first command that writes something without a course the part has to answer. 0, or the status if it doesn't:
         nothing was ordered. Those of a board file are looked for by its own command."""
         is_board = self._rails is not None and self._rails.is_board and self.named is None
         if is_board or self.part_name in self.has_answered or getattr(arguments, "dry_run", False):
@@ -246,7 +246,7 @@ class Call:
         return found
 
     def claim(self) -> None:
-        """A command has ended: its log, where one is written, claims what is known then."""
+        """A command has ended: its log, if one is written, claims what is known then."""
         if self._log is not None:
             self._log.claim()
 
@@ -278,7 +278,7 @@ class Call:
         return answer.status
 
     def where(self) -> dict[str, object]:
-        """The bus, the address and the name of the part that the command under way is about, None of each where these are several."""
+        """The bus, the address and the name of the part that the command under way is about, None of each if these are several."""
         if self._rails is not None and self._rails.is_board:
             if self.named is None:
                 return NOWHERE

@@ -8,18 +8,26 @@ from typing import Any
 from .. import capture
 from ..capture import i2ctransfer, vcd
 from . import streams
+from .about import COMMANDS
 from .call import Call, complain
 from .parser import BUS, BadCall, address_of, shown
 from .texts import standard_input, told, without_a_bus
 
-ABOUT = """Turns a capture of a bus on standard input into a trace for pmb decode, packet by packet as they end.
+ABOUT = """Turns a capture of a bus on standard input into a trace for `pmb decode`, packet by packet as they end.
 
-Packets of other devices, those with no stop, of more than two parts, and reads with no write part become comments; so does
-an address that nobody acknowledged. The status is 1 where no packet is found, or the text isn't a capture of that kind."""
-ABOUT_FRAMES = """Turns the frames of pmb hear on standard input into commands of i2ctransfer for a bus of Linux.
+    {example} | pmb decode
+
+These become comments: packets of other devices, those with no stop, of more than two parts, reads with no write part, and
+an address that nobody acknowledged. The status is 1 if no packet is found, or the text isn't a capture of that kind."""
+ABOUT_FRAMES = """Turns the frames of `pmb hear` on standard input into commands of i2ctransfer for a bus of Linux.
+
+    echo 'B0 19 /' | pmhost capture i2ctransfer 1
 
 A faulty line is refused before any command is printed or run. With --run the addresses are locked as pmhost locks that of
-its part, and a transfer that fails becomes a comment in the trace, and the status is then 1. i2ctransfer is looked for in PATH, /usr/sbin and /sbin."""
+its part. A transfer that fails becomes a comment in the trace, and the status is then 1. i2ctransfer is looked for in PATH,
+/usr/sbin and /sbin."""
+EXAMPLES = {"sigrok": "pmhost capture sigrok < bus.sigrok", "linux": "pmhost capture linux < /sys/kernel/tracing/trace",
+            "saleae": "pmhost capture saleae < table.csv"}
 KINDS = {
     "sigrok": "what sigrok-cli -i FILE -P i2c:scl=SCL:sda=SDA:address_format=unshifted -A i2c=addr-data prints",
     "linux": "the kernel's tracepoints i2c_write, i2c_read, i2c_reply and i2c_result",
@@ -30,7 +38,7 @@ BAD_LINE, INTERRUPTED = 1, 130
 
 
 def samplerate_of(word: str) -> int:
-    """Samples a second: a whole number, as sigrok-cli has it, or one with Hz, kHz, MHz or GHz behind it."""
+    """Samples a second: a whole number, as sigrok-cli has it, or one with Hz, kHz, MHz or GHz after it."""
     found = re.fullmatch(r"([1-9][0-9]{0,14})(|Hz|kHz|MHz|GHz)", word)
     if not found:
         raise argparse.ArgumentTypeError(
@@ -52,29 +60,29 @@ def no_file(word: str) -> str:
 
 
 def add(commands: Any) -> None:
-    whole = commands.add_parser("capture", help="captures of a bus as traces for pmb decode", description=ABOUT,
-                                  epilog="Options stand behind the kind: pmhost capture sigrok --help has those of sigrok.")
+    whole = commands.add_parser("capture", help=COMMANDS["capture"].brief, description=ABOUT.format(example=EXAMPLES["sigrok"]),
+                                  epilog="Options stand after the kind: pmhost capture sigrok --help has those of sigrok.")
     kinds = whole.add_subparsers(metavar="KIND", dest="kind", required=True, parser_class=type(whole))
     for kind, about in KINDS.items():
-        one = kinds.add_parser(kind, help=about, description=f"{ABOUT}\n\nThe capture is {about}.")
+        one = kinds.add_parser(kind, help=about, description=f"{ABOUT.format(example=EXAMPLES[kind])}\n\nThe capture is {about}.")
         one.add_argument("-a", "--address", type=address_of, metavar="ADDRESS", action=Once, dest="device",
-                         help="the packets of one device, as 58; without it those of all")
+                         help="only the packets of one device, as 58; those of all if left out")
         one.add_argument("--times", action=Once, nargs=0, const=True,
-                         help="each packet behind its time, in whole microseconds since the first one began")
+                         help="begins each packet with its time, in whole microseconds since the first one began; none if left out")
         if kind == "sigrok":
             one.add_argument("--samplerate", type=samplerate_of, metavar="RATE", action=Once,
-                             help="with --times: the samples a second, as 1MHz")
+                             help="with --times: the samples a second, as 1MHz or 1000000; needed then")
         if kind == "linux":
             one.add_argument("--bus", "-b", type=bus_number, metavar="N", action=Once, dest="wanted",
-                             help="the events of /dev/i2c-N: an adapter over another leaves events of both")
+                             help="only the events of /dev/i2c-N; those of all if left out. An adapter over another leaves events of both")
         one.add_argument("file", type=no_file, nargs="?", help=argparse.SUPPRESS)
         one.set_defaults(run=run, judge=judge)
-    frames = kinds.add_parser("i2ctransfer", help="frames of pmb hear as commands of i2ctransfer", description=ABOUT_FRAMES)
-    frames.add_argument("wanted", type=bus_number, metavar="BUS", nargs="?", help="the number of /dev/i2c-BUS")
-    frames.add_argument("--run", action=Once, nargs=0, const=True, dest="is_run", help="runs the commands, and writes a trace")
+    frames = kinds.add_parser("i2ctransfer", help="frames of `pmb hear` as commands of i2ctransfer", description=ABOUT_FRAMES)
+    frames.add_argument("wanted", type=bus_number, metavar="BUS", nargs="?", help="the number of /dev/i2c-BUS, as 1; needed but with --back")
+    frames.add_argument("--run", action=Once, nargs=0, const=True, dest="is_run", help="runs the commands, and writes a trace; they are only printed if left out")
     frames.add_argument("--share-bus", action=Once, nargs=0, const=True, dest="is_shared",
-                        help="with --run: goes on where another program drives the address")
-    frames.add_argument("--back", action=Once, nargs=0, const=True, help="turns such commands into frames")
+                        help="with --run: goes on beside another program that drives the address; refused if left out")
+    frames.add_argument("--back", action=Once, nargs=0, const=True, help="turns such commands into frames; frames into commands if left out")
     frames.set_defaults(run=run_frames, judge=judge_frames)
     drawn = kinds.add_parser("waveform", help="a trace as a waveform (VCD)", description=vcd.__doc__)
     drawn.add_argument("file", type=no_file, nargs="?", help=argparse.SUPPRESS)
@@ -94,7 +102,7 @@ class Once(argparse.Action):
 def judge(arguments: argparse.Namespace) -> None:
     for option, own in ("address", "device"), ("bus", "wanted"):
         if getattr(arguments, option, None) and hasattr(arguments, own):
-            raise BadCall(f"capture: --{option} in front of it is an option of a bus: give it behind the kind, as "
+            raise BadCall(f"capture: --{option} in front of it is an option of a bus: give it after the kind, as "
                           f"capture {arguments.kind} --{option}={'58' if option == 'address' else '1'}")
     without_a_bus(arguments)
     rate = getattr(arguments, "samplerate", None)
@@ -123,11 +131,11 @@ def run(arguments: argparse.Namespace) -> int:
 def judge_frames(arguments: argparse.Namespace) -> None:
     without_a_bus(arguments)
     if arguments.back and (arguments.is_run or arguments.wanted is not None):
-        raise BadCall("capture i2ctransfer: --back stands alone: it needs no bus, and runs nothing")
+        raise BadCall("capture i2ctransfer: --back stands by itself: it needs no bus, and runs nothing")
     if arguments.is_shared and not arguments.is_run:
         raise BadCall("capture i2ctransfer: --share-bus is of --run, which isn't given")
     if not arguments.back and arguments.wanted is None:
-        raise BadCall("capture i2ctransfer: give a bus, as 1, with --run behind it to run the commands; or --back")
+        raise BadCall("capture i2ctransfer: give a bus, as 1, with --run after it to run the commands; or --back")
 
 
 def run_frames(arguments: argparse.Namespace) -> int:

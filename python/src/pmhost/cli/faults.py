@@ -16,6 +16,7 @@ from ..part import ModelPartBus
 from ..parts import MODEL_BUS, BadRails, BoardPart
 from ..rails import ONLY
 from . import streams
+from .about import COMMANDS
 from .answer import in_digits
 from .call import MODEL_OUTPUTS, PASSES, Call, complain, said
 from .completion import FILES, completed_by
@@ -25,17 +26,17 @@ from .place import Options, Place
 from .texts import without_a_bus
 
 EXAMPLE = "word 1 VOUT_COMMAND 34CD"
-ABOUT = f"""Carries commands out on a model part, over a bus that loses, cuts, damages and repeats frames. Each frame is told as it
-goes, with what the part made of it and what came of it.
+ABOUT = f"""Carries commands out on a model part, over a bus that loses, cuts, damages and repeats frames. It prints each frame as it
+goes, what the part made of it, and what came of it.
 
   pmhost faults {EXAMPLE}
   pmhost faults --strike=damaged:2:0 --plain-host {EXAMPLE}
   pmhost faults --seed=7 set 0 3.3V --limit 0:3.135V:3.465V + part restart + survey 0
   pmhost faults --runs=10000 --seed=1
 
-A job is a command of pmhost with its options, which orders outputs without limits where no --limit names them; or part restart;
-or part and a frame, as part B0 00 01 ED, of which a / behind it says that a repeated start ends it. Each job is carried out,
-whatever became of those before. The status is 0 where each ended well, 1 where not."""
+A job is a command of pmhost with its options. Outputs that no --limit names are ordered without limits. `part restart` is a
+job too, and `part` with a frame, as `part B0 00 01 ED`; a / after it says that a repeated start ends it. Each job is carried
+out, whatever became of those before. The status is 0 if each ended well, and otherwise 1."""
 # The options of a bus that the bus with faults doesn't have.
 OF_A_BUS = ("bus", "address", "trace", "log", "json", "delay", "busy_timeout", "share_bus", "force")
 # How many of a hundred transfers a random fault strikes, where no rate is given.
@@ -45,7 +46,7 @@ FRAME = re.compile(r"((?:[0-9A-Fa-f]{2} ?)+?)( ?/)?")
 
 @dataclass
 class PartJob:
-    """What is done to the part: a restart, where there is no frame."""
+    """What is done to the part: a restart, if there is no frame."""
 
     words: str
     frame: bytes
@@ -71,24 +72,25 @@ def seed_of(word: str) -> int:
 
 
 def add(commands: Any) -> None:
-    parser = commands.add_parser("faults", help="commands on a model part over a bus with faults", description=ABOUT,
+    parser = commands.add_parser("faults", help=COMMANDS["faults"].brief, description=ABOUT,
                                  epilog=faulty_bus.__doc__)
     parser.add_argument("--strike", type=faults_of, default=[], metavar="LIST",
-                        help="what strikes the transfers, in their order: faults between spaces or commas")
-    parser.add_argument("--seed", type=seed_of, metavar="N", help="faults at random, by a seed, behind those of the list")
+                        help="what strikes the transfers, in their order: faults between spaces or commas, as below; none if left out")
+    parser.add_argument("--seed", type=seed_of, metavar="N", help="faults at random, by a seed, after those of the list; none if left out")
     parser.add_argument("--rate", type=whole(0, 100, "rate"), metavar="N",
-                        help="how many of a hundred transfers a random fault strikes, 25 if left out")
+                        help="how many of a hundred transfers a random fault strikes, 0 to 100; 25 if left out")
     parser.add_argument("--passes", type=whole(1, 15, "passes"), metavar="N", dest="tries",
-                        help="how often a job is tried, 3 if left out")
+                        help="how often a job is tried at most, 1 to 15; 3 if left out")
     parser.add_argument("--outputs", type=whole(1, 8, "outputs"), metavar="N", dest="count",
-                        help="how many outputs the part has, 2 if left out")
+                        help="how many outputs the part has, 1 to 8; 2 if left out")
     completed_by(parser.add_argument("--rails", type=file_of, metavar="FILE",
-                                     help="a file of rails, whose outputs and limits are those of the jobs"), FILES)
+                                     help="a file of rails, whose outputs and limits are those of the jobs; none if left out"), FILES)
     parser.add_argument("--plain-host", action="store_true",
-                        help="in place of the proved host one that selects by PAGE and believes acknowledgements; it takes orders of words")
+                        help="takes in the place of the proved host one that selects by PAGE and believes acknowledgements; its jobs are orders of "
+                             "words")
     parser.add_argument("--runs", type=whole(1, 10**9 - 1, "runs"), metavar="N",
-                        help="N lists of random faults, under each of which both hosts order a word at two outputs")
-    parser.add_argument("jobs", nargs=argparse.REMAINDER, metavar="JOB [+ JOB ..]", help=f"as {EXAMPLE}")
+                        help="has both hosts order a word at two outputs under each of N lists of random faults; no job is given then")
+    parser.add_argument("jobs", nargs=argparse.REMAINDER, metavar="JOB [+ JOB ..]", help=f"what is carried out, as {EXAMPLE}")
     parser.set_defaults(run=run, judge=judge)
 
 
@@ -201,7 +203,7 @@ def judge(arguments: argparse.Namespace) -> None:
     judge_jobs(call)
     for job in jobs:
         if arguments.plain_host and not is_plain(job):
-            raise BadCall(f"faults: {said_of(job)}: the plain host takes orders of words alone, as {EXAMPLE}")
+            raise BadCall(f"faults: {said_of(job)}: the plain host takes only orders of words, as {EXAMPLE}")
     arguments.jobs, arguments.jobs_call = jobs, call
 
 
@@ -217,11 +219,11 @@ def run(arguments: argparse.Namespace) -> int:
 
 
 def silent(transfer: faults.Struck) -> None:
-    """Tells nothing of a transfer."""
+    """Prints nothing of a transfer."""
 
 
 def indented(transfer: faults.Struck) -> None:
-    """Tells of a transfer below its job."""
+    """Prints a transfer below its job."""
     streams.write(f"  {transfer.line}")
 
 

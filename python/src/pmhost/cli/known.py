@@ -8,6 +8,7 @@ from .. import voltages
 from ..device import Device
 from ..states import Known
 from ..survey import commanded
+from .about import described
 from .answer import Answer, between, in_digits, number
 from .call import Call, said
 from .outcome import VOLTAGES, limit_words
@@ -18,12 +19,12 @@ YES = {True: "yes", False: "no"}
 
 def add(commands: Any) -> None:
     """Adds the subparsers."""
-    found = commands.add_parser("known", help="tells what is known of every register, and sends nothing")
-    found.add_argument("output", metavar="O", nargs="?", type=whole(0, 7, "output"), help="of one output alone")
+    found = commands.add_parser("known", **described("known"))
+    found.add_argument("output", metavar="O", nargs="?", type=whole(0, 7, "output"), help="one output, from 0; all if left out")
     found.set_defaults(run=known, is_question=True)
     bus_options(found)
-    found = commands.add_parser("band", help="tells which voltages an output may be commanded to, and sends nothing")
-    found.add_argument("output", metavar="O", type=whole(0, 7, "output"))
+    found = commands.add_parser("band", **described("band"))
+    found.add_argument("output", metavar="O", type=whole(0, 7, "output"), help="the output, from 0")
     found.set_defaults(run=band, is_question=True)
     bus_options(found)
 

@@ -23,6 +23,7 @@ from ..stairs import WHY, StairsStep
 from ..step_run import StepCourse, StepRun
 from ..survey import TRIES, Commanded, Nobody, commanded, complete, only_word, survey
 from ..zeros import NotBelieved
+from .about import described
 from .answer import Answer, between, delivery_of, number
 from .back import words_of
 from .call import Call, said
@@ -30,16 +31,15 @@ from .completion import FILES, completed_by
 from .outcome import limit_words, why_not, why_refused
 from .parser import BadCall, bus_options, file_of, shown
 
-HELP = "has rails of a file command their margins one after another, measures there, and brings each back to its voltage"
 # A margin isn't to be selected at the end, whatever came.
 POINTS = ("nominal", "high", "low", "nominal")
 
 
 def add(commands: Any) -> None:
     """Adds the subparser."""
-    found = commands.add_parser("margin-test", help=HELP, description=HELP[0].upper() + HELP[1:] + ".")
+    found = commands.add_parser("margin-test", **described("margin-test"))
     completed_by(found.add_argument("file", metavar="FILE", type=file_of, help="settings of a board's rails, in TOML"), FILES)
-    found.add_argument("names", metavar="RAIL", nargs="*", help="these rails alone; all that are to be on if none is named")
+    found.add_argument("names", metavar="RAIL", nargs="*", help="rails of the file; all that are to be on if left out")
     found.set_defaults(run=margin_test, judge_file=judge_file)
     bus_options(found)
 

@@ -42,7 +42,7 @@ def parted(part: list[str], has_value: set[str]) -> list[list[str]]:
 
 
 def place_of(part: list[str], has_value: set[str]) -> tuple[str, int | None]:
-    """The command of a call's words, and where the word behind it stands that is no option: these options have a value."""
+    """The command of a call's words, and the place of the word after it that is no option: these options have a value."""
     places, words = list[int](), iter(enumerate(part))
     for at, word in words:
         if word in has_value:
@@ -53,7 +53,7 @@ def place_of(part: list[str], has_value: set[str]) -> tuple[str, int | None]:
 
 
 def expanded(part: list[str], has_value: set[str]) -> list[tuple[list[str], Named | None]]:
-    """The words of a command with an output, and the rail that these had in its place: several where it goes over all rails of a file."""
+    """The words of a command with an output, and the rail that these had in its place: several if it goes over all rails of a file."""
     command, at = place_of(part, has_value)
     if command not in OF_A_RAIL or at is None or not part[at].endswith(ENDING):
         return [(part, None)]

@@ -1,4 +1,4 @@
-"""The commands of one job, with what it wants before and behind: learn, read, survey, set, word, on, off, margin, clear, store,
+"""The commands of one job, with what it needs before and after: learn, read, survey, set, word, on, off, margin, clear, store,
 restore."""
 from __future__ import annotations
 
@@ -19,6 +19,7 @@ from ..stores import too_hot
 from ..survey import OFF_TRIES, TRIES, Nobody, complete, holds_zeros, survey
 from ..zeros import NotBelieved, guard
 from . import readings
+from .about import described
 from .answer import Answer, in_digits
 from .call import Call, said
 from .completion import completed_by
@@ -29,7 +30,7 @@ from .parser import BadCall, bus_options, shown, whole
 
 # What each command sends beside reads, for an interruption to say.
 STORES = "the user store may hold the old or the new settings of every output"
-GO_OFF, MAY_GO_OFF = "--outputs-may-go-off", "on parts where it is a reset the outputs go off"
+GO_OFF, MAY_GO_OFF = "--outputs-may-go-off", "on some parts it is a reset, and the outputs go off"
 RESTORES = f"{', '.join(REGISTERS)} of every output may hold the old or the stored word"
 
 
@@ -75,7 +76,7 @@ def accept_of(word: str) -> int:
 
 # The option of commands that take a rounded word.
 ACCEPT: dict[str, Any] = {"type": accept_of, "metavar": "VOLTAGE",
-                          "help": "takes a word that the part holds and whose value is this near, as 20mV"}
+                          "help": "takes a held word whose value is this near and within the limits, as 20mV, for a part that rounds; none if left out"}
 
 
 def output_of(word: str) -> int | None:
@@ -89,63 +90,73 @@ def digits_of(word: str) -> str:
     return word
 
 
+def named(*fronts: str) -> str:
+    """The readings and status registers whose names begin so."""
+    return ", ".join(name for name in KINDS if name.startswith(fronts))
+
+
+READS = (f"{', '.join(REGISTERS)}, or {DEVICE} with - in the place of O. A reading: {named('READ_')}. A status register: {named('STATUS_')}. "
+         f"Further {named('ON_', 'VOUT_', 'POWER_')}. Any other name of the standard, or a code with its shape, as DD:word, 9E:block or EF:byte. "
+         f"VOUT_COMMAND or {DEVICE} if left out")
+
+
 def add(commands: Any) -> None:
     """Adds the subparsers."""
     output = {"type": OUTPUT, "metavar": "O", "help": "the output, from 0"}
-    device = {"type": output_of, "metavar": "O", "help": f"the output, from 0; or - for {DEVICE}"}
+    device = {"type": output_of, "metavar": "O", "help": "the output, from 0; or - for the device"}
 
-    def command(name: str, run: Any, help: str, judge: Any = None) -> Any:
-        parser = commands.add_parser(name, help=help, description=help[0].upper() + help[1:] + ".")
+    def command(name: str, run: Any, judge: Any = None) -> Any:
+        parser = commands.add_parser(name, **described(name))
         parser.set_defaults(run=run, is_order=run is send_command, **({} if judge is None else {"judge": judge}))
         return parser
 
-    found = command("learn", learn, "learns the format of an output's voltages")
+    found = command("learn", learn)
     found.add_argument("output", **output)
     bus_options(found)
-    found = command("read", read, "reads a register, a reading or a status register, and tells what it says", judge_read)
-    found.add_argument("output", **device | {"help": f"the output, from 0; or - for {DEVICE}, readings and status registers"})
-    completed_by(found.add_argument("register", metavar="REG", nargs="?", type=read_register_of,
-                                    help=f"VOUT_COMMAND if left out, with - {DEVICE}; any name of the standard, or a code as DD:word, 9E:block "
-                                         "or EF:byte"), tuple(dict.fromkeys((*REGISTERS, DEVICE, *KINDS, *CODES))))
-    bus_options(found)
-    found = command("survey", survey_output, "reads what decides what an output commands, and tells that")
-    found.add_argument("output", **output)
-    bus_options(found)
-    found = command("set", set_voltage, "orders a voltage, and says what the output then commands", judge_order)
-    found.add_argument("output", **output)
-    found.add_argument("microvolts", type=voltage_of, metavar="VOLTAGE", help="as 3.3V, 3300mV or 3300000uV")
-    completed_by(found.add_argument("register", metavar="REG", nargs="?", type=register_of(VOLTAGES), default="VOUT_COMMAND",
-                                    help="VOUT_COMMAND if left out"), VOLTAGES)
-    bus_options(found)
-    found.add_argument("--accept", **ACCEPT)
-    found = command("word", word, "orders a register's word", judge_word)
+    found = command("read", read, judge_read)
     found.add_argument("output", **device)
-    completed_by(found.add_argument("register", metavar="REG", type=register_of((*REGISTERS, DEVICE))), (*REGISTERS, DEVICE))
-    found.add_argument("digits", metavar="WORD", type=digits_of, help="in hexadecimal digits, as 34CD")
+    completed_by(found.add_argument("register", metavar="REG", nargs="?", type=read_register_of,
+                                    help=READS), tuple(dict.fromkeys((*REGISTERS, DEVICE, *KINDS, *CODES))))
+    bus_options(found)
+    found = command("survey", survey_output)
+    found.add_argument("output", **output)
+    bus_options(found)
+    found = command("set", set_voltage, judge_order)
+    found.add_argument("output", **output)
+    found.add_argument("microvolts", type=voltage_of, metavar="VOLTAGE", help="with its unit, as 3.3V, 3300mV or 3300000uV")
+    completed_by(found.add_argument("register", metavar="REG", nargs="?", type=register_of(VOLTAGES), default="VOUT_COMMAND",
+                                    help=f"one of {', '.join(VOLTAGES)}; VOUT_COMMAND if left out"), VOLTAGES)
+    bus_options(found)
+    found.add_argument("--accept", **ACCEPT)
+    found = command("word", word, judge_word)
+    found.add_argument("output", **device)
+    completed_by(found.add_argument("register", metavar="REG", type=register_of((*REGISTERS, DEVICE)),
+                                    help=f"one of {', '.join(REGISTERS)}; with - {DEVICE}"), (*REGISTERS, DEVICE))
+    found.add_argument("digits", metavar="WORD", type=digits_of, help="two hexadecimal digits of a byte, four of a word, as 80 or 34CD")
     found.add_argument("--accept", **ACCEPT)
     bus_options(found)
-    found = command("on", operate, "turns an output on, by OPERATION 80", judge_order)
+    found = command("on", operate, judge_order)
     found.add_argument("output", **output)
     found.set_defaults(byte=ON)
     bus_options(found)
-    found = command("off", operate, "turns an output off at once, by OPERATION 00", judge_write)
+    found = command("off", operate, judge_write)
     found.add_argument("output", **output)
     found.set_defaults(byte=OFF)
     bus_options(found)
-    found = command("margin", operate, "has an output command a margin", judge_order)
+    found = command("margin", operate, judge_order)
     found.add_argument("output", **output)
-    completed_by(found.add_argument("byte", metavar="high|low", type=margin_of), ("high", "low"))
+    completed_by(found.add_argument("byte", metavar="high|low", type=margin_of, help="VOUT_MARGIN_HIGH or VOUT_MARGIN_LOW"), ("high", "low"))
     bus_options(found)
-    found.add_argument(BACK, action="store_true", help="OPERATION as it was is the last act of the call, whatever ends it: the commands behind "
-                                                       "this run on the margin")
-    found = command("clear", send_command, "clears the latched faults of an output", judge_write)
+    found.add_argument(BACK, action="store_true", help="brings OPERATION back as it was as the last act of the call, whatever ends it; the commands "
+                                                       "after this run on the margin; stays on the margin if left out")
+    found = command("clear", send_command, judge_write)
     found.add_argument("output", **output)
     bus_options(found)
-    for name, help in (("store", "has the part store its settings"), ("restore", "has the part bring its stored settings back")):
-        found = command(name, send_command, help, judge_restore if name == "restore" else judge_write)
+    for name in "store", "restore":
+        found = command(name, send_command, judge_restore if name == "restore" else judge_write)
         found.set_defaults(output=None)
         if name == "restore":
-            found.add_argument(GO_OFF, action="store_true", help=f"{MAY_GO_OFF}, which is well")
+            found.add_argument(GO_OFF, action="store_true", help="says that the board tolerates it if the outputs go off; needed")
         bus_options(found)
 
 
@@ -162,14 +173,14 @@ def judge_write(arguments: argparse.Namespace) -> None:
 def judge_restore(arguments: argparse.Namespace) -> None:
     judge_write(arguments)
     if not arguments.outputs_may_go_off:
-        raise BadCall(f"{said(arguments)}: {MAY_GO_OFF}: give {GO_OFF}, where the board tolerates it")
+        raise BadCall(f"{said(arguments)}: {MAY_GO_OFF}: give {GO_OFF}, if the board tolerates it")
 
 
 def judge_order(arguments: argparse.Namespace) -> None:
     arguments.call.judge_order(arguments)
 
 
-def judge_device(arguments: argparse.Namespace, more: str = " alone") -> None:
+def judge_device(arguments: argparse.Namespace, more: str = " only") -> None:
     """- stands for the device, whose only register is WRITE_PROTECT."""
     if (arguments.output is None) != (arguments.register == DEVICE):
         give = f"{DEVICE} is the device's: give -" if arguments.register == DEVICE else f"- is for {DEVICE}{more}"
@@ -195,14 +206,14 @@ def judge_word(arguments: argparse.Namespace) -> None:
         raise BadCall(f"{said(arguments)}: word {arguments.digits}: give {'two' if wanted == 2 else 'four'} "
                             f"hexadecimal digits, as {'80' if wanted == 2 else '34CD'}")
     if arguments.accept is not None and arguments.register not in VOLTAGES:
-        raise BadCall(f"{said(arguments)}: --accept is for voltages alone")
+        raise BadCall(f"{said(arguments)}: --accept is only for voltages")
     judge_order(arguments)
 
 
 # ---- The commands ----
 
 def learn_once(part: Device, output: int) -> bool:
-    """Whether the format of an output is known, after it was learned where it wasn't."""
+    """Whether the format of an output is known, after it was learned if it wasn't."""
     if part.host.format(output) is None:
         part.host.learn(output)
         part.run()
@@ -255,7 +266,7 @@ def read(arguments: argparse.Namespace) -> int:
 
 
 def survey_output(arguments: argparse.Namespace) -> int:
-    """What an output commands. The status is 0 where that is known, and lies within its limits."""
+    """What an output commands. The status is 0 if that is known, and lies within its limits."""
     call: Call = arguments.call
     state = survey(call.part(), arguments.output)
     found = answer_of(arguments, call.part(), None, "told", text=rail_words(state))
@@ -275,7 +286,7 @@ def not_told(arguments: argparse.Namespace, part: Device, doubt: NotBelieved) ->
 
 
 def carry_out(arguments: argparse.Namespace, register: str, begin: Callable[[], object]) -> int:
-    """One order alone: what became of it."""
+    """One order by itself: what became of it."""
     call: Call = arguments.call
     part, output = call.part(), arguments.output
 
@@ -305,7 +316,7 @@ def accept_in(arguments: argparse.Namespace) -> int | None:
 
 
 def run_course(arguments: argparse.Namespace, register: str, course: Course) -> Accepting | int:
-    """Carries a course out that orders a register; the status where it came to no end. Where just the WRITE_PROTECT of the file is in the
+    """Carries a course out that orders a register; the status if it came to no end. If just the WRITE_PROTECT of the file is in the
     way that is lifted, and the course carried out once more."""
     protection, anew = arguments.call.protection, course.save()
     protection.touch(arguments.call.part_name)
@@ -417,7 +428,7 @@ def turn(arguments: argparse.Namespace, byte: int) -> int:
 
 
 def send_command(arguments: argparse.Namespace) -> int:
-    """A command that nothing reads back: clear, store, restore. It is acknowledged where the part answers behind it, too."""
+    """A command that nothing reads back: clear, store, restore. It is acknowledged if the part answers after it, too."""
     call: Call = arguments.call
     part, output = call.part(), arguments.output
     hot = too_hot(part) if arguments.command == "store" and not call.is_forced else ""

@@ -1,4 +1,4 @@
-"""What is told of a job: a register's word with its volts, how a job ended badly, and what an output commands behind an order."""
+"""What is said of a job: a register's word with its volts, how a job ended badly, and what an output commands after an order."""
 from __future__ import annotations
 
 import argparse
@@ -25,7 +25,7 @@ VOLTAGES = tuple(name for name in REGISTERS if name.startswith("VOUT_"))
 
 
 def cell_words(arguments: argparse.Namespace, part: Device, register: str, word: int, form: Format | None = None) -> str:
-    """A register with its word, and its volts or meaning; `form` is the format of the output, where the caller has it."""
+    """A register with its word, and its volts or meaning; `form` is the format of the output, if the caller has it."""
     output = arguments.output
     words = f"{register} {in_digits(register, word)}"
     if register == "OPERATION":
@@ -65,7 +65,7 @@ def refused(arguments: argparse.Namespace, part: Device, register: str | None, f
 
 
 def why_refused(arguments: argparse.Namespace, state: Commanded, letter: str) -> str:
-    """Why, with the voltage that is known of it; nothing where none is."""
+    """Why, with the voltage that is known of it; nothing if none is."""
     protect = state.only_word(DEVICE)
     if letter == "P7" and protect is not None:
         return f"{DEVICE} is {protect:02X}, and the part refuses the order: order {DEVICE} 00 first"
@@ -82,7 +82,7 @@ def why_refused(arguments: argparse.Namespace, state: Commanded, letter: str) ->
 
 
 def possible_words(answer: Answer) -> str:
-    """What a register may hold, where no good answer came."""
+    """What a register may hold, if no good answer came."""
     if answer.possible is None:
         return f"{answer.register} unknown, any word is possible"
     words = " ".join(str(in_digits(answer.register, word)) for word in answer.possible)
@@ -108,7 +108,7 @@ def with_why(part: Device) -> str:
 
 
 def commanded_words(found: Commanded, register: str, microvolts: int | None) -> str:
-    """What the output commands, behind an order of a register whose word has this value."""
+    """What the output commands, after an order of a register whose word has this value."""
     if found.missing:
         return missed_words(found)
     if found.selected is None or found.least is None or found.greatest is None:
@@ -210,7 +210,7 @@ def missed_words(found: Commanded) -> str:
 
 
 def deliver(found: Answer, delivered: Delivered) -> None:
-    """An answer says what the rail does, and isn't well where this isn't."""
+    """An answer says what the rail does, and isn't well if this isn't."""
     found.text += delivered.words
     found.delivered = delivered
     # An output that commands a voltage outside its limits is told as that.
@@ -240,7 +240,7 @@ def reached(arguments: argparse.Namespace, part: Device, register: str, state: C
 
 
 def confirmed_alone(arguments: argparse.Namespace, part: Device, register: str) -> Answer:
-    """The answer to an order that is confirmed, behind which nothing else was read."""
+    """The answer to an order that is confirmed, after which nothing else was read."""
     found = answer_of(arguments, part, register, "done")
     assert found.word is not None
     found.text = f"{cell_words(arguments, part, register, found.word)} confirmed"
@@ -250,7 +250,7 @@ def confirmed_alone(arguments: argparse.Namespace, part: Device, register: str) 
 
 
 def read_notes_behind(part: Device, output: int, found: Commanded) -> str:
-    """What the part noted behind a survey of which a job ended badly; nothing where none did."""
+    """What the part noted after a survey of which a job ended badly; nothing if none did."""
     return read_notes(part, output) if found.missing else ""
 
 

@@ -1,4 +1,4 @@
-"""The parser of the command line: argparse, with one line for what is wrong, and the options of a bus before or behind a
+"""The parser of the command line: argparse, with one line for what is wrong, and the options of a bus before or after a
 command's words."""
 from __future__ import annotations
 
@@ -52,11 +52,13 @@ PMB = ("replay", "hear", "decode", "check", "number")
 
 
 def line_of(message: str, program: str) -> str:
-    """What argparse says, with the command in front of it, and the words of this program's own judges alone."""
+    """What argparse says, with the command in front of it, and the words of this program's own judges only."""
     command, message = program.partition(" ")[2], " ".join(message.split())
     of_pmb = re.match(f"argument COMMAND: invalid choice: '({'|'.join(PMB)})' ", message)
     if of_pmb:
-        return f"{of_pmb[1]}: no command here, but one of pmb: pmb {of_pmb[1]} --help tells more"
+        return f"{of_pmb[1]}: no command here, but one of pmb: pmb {of_pmb[1]} --help shows more"
+    if message.startswith("argument COMMAND: invalid choice: 'help' "):
+        return f"help: give {program} --help, or {program} COMMAND --help"
     choice = re.match(r"argument (COMMAND|KIND): invalid choice: (.*) \(choose from (.*)\)\Z", message)
     if choice:
         words = f"{shown(ast.literal_eval(choice[2]))}: no {choice[1].lower()}; there are {choice[3].replace(chr(39), '')}"
@@ -65,17 +67,17 @@ def line_of(message: str, program: str) -> str:
     alone = re.match("argument (?:.*/)?(--[a-z-]+): ignored explicit argument", message)
     valued = re.match("argument (?:.*/)?(--[a-z-]+): expected one argument", message)
     if missing and missing[1] == "COMMAND":
-        return f"give a command, as learn 0 + set 0 3.3V; {program} --help tells more"
+        return f"give a command, as learn 0 + set 0 3.3V; {program} --help shows more"
     if missing:
         message = f"{MISSING.get(missing[1], missing[1])} is missing"
     elif alone:
-        message = f"{alone[1]}: give it alone"
+        message = f"{alone[1]}: it takes no value"
     elif valued:
         message = f"{valued[1]}: its value is missing"
     elif message.startswith("unrecognized arguments: "):
         word = message.partition(": ")[2].split()[0]
         is_option = re.match("--?[A-Za-z]", word)
-        message = f"{shown(word.partition('=')[0])}: no such option here; pmhost --help tells those of a bus, and COMMAND --help those that stand behind a command" if is_option else \
+        message = f"{shown(word.partition('=')[0])}: no such option here; pmhost --help shows those of a bus, and COMMAND --help those of a command" if is_option else \
             f"{shown(word)}: a word too many"
     else:
         message = re.sub(r"\Aargument [^:]*: ", "", message)
@@ -177,44 +179,76 @@ def lacks_of(word: str) -> tuple[str, ...]:
 
 # The options of a bus: what argparse adds them with. Each stands in a list, so that one that stands twice is seen.
 OPTIONS: dict[str, tuple[tuple[str, ...], dict[str, Any]]] = {
-    "bus": (("-b", "--bus"), {"type": bus_of, "metavar": "BUS", "help": "the number of /dev/i2c-BUS, or model for a model part"}),
-    "address": (("-a", "--address"), {"type": address_of, "metavar": "ADDRESS", "help": "the part's address, as 58"}),
-    "outputs": (("--outputs",), {"type": whole(1, 8, "outputs"), "metavar": "N", "help": "how many outputs the part has"}),
-    "lacks": (("--lacks",), {"type": lacks_of, "metavar": "REG,..", "help": "registers that the part doesn't have, as VOUT_MIN"}),
+    "bus": (("-b", "--bus"), {"type": bus_of, "metavar": "BUS",
+                              "help": "the number of /dev/i2c-BUS, as 1, or model for a fresh model part, whose two outputs are at 1 V; needed without a "
+                                      "board file"}),
+    "address": (("-a", "--address"), {"type": address_of, "metavar": "ADDRESS",
+                                      "help": "the part's address of seven bits in hexadecimal digits, as 58; needed without a board file, but by `probe`. No "
+                                              "order is sent to one that SMBus keeps for itself: 0C, 28, 37, 61"}),
+    "outputs": (("--outputs",), {"type": whole(1, 8, "outputs"), "metavar": "N",
+                                 "help": "how many outputs the part has, 1 to 8; what is written needs it"}),
+    "lacks": (("--lacks",), {"type": lacks_of, "metavar": "REG,..",
+                             "help": f"registers that the part doesn't have by its data sheet, of {', '.join(MISSABLE)}; none if left out. A job on "
+                                     "one is refused (L7)"}),
     "limit": (("--limit",), {"type": limit_of, "metavar": "O:LEAST:MOST",
-                             "help": f"the limits of an output, as {LIMIT_EXAMPLE}: no order beyond them is sent"}),
-    "no_limit": (("--no-limit",), {"const": True, "help": "orders outputs without limits that no --limit names"}),
-    "passes": (("--passes",), {"type": whole(1, 15, "passes"), "metavar": "N", "help": "how often a job is tried, 3 if left out"}),
-    "trace": (("--trace",), {"type": file_of, "metavar": "FILE", "help": "appends what went over the wire, for pmb decode"}),
-    "trace_times": (("--trace-times",), {"const": True, "help": "with --trace: each transfer has its time in microseconds, for pmb decode --times"}),
-    "log": (("--log",), {"type": file_of, "metavar": "FILE", "help": "appends a log with what is known after each command, for pmb check"}),
-    "json": (("--json",), {"const": True, "help": "one object a command"}),
-    "delay": (("--delay",), {"type": time_of(10, "delay"), "metavar": "TIME", "help": "how long to wait before each transfer, as 5ms"}),
+                             "help": f"what the load of an output tolerates, as {LIMIT_EXAMPLE}, at most 1000V: no order beyond it is sent. An order "
+                                     "needs it, or --no-limit (L8)"}),
+    "no_limit": (("--no-limit",), {"const": True, "help": "orders without limits the outputs that no --limit names"}),
+    "passes": (("--passes",), {"type": whole(1, 15, "passes"), "metavar": "N",
+                               "help": "how often a job is tried at most, 1 to 15; 3 if left out. A store is sent once"}),
+    "trace": (("--trace",), {"type": file_of, "metavar": "FILE", "help": "appends what went over the wire, for `pmb decode`"}),
+    "trace_times": (("--trace-times",), {"const": True,
+                                         "help": "gives each transfer of --trace its time in microseconds, for `pmb decode --times`"}),
+    "log": (("--log",), {"type": file_of, "metavar": "FILE",
+                         "help": "appends a log with what is known after each command, for `pmb check`"}),
+    "json": (("--json",), {"const": True, "help": "prints one object a command, of one shape for all, in the place of lines"}),
+    "delay": (("--delay",), {"type": time_of(10, "delay"), "metavar": "TIME",
+                             "help": "how long to wait before each transfer, as 5ms, at most 10s; 0ms if left out"}),
     "busy_timeout": (("--busy-timeout",), {"type": time_of(60, "busy-timeout"), "metavar": "TIME",
-                                           "help": "how long to wait for a busy part behind each write; if left out 200ms, 1s "
-                                                   "behind a restore, and 5s behind a store"}),
+                                           "help": "how long to wait for a busy part after each write, as 50ms, at most 60s; if left out 200ms, 1s "
+                                                   "after a restore, and 5s after a store"}),
     "fault_limits": (("--fault-limits",), {"choices": ("refuse", "tell", "skip"),
-                                           "help": "refuses a voltage at or beyond a fault limit of the part, which is so if left out, says "
-                                                   "so alone, or doesn't read them"}),
-    "power_good": (("--power-good",), {"choices": ("judge", "tell"), "help": "judges a rail whose power good alone is missing, which is so if "
-                                                                              "left out, or says so alone"}),
+                                           "help": "what to do about a voltage at or beyond a fault limit of the part: refuse it (P8), only say so, "
+                                                   "or don't read the limits; refuse if left out"}),
+    "power_good": (("--power-good",), {"choices": ("judge", "tell"),
+                                       "help": "whether a rail of which only power good is missing doesn't deliver (judge), or this is only said (tell); "
+                                               "judge if left out"}),
     "within": (("--delivers-within",), {"type": percent_of, "metavar": "PERCENT",
-                                        "help": "how far READ_VOUT may be from what is commanded, 5%% if left out"}),
+                                        "help": "how far READ_VOUT may be from what is commanded, as 2.5%%; 5%% if left out"}),
     "settle": (("--settle",), {"type": time_of(60, "settle"), "metavar": "TIME",
-                               "help": "how long a rail may take until it delivers, or is off, 630ms if left out"}),
+                               "help": "how long a rail may take until it delivers, or is off, as 2s, at most 60s; 630ms if left out"}),
     "ready": (("--ready",), {"type": ready_of, "metavar": "CODE:MASK",
-                             "help": "the part is ready where its byte of this code has these bits, as EF:60, which is asked in the place of "
-                                     "CAPABILITY"}),
-    "share_bus": (("--share-bus",), {"const": True, "help": "drives an address that another program drives"}),
-    "force": (("--force",), {"const": True, "help": "drives a part that a driver of the kernel holds; and stores where the part is too hot, or a "
-                                                    "rail is cut"}),
+                             "help": "a busy part is ready if its byte of this command code has all of these bits, as EF:60; CAPABILITY is asked if left "
+                                     "out"}),
+    "share_bus": (("--share-bus",), {"const": True,
+                                     "help": "goes on beside another program that drives the address: the guarantees don't hold then"}),
+    "force": (("--force",), {"const": True, "help": "goes on beside a driver of the kernel, and stores a part that is too hot or has a rail that is cut"}),
 }
 BEHIND = "_behind"
+OF_A_BUS = "options of a bus"
+
+
+def own_options(parser: argparse.ArgumentParser) -> list[argparse.Action]:
+    """The options of a command but for those of a bus and --help."""
+    of_a_bus = [action for group in parser._action_groups if group.title == OF_A_BUS for action in group._group_actions]
+    return [it for it in parser._actions if it.option_strings and it not in of_a_bus and "--help" not in it.option_strings]
+
+
+def usage_of(name: str, parser: argparse.ArgumentParser) -> str:
+    """A command with its words, those that may be left out in brackets."""
+    words = [it for it in parser._actions if not it.option_strings and it.help != argparse.SUPPRESS]
+    return " ".join([name, *(f"[{it.metavar}]" if it.nargs == "?" else str(it.metavar) for it in words)])
+
+
+def flag_of(action: argparse.Action) -> str:
+    """An option with its value."""
+    value = action.metavar or "|".join(str(it) for it in action.choices or ())
+    return f"{action.option_strings[0]} {value if action.nargs != 0 else ''}".rstrip()
 
 
 def bus_options(parser: argparse.ArgumentParser, suffix: str = BEHIND) -> None:
     """Adds the options of a bus to the parser of a command that uses one."""
-    group = parser.add_argument_group("options of a bus")
+    group = parser.add_argument_group(OF_A_BUS)
     for name, (flags, words) in OPTIONS.items():
         action = "append_const" if "const" in words else "append"
         added = group.add_argument(*flags, dest=name + suffix, action=action, default=[], **words)

@@ -20,7 +20,7 @@ HELD_LOW = ("a line is held low: address 02, which no part may have, acknowledge
 
 
 class Options:
-    """How the parts of a call are driven: its options but for where the parts are."""
+    """How the parts of a call are driven: its options but for the places of the parts."""
 
     def __init__(self, passes: int, delay: int, busy_timeout: int | None, is_forced: bool, is_shared: bool, kernel: Calls | None,
                  is_unlimited: bool) -> None:
@@ -41,7 +41,7 @@ class Place:
     # ---- The bus ----
 
     def open(self) -> ModelPartBus | LinuxBus:
-        """The bus, opened at its first use. NoBus, too, where a line is held low."""
+        """The bus, opened at its first use. NoBus, too, if a line is held low."""
         if self._bus is None:
             self._bus = self._made()
             if self.is_held_low():
@@ -66,7 +66,7 @@ class Place:
         return PatientBus(bus, options.delay, options.busy_timeout if busy_timeout is None else busy_timeout, self.part.ready)
 
     def close(self) -> None:
-        """Closes the bus, where it was opened."""
+        """Closes the bus, if it was opened."""
         if self._bus is not None:
             with contextlib.suppress(OSError):
                 self._bus.close()
@@ -98,8 +98,8 @@ class Place:
         return self._pmbus is not None and self._pmbus.transfers.has_written
 
     def ask_operation(self, behind: str = "") -> str:
-        """A check of OPERATION of output 0, again and again within the time for a busy part, which is long behind a `store` and a `restore`.
-        Nothing where a good answer came, otherwise why none did. The transfers of the job before stay those of the part."""
+        """A check of OPERATION of output 0, again and again within the time for a busy part, which is long after a `store` and a `restore`.
+        Nothing if a good answer came, otherwise why none did. The transfers of the job before stay those of the part."""
         part, waits = self.pmbus(), Waits(clock.until() + timeout_of(self._options.busy_timeout, behind) / 1000)
         while True:
             transfers = Transfers()
@@ -114,9 +114,9 @@ class Place:
         return answers(self.pmbus())
 
     def unsure_of_last(self, behind: str) -> tuple[int, str]:
-        """Behind a command that nothing reads back: whether a line is held low, and whether the part answers. The status, 0 where
+        """After a command that nothing reads back: whether a line is held low, and whether the part answers. The status, 0 if
         all is well, and why not."""
         if self.is_held_low():
             return 2, HELD_LOW
         why = self.ask_operation(behind)
-        return (1, f"OPERATION of output 0 behind it: {why}") if why else (0, "")
+        return (1, f"OPERATION of output 0 after it: {why}") if why else (0, "")

@@ -7,7 +7,8 @@ from typing import Any
 from ..parts import MISSABLE, MODEL_BUS
 from ..probe import REGISTERS, UNFIT, WITHOUT_PEC_TAKEN, Found, FoundOutput, Probe, block_words, spaced, text_of
 from ..reads import Read
-from ..scan import LEFT_OUT, Seen, scan
+from ..scan import LEFT_OUT, Seen, bus_or_why, scan
+from .about import described
 from .answer import Answer, in_digits
 from .call import MODEL_ADDRESS, Call, complain, said
 from .parser import BadCall, bus_options
@@ -23,12 +24,12 @@ FITS, BUT = "the part fits", "for a frame that is both damaged and cut before it
 
 def add(commands: Any) -> None:
     """Adds the subparser."""
-    help = "tells by reads alone whether the host can drive the part, its outputs, formats and registers"
-    found = commands.add_parser("probe", help=help)
-    found.add_argument("--writes", action="store_true", help="sends CLEAR_FAULTS without and with a wrong PEC, too: "
-                       "a part that takes a wrong one can't be driven. It clears faults")
-    found.add_argument("--all-addresses", action="store_true", help="without an address: sends a command byte to 70 to 77, too, where multiplexers "
-                       "sit, which take it for their channels")
+    found = commands.add_parser("probe", **described("probe"))
+    found.add_argument("--writes", action="store_true", help="also sends CLEAR_FAULTS without its PEC, and with a wrong one, "
+                       "each after a right one: STATUS_CML has to be 00 before, and shows by its bits 5 and 1 that the part refused. A part that "
+                       "takes a wrong PEC can't be driven. This clears latched faults; only reads if left out")
+    found.add_argument("--all-addresses", action="store_true", help="without -a: also sends a command byte to 70 to 77, at which multiplexers "
+                       "sit, which take it for their channels; these are passed over if left out")
     found.set_defaults(run=run, judge=judge, can_scan=True)
     bus_options(found)
 
@@ -70,11 +71,14 @@ def next_words(call: Call) -> str:
     """What to do about a part that takes a write without a PEC."""
     bus = "BUS" if call.bus == MODEL_BUS else call.bus
     return (f"look into the data sheet for a bit that requires the PEC, as bit 2 of MFR_CONFIG_ALL (D1) of an LTC3887: i2cset -y {bus} "
-            f"0x{call.address or MODEL_ADDRESS:02X} 0xD1 0xNN bp writes that byte with its PEC; then probe --writes again")
+            f"0x{call.address or MODEL_ADDRESS:02X} 0xD1 0xNN bp writes that byte. Then probe --writes again")
 
 
 def look_around(arguments: argparse.Namespace, call: Call) -> int:
-    """Which addresses of the bus answer, a line each, and the command line that probes each PMBus part. The status is 1 where there is none."""
+    """Which addresses of the bus answer, a line each, and the command line that probes each PMBus part. The status is 1 if there is none."""
+    bus = bus_or_why(call.bus_at)
+    if not isinstance(bus, str):
+        bus.close()
     complain(f"{said(arguments)}: {MAY_BE_TAKEN}; {MAY_NOTE}")
     rows, lines = [], []
     for seen in scan(call.bus_at, arguments.all_addresses):
@@ -157,7 +161,7 @@ def revision_words(revision: int | None) -> str:
 
 
 def text_words(name: str, read: Read) -> str:
-    """A block, as a text where it is one."""
+    """A block, as a text if it is one."""
     if read.payload is None:
         return f"no good {name} ({read.why})"
     return f"{name} {block_words(read.payload)}"
@@ -178,8 +182,8 @@ def registers_words(output: FoundOutput) -> str:
 
 
 def on_off_words(read: Read) -> str:
-    """ON_OFF_CONFIG: bit 4 is 0 where the output is on whenever there is power, bit 3 is 0 where OPERATION's on and off are
-    ignored, bit 2 is 1 where the CONTROL pin counts."""
+    """ON_OFF_CONFIG: bit 4 is 0 if the output is on whenever there is power, bit 3 is 0 if OPERATION's on and off are
+    ignored, bit 2 is 1 if the CONTROL pin counts."""
     if read.payload is None:
         return f"no good ON_OFF_CONFIG ({read.why}): whether OPERATION is listened to isn't known"
     word = read.payload[0]
@@ -187,14 +191,14 @@ def on_off_words(read: Read) -> str:
         return f"ON_OFF_CONFIG {word:02X}: OPERATION's on and off are ignored, the output is on whenever there is power"
     if not word & 0x08:
         return f"ON_OFF_CONFIG {word:02X}: OPERATION's on and off are ignored"
-    return f"ON_OFF_CONFIG {word:02X}: OPERATION is listened to{', and so is the CONTROL pin' if word & 0x04 else ''}"
+    return f"ON_OFF_CONFIG {word:02X}: {'OPERATION and the CONTROL pin are' if word & 0x04 else 'OPERATION is'} listened to"
 
 
 def busy_words(found: Found) -> str:
     """Requests that needed more than one try."""
     seen = []
     if found.late:
-        seen.append(f"{found.late} request{'s were' if found.late > 1 else ' was'} answered at a second or third try alone")
+        seen.append(f"{found.late} request{'s were' if found.late > 1 else ' was'} answered only at a second or third try")
     if found.high:
         seen.append(f"{found.high} answer{'s were' if found.high > 1 else ' was'} nothing but FFh, which counts as none")
     return f"{', '.join(seen)}{': the part is busy, or the bus loses transfers' if found.late else ''}"

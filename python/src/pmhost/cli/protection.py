@@ -1,4 +1,4 @@
-"""WRITE_PROTECT of the parts of a file that say what it is to be: it is lifted before an order where the part holds just that byte, and written
+"""WRITE_PROTECT of the parts of a file that say what it is to be: it is lifted before an order if the part holds just that byte, and written
 last, however the call ends."""
 from __future__ import annotations
 
@@ -26,11 +26,11 @@ class Protection:
         self._lifted, self._touched = set[str](), set[str]()
 
     def of(self, name: str) -> int | None:
-        """The byte of a part, None where its file has none."""
+        """The byte of a part, None if its file has none."""
         return self.call.places()[name].part.protect
 
     def touch(self, name: str) -> None:
-        """A command orders something of a part: its byte is written behind the call's last command."""
+        """A command orders something of a part: its byte is written after the call's last command."""
         if self.of(name) is not None:
             self._touched.add(name)
 
@@ -39,14 +39,14 @@ class Protection:
         return self.of(name) not in (None, OFF) and only_word(self.call.places()[name].pmbus(), 0, PROTECT) == self.of(name)
 
     def read(self, name: str) -> None:
-        """Reads it, where the file has a byte."""
+        """Reads it, if the file has a byte."""
         if self.of(name) is not None:
             part = self.call.places()[name].pmbus()
             part.host.check(0, PROTECT)
             part.run()
 
     def lift(self, name: str) -> bool:
-        """Lifts it where that byte is in the way: whether the part takes orders now. The line says so."""
+        """Lifts it if that byte is in the way: whether the part takes orders now. The line says so."""
         if not self.is_in_the_way(name):
             return False
         self._touched.add(name)
@@ -57,7 +57,7 @@ class Protection:
         return True
 
     def lock(self) -> int:
-        """Writes the byte of each part that was touched, where it holds 00 and answers. The status: 1 where that isn't confirmed."""
+        """Writes the byte of each part that was touched, if it holds 00 and answers. The status: 1 if that isn't confirmed."""
         for name in sorted(each for each in self._touched if self.call.places()[each].is_begun):
             self.read(name)
             held = only_word(self.call.places()[name].pmbus(), 0, PROTECT)
@@ -71,7 +71,7 @@ class Protection:
         return int(bool(self.left))
 
     def _order(self, name: str, byte: int) -> str:
-        """Orders a byte, and reads it back. Why it isn't confirmed, nothing where it is."""
+        """Orders a byte, and reads it back. Why it isn't confirmed, nothing if it is."""
         place = self.call.places()[name]
         part = place.pmbus()
 

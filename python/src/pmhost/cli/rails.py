@@ -11,6 +11,7 @@ from ..rail_course import Restarted, Setting, Stopped
 from ..rails import Rail
 from ..stores import too_hot
 from . import way
+from .about import described
 from .again import RESTARTED
 from .answer import Answer, delivery_of, in_digits, number
 from .back import words_of
@@ -28,20 +29,20 @@ STORE_ALL = "--store-always"
 
 def add(commands: Any) -> None:
     """Adds the subparsers."""
-    for name, run, help in (("apply", apply, "brings a part, or the parts of a board, to the settings of a file of rails"),
-                            ("verify", verify, "compares them with a file of rails, and orders nothing")):
-        found = commands.add_parser(name, help=help, description=help[0].upper() + help[1:] + ".")
+    for name, run in ("apply", apply), ("verify", verify):
+        found = commands.add_parser(name, **described(name))
         completed_by(found.add_argument("file", metavar="FILE", type=file_of, help="settings of a board's rails, in TOML"), FILES)
         found.set_defaults(run=run, judge_file=judge_file, judge=way.judge, dry_run=False, picture=None, goes_back=False, is_order=name == "apply")
         if name == "apply":
-            found.add_argument("--dry-run", action="store_true", help="reads, and says what would be ordered")
+            found.add_argument("--dry-run", action="store_true", help="reads, and only says what would be ordered")
             found.add_argument("--store", action="store_true", dest="wants_store",
-                               help="has the parts of which something was ordered store their settings, once all rails are as the file has them")
+                               help="has each part of which something was ordered store its settings, once all rails are as the file has them. One above "
+                                    "85 C, or with a rail that is cut, isn't stored; none is if left out")
             found.add_argument(STORE_ALL, action="store_true", dest="stores_all",
-                               help="the same of all parts, also where nothing was ordered; --store=always is this, too")
+                               help="the same of all parts, ordered or not; --store=always is the same")
             found.add_argument("--back-on-failure", action="store_true", dest="goes_back",
-                               help="brings every rail back to what it held where the call fails; refuses before any order where no way back "
-                                    "would be accepted")
+                               help="brings every rail back to what it held if the call fails, and refuses before any order if no way back would "
+                                    "be accepted; leaves them as they are if left out")
             way.add(found)
         found.add_argument("--accept", **ACCEPT)
         bus_options(found)
@@ -96,7 +97,7 @@ def board_of(arguments: argparse.Namespace) -> Board:
 
 
 def run_board(arguments: argparse.Namespace, board: Board, run: Any) -> int:
-    """Carries it out, and says what became of it; the picture that is wanted comes behind that."""
+    """Carries it out, and says what became of it; the picture that is wanted comes after that."""
     call: Call = arguments.call
     is_dry: bool = arguments.dry_run
     if arguments.command == "apply" and not is_dry:
@@ -135,7 +136,7 @@ def went_back(call: Call, board: Board, is_bad: bool) -> tuple[str, bool]:
 
 
 def answer(call: Call, board: Board, found: Answer, is_dry: bool, are_wanted: bool, stores_all: bool) -> int:
-    """Says it, and has the parts store where that is wanted."""
+    """Says it, and has the parts store if that is wanted."""
     if not call.is_json and board.settings:
         call.say_lines([*table(board, is_dry and not found.status),
                         *(line for rail in board.rails for line in rail_lines(board, rail, are_wanted))])
@@ -146,7 +147,7 @@ def answer(call: Call, board: Board, found: Answer, is_dry: bool, are_wanted: bo
 
 
 def why_not_stored(call: Call, board: Board, name: str) -> str:
-    """Why a part isn't to store now, unless --force is given: nothing where it may."""
+    """Why a part isn't to store now, unless --force is given: nothing if it may."""
     cut = [rail.name for rail in board.rails if rail.part == name and board.is_cut(rail)]
     why = too_hot(board.parts[name]) or (f"VOUT_MAX or VOUT_MIN cuts {', '.join(cut)}, whose stored word the next plan may let go" if cut else "")
     return f"{f'{name}: ' * bool(name)}{why}: --force stores all the same" if why and not call.is_forced else ""
@@ -161,7 +162,7 @@ def store(call: Call, board: Board, found: Answer, stores_all: bool) -> None:
         return
     for name in parts:
         if why := why_not_stored(call, board, name):
-            found.end, found.text, found.status = "refused", f"stored {', '.join(stored)} alone" if stored else "nothing is stored", 1
+            found.end, found.text, found.status = "refused", f"stored only {', '.join(stored)}" if stored else "nothing is stored", 1
             found.why = why
             return
         call.protection.lift(name)
@@ -176,14 +177,14 @@ def store(call: Call, board: Board, found: Answer, stores_all: bool) -> None:
         stored.append(name)
     found.end = "unknown" if found.status else "acknowledged"
     named = f" of {', '.join(stored)}" if any(stored) else ""
-    found.text = f"store {found.end}" if found.status else (f"store{named} acknowledged; a restart loads what was stored, where no pin overrides "
+    found.text = f"store {found.end}" if found.status else (f"store{named} acknowledged; a restart loads what was stored, if no pin overrides "
                                                             "it, which `verify` shows after a power cycle")
     if found.status and stored:
         found.why += f"; stored before: {', '.join(stored)}"
 
 
 def stop_of(board: Board, run: Any) -> tuple[str, int]:
-    """Carries it out. Why it stopped, or nothing, and the status: that of a restart where it is no more than one."""
+    """Carries it out. Why it stopped, or nothing, and the status: that of a restart if it is no more than one."""
     try:
         run()
     except Stopped as stopped:
@@ -245,12 +246,12 @@ def rail_lines(board: Board, rail: Rail, are_wanted: bool) -> list[str]:
 
 
 def delivered_words(board: Board, rail: Rail) -> str:
-    """What a rail does, where it was looked at."""
+    """What a rail does, if it was looked at."""
     return board.delivered[rail.name].words if rail.name in board.delivered else ""
 
 
 def volts(board: Board, it: Setting, word: int | None) -> float | None:
-    """A word's volts, where the library tells them."""
+    """A word's volts, if the library says them."""
     micro = board.format(it.rail).told(word)
     return None if micro is None else number(micro)
 

@@ -1,4 +1,4 @@
-"""What `read` tells of readings and status registers, and what the part noted behind a job that ended badly."""
+"""What `read` says of readings and status registers, and what the part noted after a job that ended badly."""
 from __future__ import annotations
 
 import argparse
@@ -18,8 +18,8 @@ PROTECT = Packet("read", 0x10)
 
 
 def tell(arguments: argparse.Namespace) -> int:
-    """A reading with its unit, or a status register with the names of its bits. The host is told of nothing but the format of the
-    output's voltages, which is learned where a reading's unit rests on it."""
+    """A reading with its unit, or a status register with the names of its bits. The host hears of nothing but the format of the
+    output's voltages, which is learned if a reading's unit rests on it."""
     call: Call = arguments.call
     part, name, output = call.part(), arguments.register, arguments.output
     form = None
@@ -37,7 +37,7 @@ def tell(arguments: argparse.Namespace) -> int:
 
 def tell_code(arguments: argparse.Namespace) -> int:
     """The bytes of any command code, of an output by PAGE_PLUS or of the device: a byte or a word in hexadecimal digits, a block with its
-    text where it is text."""
+    text if it is text."""
     call: Call = arguments.call
     part, name, output, asked = call.part(), arguments.register, arguments.output, code_of(arguments.register)
     assert asked is not None
@@ -59,7 +59,7 @@ def tell_code(arguments: argparse.Namespace) -> int:
 
 
 def block_text(payload: bytes) -> str:
-    """The text of a block of printable ASCII, without zeros and blanks behind it; nothing where it is none."""
+    """The text of a block of printable ASCII, without zeros and blanks after it; nothing if it is none."""
     text = payload.rstrip(b"\0 ")
     return text.decode("ascii") if text and all(0x20 <= byte < 0x7F for byte in text) else ""
 
@@ -76,12 +76,12 @@ def digits_of(found: readings.Reading) -> str | None:
 
 
 def read_protect(part: Device) -> str:
-    """WRITE_PROTECT behind an order that wasn't taken, for the end of a line; nothing where it protects nothing or gives no good answer."""
+    """WRITE_PROTECT after an order that wasn't taken, for the end of a line; nothing if it protects nothing or gives no good answer."""
     found = Reads(part.bus, part.host.address).packet(PROTECT)
     return f"; WRITE_PROTECT is {found.payload[0]:02X}" if found.payload and found.payload[0] else ""
 
 
 def read_notes(part: Device, output: int | None) -> str:
-    """What the part noted behind a job that ended badly, for the end of a line; nothing where it gives no good answer."""
+    """What the part noted after a job that ended badly, for the end of a line; nothing if it gives no good answer."""
     words = readings.read_notes(part.bus, part.host.address, output)
     return f"; {words}" if words else ""

@@ -31,7 +31,7 @@ def is_open(number: int) -> bool:
 
 
 def write(line: str) -> None:
-    """A line on standard output. NoStream where it can't be written; what is left of it is dropped then."""
+    """A line on standard output. NoStream if it can't be written; what is left of it is dropped then."""
     try:
         print(line, flush=True)
     except OSError as fault:
@@ -55,8 +55,8 @@ def read() -> bytes:
 
 
 def write_all(texts: Iterable[str]) -> None:
-    """Texts, each as it comes, on standard output. Where that fails, or the script is interrupted, it ends: without a
-    word where the reader of a pipe left, otherwise with one line."""
+    """Texts, each as it comes, on standard output. If that fails, or the script is interrupted, it ends: without a
+    word if the reader of a pipe left, otherwise with one line."""
     try:
         for text in texts:
             write(text)

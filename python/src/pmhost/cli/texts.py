@@ -26,7 +26,7 @@ def standard_input() -> BinaryIO:
 
 
 def told(texts: Iterable[str]) -> int:
-    """Writes texts on standard output, each as it comes. The status: 1 where that fails, without a word where the reader of a
+    """Writes texts on standard output, each as it comes. The status: 1 if that fails, without a word if the reader of a
     pipe left, and 130 after an interrupt."""
     try:
         for text in texts:

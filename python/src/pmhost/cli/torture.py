@@ -17,22 +17,27 @@ from ..torture.program import Run, Way
 from ..torture.verdict import Judge, Unjudged, Verdict
 from ..torture.watched import ADDRESS, Cell, read_meant
 from . import streams
+from .about import COMMANDS
 from .call import complain
 from .parser import BadCall, shown, whole
 from .texts import without_a_bus
 
-ABOUT = f"""Runs a program again and again over a bus with the proved converter on it, and in each run one fault strikes one transfer.
-The program opens /dev/i2c-N, any N, as ever; the converter is at {ADDRESS:02X}h, speaks PAGE, PAGE_PLUS and packet error codes, and its output O has
-voltages in ULINEAR16 with the exponent O - 12. A program that is linked statically is reached with --cuse.
+ABOUT = f"""Runs a program again and again over a bus with the proved converter on it. In each run one fault strikes one transfer.
+The program opens /dev/i2c-N, any N, as ever. The converter is at {ADDRESS:02X}h, speaks PAGE, PAGE_PLUS and packet error codes, and its
+output O has voltages in ULINEAR16 with the exponent O - 12. A program that is linked statically is reached by --cuse.
 
   pmhost torture -- ./your-host --bus 1
   pmhost torture --strike lost,garbled --runs 100 -- sh set-rails.sh
   pmhost torture --again 7:cut:4 -- sh set-rails.sh
 
-First the program runs without a fault: what each register takes then is what it is meant to take. A run is WRONG where a
-register takes a word that was meant for the same register of another output; FALSE where the program ends well and a register
-doesn't hold what was meant; NOT ENDED after its seconds. STRANGE words, meant for no register, are told and counted. The status is
-0 where there was none of the first three, 1 where there was, and 2 where the program can't be judged."""
+First the program runs without a fault: what each register takes then is what it is meant to take. A run is WRONG if a
+register takes a word that was meant for the same register of another output. It is FALSE if the program ends well and a
+register doesn't hold what was meant, and NOT ENDED after its seconds. STRANGE words, meant for no register, are shown and counted. The
+status is 0 if no run is one of the first three, 1 if one is, and 2 if the program can't be judged."""
+
+
+# How long a run may take.
+SECONDS = 10
 
 
 def kinds_of(word: str) -> list[str]:
@@ -56,22 +61,23 @@ def again_of(word: str) -> tuple[int, str]:
 
 
 def add(commands: Any) -> None:
-    parser = commands.add_parser("torture", help="any program over the model part, with one fault in each run", description=ABOUT)
+    parser = commands.add_parser("torture", help=COMMANDS["torture"].brief, description=ABOUT)
     parser.add_argument("--strike", type=kinds_of, default=list(torture.KINDS), metavar="KIND,..",
-                        help=f"the kinds of faults, all if left out: {', '.join(torture.KINDS)}; pmhost faults --help says what each is")
+                        help=f"the kinds of faults, of {', '.join(torture.KINDS)}; all if left out. pmhost faults --help says what each is")
     parser.add_argument("--runs", type=whole(1, 10**6, "runs"), metavar="N",
-                        help="so many runs, drawn at random; if left out each kind once at each transfer")
+                        help="how many runs, drawn at random, at most 1000000; if left out each kind once at each transfer")
     parser.add_argument("--seed", type=whole(0, 10**9 - 1, "seed"), default=0, metavar="N", help="draws places and bits, 0 if left out")
-    parser.add_argument("--seconds", type=whole(1, 3600, "seconds"), default=10, metavar="N", help="how long a run may take, 10 if left out")
+    parser.add_argument("--seconds", type=whole(1, 3600, "seconds"), default=SECONDS, metavar="N",
+                        help=f"how many seconds a run may take, 1 to 3600; {SECONDS} if left out")
     parser.add_argument("--outputs", type=whole(1, 8, "outputs"), default=2, metavar="N", dest="count",
-                        help="how many outputs the converter has, 2 if left out")
+                        help="how many outputs the converter has, 1 to 8; 2 if left out")
     parser.add_argument("--meant", action="append", default=[], metavar="O:CODE=WORD",
-                        help="what a register is meant to hold, as 1:21=34CD, in place of what the run without a fault shows")
-    parser.add_argument("--said", metavar="REGEX", dest="finds", help="a run went well where a line of the program's output has this, whatever its status")
+                        help="what a register is meant to hold, as 1:21=34CD; what the run without a fault shows if left out")
+    parser.add_argument("--said", metavar="REGEX", dest="finds", help="a run went well if a line of the program's output matches this, whatever its status; its status decides if left out")
     parser.add_argument("--cuse", type=whole(0, 255, "cuse"), metavar="N", help="the bus is a device /dev/i2c-N of this number, made by CUSE of the "
                         "kernel, which reaches every program: it needs root, and the kernel's module cuse")
-    parser.add_argument("--again", type=again_of, metavar="N:FAULT", help="one run alone: the fault at the transfer of this number")
-    parser.add_argument("--json", action="store_true", dest="is_json", help="one object with all of it")
+    parser.add_argument("--again", type=again_of, metavar="N:FAULT", help="only one run: the fault at the transfer of this number; all if left out")
+    parser.add_argument("--json", action="store_true", dest="is_json", help="prints one object with all of it; lines if left out")
     parser.add_argument("words", nargs=argparse.REMAINDER, metavar="-- PROGRAM ..", help="the program and its words")
     parser.set_defaults(run=run, judge=judge)
 
@@ -80,7 +86,7 @@ def judge(arguments: argparse.Namespace) -> None:
     without_a_bus(arguments)
     words = arguments.words[1:] if arguments.words[:1] == ["--"] else arguments.words
     if not words:
-        raise BadCall("torture: give a program behind --, as pmhost torture -- ./your-host")
+        raise BadCall("torture: give a program after --, as pmhost torture -- ./your-host")
     try:
         arguments.meant = [read_meant(each, arguments.count) for each in arguments.meant]
     except ValueError as fault:
@@ -134,7 +140,7 @@ def bench(arguments: argparse.Namespace, way: Way) -> int:
 
 
 def chosen(arguments: argparse.Namespace, plain: Run) -> list[tuple[int, str]]:
-    """The runs: one alone, or all, or as many as were asked for of all of them again and again."""
+    """The runs: one only, or all, or as many as were asked for of all of them again and again."""
     if arguments.again:
         return [arguments.again]
     if arguments.runs is None:
@@ -156,6 +162,8 @@ def again(arguments: argparse.Namespace, found: Verdict) -> str:
     """The line that repeats a run."""
     more = [] if arguments.cuse is None else ["--cuse", str(arguments.cuse)]
     more += ["--outputs", str(arguments.count)] * (arguments.count != 2) + ["--said", arguments.finds or ""] * (arguments.finds is not None)
+    more += ["--seconds", str(arguments.seconds)] * (arguments.seconds != SECONDS)
+    more += [word for (output, register), meant in arguments.meant for word in ("--meant", f"{output}:{register}={meant:04X}")]
     return shlex.join(["pmhost", "torture", *more, "--again", f"{found.run.number}:{found.run.fault}", "--", *arguments.program.words])
 
 

@@ -21,7 +21,7 @@ from .signals import Interrupted
 HELP = ("draws into this file (SVG) the way of each rail, order by order: what its output commands, by what the host knows; with "
         "--dry-run what the plan would order")
 MEASURED = f"Nothing is measured: it is {COMMANDED}."
-UNWRITTEN = "Nothing was written: these are the plan's orders, where each is confirmed."
+UNWRITTEN = "Nothing was written: these are the plan's orders, if each is confirmed."
 
 # How a rail ended: a mark, and words.
 End = tuple[str, str]
@@ -77,8 +77,8 @@ def is_same(path: str, other: str) -> bool:
 
 
 class WayFile:
-    """What a command draws, if it draws: begun before its board is read, and written behind what it says, whatever came. `end_of` says
-    how a rail ended. A fault of the file ends the picture and not the job: `raise_fault` tells of it."""
+    """What a command draws, if it draws: begun before its board is read, and written after what it says, whatever came. `end_of` says
+    how a rail ended. A fault of the file ends the picture and not the job: `raise_fault` raises it."""
 
     def __init__(self, arguments: argparse.Namespace, board: Board, end_of: Callable[[Rail], End]) -> None:
         self.arguments, self.board, self.end_of = arguments, board, end_of
@@ -87,7 +87,7 @@ class WayFile:
 
     @contextlib.contextmanager
     def written(self, end: str, why: str) -> Iterator[None]:
-        """Draws behind what is said in it. NoStream where the file fails."""
+        """Draws after what is said in it. NoStream if the file fails."""
         try:
             yield
         finally:
@@ -112,14 +112,14 @@ class WayFile:
             self.fault = f"--picture {shown(self.arguments.picture)}: {fault.strerror}"
 
     def drawn(self, way: Way, rail: Rail) -> RailWay:
-        """A rail, with its wanted voltage as the format has it, where that is known."""
+        """A rail, with its wanted voltage as the format has it, if that is known."""
         wanted = next((it.wanted for it in self.board.of(rail) if it.key == "volts"), None)
         micro = rail.settings["volts"] if wanted is None else self.board.format(rail).microvolts(wanted)
         mark, words = self.end_of(rail)
         return RailWay(rail.name, output_of(rail), rail.limits, micro, way.rows[rail.name], words, mark)
 
     def broken_off(self, fault: BaseException) -> None:
-        """Draws how far it came where a signal or a fault ended the call."""
+        """Draws how far it came if a signal or a fault ended the call."""
         call: Call = self.arguments.call
         is_interrupted = isinstance(fault, Interrupted)
         # Whatever becomes of the picture, the call ends by its own fault, which says what is unknown now.
@@ -128,7 +128,7 @@ class WayFile:
             self.write("interrupted" if is_interrupted else "broken off", call.unsure() if is_interrupted else str(fault))
 
     def raise_fault(self) -> None:
-        """A NoStream where the file has failed."""
+        """A NoStream if the file has failed."""
         if self.fault:
             raise streams.NoStream(self.fault)
 

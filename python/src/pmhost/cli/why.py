@@ -5,6 +5,7 @@ import argparse
 from typing import Any
 
 from ..why import BESIDE, Findings, cause, findings
+from .about import described
 from .answer import Answer
 from .call import Call, said
 from .orders import OUTPUT
@@ -17,15 +18,14 @@ DEVICE = "WRITE_PROTECT"
 
 def add(commands: Any) -> None:
     """Adds the subparser."""
-    found = commands.add_parser("why", help="says why an output is off, and what to do about it",
-                                description="Says why an output is off: what its registers say, the likeliest cause, and what to do.")
+    found = commands.add_parser("why", **described("why"))
     found.add_argument("output", metavar="O", type=OUTPUT, help="the output, from 0")
     found.set_defaults(run=why)
     bus_options(found)
 
 
 def why(arguments: argparse.Namespace) -> int:
-    """Tells what the registers say, and the cause. The status is 0 where the rail is on and its power is good, or it is commanded off."""
+    """Says what the registers say, and the cause. The status is 0 if the rail is on and its power is good, or it is commanded off."""
     call: Call = arguments.call
     seen = findings(call.part(), arguments.output)
     because = cause(seen)
@@ -38,7 +38,7 @@ def why(arguments: argparse.Namespace) -> int:
 
 
 def well(seen: Findings) -> str:
-    """What is said where nothing is wrong."""
+    """What is said if nothing is wrong."""
     if "OFF" in seen.bits("STATUS_WORD"):
         return f"it is off, since OPERATION turns it off: `on {seen.output}` turns it on"
     return f"it is on: {seen.value('READ_VOUT')}"

@@ -4,7 +4,7 @@
     lost          nothing arrives, and nobody acknowledges
     cut:N         the part hears the first N bytes, then a stop; what follows isn't acknowledged
     damaged:N:B   bit B of byte N is changed on the way. A part acknowledges each byte before it has the packet error
-                  code, so the damage is acknowledged, but in the address (N is 0), where nobody feels meant
+                  code, so the damage is acknowledged. Nobody acknowledges a damaged address (N is 0)
     twice         the part hears the frame twice
     mute          the part hears the frame; the acknowledgement is lost, or no answer comes
     short:N       of an answer N bytes come
@@ -14,9 +14,9 @@
     restart:N     the part hears the first N bytes, restarts, and hears no more of the frame, which nobody acknowledges
     restarted     the part hears the frame, answers, and then restarts
     ones          of an answer each byte comes as FFh
-    late          in place of an answer that to the request before comes; none where there was no request
+    late          in place of an answer that to the request before comes; none if there was no request
 
-N counts from 0, and begins again behind the last byte.
+N counts from 0, and begins again after the last byte.
 """
 from __future__ import annotations
 
@@ -32,17 +32,17 @@ from ..texts import in_hexadecimal
 FAULT = re.compile(r"(ok|lost|twice|mute|false|restart|restarted|ones|late)|(cut|short|restart):(\d{1,3})|(damaged|garbled):(\d{1,3}):([0-7])")
 # What is drawn at random: what any bus does to any part. The others are for lists.
 DRAWN = ("lost", "cut", "damaged", "twice", "mute", "short", "garbled")
-UNHEARD = "no"
+UNHEARD, SILENT = "no", "silent"
 # Faults for which a write isn't acknowledged.
 UNACKNOWLEDGED = ("lost", "cut", "mute", "restarting")
-# Faults that strike answers alone.
+# Faults that strike only answers.
 OF_ANSWERS = ("short", "garbled", "ones", "late")
 # Where a packet has its count.
 COUNT_AT = 2
 
 
 def read_faults(text: str) -> list[str]:
-    """The faults of a list, between spaces or commas; the first word that is none, where there is one, is a ValueError."""
+    """The faults of a list, between spaces or commas; the first word that is none, if there is one, is a ValueError."""
     words = text.replace(",", " ").split()
     for word in words:
         if not FAULT.fullmatch(word):
@@ -68,8 +68,8 @@ def changed(frame: bytes, place: int, bit: int) -> bytes:
 
 @dataclass(frozen=True)
 class Struck:
-    """A transfer that is over: the frame of the host, of a request how many bytes it wants behind the read address, the fault that
-    struck it, what the part made of it, and what the host was told: `acknowledged`, `not acknowledged`, or `back` with bytes."""
+    """A transfer that is over: the frame of the host, of a request how many bytes it asks for after the read address, the fault that
+    struck it, what the part made of it, and what the host heard: `acknowledged`, `not acknowledged`, or `back` with bytes."""
 
     frame: bytes
     count: int | None
@@ -94,18 +94,18 @@ def heard_by(part: ModelPart, frame: bytes, is_request: bool = False) -> tuple[s
         return f"refused {refused_words(fault, part, frame, is_request)}", b""
     if answer:
         return f"answer {in_hexadecimal(answer)}", answer
-    return "taken" if frame[:1] == bytes([part.address << 1]) else "silent", b""
+    return "taken" if frame[:1] == bytes([part.address << 1]) else SILENT, b""
 
 
 def refused_words(fault: PartRefused, part: ModelPart, frame: bytes, is_request: bool) -> str:
-    """The letter and the name of a refusal; behind K1 those of the frame's fault, and its place."""
+    """The letter and the name of a refusal; after K1 those of the frame's fault, and its place."""
     words = f"{fault.letter} {fault.name}"
     return f"{words} {fault.of_frame} {place_of(fault.of_frame, part, frame, is_request)}" if fault.of_frame else words
 
 
 def place_of(fault: str, part: ModelPart, frame: bytes, is_request: bool) -> int:
-    """Where a frame has its fault: behind its last byte where it is short, at its count, at its last byte, which is the packet error
-    code, or, where it is long, behind the first bytes that are enough."""
+    """If a frame has its fault: after its last byte if it is short, at its count, at its last byte, which is the packet error
+    code, or, if it is long, after the first bytes that are enough."""
     if fault.startswith("F3"):
         return next((end for end in range(1, len(frame)) if not is_short(part.copy(), frame[:end], is_request)), len(frame))
     return {"F4": COUNT_AT, "F5": len(frame) - 1}.get(fault[:2], len(frame))
@@ -128,18 +128,20 @@ class FaultyBus(ModelPartBus):
         self.faults, self.tell = list(faults), tell
         # The answer to the last request, for one that comes late.
         self._before = b""
+        # Whether somebody acknowledged the address of the last transfer.
+        self.is_addressed = False
 
     def write(self, frame: bytes) -> bool:
         """Whether it was acknowledged."""
         fault, kind, numbers = self._next()
         sent = arriving(frame, kind, numbers)
         heard, _ = self._heard(sent, False, kind)
-        acked = kind == "false" or kind not in UNACKNOWLEDGED and heard != "silent"
+        acked = kind == "false" or kind not in UNACKNOWLEDGED and heard != SILENT
         self.tell(Struck(frame, None, fault, heard, "acknowledged" if acked else "not acknowledged"))
         return acked
 
     def read(self, request: bytes, count: int) -> bytes:
-        """The bytes that come behind the read address; none where there is no answer, or another address answers."""
+        """The bytes that come after the read address; none if there is no answer, or another address answers."""
         fault, kind, numbers = self._next()
         # A request that is cut ends in a stop.
         heard, answer = self._heard(arriving(request, kind, numbers), kind not in ("cut", "restarting"), kind)
@@ -155,6 +157,7 @@ class FaultyBus(ModelPartBus):
         if kind == "twice":
             heard_by(self.part, sent, is_request)
         heard = heard_by(self.part, sent, is_request)
+        self.is_addressed = kind == "false" or heard[0] not in (UNHEARD, SILENT)
         if kind in ("restarting", "restarted"):
             self.part.restart()
         return heard

@@ -47,7 +47,7 @@ def box(x: float, y: float, wide: float, high: float, fill: str, extra: str = ""
 
 
 def named(shape: str, title: str) -> str:
-    """A shape that shows its title where it is pointed at."""
+    """A shape that shows its title if it is pointed at."""
     return f"<g><title>{escape(title)}</title>{shape}</g>"
 
 
@@ -58,7 +58,7 @@ def hatched(name: str, ground: str, stripe: str) -> str:
 
 
 def legend(entries: Sequence[tuple[str | None, str, str]], left: float, y: float, wide: float, gap: float) -> tuple[list[str], float]:
-    """What colours mean, as many to a line as fit: each with its fill, its edge and its words; and where the last line stands."""
+    """What colours mean, as many to a line as fit: each with its fill, its edge and its words; and the height of the last line."""
     x, found = left, list[str]()
     for fill, edge, words in entries:
         room = (34 if fill else 0) + width_of(words, 12) + gap

@@ -1,5 +1,5 @@
 """The lane of a picture that shows the voltage of one output: a scale of its own, from VOUT_MIN to VOUT_MAX with a
-little room, and farther where what is commanded or a limit of the rail lies outside."""
+little room, and farther if what is commanded or a limit of the rail lies outside."""
 from __future__ import annotations
 
 from collections.abc import Callable, Iterator, Mapping, Sequence
@@ -23,7 +23,7 @@ Key = TypeVar("Key")
 
 
 class Tops(Protocol):
-    """Where rows stand, and how high one is."""
+    """The places of rows, and how high one is."""
 
     row: int
 
@@ -76,7 +76,7 @@ class Lane:
         return self.within(least) if micro is None else micro
 
     def words(self, place: int) -> str:
-        """What is told of a row's voltage."""
+        """What is said of a row's voltage."""
         is_on, micro, cut, _ = self.told[place]
         return "" if micro is None else value_in_words(is_on, micro, cut)
 
@@ -104,7 +104,7 @@ class Lane:
         yield from runs_of([key(it) for it in self.told[first:end]], first)
 
     def limits(self, x: float, top_of: Tops, first: int, end: int) -> Iterator[str]:
-        """The ground between the limits and outside of them, the limits, and their values where they change."""
+        """The ground between the limits and outside of them, the limits, and their values at each change."""
         for start, stop, limits in self.runs(first, end, lambda told: told[3]):
             top, high = top_of(start), top_of(stop - 1) - top_of(start) + top_of.row
             yield box(x, top, self.width, high, OUTSIDE)
@@ -115,7 +115,7 @@ class Lane:
                     yield line(x + self.x_of(micro), top, x + self.x_of(micro), top + high, LIMIT, 1.2)
 
     def ground(self, limits: Limits) -> tuple[float, float]:
-        """Where the ground between the limits begins and ends: at the lane's edge where there is none, or it lies beyond the scale."""
+        """The ends of the ground between the limits: at the lane's edge if there is none, or it lies beyond the scale."""
         least, most = limits.get("min"), limits.get("max")
         if least is not None and most is not None and most < least:
             least, most = most, least
@@ -123,7 +123,7 @@ class Lane:
                 self.width if most is None or most > self.high else self.x_of(self.within(most)))
 
     def known(self, x: float, top_of: Tops, first: int, end: int) -> Iterator[str]:
-        """Where the host knows the voltage to be, as far as the scale goes, and the limits of the rail."""
+        """The range in which the host knows the voltage to be, as far as the scale goes, and the limits of the rail."""
         for start, stop, band in runs_of(self.bands[first:end], first):
             if band:
                 left, right = (self.x_of(self.within(it)) for it in band)
@@ -146,7 +146,7 @@ class Lane:
             before = at
 
     def labels(self, x: float, top_of: Tops, first: int, end: int) -> Iterator[str]:
-        """Its value where it changes and where a page begins; and the limits below it, where they change."""
+        """Its value, at each change and at the top of a page; and the limits below it, at each change."""
         shown = [(told[:3], band if told[1] is None else None) for told, band in zip(self.told[first:end], self.bands[first:end])]
         for start, _, _ in runs_of(shown, first):
             at, anchor = self.beside(start)
@@ -157,7 +157,7 @@ class Lane:
                 yield halo(x + at, top_of(start) + 25, "; ".join(changed(self.told[start - 1][3], limits)), 11, LIMIT, anchor)
 
     def beside(self, place: int) -> tuple[float, str]:
-        """Where the labels of a row stand, and how they are anchored there."""
+        """The places of a row's labels, and how they are anchored there."""
         micro = self.shown(place)
         return (self.x_of(micro) + BESIDE, "start") if self.share(micro) < 0.5 else (self.x_of(micro) - BESIDE, "end")
 

@@ -1,5 +1,5 @@
-"""The way of rails under `apply` as a picture (SVG): rail below rail, in their order, a row for the start of each and one behind each
-order. A row shows what the output commands by what the host knows then: one value as a line, several as a shade, and stripes where
+"""The way of rails under `apply` as a picture (SVG): rail below rail, in their order, a row for the start of each and one after each
+order. A row shows what the output commands by what the host knows then: one value as a line, several as a shade, and stripes if
 nothing is known. Nothing is measured.
 """
 from __future__ import annotations
@@ -29,7 +29,7 @@ ENTRIES: Sequence[tuple[str | None, str, str]] = (
 
 @dataclass(frozen=True)
 class RailWay:
-    """A rail as it is drawn: its name and where it is, its limits and what is wanted in microvolts, its rows, and how it ended, in
+    """A rail as it is drawn: its name and its place, its limits and what is wanted in microvolts, its rows, and how it ended, in
     words and by its mark."""
 
     name: str
@@ -97,7 +97,7 @@ class WayPicture:
         self.parts: list[str] = []
 
     def draw_lines(self, y: float, words: str, colour: str, x: float = EDGE) -> float:
-        """Words in lines that fit; where the next line stands."""
+        """Words in lines that fit; the height of the next line."""
         for said in wrapped(words, self.width - EDGE - x, 12):
             self.parts.append(text(x, y, said, fill=colour))
             y += PITCH
@@ -111,7 +111,7 @@ class WayPicture:
         self.parts.append(text(self.marks_at + MARK, top + 18, row.end, fill=MARKS[mark]))
 
     def draw_rail(self, y: float, rail: RailWay, lane: WayLane) -> float:
-        """A rail with its rows and its end; where what comes below it may begin."""
+        """A rail with its rows and its end; at what height the next may begin."""
         tops = RailTops(y + HEADS)
         self.parts.append(text(EDGE, tops.top - 60, rail.name, 15, extra=' font-weight="bold"'))
         self.parts.append(text(EDGE, tops.top - 42, rail.place, fill=PALE))

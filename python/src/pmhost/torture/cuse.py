@@ -28,7 +28,7 @@ ROOM = 1 << 17
 
 
 class AskAgain(Exception):
-    """A call wants memory of its caller: places to be read and places to be written, each an address and a length."""
+    """A call needs memory of its caller: places to be read and places to be written, each an address and a length."""
 
     def __init__(self, reads: list[tuple[int, int]], writes: list[tuple[int, int]]) -> None:
         super().__init__()

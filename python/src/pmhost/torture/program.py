@@ -39,7 +39,7 @@ class Way(Protocol):
 
 
 def fault_of(kind: str, dice: random.Random) -> str:
-    """A fault of a kind, with a place and a bit where it has them."""
+    """A fault of a kind, with a place and a bit if it has them."""
     place, bit = dice.randrange(12), dice.randrange(8)
     return {"cut": f"cut:{place}", "short": f"short:{place}", "restarting": f"restart:{place}", "damaged": f"damaged:{place}:{bit}",
             "garbled": f"garbled:{place}:{bit}"}.get(kind, kind)
@@ -92,7 +92,7 @@ class Program:
         return run
 
     def _ran(self, serving: Serving, around: dict[str, str], output: int) -> int | None:
-        """Its status, None where it was ended since its seconds were over."""
+        """Its status, None if it was ended since its seconds were over."""
         process = subprocess.Popen(self.words, stdin=subprocess.DEVNULL, stdout=output, stderr=subprocess.STDOUT, env=around, start_new_session=True)
         try:
             end = time.monotonic() + self.seconds

@@ -23,22 +23,24 @@ class Server:
         self.part.number += kinds != [True]
         if kinds == [False]:
             went = self.bus.write(bytes([ADDRESS << 1]) + messages[0].data)
-            return (1, []) if went else (-errno.EREMOTEIO, [])
+            return (1, []) if went else (self._error(), [])
         if kinds == [False, True]:
             wanted = messages[1]
             came = self.bus.read(bytes([ADDRESS << 1]) + messages[0].data, MOST_BLOCK + 2 if wanted.flags & HAS_COUNT else wanted.length)
-            return self.answered(came, wanted)
+            return self.answered(came, wanted) if came else (self._error(), [])
         if kinds == [True]:
             # Nobody drives the line: the part has been asked for nothing.
             return 1, [b"\xFF" * messages[0].length]
         return -errno.EOPNOTSUPP, []
 
+    def _error(self) -> int:
+        """As an adapter says it: nobody acknowledged the address, or somebody did and no byte behind it."""
+        return -(errno.EREMOTEIO if self.bus.is_addressed else errno.ENXIO)
+
     @staticmethod
     def answered(came: bytes, wanted: Message) -> tuple[int, list[bytes]]:
-        """An answer as a controller reads it, which clocks as many bytes as it wants: behind the last one the line is high."""
+        """An answer as a controller reads it, which clocks as many bytes as it likes: after the last one the line is high."""
         length = wanted.length
-        if not came:
-            return -errno.EREMOTEIO, []
         if wanted.flags & HAS_COUNT:
             if not 1 <= came[0] <= MOST_BLOCK:
                 return -errno.EPROTO, []
