@@ -2,10 +2,8 @@
 from __future__ import annotations
 
 import argparse
-import contextlib
-import functools
 from dataclasses import dataclass, field
-from typing import Any, Callable, Iterator
+from typing import Any, Callable
 
 from .. import rails, voltages
 from ..apply import Board
@@ -19,8 +17,6 @@ from ..parts import BadRails
 from ..rail_course import Due, Stopped
 from ..rails import Rail
 from ..rehearsal import first_not_reached
-from ..stairs import WHY, StairsStep
-from ..step_run import StepCourse, StepRun
 from ..survey import TRIES, Commanded, Nobody, commanded, complete, only_word, survey
 from ..zeros import NotBelieved
 from .about import described
@@ -129,8 +125,10 @@ class RailTest:
             self.look.before(course, order)
             raise Due
 
-        with contextlib.suppress(Due), self.stopping():
-            complete(self.part, course, before)
+        try:
+            self.carry_out(course, before)
+        except Due:
+            pass
         end = course.ended
         if end is not None and end.kind == "refused" and refusal(end.number).letter == "P7" and self.call.protection.is_in_the_way(self.rail.part):
             return
@@ -145,10 +143,8 @@ class RailTest:
         protection.touch(part)
         protection.lift(part)
         self.call.back.note(Held(self.rail.name, part, self.rail.output, {OPERATION: self.byte}))
-        way = (self.byte, MARGINS["high"], MARGINS["low"])
-        run = StepRun([(self.part, StairsStep.turns(0, self.rail.output, byte)) for byte in way], TRIES)
-        for place, (point, byte) in enumerate(zip(POINTS, way)):
-            self.turn(point, byte, functools.partial(run.carry_out, place))
+        for point, byte in zip(POINTS, (self.byte, MARGINS["high"], MARGINS["low"])):
+            self.turn(point, byte)
             self.measure(point)
         for held, why in self.call.back.go():
             self.is_back = not why
@@ -156,15 +152,14 @@ class RailTest:
                 raise Stopped(words_of(held, why))
         self.measure(POINTS[-1])
 
-    def turn(self, point: str, byte: int, carry_out: Callable[..., None]) -> None:
-        """Orders a byte, a step of stairs. Stopped where that isn't confirmed."""
-        course, call = StepCourse.power(self.rail.output, byte, TRIES), self.call
+    def turn(self, point: str, byte: int) -> None:
+        """Orders a byte. Stopped where that isn't confirmed."""
+        course, call = Course.power(self.rail.output, byte, TRIES), self.call
 
         def before(_: Job) -> None:
             call.maybe = f"{self.rail.name} may be on a margin"
 
-        with self.stopping():
-            carry_out(self.part, course, before, lambda *_: None, call.places()[self.rail.part].ask_operation)
+        self.carry_out(course, before)
         end = course.ended or CourseEnd("")
         if end.kind != "reached":
             raise self.stopped(f"at {point}: {self.why_ended(byte, end)}")
@@ -181,11 +176,10 @@ class RailTest:
 
     # ---- Courses ----
 
-    @contextlib.contextmanager
-    def stopping(self) -> Iterator[None]:
-        """Within it Stopped is raised where nobody answers, or a voltage is at or beyond a fault limit."""
+    def carry_out(self, course: Course, before: Callable[[Job], None]) -> None:
+        """Carries a course out. Stopped where nobody answers, or a voltage is at or beyond a fault limit."""
         try:
-            yield
+            complete(self.part, course, before)
         except (Nobody, NotBelieved) as silent:
             raise self.stopped(f"no good answer: {silent}") from None
         except PlanRefused as fault:
@@ -200,7 +194,7 @@ class RailTest:
             return f"{said}: {why or SAYINGS.get(fault.letter, fault.name)}: {fault.letter} {fault.name}"
         if end.word is not None:
             return f"{said}: {end.register} is {in_hexadecimal(end.register, end.word)}"
-        return f"{said}: {WHY.get(end.kind) or self.part.transfers.why() or end.fault or 'no good answer'}"
+        return f"{said}: {self.part.transfers.why() or end.fault or 'no good answer'}"
 
     def stopped(self, why: str) -> Stopped:
         return Stopped(f"{self.rail.name}: {why}")
