@@ -2,4 +2,5 @@
 pub mod ByName
 pub mod Rails
 pub mod FrameCourses
+pub mod Late
 pub mod Stairs
