@@ -168,7 +168,7 @@ fn a_band_beyond_its_limits_is_outside(rt: HostRuntime) {
 
 // Each refusal that a caller in C alone gets and one of each other kind, with its name; an empty name for a number
 // that has none.
-static REFUSALS: [(u8, &[u8]); 29] = [
+static REFUSALS: [(u8, &[u8]); 30] = [
     (0x00, b""),
     (0x06, b"H6 TooUncertain\0\0"),
     (0x15, b"N5 TooLarge\0"),
