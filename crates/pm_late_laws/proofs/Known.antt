@@ -5,6 +5,7 @@ use Rattle.pm_table.specs.declared.cell.Cell.{Cell}
 use Rattle.pm_table.specs.declared.cell.Cell.TheVariants.{Out}
 use Rattle.std.specs.List.{list_any}
 use Rattle.pm_table.specs.Cell.{IsCell, is_output_cell, same_cell}
+use Rattle.pm_table.specs.Lemmas.{IsCell-eight}
 use Rattle.pm_model.specs.declared.order_machine.PendingJob.{PendingJob}
 use Rattle.pm_model.specs.declared.order_machine.PendingJob.TheVariants as pending
 use Rattle.pm_model.specs.OrderMachine.{words_taken}
@@ -26,7 +27,7 @@ use Rattle.pm_late_laws.specs.Laws.{LateWordsWerePossible, LateConfirmationsAreH
 use Rattle.pm_late_laws.proofs.Queue.{SentAgo, taken-sent}
 use Rattle.pm_late_laws.proofs.Sent.{order-open, restore-open, told-before}
 use Rattle.pm_late_laws.proofs.Told.{good-possible, of-goods, puts-confirm, puts-possible}
-use Rattle.pm_late_laws.proofs.Taken.{Stands, eight, stands, taken-word}
+use Rattle.pm_late_laws.proofs.Taken.{Stands, stands, taken-word}
 
 -- from a moment to an answer no more frames ended than from it to now
 to-answer : (setup : Setup) (cell : Cell) (since moment : List Entry) → frames_to_answer setup cell since moment ≤ frames_in since
@@ -294,7 +295,7 @@ is-known laws frames setup held stored (Tells entry ∷ before) cell made are ha
 
 pub late-possible : Below → LateWordsWerePossible
 late-possible laws frames setup held stored events cell late there fresh =
-    let nearby = eight setup.outputs cell late.made.few_outputs there in
+    let nearby = IsCell-eight setup.outputs cell late.made.few_outputs there in
     let was = (is-known laws frames setup held stored events cell late.made late.holds late.stores late.came nearby).listed fresh in
     record {
       moment = was.moment;
@@ -306,7 +307,7 @@ late-possible laws frames setup held stored events cell late there fresh =
 
 pub late-confirmed : Below → LateConfirmationsAreHeld
 late-confirmed laws frames setup held stored events cell word late there fresh quiet confirmed =
-    let nearby = eight setup.outputs cell late.made.few_outputs there in
+    let nearby = IsCell-eight setup.outputs cell late.made.few_outputs there in
     let both = both_after setup held stored events in
     let says = (is-known laws frames setup held stored events cell late.made late.holds late.stores late.came nearby).says fresh word
     (sym (laws.told.standing setup both.entries cell nearby) ∙ confirmed) in

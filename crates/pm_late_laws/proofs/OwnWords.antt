@@ -4,6 +4,7 @@ use Rattle.std.proofs.Common.{refl, sym, ◌∙◌, ap, subst}
 use Rattle.pm_table.specs.declared.cell.Cell.{Cell}
 use Rattle.pm_table.specs.declared.cell.Cell.TheVariants.{Out, Protect}
 use Rattle.pm_table.specs.Cell.{IsCell}
+use Rattle.pm_table.specs.Lemmas.{IsCell-eight}
 use Rattle.pm_model.specs.declared.order_machine.PendingJob.{PendingJob}
 use Rattle.pm_model.specs.declared.order_machine.PendingJob.TheVariants as pending
 use Rattle.pm_model.specs.OrderMachine.{store_taken, words_taken}
@@ -17,7 +18,7 @@ use Rattle.pm_late_laws.specs.Late.{was_held, was_stored, was_sent, both_after}
 use Rattle.pm_late_laws.specs.Late.{waiting_at}
 use Rattle.pm_late_laws.specs.Laws.{LateWordsAreOwn}
 use Rattle.pm_late_laws.proofs.Queue.{SentAgo, taken-sent}
-use Rattle.pm_late_laws.proofs.Taken.{Stands, eight, stands, taken-word}
+use Rattle.pm_late_laws.proofs.Taken.{Stands, stands, taken-word}
 
 own-more : (setup : Setup) (held stored : Words) (entries : List Entry) (cell : Cell) (word : ℕ) (entry : Entry) →
     IsOwn setup held stored entries cell word → IsOwn setup held stored (entry ∷ entries) cell word
@@ -26,7 +27,7 @@ own-more setup held stored entries cell word entry (was_stored is) = was_stored 
 own-more setup held stored entries cell word entry (was_sent since moment is sent) =
     was_sent (entry ∷ since) moment (ap (λ (es : List Entry). entry ∷ es) is) sent
 
--- of the cell's word, and of the one that it has stored
+-- the cell holds, and has stored, a word of its own
 record HasOwn (setup : Setup) (held stored : Words) (both : Both) (cell : Cell) : Type 0 where
   pub word : IsOwn setup held stored both.entries cell (word_at both.words cell)
   pub kept : IsOwn setup held stored both.entries cell (word_at both.store cell)
@@ -89,7 +90,7 @@ has-own laws frames setup held stored (Tells entry ∷ before) cell made are hav
 pub late-own : Below → LateWordsAreOwn
 late-own laws = record {
   held = λ frames setup held stored events cell late there. (has-own laws frames setup held stored events cell late.made late.holds
-      late.stores late.came (eight setup.outputs cell late.made.few_outputs there)).word;
+      late.stores late.came (IsCell-eight setup.outputs cell late.made.few_outputs there)).word;
   stored = λ frames setup held stored events cell late there. (has-own laws frames setup held stored events cell late.made late.holds
-      late.stores late.came (eight setup.outputs cell late.made.few_outputs there)).kept;
+      late.stores late.came (IsCell-eight setup.outputs cell late.made.few_outputs there)).kept;
 }

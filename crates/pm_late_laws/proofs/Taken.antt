@@ -4,6 +4,7 @@ use Rattle.std.proofs.Common.{refl, sym, ap, subst, arith}
 use Rattle.pm_table.specs.declared.cell.Cell.{Cell}
 use Rattle.pm_table.specs.declared.cell.Cell.TheVariants.{Out, Protect}
 use Rattle.pm_table.specs.Cell.{IsCell, same_cell}
+use Rattle.pm_table.specs.Lemmas.{IsCell-eight}
 use Rattle.pm_model.specs.declared.order_machine.PendingJob.{PendingJob}
 use Rattle.pm_model.specs.declared.order_machine.PendingJob.TheVariants as pending
 use Rattle.pm_model.specs.OrderMachine.{store_taken, words_taken}
@@ -74,16 +75,11 @@ stands laws frames setup held stored are have (Tells entry ∷ before) came =
       queued = tells-queued frames setup both.entries entry both.waiting came.0.waits so_far.queued;
     }
 
--- a cell of so many outputs is one of eight
-pub eight : (count : ℕ) (cell : Cell) → count ≤ 8 → IsCell count cell → IsCell 8 cell
-eight count (Out output register) few there = omega (arith, few, there)
-eight count Protect few there = tt
-
 -- the job that was sent at a moment is open there
 sent-there : Below → (setup : Setup) (since moment : List Entry) (cell : Cell) (word : ℕ) → IsSetup setup →
     AreTold setup (since ++ moment) → sent_in setup moment ≡ Some (pending.Order cell word) → IsCell 8 cell
 sent-there laws setup since moment cell word made told sent =
-    eight setup.outputs cell made.few_outputs (laws.orders.there setup moment cell word made (told-before setup since moment told)
+    IsCell-eight setup.outputs cell made.few_outputs (laws.orders.there setup moment cell word made (told-before setup since moment told)
     (order-open (open_job setup moment) (told_since moment) cell word sent))
 
 -- a fact on the word of a cell after an order for another or for it

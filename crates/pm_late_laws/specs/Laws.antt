@@ -29,8 +29,8 @@ pub record WasPossible (frames : ℕ) (setup : Setup) (cell : Cell) (word : ℕ)
   pub recent : IsRecent frames setup cell entries moment
   pub possible : is_possible word (possible_at (now setup moment) cell) ≡ true
 
--- Where the part didn't restart since the last good answer for a cell, the host called the word that the cell holds possible, after
--- that answer or at most so many frames before it.
+-- The host called the word that a cell holds possible, after its last good answer for the cell or at most so many frames before it, if
+-- the part didn't restart since that answer.
 abbrev pub LateWordsWerePossible : Type 0
 LateWordsWerePossible = (frames : ℕ) (setup : Setup) (held stored : Words) (events : List Event) (cell : Cell) →
     IsLate frames setup held stored events → IsCell setup.outputs cell →

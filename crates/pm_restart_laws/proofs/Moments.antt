@@ -48,7 +48,7 @@ module _ (config : Config) (passes : ℕ) (part : PartRegisters) (begun : Course
   one-more event events [] later e whole fewer = subst Was e whole
   one-more event events (first ∷ rest) later e whole fewer = fewer rest cc
 
-  -- and after several that began no other job
+  -- a moment after several events that began no other job is that or an earlier one
   several : (course : Course) (newer events rest later : List Event) → newer ++ events ≡ rest ++ later →
       list_any begins_other newer ≡ false → IsCourse config passes part begun before course events →
       ((less : List Event) → events ≡ less ++ later → Was later) → Was later

@@ -50,12 +50,12 @@ pub record GoesOn (config : Config) (passes : ℕ) (part : PartRegisters) (outpu
   pub is_course : IsCourse config passes part (course_of output wanted tries) before course later
   pub unstored : AsksNoStore config passes later before
 
--- Of such a course: it writes nothing to its output but wanted words (`writes`). At each moment before the part restarted since it
--- began, the output commands what it did at an earlier moment, or what is wanted (`earlier`); of a part that lacks VOUT_MIN or VOUT_MAX,
--- its cell holds the word that never cuts, and the host was told nothing of it. At each moment after the part restarted, if the stored
--- byte of OPERATION selects the register that the held one does: where neither the stored words nor those that are to be held at the
--- end are cut, the output commands a value between its start value and what is wanted (`between`); where the stored word is cut, but
--- the stored VOUT_MIN isn't above the stored VOUT_MAX, it may be let go as far as the wanted limits (`let_go`).
+-- Such a course writes nothing to its output but wanted words (`writes`). At each moment before the part first restarts, the output
+-- commands what it did at an earlier one, or what is wanted, also if the part restarts later (`earlier`). Of a part that lacks VOUT_MIN
+-- or VOUT_MAX its cell then holds the word that never cuts, and the host was told nothing of it. At each moment after a restart the output
+-- commands a value between its start value and what is wanted (`between`), if the stored byte of OPERATION selects the register that
+-- the held one did, and neither the stored words nor those that are to be held at the end are cut. If the stored word is cut, but the
+-- stored VOUT_MIN isn't above the stored VOUT_MAX, it may be let go as far as the wanted limits (`let_go`).
 pub record CoursesKeepBetween : Type 0 where
   pub writes : (config : Config) (passes : ℕ) (part : PartRegisters) (output : ℕ) (wanted : Wanted) (tries : ℕ) (course : Course)
       (later before : List Event) → GoesOn config passes part output wanted tries course later before →
