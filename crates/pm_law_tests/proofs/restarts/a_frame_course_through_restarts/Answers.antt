@@ -27,5 +27,5 @@ writes law way config passes events spelled lived part output words wanted volta
     })
 
 pub returns : goal.returns
-returns c = found-lived c.run_all.result _ _ (λ lived spelled. writes c.courses_keep_between.ensures c.frame_courses_go_their_way.ensures c.args.c c.args.passes
-    (reverse c.args.events.now) spelled lived) c.run_all.ensures.lived c.run_all.ensures.sound
+returns c = found-lived c.run_all.result _ _ (λ lived spelled. writes c.courses_keep_between.ensures
+    c.frame_courses_go_their_way.ensures c.args.c c.args.passes (reverse c.args.events.now) spelled lived) c.run_all.ensures.lived c.run_all.ensures.sound
