@@ -17,10 +17,10 @@ use Rattle.pm_world.specs.declared.event.Event.{Event}
 use Rattle.pm_world.specs.Job.{asked_by}
 use Rattle.pm_stairs_laws.specs.Climb.{IsClimb, IsGuardAt, first}
 
--- The call that hands out a frame is a step of a caller of the stairs, or none (`stays`): a job begins, which each event asks for that begins
--- it (`asks`), and the first step ahead with it (`begins`), or that step is over as it begins (`passes`).
-pub data Handed (config : Config) (passes : ℕ) (part : PartRegisters) (steps : List Step) (before : List Event) (begun backs : List WordStep)
-    (ahead : List Step) (events : List Event) (g : Guarded) : Came → Guarded → Stairs → Type 0 where
+-- The call that hands out a frame is a step of a caller of the stairs, or none (`stays`): a job begins, which each event asks for that
+-- begins it (`asks`), and the first step ahead with it (`begins`), or that step is over as it begins (`passes`).
+pub data Handed (config : Config) (passes : ℕ) (part : PartRegisters) (steps : List Step) (before : List Event)
+    (begun backs : List WordStep) (ahead : List Step) (events : List Event) (g : Guarded) : Came → Guarded → Stairs → Type 0 where
   stays : (came : Came) (is : Stairs) → IsClimb config passes part steps before begun backs ahead is events →
       Handed config passes part steps before begun backs ahead events g came g is
   asks : (job : Asked) (new : Guarded) (is : Stairs) → LetsBegin g job (Ok tt) new →
@@ -34,8 +34,8 @@ pub data Handed (config : Config) (passes : ℕ) (part : PartRegisters) (steps :
       IsClimb config passes part steps before (step ∷ begun) (back ∷ backs) rest is events →
       Handed config passes part steps before begun backs ahead events g (Passed back) g is
 
--- The calls over frames are steps of a caller of the stairs (`hands`, `hears`), so that all that the laws say of one is true of who sends what
--- they hand out and tells what became of it. A list over one host names what its stairs do (`sequences`).
+-- The calls over frames are steps of a caller of the stairs (`hands`, `hears`), so that all that the laws say of one is true of who sends
+-- what they hand out and tells what became of it. A list over one host names what its stairs do (`sequences`).
 pub record StairsAreHanded : Type 0 where
   pub hands : (config : Config) (passes : ℕ) (part : PartRegisters) (steps : List Step) (before : List Event) (begun backs : List WordStep)
       (ahead : List Step) (stairs is : Stairs) (events : List Event) (g new : Guarded) (tries : ℕ) (sent : Option Sending) (came : Came) →
