@@ -1,11 +1,12 @@
 -- What a course that hands out frames is worth over a life.
 use Rattle.pm_course_laws.specs.FrameLives.{FrameCoursesHoldInLives}
+use Rattle.pm_course_laws.specs.FrameWays.{FrameCoursesGoTheirWay}
 use Rattle.pm_course_laws.proofs.Names.{Given}
 use Rattle.pm_course_laws.proofs.Off.{keeps-off}
 use Rattle.pm_course_laws.proofs.On.{keeps-on}
 use Rattle.pm_course_laws.proofs.Calls.{had-so, hands-so, hears-so}
 use Rattle.pm_course_laws.proofs.Surveys.{surveys-order-nothing, unformed-order-nothing}
-use Rattle.pm_course_laws.proofs.ToWishes.{keeps}
+use Rattle.pm_course_laws.proofs.ToWishes.{goes, keeps}
 
 pub hold-in-lives : Given → FrameCoursesHoldInLives
 hold-in-lives laws = record {
@@ -25,3 +26,7 @@ hold-in-lives laws = record {
       keeps-on laws config passes part output byte tries before spelled b.here on c own later lived had b;
   had = λ g new job output lets. had-so g new job output lets;
 }
+
+pub go-their-way : Given → FrameCoursesGoTheirWay
+go-their-way laws config passes part output words wanted voltages tries c own later before spelled lived here means is =
+    goes laws config passes part output words wanted voltages tries before spelled here means c own later lived is

@@ -29,7 +29,7 @@ use Rattle.pm_world.specs.Honest.{IsSpelled}
 use Rattle.pm_world.specs.Lemmas.Hosts.{same-outputs}
 use Rattle.pm_world.specs.Life.{now}
 use Rattle.pm_world.specs.Lived.{IsLived}
-use Rattle.pm_course_laws.specs.FrameLives.{BeginsFrames, KeepsFrameCourses, Means}
+use Rattle.pm_course_laws.specs.FrameLives.{BeginsFrames, IsFrameCourse, KeepsFrameCourses, Means}
 use Rattle.pm_course_laws.proofs.Learns as learns
 use Rattle.pm_course_laws.proofs.Said as says
 use Rattle.pm_course_laws.proofs.Ties as ties
@@ -122,6 +122,14 @@ module _ (laws : Given) (config : Config) (passes : ℕ) (part : PartRegisters) 
           so (learning unlearned) = absurd (learns.due-not-reached part limits (at later) (says.way_to part limits (at later) c r.formed) r.idle
               same.byte unlearned r.reached)
 
+  -- it goes the way of pm_rail, whatever restarts
+  pub goes : (c : FrameCourse) (own : Bool) (later : List Event) → IsLived config passes (later ++ before) →
+      IsFrameCourse config passes part begun before c own later →
+      IsCourse config passes part (course_of output wanted tries) before (with_plan c.course (Some wanted)) later
+  goes c own later lived is =
+      ties.loosen laws.followed laws.lives config passes part begun before (Some wanted) (with_plan c.course (Some wanted)) own later
+      (ties.stands-all laws.followed laws.lives config passes part begun before (Some wanted) names c own later lived is).tied
+
   pub keeps : (c : FrameCourse) (own : Bool) (later : List Event) → IsLived config passes (later ++ before) →
       BeginsFrames config passes part begun c own later before →
       KeepsFrameCourses config passes part output words wanted voltages tries c own later before
@@ -148,7 +156,7 @@ module _ (laws : Given) (config : Config) (passes : ℕ) (part : PartRegisters) 
       x = with_plan c.course (Some wanted)
 
       went : IsCourse config passes part (course_of output wanted tries) before x later
-      went = ties.loosen laws.followed laws.lives config passes part begun before (Some wanted) x own later stands.tied
+      went = goes c own later lived b.is_course
 
       begins' : Begins config passes part (course_of output wanted tries) x later before
       begins' = record { here = here; idle = b.idle; untold = b.untold; steady = b.steady; is_course = went }

@@ -1,6 +1,7 @@
 //! The law, over the definitions alone.
 
 ghost use Rattle.pm_course_laws.specs.FrameLives.{FrameCoursesHoldInLives};
+ghost use Rattle.pm_course_laws.specs.FrameWays.{FrameCoursesGoTheirWay};
 
 use pm_rail::courses_end;
 use pm_world::{
@@ -23,6 +24,18 @@ use pm_world::{
 /// that an exchange of the part is a restart, after which nothing is said.
 pub fn frame_courses_hold_in_lives()
     ensures { FrameCoursesHoldInLives }
+{
+    courses_end();
+    courses_hold_in_lives();
+    events_are_lived();
+    learned_formats_are_true();
+    lives_are_followed();
+}
+
+/// A course to wishes that hands out frames goes the way of [`pm_rail::Course`] to the words that the wishes have in the converter's
+/// format, however often the converter restarts: what is true of that way is true of it.
+pub fn frame_courses_go_their_way()
+    ensures { FrameCoursesGoTheirWay }
 {
     courses_end();
     courses_hold_in_lives();

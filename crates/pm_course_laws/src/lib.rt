@@ -7,4 +7,4 @@
 
 mod laws;
 
-pub use laws::frame_courses_hold_in_lives;
+pub use laws::{frame_courses_go_their_way, frame_courses_hold_in_lives};

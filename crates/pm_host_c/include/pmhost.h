@@ -218,7 +218,9 @@ typedef char pm_course_has_its_size[sizeof(pm_course) == PM_COURSE_SIZE ? 1 : -1
 enum {
     PM_REACHED = 1,       /* each wanted word is held and the output commands what it is to, by answers that all came after the last
                            * order; of a survey: all that decides what the output commands is known; of a byte that turns the output
-                           * off: its order was read back. Each unless the part restarted since the course began */
+                           * off: its order was read back. Each unless the part restarted since the course began: then an output with
+                           * wanted words commands a value between its start value and what is wanted, or as far as the wanted limits
+                           * if the stored VOUT_MAX or VOUT_MIN cuts the stored word */
     PM_REFUSED = 2,       /* `number` says why, and `code` of which register, or 0. Nothing more is ordered, and before the first
                            * order nothing was written */
     PM_STILL_DIFFERS = 3, /* an order of the register `code` was read back as another word a second time, now as `word` */

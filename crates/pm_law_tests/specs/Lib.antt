@@ -2,4 +2,6 @@
 pub mod ByName
 pub mod Rails
 pub mod FrameCourses
+pub mod Late
+pub mod Restarts
 pub mod Stairs

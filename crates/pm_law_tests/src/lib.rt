@@ -29,6 +29,8 @@
 //! - `frame_courses`: what a course that hands out frames is worth.
 //! - `rails`: what a survey and a plan over any bus are worth.
 //! - `beginnings`: what limits and an output's own words are worth to a host that begins beside a part as it is.
+//! - `restarts`: what a course is worth if the part restarts before it has ended.
+//! - `late`: what a host's words are worth beside a part that takes each write late.
 //! - `stairs`: what steps of several outputs are worth, up, back, and wherever they stop.
 //! - `standing`: what the band of a driver's output is worth, after a survey and at any moment at which it stands.
 //! - `undisturbed`: what a survey, a plan and a course to a byte of OPERATION come to over a bus that disturbs nothing.
@@ -47,6 +49,7 @@ pub mod further;
 pub mod good;
 pub mod hearings;
 pub mod knowledge;
+pub mod late;
 mod laws;
 pub mod limits;
 pub mod logs;
@@ -58,6 +61,7 @@ pub mod packets;
 pub mod parts;
 pub mod plans;
 pub mod rails;
+pub mod restarts;
 pub mod stairs;
 pub mod standing;
 pub mod undisturbed;

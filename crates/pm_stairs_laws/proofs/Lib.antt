@@ -7,3 +7,4 @@ mod Followed
 mod Due
 mod Climb
 mod ComeBack
+mod Handed

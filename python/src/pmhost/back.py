@@ -1,5 +1,5 @@
 """The way back: what an output held before its first order, and how it is brought to that again. `bring_back` says that it is back
-only where the words were ordered or read, and read back, since it was called."""
+only if the words were ordered or read, and read back, since it was called."""
 from __future__ import annotations
 
 from dataclasses import dataclass
@@ -21,7 +21,7 @@ PATIENCE, WAIT, TRIES = 5, 0.05, 12
 
 @dataclass(frozen=True)
 class Held:
-    """What an output of a part held before its first order, under a rail's name: OPERATION alone, or words of voltages with their format."""
+    """What an output of a part held before its first order, under a rail's name: only OPERATION, or words of voltages with their format."""
 
     name: str
     part: str
@@ -41,8 +41,8 @@ class Held:
 
 
 def bring_back(part: Device, held: Held, lift: Callable[[], bool] = lambda: False) -> str:
-    """Brings an output to what it held: why it isn't known to be there, nothing where it is. It is tried again for a while. `lift` lifts
-    WRITE_PROTECT where that is in the way, and says whether it did."""
+    """Brings an output to what it held: why it isn't known to be there, nothing if it is. It is tried again for a while. `lift` lifts
+    WRITE_PROTECT if that is in the way, and says whether it did."""
     deadline = clock.until() + PATIENCE
     while (why := try_back(part, held, lift)) and clock.until() < deadline:
         clock.wait(WAIT)

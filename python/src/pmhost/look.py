@@ -197,7 +197,7 @@ class Look:
         self.judge(course)
 
     def judge(self, course: Course) -> None:
-        """P8 where the course's goal is at or beyond a fault limit, by what was read before."""
+        """P8 if the course's goal is at or beyond a fault limit, by what was read before."""
         for register in GOALS:
             word = goal_of(course, self.part.host, CODES[register])
             if word is not None:

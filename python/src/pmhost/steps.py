@@ -21,7 +21,7 @@ NOT_ON = ("commanded off", "not known to be on", "went off")
 
 
 def why_not_before(name: str, found: Delivered) -> str:
-    """Why a rail doesn't deliver after which another one is to begin, by what was seen of it; nothing where it does."""
+    """Why a rail doesn't deliver after which another one is to begin, by what was seen of it; nothing if it does."""
     if found.is_bad or found.verdict.kind in NOT_ON:
         return f"{name} has to deliver first: {found.why or found.verdict.kind}{found.words}"
     return ""
@@ -41,7 +41,7 @@ def begin(board: Board, rail: Rail) -> None:
 
 
 def held_of(board: Board, rail: Rail) -> Held:
-    """What a rail's settings hold. Stopped where one isn't known."""
+    """What a rail's settings hold. Stopped if one isn't known."""
     words = {it.register: only_word(board.on(rail), rail.output, it.register) for it in board.of(rail)}
     known = {register: word for register, word in words.items() if word is not None}
     if known.keys() != words.keys():
@@ -50,7 +50,7 @@ def held_of(board: Board, rail: Rail) -> Held:
 
 
 def judge_way_back(board: Board, rail: Rail) -> None:
-    """Stops where the way back of a rail would be refused behind its orders, which are rehearsed: nothing is sent."""
+    """Stops if the way back of a rail would be refused after its orders, which are rehearsed: nothing is sent."""
     held, model = held_of(board, rail), modelled(board.on(rail), rail.output)
     back = held.course(TRIES)
     if not is_reached(model, board.courses[rail.name].course.copy()) or is_reached(model, back):

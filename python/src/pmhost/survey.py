@@ -133,7 +133,7 @@ class Listening(Transfers):
 
 
 def believed(part: Device) -> Bus:
-    """The bus of a part, over which zeros of WRITE_PROTECT are believed where they are good."""
+    """The bus of a part, over which zeros of WRITE_PROTECT are believed if they are good."""
     return Believing(part.bus, lambda: ask_operation(part)) if part.host.address == ADDRESS else part.bus
 
 

@@ -176,9 +176,10 @@ class Converter:
 
     def write_reply(self, frame):
         _, page, code, payload = write_message(frame)
-        page, word = self.page if page is None else page, int.from_bytes(bytes(payload), "little")
-        if page not in self.outputs or code == 0x00 and word not in self.outputs:
+        word = int.from_bytes(bytes(payload), "little")
+        if page is not None and page not in self.outputs or code == 0x00 and word not in self.outputs:
             return "K4 BadPage", 0x40
+        page = self.page if page is None else page
         protect = self.cells[PROTECT]
         if protect and code != 0x03 and code not in ALLOWED[protect]:
             return "K5 Protected", 0x80
@@ -193,10 +194,11 @@ class Converter:
             if message[1] not in VOUT_CODES or message[2] > 1 or not is_direct:
                 return "K3 UnsupportedData", 0x40
             return answer_of(self.address, message, coefficient_bytes(self.setup["coefficients"])), 0
-        page = self.page if message[1] is None else message[1]
-        if page not in self.outputs:
+        if message[1] is not None and message[1] not in self.outputs:
             return "K4 BadPage", 0x40
-        word = self.register(message[2], page)
+        # (PAGE may be FFh as it was left, where a register of an output has no word)
+        page = self.page if message[1] is None else message[1]
+        word = self.register(message[2], page if page in self.outputs else 0)
         return answer_of(self.address, message, [*word.to_bytes(length_of(message[2]), "little")]), 0
 
     def hear(self, frame, ending):

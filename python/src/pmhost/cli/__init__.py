@@ -147,7 +147,7 @@ def run_commands(call: Call) -> int:
 
 
 def run_to_the_end(call: Call) -> int:
-    """The same, and whatever ends them, the way back and what is protected come behind. A signal is raised once at most: where that
+    """The same, and whatever ends them, the way back and what is protected come after them. A signal is raised once at most: if that
     meets the way back, the second one goes on with it."""
     status = 1
     try:

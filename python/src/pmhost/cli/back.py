@@ -1,5 +1,5 @@
 """The way back of a call: what outputs held before its first orders. Whatever ends the call, the last act is the way back, the newest
-first, and `back` is said only where it is confirmed."""
+first, and `back` is said only if it is confirmed."""
 from __future__ import annotations
 
 import contextlib
@@ -34,7 +34,7 @@ class WayBack:
         self._held.clear()
 
     def go(self) -> list[tuple[Held, str]]:
-        """Brings all back, the newest first: each with why it isn't known to be back, nothing where it is. A signal is heard behind that."""
+        """Brings all back, the newest first: each with why it isn't known to be back, nothing if it is. A signal is heard after that."""
         done, call = list[tuple[Held, str]](), self.call
         with Later():
             while self._held:
@@ -56,7 +56,7 @@ class WayBack:
             return str(fault)
 
     def end(self) -> int:
-        """Brings back what is left as a call ends, and says so. The status: 1 where something isn't known to be back."""
+        """Brings back what is left as a call ends, and says so. The status: 1 if something isn't known to be back."""
         status = 0
         for held, why in self.go():
             if why:

@@ -97,7 +97,7 @@ class RailTest:
     # ---- Before any order ----
 
     def judge(self) -> None:
-        """Reads all that the test needs, and orders nothing. Stopped where a step of it would be refused."""
+        """Reads all that the test needs, and orders nothing. Stopped if a step of it would be refused."""
         found, name = survey(self.part, self.rail.output), self.rail.name
         if found.missing or found.unended or found.selected is None:
             raise self.stopped(why_not(found))
@@ -116,7 +116,7 @@ class RailTest:
             raise Stopped(f"{name}: {it.register} {voltages.shown(it.value)} is cut to {voltages.shown(it.to)}: order it within VOUT_MIN and VOUT_MAX")
 
     def plan(self, byte: int) -> None:
-        """Goes up to the order of a byte. Stopped where it would be refused."""
+        """Goes up to the order of a byte. Stopped if it would be refused."""
         course = Course.power(self.rail.output, byte, TRIES)
 
         def before(order: Job) -> None:
@@ -153,7 +153,7 @@ class RailTest:
         self.measure(POINTS[-1])
 
     def turn(self, point: str, byte: int) -> None:
-        """Orders a byte. Stopped where that isn't confirmed."""
+        """Orders a byte. Stopped if that isn't confirmed."""
         course, call = Course.power(self.rail.output, byte, TRIES), self.call
 
         def before(_: Job) -> None:
@@ -165,7 +165,7 @@ class RailTest:
             raise self.stopped(f"at {point}: {self.why_ended(byte, end)}")
 
     def measure(self, point: str) -> None:
-        """Looks at the rail. Stopped where it doesn't deliver."""
+        """Looks at the rail. Stopped if it doesn't deliver."""
         found = self.look.after()
         self.rows.append(Row(self.rail, point, commanded(self.part, self.rail.output), found))
         state = self.rows[-1].state
@@ -177,7 +177,7 @@ class RailTest:
     # ---- Courses ----
 
     def carry_out(self, course: Course, before: Callable[[Job], None]) -> None:
-        """Carries a course out. Stopped where nobody answers, or a voltage is at or beyond a fault limit."""
+        """Carries a course out. Stopped if nobody answers, or a voltage is at or beyond a fault limit."""
         try:
             complete(self.part, course, before)
         except (Nobody, NotBelieved) as silent:

@@ -26,7 +26,7 @@ ENDING = ".toml"
 
 @dataclass(frozen=True)
 class Named:
-    """A rail of a file, and whether the command goes over all of its rails; no rail where it goes over them in their order."""
+    """A rail of a file, and whether the command goes over all of its rails; no rail if it goes over them in their order."""
 
     file: str
     found: Rails
@@ -35,7 +35,7 @@ class Named:
 
 
 def parted(part: list[str], has_value: set[str]) -> list[list[str]]:
-    """The words of a command, and those of the one behind its --back, which needs no + between them."""
+    """The words of a command, and those of the one after its --back, which needs no + between them."""
     at = part.index(BACK) + 1 if BACK in part else 0
     command, behind = place_of(part, has_value)[0], place_of(part[at:], has_value)[0]
     return [part[:at], part[at:]] if at and command == "margin" and behind else [part]
@@ -78,7 +78,7 @@ def expanded(part: list[str], has_value: set[str]) -> list[tuple[list[str], Name
 
 
 def attach(arguments: argparse.Namespace, named: Named) -> None:
-    """A command is about a rail of a file, or about all of them, which the call is told of as it is judged."""
+    """A command is about a rail of a file, or about all of them, which the call hears of as it is judged."""
     arguments.rails, arguments.named, arguments.goes_on = named.found, named.rail, named.is_one_of_all
     words = arguments.said.split()
     name = shown(named.file) if named.rail is None else named.rail.name

@@ -396,12 +396,12 @@ def word(arguments: argparse.Namespace) -> int:
 
 
 def operate(arguments: argparse.Namespace) -> int:
-    """Orders OPERATION, which is noted first where it is to come back."""
+    """Orders OPERATION, which is noted first if it is to come back."""
     return getattr(arguments, "back", False) and note_way_back(arguments) or turn(arguments, arguments.byte)
 
 
 def note_way_back(arguments: argparse.Namespace) -> int:
-    """Reads OPERATION of an output, which the way back of the call brings back. 0, or the status where nothing may be ordered."""
+    """Reads OPERATION of an output, which the way back of the call brings back. 0, or the status if nothing may be ordered."""
     call: Call = arguments.call
     part, output = call.part(), arguments.output
     if call.back.has(call.part_name, output):

@@ -124,8 +124,8 @@ def run_board(arguments: argparse.Namespace, board: Board, run: Any) -> int:
 
 
 def went_back(call: Call, board: Board, is_bad: bool) -> tuple[str, bool]:
-    """The way back of a call that failed: what became of it, in words for the end of a line, nothing where there was none; and whether all is
-    back. Where all went well nothing is brought back any more."""
+    """The way back of a call that failed: what became of it, in words for the end of a line, nothing if there was none; and whether all is
+    back. If all went well nothing is brought back any more."""
     if not is_bad:
         call.back.forget()
     gone = call.back.go()

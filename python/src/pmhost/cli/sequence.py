@@ -53,7 +53,7 @@ def turn_on(arguments: argparse.Namespace, rails: list[Rail]) -> int:
 
 
 def before(call: Call, rail: Rail, begun: list[Rail]) -> str:
-    """Waits as the file has it, and looks at the rails before: why the next one doesn't begin, nothing where it does."""
+    """Waits as the file has it, and looks at the rails before: why the next one doesn't begin, nothing if it does."""
     clock.wait(rail.wait / 1000)
     for each in begun if rail.delivers else ():
         if each.name in rail.after:
@@ -85,7 +85,7 @@ def turn_off(arguments: argparse.Namespace, rails: list[Rail]) -> int:
 
 
 def turn_one_off(call: Call, one: argparse.Namespace) -> int:
-    """Turns a rail off: the status, also where its bus can't be opened."""
+    """Turns a rail off: the status, also if its bus can't be opened."""
     try:
         return call.other_model(one) or orders.operate(one)
     except (NoBus, PmhostError) as fault:

@@ -1,0 +1,11 @@
+use Rattle.pm_course_laws.proofs.Kept.{go-their-way}
+use Rattle.pm_course_laws.proofs.laws.frame_courses_go_their_way.Goals as goal
+
+pub returns : goal.returns
+returns c = go-their-way (record {
+  followed = c.lives_are_followed.ensures;
+  lives = c.events_are_lived.ensures;
+  formats = c.learned_formats_are_true.ensures;
+  courses = c.courses_hold_in_lives.ensures;
+  ends = c.courses_end.ensures;
+})

@@ -1,0 +1,7 @@
+-- Lemmas of this crate.
+mod Queue
+mod Sent
+mod Told
+mod Taken
+mod OwnWords
+mod Known

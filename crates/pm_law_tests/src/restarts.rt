@@ -1,0 +1,37 @@
+//! What a course is worth in a run in which the part restarts before it has ended.
+
+ghost use Rattle.std.specs.Prelude.{IfOk, OnSome, reverse};
+ghost use Rattle.pm_law_tests.specs.Restarts.{LiesBetween, WritesWishes};
+
+use crate::further::run_all;
+use pm_course_laws::frame_courses_go_their_way;
+use pm_device::Config;
+use pm_restart_laws::courses_keep_between;
+use pm_world::{Event, SetupFault, World};
+
+/// Runs the events: at each moment after a restart, since a course to wanted words began, its output commands a value between its
+/// start value and what is wanted, where neither is cut and nothing else was ordered of it or stored; `None` where an event isn't taken.
+pub fn a_course_through_restarts(
+    c: Config,
+    passes: u8,
+    events: &[Event],
+) -> Result<Option<World>, SetupFault>
+    ensures { IfOk result (λ found. OnSome found (LiesBetween c passes (reverse events.now))) }
+{
+    courses_keep_between();
+    run_all(c, passes, events)
+}
+
+/// Runs the events: a course to wishes that hands out frames wrote nothing to its output but wanted words, however often the part
+/// restarted; `None` where an event isn't taken.
+pub fn a_frame_course_through_restarts(
+    c: Config,
+    passes: u8,
+    events: &[Event],
+) -> Result<Option<World>, SetupFault>
+    ensures { IfOk result (λ found. OnSome found (WritesWishes c passes (reverse events.now))) }
+{
+    courses_keep_between();
+    frame_courses_go_their_way();
+    run_all(c, passes, events)
+}

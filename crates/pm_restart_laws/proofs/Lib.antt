@@ -1,0 +1,4 @@
+-- Lemmas of this crate.
+mod Moments
+mod Written
+mod Between

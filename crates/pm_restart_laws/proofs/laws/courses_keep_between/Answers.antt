@@ -1,0 +1,5 @@
+use Rattle.pm_restart_laws.proofs.Between.{keep-between}
+use Rattle.pm_restart_laws.proofs.laws.courses_keep_between.Goals as goal
+
+pub returns : goal.returns
+returns c = keep-between c.plans_end.ensures c.courses_hold_in_lives.ensures c.events_are_lived.ensures c.restarts_keep_between.ensures
