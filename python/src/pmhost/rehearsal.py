@@ -59,7 +59,7 @@ def take(course: Course, part: Device) -> None:
 
 def modelled(part: Device, output: int, is_lifted: bool = False) -> Device:
     """A device whose host knows what that of a part does, over a model part whose output holds what is known of this one; what isn't known is
-    as a model starts. If `is_lifted` WRITE_PROTECT is 00. A Refused if no model starts so."""
+    as a model starts. With `is_lifted` WRITE_PROTECT is 00. A Refused if no model starts so."""
     host, form = part.host, part.host.format(output)
     known = {register: found[0] for register in NAMES.values() if (found := host.possible_words(0 if register == PROTECT else output, register))}
     words = {name: known[register] for name, register in REGISTERS.items() if register in known}
@@ -81,7 +81,7 @@ def is_reached(part: Device, course: Course) -> bool:
 
 def first_not_reached(part: Device, output: int, words: Iterable[int], is_lifted: bool = False) -> tuple[int, CourseEnd] | None:
     """Bytes of OPERATION one after another, over a model: the first that wouldn't be reached, and how it would end. None if all would be.
-    If `is_lifted` WRITE_PROTECT is 00 first."""
+    With `is_lifted` WRITE_PROTECT is 00 first."""
     model = modelled(part, output, is_lifted)
     for byte in words:
         course = Course.power(output, byte)
