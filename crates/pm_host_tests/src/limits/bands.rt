@@ -30,7 +30,7 @@ fn band(guard: &Guard) -> Option<(Frac, Frac)> {
 }
 
 // Whether the first output is within its limits.
-fn within(guard: &Guard) -> Option<Within> {
+pub(super) fn within(guard: &Guard) -> Option<Within> {
     if guard.host().outputs() == 0 {
         return None;
     }

@@ -1,5 +1,6 @@
 //! Outputs of which no limits are known: what is refused, and until when.
 
+use super::bands::within;
 use super::guards::{LINEAR, first, learn, read, refusal};
 use crate::checks::equal;
 use pm_host::{HostFault, Job};
@@ -150,11 +151,19 @@ fn a_voltage_isnt_known_to_lie_within_unknown_limits(rt: HostRuntime) {
     learn(&mut guard, 0, LINEAR, &[]);
     read(&mut guard, Reg::Operation, 0x80);
     read(&mut guard, Reg::VoutCommand, 0x34CD);
-    equal(&rt, &guard.within(0), &Within::NotKnown, &1);
+    equal(&rt, &within(&guard), &Some(Within::NotKnown), &1);
     equal(&rt, &guard.no_limits(0), &Ok(()), &2);
-    equal(&rt, &guard.within(0), &Within::Yes, &3);
+    equal(&rt, &within(&guard), &Some(Within::Yes), &3);
     equal(&rt, &guard.limits(0).are_known(), &true, &4);
     equal(&rt, &guard.limits(1).are_known(), &false, &5);
+}
+
+// Why a plan for the first output gives no order; none where the output isn't there.
+fn refused(guard: &Guard, wanted: &Wanted) -> Option<PlanFault> {
+    if guard.host().outputs() == 0 {
+        return None;
+    }
+    next_order(guard, 0, wanted).err()
 }
 
 #[test]
@@ -168,13 +177,13 @@ fn a_plan_is_refused_by_its_first_register(rt: HostRuntime) {
         min: Some(0x2000),
     };
     let unlearned = Some(PlanFault::FormatUnknown);
-    equal(&rt, &next_order(&guard, 0, &wanted).err(), &unlearned, &1);
+    equal(&rt, &refused(&guard, &wanted), &unlearned, &1);
     learn(&mut guard, 0, LINEAR, &[]);
     let fault = Some(PlanFault::NoLimits(Reg::VoutMax));
-    equal(&rt, &next_order(&guard, 0, &wanted).err(), &fault, &2);
+    equal(&rt, &refused(&guard, &wanted), &fault, &2);
     // To nothing it isn't.
     wanted.max = None;
     wanted.min = None;
     let unknown = Some(PlanFault::NotKnown(first(Reg::Operation)));
-    equal(&rt, &next_order(&guard, 0, &wanted).err(), &unknown, &3);
+    equal(&rt, &refused(&guard, &wanted), &unknown, &3);
 }
