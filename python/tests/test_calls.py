@@ -173,6 +173,53 @@ class Jobs(unittest.TestCase):
         self.assertTrue(pmbus.restart_seen)
 
 
+class Edges(unittest.TestCase):
+    """Limits at their very ends, and whether an output is on."""
+
+    def host(self):
+        host = Host(0x58, 2)
+        for output in (0, 1):
+            host.learn(output)
+            frame = host.frame().frame
+            came = bytes([0xB1, 1, 0x14])
+            host.read_ended(came + bytes([pmhost.pec(frame + came)]))
+        host.no_limits(1)
+        host.set_limits(0, "1V", "2V")
+        return host
+
+    def test_limits_count_as_within_and_are_only_narrowed(self):
+        host = self.host()
+        for word, letter in ((0x1000, None), (0x2000, None), (0x0FFF, "L3"), (0x2001, "L4")):
+            other = host.copy()
+            if letter is None:
+                other.order(0, "VOUT_COMMAND", word)
+            else:
+                with self.assertRaises(pmhost.LimitRefused) as raised:
+                    other.order(0, "VOUT_COMMAND", word)
+                self.assertEqual(raised.exception.letter, letter)
+        for least, most in (("1V", "2.000001V"), ("0.999999V", "2V")):
+            with self.assertRaisesRegex(pmhost.LimitRefused, "L6"):
+                host.set_limits(0, least, most)
+        with self.assertRaisesRegex(pmhost.LimitRefused, "L6"):
+            host.no_limits(0)
+        host.set_limits(0, "1V", "1.5V")
+
+    def test_an_open_order_of_another_output_is_in_no_limit_s_way(self):
+        host = self.host()
+        host.order(1, "VOUT_COMMAND", 0x3000)
+        host.set_limits(0, "1V", "1.5V")
+        with self.assertRaisesRegex(pmhost.HostRefused, "H3"):
+            host.set_limits(1, "1V", "1.5V")
+
+    def test_a_byte_of_operation_says_whether_the_output_is_on(self):
+        for byte, is_on in ((0x00, False), (0x40, False), (0x80, True), (0xA8, True)):
+            host = self.host()
+            host.check(0, "OPERATION")
+            frame, came = host.frame().frame, bytes([0xB1, 1, byte])
+            host.read_ended(came + bytes([pmhost.pec(frame + came)]))
+            self.assertIs(host.rail(0).is_on, is_on, f"{byte:02X}")
+
+
 class Names(unittest.TestCase):
     def test_each_refusal_has_its_letter_and_its_name(self):
         self.assertEqual((name_of(0x06), name_of(0x22), name_of(0xE0)), ("H6 TooUncertain", "L2 FormatUnknown", "NoHost"))
