@@ -57,6 +57,11 @@ class Row:
         pair = self.said("limits", "")
         return [Voltage(f"{each}uV") for each in pair.split(":")] if pair else []
 
+    @property
+    def jobs_before(self):
+        """The first frames of the jobs before the course; coefficients are a learn's second one."""
+        return [token for token in self.before.split() if not token.startswith("c")]
+
     def made_host(self):
         found = Host(0x58, int(self.said("outputs", "1")), int(self.said("passes", "1")), self.lacks)
         if self.limits:
@@ -94,7 +99,7 @@ class Row:
         else:
             return None
         before = []
-        for token in self.before.split():
+        for token in self.jobs_before:
             code = int(token[1:3], 16)
             before += [*(["learn", "0"] if code == LEARN else ["read", "-" if code == PROTECT else "0", NAMES[code]]), "+"]
         # A word of a format that isn't spoken goes alone where there are no limits.
@@ -168,7 +173,7 @@ class Rows(unittest.TestCase):
     def begun(self, row):
         """A host behind the jobs before its course, the course, and the bus."""
         host, bus = row.made_host(), Script(self, row)
-        for token in row.before.split():
+        for token in row.jobs_before:
             code = int(token[1:3], 16)
             host.learn(0) if code == LEARN else host.check(0, code)
             host.run(bus)
