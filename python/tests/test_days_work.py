@@ -127,7 +127,7 @@ class SwitchedOn(unittest.TestCase):
         self.assertEqual(status, 0)
         self.assertIn("\nprobe: the part fits but for a frame that is both damaged and cut before its last byte, which is not proved: a write "
                       "without a PEC is taken\n", out)
-        bus, address, code = re.search(r"i2cset -y (\S+) 0x(\w+) 0x(\w+) 0xNN bp writes that byte with its PEC; then probe --writes again", out).groups()
+        bus, address, code = re.search(r"i2cset -y (\S+) 0x(\w+) 0x(\w+) 0xNN bp writes that byte\. Then probe --writes again", out).groups()
         self.assertEqual((bus, address, code), ("7", "58", "D1"))
         frame = bytes([int(address, 16) << 1, int(code, 16), 0x04])
         CLOCK.now += 1
