@@ -5,7 +5,7 @@ README.md and docs/, in its order, a shell for each page.
     trials/pages/run.py --built FOLDER [--minutes] [PAGE ..]
 
 FOLDER has libpm_host_c.a, libpm_device_c.a, and the program pmb. A command for the part at address 58 of bus 1
-runs on the model part (`-b model`), an install goes to the user's own folder, `rt lib` and `rt check` and what stands in tools/ and
+runs on the model part (`-b model`), so do the parts of a board's file, an install goes to the user's own folder, `rt lib` and `rt check` and what stands in tools/ and
 trials/ is held by its parse alone, since it takes many minutes: the crate is there, the command is one of rt's, the program answers
 --help. A block that begins with `#!/bin/sh` is a script, which is run whole. --minutes runs `rt try` and `tools/test quick` too. What
 no test runs (a board's own tools) has to stand on its page in a line that begins with "No test runs". Lines that begin with `$` are those
@@ -36,7 +36,7 @@ NOT_RUN = re.compile(r"sigrok-cli|^i2ctransfer|capture i2ctransfer 1 --run|trial
 RT = re.compile(r"\(cd crates/(\w+) && rt (lib|check|run|try)\b[^)]*\)")
 # What wants a part as the commands before it left it: each call has a fresh model part, so that the status may be 1. The tests of the
 # package have these commands on one part, with what they print. The bench for any host ends so where it finds a fault.
-UNLIKE = re.compile(r" verify | survey | torture | margin | on |VOUT_MARGIN")
+UNLIKE = re.compile(r" verify | survey | torture | margin | margin-test | on |VOUT_MARGIN|--back-on-failure")
 SECONDS = 600
 # A script, of which the next words are its name and what it is called with.
 SCRIPT = "#!/bin/sh\n# "
@@ -110,6 +110,20 @@ def over_a_model(line):
     return line if " torture " in line else line.replace("-b 1 -a 58", "-b model").replace("bus.trace", "model.trace")
 
 
+def over_models(text):
+    """A board's file with each part on the model's bus, at an address of its own."""
+    taken = set()
+
+    def own(found):
+        address = int(found[1], 16)
+        while address in taken:
+            address -= 1
+        taken.add(address)
+        return f'address = "{address:02X}"'
+
+    return re.sub(r'(?m)^address = "(\w+)"', own, re.sub(r"(?m)^bus = \d+", 'bus = "model"', text))
+
+
 def parsed(place, line, has_minutes):
     """What is wrong with a line that isn't run; None where it is to be run."""
     found = RT.fullmatch(line) or (None if has_minutes else RT.match(line))
@@ -135,7 +149,7 @@ def faults(place, name, has_minutes):
     found, count, held = [], 0, 0
     for kind, line, rest in lines_of(text):
         if kind == "file":
-            place.write(line, rest)
+            place.write(line, over_models(rest))
             continue
         if kind == "script":
             place.write(line.split()[0], over_a_model(rest))
