@@ -11,18 +11,18 @@ use Rattle.pm_trace.specs.Lemmas.Said.{counts_of-snoc}
 use Rattle.pm_trace.specs.Pages.{Pages, pages_by}
 use Rattle.pm_trace.specs.declared.trace_line.TraceLine.{TraceLine}
 use Rattle.pm_decode.specs.Hints.{beyond_by}
-use Rattle.pm_decode.specs.PageSteps.{marks_by, marks_in, step_by}
-use Rattle.pm_decode.specs.declared.page_step.Marks.{Marks}
-use Rattle.pm_decode.specs.declared.page_step.PageStep.{PageStep}
+use Rattle.pm_capture.specs.PageSteps.{marks_by, marks_in, step_by}
+use Rattle.pm_capture.specs.declared.page_step.Marks.{Marks}
+use Rattle.pm_capture.specs.declared.page_step.PageStep.{PageStep}
 use Rattle.pm_decode.specs.CaptureText.{line_text, lines_text, told_line}
-use Rattle.pm_values.specs.declared.answers.Ones.{Ones}
+use Rattle.pm_packets.specs.declared.answers.Ones.{Ones}
 use Rattle.pm_decode.specs.Hearing.{Heard, HeardLines, Known, answers_read, heard_all, heard_as, heard_lines, heard_of, heard_with, known_by}
 use Rattle.pm_decode.specs.Hearing.{known_from, known_read, more_if, ones_in, other_code, other_code_in, taught_read, told_in, told_unless, unknown}
-use Rattle.pm_decode.specs.Readings.{Entry, Reading, Told, Noted, is_without_pec, judged_as, judged_by, other_address}
-use Rattle.pm_decode.specs.TimedLines.{head_remark, passes_timed, timed_said}
-use Rattle.pm_decode.specs.declared.comment.Remark.{Remark}
-use Rattle.pm_decode.specs.declared.options.TellOptions.{TellOptions}
-use Rattle.pm_decode.specs.declared.timed_line.TimedLine.{TimedLine}
+use Rattle.pm_capture.specs.Readings.{Entry, Reading, Told, Noted, is_without_pec, judged_as, judged_by, other_address}
+use Rattle.pm_capture.specs.TimedLines.{head_remark, passes_timed, timed_said}
+use Rattle.pm_capture.specs.declared.comment.Remark.{Remark}
+use Rattle.pm_capture.specs.declared.options.TellOptions.{TellOptions}
+use Rattle.pm_capture.specs.declared.timed_line.TimedLine.{TimedLine}
 
 -- what the answers of one line more are taken for
 heard_all-snoc : (options : TellOptions) (known : Known) (entries : List Entry) (entry : Entry)

@@ -16,16 +16,16 @@ use Rattle.pm_trace.specs.Counts.{one_counted}
 use Rattle.pm_trace.specs.Trace.{Judged, Accepted, parts_judged}
 use Rattle.pm_trace.specs.TraceText.{judged_text, page_text, payload_text, plain_text, told_text}
 use Rattle.pm_trace.specs.declared.trace_line.TraceLine.{TraceLine}
-use Rattle.pm_values.specs.declared.packet.Packet.{Packet}
+use Rattle.pm_packets.specs.declared.packet.Packet.{Packet}
 use Rattle.pm_values.specs.Taught.{Taught, taught_by}
 use Rattle.pm_decode.specs.CaptureText.{line_text}
 use Rattle.pm_decode.specs.Hearing.{HeardLines, Known, heard_with}
-use Rattle.pm_decode.specs.Laws.{plain_options}
-use Rattle.pm_decode.specs.Readings.{Told}
-use Rattle.pm_decode.specs.ShownReadings.{packet_in, parts_in, reading_in}
+use Rattle.pm_capture.specs.Options.{plain_options}
+use Rattle.pm_capture.specs.Readings.{Told}
+use Rattle.pm_capture.specs.ShownReadings.{packet_in, parts_in, reading_in}
 use Rattle.pm_decode.specs.UsualLines.{IsUsual, code_counted, is_plain, usual_text}
-use Rattle.pm_decode.specs.declared.options.TellOptions.{TellOptions}
-use Rattle.pm_decode.specs.declared.timed_line.LineReading.{LineReading}
+use Rattle.pm_capture.specs.declared.options.TellOptions.{TellOptions}
+use Rattle.pm_capture.specs.declared.timed_line.LineReading.{LineReading}
 use Rattle.pm_decode.specs.declared.usual_line.Usual.{Usual}
 use Rattle.pm_decode.proofs.PlainLemmas.{line_by}
 

@@ -8,21 +8,21 @@ use Rattle.pm_trace.specs.Trace.{Judged, ToldLine, parts_judged}
 use Rattle.pm_trace.specs.TraceText.{end_of}
 use Rattle.pm_trace.specs.declared.line_fault.LineFault.{LineFault}
 use Rattle.pm_trace.specs.declared.trace_line.TraceLine.{TraceLine}
-use Rattle.pm_values.specs.Answers.{Answers, answers_by, none_heard, ones_of}
-use Rattle.pm_values.specs.Otherwise.{content_of, has_pec, is_accepted, is_doubtful}
-use Rattle.pm_values.specs.declared.answers.Ones.{Ones}
-use Rattle.pm_values.specs.declared.answers.Ones.TheVariants.{Answer}
+use Rattle.pm_packets.specs.Answers.{Answers, answers_by, none_heard, ones_of}
+use Rattle.pm_packets.specs.Otherwise.{content_of, has_pec, is_accepted, is_doubtful}
+use Rattle.pm_packets.specs.declared.answers.Ones.{Ones}
+use Rattle.pm_packets.specs.declared.answers.Ones.TheVariants.{Answer}
 use Rattle.pm_values.specs.Taught.{Taught, changed_by, paged_at, paged_by, taught_by, untaught}
 use Rattle.pm_decode.specs.Hints.{beyond_by}
-use Rattle.pm_decode.specs.PageSteps.{change_by, judged_address, marks_in, pages_noted, pages_read}
-use Rattle.pm_decode.specs.Readings.{Entry, Said, Told, Noted, is_without_pec, judged_as, judged_by, other_address}
-use Rattle.pm_decode.specs.declared.comment.Remark.{Remark}
-use Rattle.pm_decode.specs.declared.comment.Remark.TheVariants.{Elsewhere, Unacknowledged, Failed, LossAt, Loss}
+use Rattle.pm_capture.specs.PageSteps.{change_by, judged_address, marks_in, pages_noted, pages_read}
+use Rattle.pm_capture.specs.Readings.{Entry, Said, Told, Noted, is_without_pec, judged_as, judged_by, other_address}
+use Rattle.pm_capture.specs.declared.comment.Remark.{Remark}
+use Rattle.pm_capture.specs.declared.comment.Remark.TheVariants.{Elsewhere, Unacknowledged, Failed, LossAt, Loss}
 use Rattle.pm_decode.specs.declared.hints.Hint.{Hint}
 use Rattle.pm_decode.specs.declared.hints.Hint.TheVariants.{Beyond, NoTimes, NoGoodPacket}
-use Rattle.pm_decode.specs.declared.page_step.Marks.{Marks}
+use Rattle.pm_capture.specs.declared.page_step.Marks.{Marks}
 use Rattle.pm_decode.specs.declared.telling.TellEnd.{TellEnd}
-use Rattle.pm_decode.specs.declared.options.TellOptions.{TellOptions}
+use Rattle.pm_capture.specs.declared.options.TellOptions.{TellOptions}
 
 -- ---- what is known
 
@@ -56,15 +56,6 @@ taught_read options number marks (Ok parts) taught = if is_doubtful marks.ones
     then taught_over options number marks parts taught
     else taught_by number marks.reached (taught_over options number marks parts taught) (judged_by options.all marks.ones parts)
 taught_read options number marks (Err fault) taught = taught
-
--- a packet is told as good, or by its code and bytes
-abbrev pub is_told : Option ℕ → Judged → Bool
-is_told other judged = is_some other || is_accepted judged
-
--- one that is has the right PEC
-abbrev pub is_checked : Option ℕ → Bool → TraceLine → Bool
-is_checked None lacks parts = not lacks
-is_checked (Some addr) lacks parts = has_pec parts.write parts.read
 
 abbrev pub answers_told : Bool → Ones → TraceLine → Answers → Answers
 answers_told all ones parts answers =

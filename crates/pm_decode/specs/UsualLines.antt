@@ -8,12 +8,8 @@ use Rattle.pm_trace.specs.Counts.{Counts, one_counted, one_more}
 use Rattle.pm_trace.specs.Trace.{Judged}
 use Rattle.pm_trace.specs.TraceText.{judged_text, page_text, payload_text}
 use Rattle.pm_values.specs.Taught.{Taught, taught_by}
-use Rattle.pm_decode.specs.declared.options.TellOptions.{TellOptions}
+use Rattle.pm_capture.specs.declared.options.TellOptions.{TellOptions}
 use Rattle.pm_decode.specs.declared.usual_line.Usual.{Usual}
-
--- no option changes what is told
-abbrev pub is_plain : TellOptions → Bool
-is_plain options = not (options.values || (options.all || (options.times || (options.json || options.pages))))
 
 -- what is carried: by an answer, or by a write
 abbrev pub carried_text : Bool → List ℕ → List ℕ

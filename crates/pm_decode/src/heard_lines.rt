@@ -2,22 +2,19 @@
 ghost use Rattle.std.specs.Prelude.{◌≡◌, None, not, option_map, true};
 ghost use Rattle.pm_trace.specs.ShownLines.{judged_in};
 ghost use Rattle.pm_trace.specs.Trace.{parts_judged};
-ghost use Rattle.pm_values.specs.Otherwise.{is_accepted};
-ghost use Rattle.pm_decode.specs.Readings.{is_without_pec};
-ghost use Rattle.pm_decode.specs.ShownReadings.{packet_in};
+ghost use Rattle.pm_packets.specs.Otherwise.{is_accepted};
+ghost use Rattle.pm_capture.specs.Readings.{is_without_pec};
+ghost use Rattle.pm_capture.specs.ShownReadings.{packet_in};
 
-use crate::comment::Remark;
 use crate::hints::first_beyond;
-use crate::line_text::{PacketLine, push_bad_line, push_packet_line};
-use crate::options::TellOptions;
-use crate::others::Others;
-use crate::page_step::{Marks, address_in, page_step};
-use crate::timed_line::LineReading;
-use crate::told_as::{
-    bad_shown, change_in, completed_if, is_checked, is_plain, is_told, told_code,
+use crate::line_text::{push_bad_line, push_packet_line};
+use pm_capture::{
+    LineReading, Marks, PacketLine, Remark, TellOptions, address_in, bad_shown, change_in,
+    completed_if, is_checked, is_plain, is_told, page_step, told_code,
 };
+use pm_packets::{Answers, Ones, Others, Packet, address_otherwise, shown_with};
 use pm_trace::{Pages, Shown, Tally, packet_shown};
-use pm_values::{Answers, Lessons, Ones, Packet, address_otherwise, shown_with};
+use pm_values::Lessons;
 use std::alloc::{AllocError, Global};
 use std::marker::Model;
 
@@ -47,16 +44,16 @@ impl HeardLines {
     ghost use Rattle.std.specs.Prelude.{◌&&◌, if◌then◌else◌};
     ghost use Rattle.pm_decode.specs.CaptureText.{line_text};
     ghost use Rattle.pm_decode.specs.CaptureText.{told_line};
-    ghost use Rattle.pm_values.specs.Answers.{ones_of};
-    ghost use Rattle.pm_values.specs.declared.answers.Ones.TheVariants.{Answer};
+    ghost use Rattle.pm_packets.specs.Answers.{ones_of};
+    ghost use Rattle.pm_packets.specs.declared.answers.Ones.TheVariants.{Answer};
     ghost use Rattle.pm_decode.specs.Hearing.{answers_read, heard_lines, heard_with, known_read, ones_in, taught_read, unheard};
     ghost use Rattle.pm_decode.specs.Hints.{beyond_by};
     ghost use Rattle.pm_decode.specs.UsualLines.{code_counted};
-    ghost use Rattle.pm_decode.specs.Readings.{other_address};
-    ghost use Rattle.pm_decode.specs.declared.page_step.Marks.{Marks};
-    ghost use Rattle.pm_decode.specs.Readings.{Noted, Told, judged_by};
-    ghost use Rattle.pm_decode.specs.ShownReadings.{reading_in};
-    ghost use Rattle.pm_decode.specs.declared.options.TellOptions.{TellOptions};
+    ghost use Rattle.pm_capture.specs.Readings.{other_address};
+    ghost use Rattle.pm_capture.specs.declared.page_step.Marks.{Marks};
+    ghost use Rattle.pm_capture.specs.Readings.{Noted, Told, judged_by};
+    ghost use Rattle.pm_capture.specs.ShownReadings.{reading_in};
+    ghost use Rattle.pm_capture.specs.declared.options.TellOptions.{TellOptions};
 
     /// No line yet. Takes no memory.
     pub(crate) fn new(alloc: Global) -> HeardLines

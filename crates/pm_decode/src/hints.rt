@@ -5,8 +5,7 @@ ghost use Rattle.pm_decode.specs.Hearing.{heard_lines, hint_by};
 ghost use Rattle.pm_decode.specs.Hints.{beyond_by, first_if, has_entry as spec_has_entry, has_vout as spec_has_vout, is_beyond as spec_is_beyond, is_huge as spec_is_huge, is_huge_value as spec_is_huge_value};
 
 use crate::heard_lines::HeardLines;
-use crate::line_text::PacketLine;
-use crate::options::TellOptions;
+use pm_capture::{PacketLine, TellOptions};
 use pm_num::Frac;
 use pm_trace::Shown;
 use pm_values::{

@@ -13,7 +13,7 @@ use Rattle.pm_decode.specs.LongEngine.{LongEnds}
 use Rattle.pm_decode.specs.declared.hints.Hint.{Hint}
 use Rattle.pm_decode.specs.declared.hints.Hint.TheVariants.{Beyond}
 use Rattle.pm_decode.specs.declared.telling.TellEnd.{TellEnd}
-use Rattle.pm_decode.specs.declared.options.TellOptions.{TellOptions}
+use Rattle.pm_capture.specs.declared.options.TellOptions.{TellOptions}
 use Rattle.pm_tool.specs.Refusals.{Says, text_refusal}
 use Rattle.pm_tool.specs.Execution.{End, CutShort, Broken, IsToldDone, TellRuns, TellsWhole, decode_status, hint_words, refusal_line, told_as}
 use Rattle.pm_tool.proofs.EndLemmas.{Ends, Writers, cut, ended}

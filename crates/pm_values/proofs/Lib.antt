@@ -1,2 +1,1 @@
-pub mod LetterLemmas
 pub mod ValueLemmas

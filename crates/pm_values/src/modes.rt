@@ -221,7 +221,7 @@ fn same_mode(one: Option<u8>, other: Option<u8>) -> Option<u8>
 }
 
 /// The output of a page at an address, or the code of an address.
-pub(crate) fn key_of(addr: u8, number: u8) -> u16
+pub fn key_of(addr: u8, number: u8) -> u16
     ensures { result ≡ spec_key_of addr number }
 {
     u16::from(addr) * 256 + u16::from(number)
