@@ -78,11 +78,14 @@ place_for (Failed writes) gap time pages addr = place_by gap time pages addr
 abbrev pub step_for : ℕ → Option ℕ → Pages → Option ℕ → PageUse → PageStep
 step_for gap time pages addr used = record { addr = addr; place = place_for used gap time pages addr; used = used }
 
--- the address of a packet that comes at a time, what is known of it, and what the packet says of its page; `other` is the
--- address of one that is told otherwise
+-- what a packet says of its page; `other` is the address of one that is told otherwise
+abbrev pub used_by : Ones → TraceLine → Judged → Option ℕ → PageUse
+used_by ones parts judged other =
+    doubted_use ones (use_of parts.write (is_some parts.read) (is_lost ones parts other) judged)
+
+-- the address of a packet that comes at a time, what is known of it, and what the packet says of its page
 abbrev pub step_by : ℕ → Option ℕ → Pages → Ones → TraceLine → Judged → Option ℕ → PageStep
-step_by gap time pages ones parts judged other = step_for gap time pages (judged_address judged)
-    (doubted_use ones (use_of parts.write (is_some parts.read) (is_lost ones parts other) judged))
+step_by gap time pages ones parts judged other = step_for gap time pages (judged_address judged) (used_by ones parts judged other)
 
 -- what is known of PAGE, if PAGE is followed
 abbrev pub step_of : TellOptions → Pages → Ones → Option ℕ → TraceLine → Option PageStep

@@ -1,8 +1,9 @@
 //! What PAGE, as a capture shows it, says of a packet.
-ghost use Rattle.std.specs.Prelude.{◌≡◌, None, Some};
+ghost use Rattle.std.specs.Prelude.{◌≡◌, None, Some, true};
 ghost use Rattle.pm_trace.specs.ShownLines.{judged_in};
 ghost use Rattle.pm_trace.specs.Pages.{contradicted};
-ghost use Rattle.pm_capture.specs.PageSteps.{doubted_use as spec_doubted_use, is_lost as spec_is_lost, is_turned as spec_is_turned, is_unanswered as spec_is_unanswered, judged_address, marks_by, place_by, step_by, step_for as spec_step_for, sure_page as spec_sure_page};
+ghost use Rattle.pm_trace.specs.declared.pages.PageUse.TheVariants.{Beside};
+ghost use Rattle.pm_capture.specs.PageSteps.{doubted_use as spec_doubted_use, is_lost as spec_is_lost, is_turned as spec_is_turned, is_unanswered as spec_is_unanswered, judged_address, marks_by, place_by, step_by, step_for as spec_step_for, sure_page as spec_sure_page, used_by};
 ghost use Rattle.pm_capture.specs.ShownReadings.{packet_in};
 
 use crate::told_as::PacketLine;
@@ -48,6 +49,23 @@ pub fn page_step(pages: &Pages, gap: u64, line: &PacketLine<'_>) -> PageStep
     step_for(pages, gap, line.time, address_in(line.shown), used)
 }
 
+/// Whether a packet has no time and says nothing of PAGE, since it is good and carries its own page: then it doesn't matter what is
+/// known of its page.
+#[tactic(auto, using(crate::proofs::BesideLemmas::named_beside))]
+pub fn is_beside(line: &PacketLine<'_>) -> bool
+    ensures time { result ≡ true → line.now.time ≡ None }
+    ensures used { result ≡ true
+        → used_by line.now.ones (packet_in line.now.packet) (judged_in line.now.shown.now) line.now.other ≡ Beside }
+{
+    if line.time.is_some() {
+        return false;
+    }
+    match line.shown {
+        Shown::Accepted { view, .. } => view.page().is_some(),
+        _ => false,
+    }
+}
+
 // A packet of this address that says so of its page, as it comes at a time.
 fn step_for(pages: &Pages, gap: u64, time: Option<u64>, addr: Option<u8>, used: PageUse) -> PageStep
     ensures { result ≡ spec_step_for gap time pages.now addr used }
@@ -59,8 +77,8 @@ fn step_for(pages: &Pages, gap: u64, time: Option<u64>, addr: Option<u8>, used: 
     PageStep { addr, place, used }
 }
 
-// Nothing is known of an address.
-const NOWHERE: Place = Place {
+/// Nothing is known of an address.
+pub const NOWHERE: Place = Place {
     page: None,
     written: None,
     failed: None,

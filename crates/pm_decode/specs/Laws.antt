@@ -2,8 +2,8 @@
 use Rattle.std.specs.Prelude.{◌≡◌, ℕ, Bool, false, List, None, replicate}
 use Rattle.pm_trace.specs.TraceText.{trace_text}
 use Rattle.pm_values.specs.declared.formats.GivenFormats.{GivenFormats}
+use Rattle.pm_capture.specs.Options.{plain_options}
 use Rattle.pm_decode.specs.CaptureText.{capture_text}
-use Rattle.pm_capture.specs.declared.options.TellOptions.{TellOptions}
 
 -- what is told without an option that changes it is what `pm_trace` tells of the same text
 abbrev pub PlainCapturesAreTraces : Type 0

@@ -31,6 +31,7 @@ mod decoding;
 mod heard_lines;
 mod hints;
 mod json_counts;
+mod known;
 mod laws;
 mod line_number;
 mod line_text;

@@ -2,7 +2,7 @@
 //! codes, and what an answer of nothing but FFh is taken for.
 //!
 //! A packet that lacks its PEC is judged as one that has it. One that the table doesn't have is told by its code and bytes, as
-//! `58 code D4 write 01 02, no PEC`:
+//! `58 code FD write 01 02, no PEC`:
 //!
 //! ```
 //! fn told_by_bytes(alloc: Global, write: &[u8]) -> Result<String, AllocError> {

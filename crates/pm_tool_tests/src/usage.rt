@@ -161,6 +161,9 @@ static DECODE_HELP: &str = "Tells what the packets of a bus trace say
 Usage: pmb decode [OPTIONS] < TRACE
 
 Options:
+  -h, --help  Print help
+
+Further options:
       --values        Tell what payloads mean, and the bytes of faulty packets
       --vout <F>      The formats of voltages that the trace teaches none of; with --values
       --readings <L>  The formats of READ_VIN, READ_IOUT and READ_TEMPERATURE_1; with --values
@@ -170,7 +173,6 @@ Options:
       --long          Take a trace of more than 1 MiB
       --times         Each line begins with its time in microseconds
       --json          Print each line as an object of JSON
-  -h, --help          Print help
 
 A line is one of
 
@@ -218,8 +220,9 @@ A packet may be faulty; N counts bytes from 0, the address is byte 0:
   F8 Nested N         PAGE_PLUS doesn't carry the code
 
 Status 1 where a line is bad, X1 Syntax or X2 BadHex, or with a line on standard error: X3 TooLong,
-X4 Read, X5 Write, X6 Memory. Status 2: give --vout with --values, bad vout, and the same of
---readings; give --gap with --pages and --times, bad gap.
+X4 Read, X5 Write, X6 Memory. With an option a second line behind X3 says that --long reads on.
+Status 2: give --vout with --values, bad vout, and the same of --readings; give --gap with --pages
+and --times, bad gap.
 ";
 
 static NUMBER_HELP: &str =

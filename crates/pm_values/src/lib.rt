@@ -15,25 +15,29 @@
 //! Tests: crates/pm_tool_tests
 #![tactic(auto)]
 
+mod decimals;
 mod formats;
 mod laws;
 mod lessons;
 mod meaning;
 mod mode_changes;
 mod modes;
+mod names;
 mod status;
 mod value;
 mod value_text;
 
+pub use decimals::{millionths, push_millionths};
 pub use formats::{GivenFormat, GivenFormats};
 pub use laws::microvolts_are_the_floor;
 pub use lessons::Lessons;
 pub use meaning::{GoodPacket, other_value, packet_value};
 pub use mode_changes::{ModeChange, is_paging, mode_change};
 pub use modes::key_of;
+pub use names::{NameMarks, push_names};
 pub use status::{Row, Status};
 pub use value::{Unit, Value};
 pub use value_text::{
-    NameMarks, millionths, operation_words, protection_words, push_capability, push_known,
-    push_millionths, push_mode, push_names, push_on_off, push_relative, push_revision,
+    operation_words, protection_words, push_capability, push_known, push_mode, push_on_off,
+    push_relative, push_revision,
 };
