@@ -1,6 +1,6 @@
 -- What a line of a capture reads as: the packet's bytes, as `pm_trace` reads them, and with times the number that
 -- stands before them. The forms are this project's own choice.
-use Rattle.std.specs.Prelude.{ℕ, ℤ, pos, negsuc, Bool, true, false, not, ◌&&◌, ◌||◌, ◌==◌, nat_eq, nat_lt, if◌then◌else◌, List, [], ◌∷◌, codes, drop, length, map, filter, option_map, slice_index, take, ◌/◌, Option, Some, None, Result, Ok, Err}
+use Rattle.std.specs.Prelude.{ℕ, is_some, ℤ, pos, negsuc, Bool, true, false, not, ◌&&◌, ◌||◌, ◌==◌, nat_eq, nat_lt, if◌then◌else◌, List, [], ◌∷◌, codes, drop, length, map, filter, option_map, slice_index, take, ◌/◌, Option, Some, None, Result, Ok, Err}
 use Rattle.std.specs.List.{enumerate_from, starts_with}
 use Rattle.pm_lines.specs.Digits.{signed_of}
 use Rattle.pm_lines.specs.Pairs.{pair_of}
@@ -10,7 +10,7 @@ use Rattle.pm_trace.specs.Trace.{Judged, line_read, parts_judged, reading_judged
 use Rattle.pm_trace.specs.declared.line_fault.LineFault.{LineFault}
 use Rattle.pm_trace.specs.declared.line_fault.LineFault.TheVariants as fault
 use Rattle.pm_trace.specs.declared.trace_line.TraceLine.{TraceLine}
-use Rattle.pm_packets.specs.Otherwise.{address_otherwise, judged_anyway, lacks_pec}
+use Rattle.pm_packets.specs.Otherwise.{address_otherwise, has_pec, is_accepted, judged_anyway, lacks_pec}
 use Rattle.pm_packets.specs.declared.answers.Ones.{Ones}
 use Rattle.pm_capture.specs.declared.comment.Remark.{Remark}
 use Rattle.pm_capture.specs.declared.comment.Remark.TheVariants.{Elsewhere, Unacknowledged, Failed, LossAt, Loss}

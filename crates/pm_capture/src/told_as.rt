@@ -3,7 +3,7 @@ ghost use Rattle.std.specs.Prelude.{◌≡◌, ◌||◌, Err, IfSome, is_some, n
 ghost use Rattle.pm_trace.specs.ShownLines.{judged_in};
 ghost use Rattle.pm_trace.specs.Trace.{parts_judged, reading_judged};
 ghost use Rattle.pm_packets.specs.Otherwise.{IsCompleted, content_of, is_accepted};
-ghost use Rattle.pm_decode.specs.Hearing.{is_checked as spec_is_checked, is_told as spec_is_told};
+ghost use Rattle.pm_capture.specs.Readings.{is_checked as spec_is_checked, is_told as spec_is_told};
 ghost use Rattle.pm_capture.specs.PageSteps.{change_by};
 ghost use Rattle.pm_capture.specs.Readings.{is_without_pec};
 ghost use Rattle.pm_capture.specs.ShownReadings.{packet_in};

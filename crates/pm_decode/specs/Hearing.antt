@@ -9,13 +9,13 @@ use Rattle.pm_trace.specs.TraceText.{end_of}
 use Rattle.pm_trace.specs.declared.line_fault.LineFault.{LineFault}
 use Rattle.pm_trace.specs.declared.trace_line.TraceLine.{TraceLine}
 use Rattle.pm_packets.specs.Answers.{Answers, answers_by, none_heard, ones_of}
-use Rattle.pm_packets.specs.Otherwise.{content_of, has_pec, is_accepted, is_doubtful}
+use Rattle.pm_packets.specs.Otherwise.{content_of, is_accepted, is_doubtful}
 use Rattle.pm_packets.specs.declared.answers.Ones.{Ones}
 use Rattle.pm_packets.specs.declared.answers.Ones.TheVariants.{Answer}
 use Rattle.pm_values.specs.Taught.{Taught, changed_by, paged_at, paged_by, taught_by, untaught}
 use Rattle.pm_decode.specs.Hints.{beyond_by, lacking_by}
 use Rattle.pm_capture.specs.PageSteps.{change_by, judged_address, marks_in, pages_noted, pages_read}
-use Rattle.pm_capture.specs.Readings.{Entry, Said, Told, Noted, is_without_pec, judged_as, judged_by, other_address}
+use Rattle.pm_capture.specs.Readings.{Entry, Said, Told, Noted, is_without_pec, judged_as, judged_by, other_address, is_checked, is_told}
 use Rattle.pm_capture.specs.declared.comment.Remark.{Remark}
 use Rattle.pm_capture.specs.declared.comment.Remark.TheVariants.{Elsewhere, Unacknowledged, Failed, LossAt, Loss}
 use Rattle.pm_decode.specs.declared.hints.Hint.{Hint}

@@ -3,8 +3,9 @@
 use crate::checks::is_true;
 use crate::run::{run_on, run_with};
 use pm_test_streams::{blank_paper, in_pieces};
-use pm_tool::Source;
+use pm_tool::{Source, chosen};
 use std::process::Abort;
+use std::test::Fail;
 
 static MISSING: &str = "error: 'pmb' requires a subcommand but one was not provided
   [subcommands: hear, replay, decode, check, number]
@@ -281,6 +282,20 @@ fn help_is_printed(rt: HostRuntime) {
     is_help(&rt, &["pmb", "replay", "--help"], REPLAY_HELP);
     is_help(&rt, &["pmb", "decode", "--help"], DECODE_HELP);
     is_help(&rt, &["pmb", "number", "--help"], NUMBER_HELP);
+}
+
+#[test]
+fn decode_without_options_has_the_help_of_its_options(rt: HostRuntime) -> Result<(), Fail> {
+    let words = ["pmb", "decode", "--help"];
+    match chosen(rt.alloc(), &words) {
+        Ok(_) => is_true(&rt, false, &1),
+        Err(help) => {
+            let text = format!(in rt.alloc(); "{help}")?;
+            is_true(&rt, DECODE_HELP.starts_with(text.as_str()), &2);
+            is_true(&rt, text.len() + 1 >= DECODE_HELP.len(), &3);
+        }
+    }
+    Ok(())
 }
 
 #[test]

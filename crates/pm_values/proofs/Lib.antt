@@ -1,1 +1,2 @@
+pub mod ModeLemmas
 pub mod ValueLemmas
