@@ -19,8 +19,8 @@ use Rattle.pm_capture.specs.declared.comment.Remark.{Remark}
 use Rattle.pm_capture.specs.declared.comment.Remark.TheVariants.{Elsewhere, Unacknowledged, LossAt, Loss}
 use Rattle.pm_capture.specs.declared.comment.Remark.TheVariants.{Failed as FailedPage}
 use Rattle.pm_capture.specs.declared.options.TellOptions.{TellOptions}
-use Rattle.pm_capture.specs.declared.page_step.Marks.{Marks}
-use Rattle.pm_capture.specs.declared.page_step.PageStep.{PageStep}
+use Rattle.pm_capture.specs.declared.page_steps.Marks.{Marks}
+use Rattle.pm_capture.specs.declared.page_steps.PageStep.{PageStep}
 
 -- ---- a packet as it comes
 

@@ -16,13 +16,13 @@
 
 mod comment;
 mod options;
-mod page_step;
+mod page_steps;
 mod timed_line;
 mod told_as;
 
 pub use comment::Remark;
 pub use options::TellOptions;
-pub use page_step::{Marks, NOWHERE, PageStep, address_in, is_beside, page_step};
+pub use page_steps::{Marks, NOWHERE, PageStep, address_in, is_beside, page_step};
 pub use timed_line::{LineReading, TimedLine};
 pub use told_as::{
     PacketLine, bad_shown, change_in, completed_if, is_checked, is_plain, is_told, told_code,

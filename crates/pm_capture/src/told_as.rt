@@ -8,7 +8,7 @@ ghost use Rattle.pm_capture.specs.PageSteps.{change_by};
 ghost use Rattle.pm_capture.specs.Readings.{is_without_pec};
 ghost use Rattle.pm_capture.specs.ShownReadings.{packet_in};
 
-use crate::page_step::Marks;
+use crate::page_steps::Marks;
 use arrayvec::ArrayVec;
 use pm_packets::{Ones, Packet, completed_part};
 use pm_trace::{LineFault, Shown};

@@ -13,8 +13,8 @@ use Rattle.pm_trace.specs.declared.pages.PageUse.TheVariants.{Beside}
 use Rattle.pm_trace.specs.declared.trace_line.TraceLine.{TraceLine}
 use Rattle.pm_decode.specs.Hints.{beyond_by, lacking_by}
 use Rattle.pm_capture.specs.PageSteps.{judged_address, marks_by, marks_in, step_by, step_for, used_by}
-use Rattle.pm_capture.specs.declared.page_step.Marks.{Marks}
-use Rattle.pm_capture.specs.declared.page_step.PageStep.{PageStep}
+use Rattle.pm_capture.specs.declared.page_steps.Marks.{Marks}
+use Rattle.pm_capture.specs.declared.page_steps.PageStep.{PageStep}
 use Rattle.pm_decode.specs.CaptureText.{line_text, lines_text, told_line}
 use Rattle.pm_packets.specs.declared.answers.Ones.{Ones}
 use Rattle.pm_decode.specs.Hearing.{Heard, HeardLines, Known, answers_read, heard_all, heard_as, heard_lines, heard_of, heard_with, known_by}

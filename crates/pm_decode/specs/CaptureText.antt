@@ -20,7 +20,7 @@ use Rattle.pm_decode.specs.JsonCounts.{count_json, other_jsons, totals_json}
 use Rattle.pm_capture.specs.PageSteps.{marks_in}
 use Rattle.pm_capture.specs.Readings.{Entry, Said, Told, Noted, entries_of, judged_by, other_address}
 use Rattle.pm_capture.specs.declared.options.TellOptions.{TellOptions}
-use Rattle.pm_capture.specs.declared.page_step.Marks.{Marks}
+use Rattle.pm_capture.specs.declared.page_steps.Marks.{Marks}
 use Rattle.pm_decode.specs.declared.telling.TellEnd.{TellEnd}
 
 -- ---- what stands behind a packet's text

@@ -3,7 +3,7 @@ ghost use Rattle.std.specs.Prelude.{◌≡◌, None, not, option_map, true};
 ghost use Rattle.pm_trace.specs.ShownLines.{judged_in};
 ghost use Rattle.pm_trace.specs.Trace.{parts_judged};
 ghost use Rattle.pm_packets.specs.Otherwise.{is_accepted};
-ghost use Rattle.pm_capture.specs.Readings.{is_without_pec};
+ghost use Rattle.pm_capture.specs.Readings.{is_without_pec, judged_by, other_address};
 ghost use Rattle.pm_capture.specs.ShownReadings.{packet_in};
 
 use crate::known::Known;
@@ -46,9 +46,8 @@ impl HeardLines {
     ghost use Rattle.pm_decode.specs.UsualLines.{code_counted};
     ghost use Rattle.pm_capture.specs.PageSteps.{used_by};
     ghost use Rattle.pm_trace.specs.declared.pages.PageUse.TheVariants.{Beside};
-    ghost use Rattle.pm_capture.specs.Readings.{other_address};
-    ghost use Rattle.pm_capture.specs.declared.page_step.Marks.{Marks};
-    ghost use Rattle.pm_capture.specs.Readings.{Noted, Told, judged_by};
+    ghost use Rattle.pm_capture.specs.declared.page_steps.Marks.{Marks};
+    ghost use Rattle.pm_capture.specs.Readings.{Noted, Told};
     ghost use Rattle.pm_capture.specs.ShownReadings.{reading_in};
     ghost use Rattle.pm_capture.specs.declared.options.TellOptions.{TellOptions};
 
@@ -142,6 +141,7 @@ impl HeardLines {
         requires shown { judged_in line.now.shown.now
             ≡ parts_judged line.now.packet.write.now (option_map (λ bytes. bytes.now) line.now.packet.read) }
         requires ones { line.now.ones ≡ ones_in options.now self.old.known (Ok (packet_in line.now.packet)) }
+        requires plain { line.now.other ≡ None }
         ensures text { OnOk result (string_bytes text.new ++ codes "\n" ≡ string_bytes text.old
             ++ line_text options.now self.old.known
             (line.now.number, Told (record { time = line.now.time; parts = Ok (packet_in line.now.packet) }))) }
@@ -179,6 +179,7 @@ impl HeardLines {
         requires shown { judged_in line.now.shown.now ≡ judged_by options.now.all line.now.ones (packet_in line.now.packet) }
         requires lacks { lacks ≡ is_without_pec options.now.all line.now.ones (packet_in line.now.packet) }
         requires ones { line.now.ones ≡ ones_in options.now self.old.known (Ok (packet_in line.now.packet)) }
+        requires plain { line.now.other ≡ None }
         ensures text { OnOk result (string_bytes text.new ++ codes "\n" ≡ string_bytes text.old
             ++ line_text options.now self.old.known
             (line.now.number, Told (record { time = line.now.time; parts = Ok (packet_in line.now.packet) }))) }
@@ -186,23 +187,48 @@ impl HeardLines {
             ≡ heard_with options.now self.old (line.now.number, Told (record { time = line.now.time; parts = Ok (packet_in line.now.packet) }))) }
         ensures few { heard_lines self.new ≤ heard_lines self.old + 1 }
     {
-        let line = PacketLine {
-            number: line.number,
-            time: line.time,
-            packet: line.packet,
-            shown: line.shown,
-            ones: line.ones,
-            other: if options.all {
-                address_otherwise(&line.packet, line.shown, line.ones)
-            } else {
-                None
-            },
-        };
+        match other_if(options.all, line) {
+            None => self.hear_told(options, line, lacks, text),
+            Some(addr) => {
+                let line = PacketLine {
+                    number: line.number,
+                    time: line.time,
+                    packet: line.packet,
+                    shown: line.shown,
+                    ones: line.ones,
+                    other: Some(addr),
+                };
+                self.hear_told(options, &line, lacks, text)
+            }
+        }
+    }
+
+    // Hears a packet by what it says, as the command table has it or by its code and bytes.
+    #[tactic(auto, using(crate::proofs::HearingLemmas::heard_one))]
+    fn hear_told(
+        &mut self,
+        options: &TellOptions,
+        line: &PacketLine<'_>,
+        lacks: bool,
+        text: &mut String,
+    ) -> Result<(), AllocError>
+        requires few { heard_lines self.old + 1 < 2 ^ 64 }
+        requires shown { judged_in line.now.shown.now ≡ judged_by options.now.all line.now.ones (packet_in line.now.packet) }
+        requires lacks { lacks ≡ is_without_pec options.now.all line.now.ones (packet_in line.now.packet) }
+        requires ones { line.now.ones ≡ ones_in options.now self.old.known (Ok (packet_in line.now.packet)) }
+        requires other { line.now.other ≡ other_address options.now.all line.now.ones (packet_in line.now.packet) }
+        ensures text { OnOk result (string_bytes text.new ++ codes "\n" ≡ string_bytes text.old
+            ++ line_text options.now self.old.known
+            (line.now.number, Told (record { time = line.now.time; parts = Ok (packet_in line.now.packet) }))) }
+        ensures heard { OnOk result (self.new
+            ≡ heard_with options.now self.old (line.now.number, Told (record { time = line.now.time; parts = Ok (packet_in line.now.packet) }))) }
+        ensures few { heard_lines self.new ≤ heard_lines self.old + 1 }
+    {
         if options.pages {
-            self.known.tell_on_page(options, lacks, &line, text)?;
+            self.known.tell_on_page(options, lacks, line, text)?;
         } else {
             let marks = Marks::without_page(line.ones, lacks);
-            self.known.tell_packet(options, &marks, &line, text)?;
+            self.known.tell_packet(options, &marks, line, text)?;
         }
         match line.other {
             None => self.tally.count(line.shown),
@@ -256,5 +282,17 @@ impl HeardLines {
         ensures { result.now ≡ self.now.others }
     {
         &self.others
+    }
+}
+
+// The address of a packet that is told by its code and bytes, where packets without PEC are told.
+fn other_if(all: bool, line: &PacketLine<'_>) -> Option<u8>
+    requires { judged_in line.now.shown.now ≡ judged_by all line.now.ones (packet_in line.now.packet) }
+    ensures { result ≡ other_address all line.now.ones (packet_in line.now.packet) }
+{
+    if all {
+        address_otherwise(&line.packet, line.shown, line.ones)
+    } else {
+        None
     }
 }

@@ -98,7 +98,7 @@ impl Known {
         }
     }
 
-    // The same of a packet that says nothing of PAGE and has no time.
+    // Does so for a packet that says nothing of PAGE and has no time.
     fn tell_beside(
         &mut self,
         options: &TellOptions,
@@ -125,7 +125,7 @@ impl Known {
             .learn(line.number, None, NOWHERE, PageUse::Beside)
     }
 
-    // The same of any packet, by what is known of the page of its address.
+    // Does so for any packet, by what is known of the page of its address.
     fn tell_at_place(
         &mut self,
         options: &TellOptions,

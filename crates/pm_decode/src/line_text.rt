@@ -7,7 +7,7 @@ ghost use Rattle.pm_values.specs.Taught.{Taught};
 ghost use Rattle.pm_decode.specs.CaptureText.{bytes_text, extra_text, json_line, lack_text, plain_line, meaning_text, otherwise_by as spec_otherwise_by, packet_fields_by, packet_text_by, reached_text, read_bytes_text, time_text, told_line, two_lines, wrong_text};
 ghost use Rattle.pm_capture.specs.Readings.{judged_by, other_address};
 ghost use Rattle.pm_capture.specs.ShownReadings.{packet_in};
-ghost use Rattle.pm_capture.specs.declared.page_step.Marks.{Marks};
+ghost use Rattle.pm_capture.specs.declared.page_steps.Marks.{Marks};
 
 use pm_capture::{Marks, PacketLine, TellOptions};
 use pm_json::{
