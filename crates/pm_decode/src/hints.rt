@@ -44,6 +44,7 @@ pub(crate) fn hint_of(options: &TellOptions, heard: &HeardLines) -> Option<Hint>
 
 // What bad lines say where no packet was told as a good one or by its code.
 fn lines_hint(times: bool, heard: &HeardLines) -> Option<Hint>
+    requires { heard_lines heard.now < 2 ^ 64 }
     ensures { result ≡ (if is_none_told heard.now then spec_lines_hint times heard.now.counts.faults else None) }
 {
     let (_, accepted, faults, bad) = heard.tally().lines();
@@ -61,6 +62,7 @@ fn lines_hint(times: bool, heard: &HeardLines) -> Option<Hint>
 
 // Whether there are faults, all of packets that would be good with their PEC, where such packets aren't told.
 fn is_without_any_pec(all: bool, heard: &HeardLines) -> bool
+    requires { heard_lines heard.now < 2 ^ 64 }
     ensures { result ≡ spec_is_without_any_pec all heard.now }
 {
     let (_, accepted, faults, _) = heard.tally().lines();
