@@ -45,6 +45,8 @@ mod other_read;
 mod packet;
 mod rail;
 mod sending_image;
+mod stairs;
+mod stairs_image;
 #[cfg(test)]
 mod tests;
 mod told;
