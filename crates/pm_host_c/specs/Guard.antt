@@ -2,7 +2,8 @@
 -- that are no limits say that none are known, but for two that say that the output has none, so that memory of any bytes means
 -- something. This project's own choice.
 use Rattle.std.specs.Prelude.{List, map, replicate, slice_index_or, Option, option_map, is_none, if◌then◌else◌, Bool, not, ◌&&◌, ◌==◌}
-use Rattle.std.specs.Prelude.{pos, int_eq}
+use Rattle.std.specs.Prelude.{pos}
+use Rattle.std.specs.Ordering.{int_eq}
 use Rattle.std.specs.Option.{option_map_or}
 use Rattle.pm_host.specs.declared.job.Job.{Job}
 use Rattle.pm_host.specs.Image.{host_of}
