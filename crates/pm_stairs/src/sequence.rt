@@ -1,5 +1,9 @@
 //! A list of steps over the outputs of several parts.
 
+ghost use Rattle.std.specs.Prelude.{◌≡◌};
+ghost use Rattle.pm_stairs.specs.Frames.{course_open as spec_course_open, is_job_at as spec_is_job_at};
+ghost use Rattle.pm_stairs.specs.Sequence.{ahead_here as spec_ahead_here, asked_apart as spec_asked_apart, at_once, has_begun as spec_has_begun, heard_with, host_due as spec_host_due, is_at_once as spec_is_at_once, is_under as spec_is_under, off_at_once as spec_off_at_once, one_begun, one_more as spec_one_more, refused_back as spec_refused_back, refused_in, sequence_new, skipped, step_stopped, turned, turned_after, Turns};
+
 use crate::said::StepEnd;
 use crate::sight::Sight;
 use crate::stairs::{Move, Stairs, Under};
@@ -63,7 +67,9 @@ pub enum Turn {
 
 impl Sequence {
     /// No step has begun. Each gets so many tries.
-    pub fn new(tries: u16, is_down: bool) -> Sequence {
+    pub fn new(tries: u16, is_down: bool) -> Sequence
+        ensures { result ≡ sequence_new tries is_down }
+    {
         Sequence {
             stairs: Stairs::new(),
             tries,
@@ -77,7 +83,9 @@ impl Sequence {
     }
 
     /// What comes next by the host at the place `host`, where this is the first step ahead.
-    pub fn next<S: Sight>(&mut self, guard: &S, ahead: Option<Placed>) -> Turn {
+    pub fn next<S: Sight>(&mut self, guard: &S, ahead: Option<Placed>) -> Turn
+        ensures { Turns (S.guarded guard.now) ahead self.old result self.new }
+    {
         let due = self.host_due(ahead);
         if self.host != due {
             self.host = due;
@@ -96,7 +104,9 @@ impl Sequence {
     }
 
     // The place of the host that is to be asked.
-    fn host_due(&self, ahead: Option<Placed>) -> u8 {
+    fn host_due(&self, ahead: Option<Placed>) -> u8
+        ensures { result ≡ spec_host_due self.now ahead }
+    {
         match (self.is_under(ahead), ahead) {
             (true, _) => self.under_host,
             (false, Some(placed)) => placed.host,
@@ -105,12 +115,16 @@ impl Sequence {
     }
 
     // Whether the step under way is asked first.
-    fn is_under(&self, ahead: Option<Placed>) -> bool {
+    fn is_under(&self, ahead: Option<Placed>) -> bool
+        ensures { result ≡ spec_is_under self.now ahead }
+    {
         self.stairs.under.is_some() && (!self.is_free || ahead.is_none())
     }
 
     // The first step ahead, where it is asked without the one under way, which is over.
-    fn asked_apart(&self, ahead: Option<Placed>) -> Option<Step> {
+    fn asked_apart(&self, ahead: Option<Placed>) -> Option<Step>
+        ensures { result ≡ spec_asked_apart self.now ahead }
+    {
         match ahead {
             Some(placed) if self.is_free => Some(placed.step),
             _ => None,
@@ -118,7 +132,9 @@ impl Sequence {
     }
 
     // The first step ahead, where the host that is asked is its own and it doesn't begin at once.
-    fn ahead_here(&self, ahead: Option<Placed>) -> Option<Step> {
+    fn ahead_here(&self, ahead: Option<Placed>) -> Option<Step>
+        ensures { result ≡ spec_ahead_here self.now ahead }
+    {
         match ahead {
             Some(placed) if placed.host == self.host && !self.is_at_once(&placed.step) => {
                 Some(placed.step)
@@ -128,7 +144,9 @@ impl Sequence {
     }
 
     // Whether a step begins at once, with nothing read: on a way down one that turns an output off.
-    fn is_at_once(&self, step: &Step) -> bool {
+    fn is_at_once(&self, step: &Step) -> bool
+        ensures { result ≡ spec_is_at_once self.now.is_down step.now.act }
+    {
         match step.act {
             Act::Turns(byte) => self.is_down && !Operation::has_on(byte),
             _ => false,
@@ -136,7 +154,9 @@ impl Sequence {
     }
 
     // The first step ahead, where it begins at once now.
-    fn off_at_once(&self, ahead: Option<Placed>) -> Option<Step> {
+    fn off_at_once(&self, ahead: Option<Placed>) -> Option<Step>
+        ensures { result ≡ spec_off_at_once self.now (spec_is_under self.now ahead) ahead }
+    {
         match ahead {
             Some(placed) if !self.is_under(ahead) && self.is_at_once(&placed.step) => Some(placed.step),
             _ => None,
@@ -144,7 +164,9 @@ impl Sequence {
     }
 
     // A step begins before anything is asked.
-    fn begins_at_once(&mut self, step: Step) {
+    fn begins_at_once(&mut self, step: Step)
+        ensures { self.new ≡ one_begun self.old (at_once self.old.stairs step self.old.tries) }
+    {
         self.stairs.under = Some(Under {
             step: step.with_words(Wanted::nothing()),
             course: step.course(self.tries),
@@ -155,8 +177,10 @@ impl Sequence {
     }
 
     // One step more has begun, of the host that was asked.
-    fn begins(&mut self) {
-        self.begun = self.begun.saturating_add(1);
+    fn begins(&mut self)
+        ensures { self.new ≡ one_begun self.old self.old.stairs }
+    {
+        self.begun = one_more(self.begun);
         self.under_host = self.host;
         self.is_free = false;
         self.is_warned = false;
@@ -169,7 +193,10 @@ impl Sequence {
         ahead: Option<Placed>,
         said: Move,
         asked: Stairs,
-    ) -> Turn {
+    ) -> Turn
+        ensures turn { result ≡ turned (S.guarded guard.now) ahead self.old said }
+        ensures after { self.new ≡ turned_after (S.guarded guard.now) ahead self.old said asked }
+    {
         match said {
             Move::Job(job) => {
                 self.is_free = false;
@@ -211,7 +238,9 @@ impl Sequence {
     }
 
     // Why the way back of the first step ahead would be refused, where it wasn't said.
-    fn refused_back<S: Sight>(&self, guard: &S, back: &WordStep) -> Option<PlanFault> {
+    fn refused_back<S: Sight>(&self, guard: &S, back: &WordStep) -> Option<PlanFault>
+        ensures { result ≡ spec_refused_back (S.guarded guard.now) self.now back.now }
+    {
         if self.is_down || self.is_warned {
             None
         } else {
@@ -220,7 +249,9 @@ impl Sequence {
     }
 
     /// The guard refuses what these stairs named: it is as it was, but for which step stopped.
-    pub fn refused(&self, named: &Sequence, begins: bool) -> Sequence {
+    pub fn refused(&self, named: &Sequence, begins: bool) -> Sequence
+        ensures { result ≡ refused_in self.now named.now begins }
+    {
         let mut kept = *self;
         kept.is_free = false;
         kept.stairs.reading = begins || named.stairs.reading;
@@ -228,17 +259,23 @@ impl Sequence {
     }
 
     /// Whether the job that stands at this stage is the one that was named last.
-    pub fn is_job_at(&self, stage: Stage) -> bool {
+    pub fn is_job_at(&self, stage: Stage) -> bool
+        ensures { result ≡ spec_is_job_at self.now.stairs stage }
+    {
         self.stairs.is_job_at(stage)
     }
 
     /// The course whose job was named last.
-    pub fn course_open(&self) -> Option<FrameCourse> {
+    pub fn course_open(&self) -> Option<FrameCourse>
+        ensures { result ≡ spec_course_open self.now.stairs }
+    {
         self.stairs.course_open()
     }
 
     /// That course has become this one, and an answer showed that the part restarted or was exchanged, or didn't. It ends no way down.
-    pub fn with_course(&self, course: FrameCourse, restarted: bool) -> Sequence {
+    pub fn with_course(&self, course: FrameCourse, restarted: bool) -> Sequence
+        ensures { result ≡ heard_with self.now course restarted }
+    {
         let mut heard = *self;
         heard.stairs = self
             .stairs
@@ -247,29 +284,42 @@ impl Sequence {
     }
 
     /// Whether what stopped is the step under way, and not the first one ahead.
-    pub fn has_begun(&self) -> bool {
+    pub fn has_begun(&self) -> bool
+        ensures { result ≡ spec_has_begun self.now }
+    {
         self.stairs.under.is_some() && !self.stairs.reading
     }
 
     /// The place in the list of the step that stopped.
-    pub fn step(&self) -> u16 {
-        if self.has_begun() {
-            self.begun.saturating_sub(1)
+    pub fn step(&self) -> u16
+        ensures { result ≡ step_stopped self.now }
+    {
+        if self.has_begun() && 0 < self.begun {
+            self.begun - 1
         } else {
             self.begun
         }
     }
 
     /// The step that stopped is left: the next one goes on.
-    pub fn skip(&mut self) {
+    pub fn skip(&mut self)
+        ensures { self.new ≡ skipped self.old }
+    {
         if self.has_begun() {
             self.stairs.under = None;
         } else {
-            self.begun = self.begun.saturating_add(1);
+            self.begun = one_more(self.begun);
         }
         self.stairs.coming = None;
         self.stairs.reading = false;
         self.is_free = false;
         self.is_warned = false;
     }
+}
+
+// One step more; a list has at most 65,535.
+fn one_more(begun: u16) -> u16
+    ensures { result ≡ spec_one_more begun }
+{
+    if begun < 65535 { begun + 1 } else { begun }
 }

@@ -3,6 +3,7 @@
 ghost use Rattle.std.specs.Prelude.{◌≡◌, ◌<◌, true};
 ghost use Rattle.pm_limits.specs.Guard.{limits_at};
 ghost use Rattle.pm_stairs.specs.Due.{due_now as spec_due_now};
+ghost use Rattle.pm_stairs.specs.Sequence.{GoesApart};
 ghost use Rattle.pm_stairs.specs.Steps.{noted as spec_noted};
 ghost use Rattle.pm_stairs.specs.Stairs.{ahead_move as spec_ahead_move, are_there as spec_are_there, begins_now as spec_begins_now, begun_with, coming_course, course_after, looked as spec_looked, no_output as spec_no_output, reading_for, stairs_new, trying as spec_trying, under_move as spec_under_move, AsksAhead, Goes, GoesAhead, GoesUnder, HasWords, SaysStep};
 
@@ -67,7 +68,7 @@ impl Stairs {
 
     /// What comes next, where this is the first step ahead, which gets so many tries.
     pub fn next<S: Sight>(&mut self, guard: &S, ahead: Option<Step>, tries: u16) -> Move
-        ensures { Goes (guarded guard.now) tries ahead self.old result self.new }
+        ensures { Goes (S.guarded guard.now) tries ahead self.old result self.new }
     {
         if self.restarted {
             return Move::Stops(StepEnd::Restarted);
@@ -82,7 +83,9 @@ impl Stairs {
     }
 
     /// What the first step ahead asks for, where the step under way is over by its own host.
-    pub(crate) fn next_apart<S: Sight>(&mut self, guard: &S, step: &Step, tries: u16) -> Move {
+    pub(crate) fn next_apart<S: Sight>(&mut self, guard: &S, step: &Step, tries: u16) -> Move
+        ensures { GoesApart (S.guarded guard.now) tries step.now self.old result self.new }
+    {
         if self.restarted {
             return Move::Stops(StepEnd::Restarted);
         }
@@ -91,7 +94,7 @@ impl Stairs {
 
     // What the step under way asks for; nothing where it is over, or none has begun.
     fn under<S: Sight>(&mut self, guard: &S) -> Option<Move>
-        ensures { GoesUnder (guarded guard.now) self.old result self.new }
+        ensures { GoesUnder (S.guarded guard.now) self.old result self.new }
     {
         self.reading = false;
         let Some(under) = self.under else {
@@ -108,7 +111,7 @@ impl Stairs {
 
     // What the first step ahead asks for.
     fn ahead<S: Sight>(&mut self, guard: &S, step: &Step, tries: u16) -> Move
-        ensures { GoesAhead (guarded guard.now) tries step.now self.old result self.new }
+        ensures { GoesAhead (S.guarded guard.now) tries step.now self.old result self.new }
     {
         let course = self.coming_course(step, tries);
         match words_by(guard, &course) {
@@ -122,7 +125,7 @@ impl Stairs {
 
     // What a first step ahead asks for, in words.
     fn asks<S: Sight>(&mut self, guard: &S, step: &WordStep, course: &FrameCourse) -> Move
-        ensures { AsksAhead (guarded guard.now) step.now course.now self.old result self.new }
+        ensures { AsksAhead (S.guarded guard.now) step.now course.now self.old result self.new }
     {
         if !are_there(guard, step, course) {
             self.reads_for(*course);
@@ -222,9 +225,9 @@ fn absent() -> StepEnd
 
 // Whether the guard's host has the output of a step and that of its course, which are one.
 fn are_there<S: Sight>(guard: &S, step: &WordStep, course: &FrameCourse) -> bool
-    ensures is { result ≡ spec_are_there (guarded guard.now) step.now course.now }
-    ensures step { result ≡ true → step.now.output < (guarded guard.now).host.setup.outputs }
-    ensures course { result ≡ true → course.now.course.survey.output < (guarded guard.now).host.setup.outputs }
+    ensures is { result ≡ spec_are_there (S.guarded guard.now) step.now course.now }
+    ensures step { result ≡ true → step.now.output < (S.guarded guard.now).host.setup.outputs }
+    ensures course { result ≡ true → course.now.course.survey.output < (S.guarded guard.now).host.setup.outputs }
 {
     let outputs = guard.state().outputs;
     step.output < outputs && course.course.survey.output < outputs
@@ -232,7 +235,7 @@ fn are_there<S: Sight>(guard: &S, step: &WordStep, course: &FrameCourse) -> bool
 
 // The words of the wishes of a step, by the format that is known.
 pub(crate) fn words_by<S: Sight>(guard: &S, course: &FrameCourse) -> Result<Wanted, Refusal>
-    ensures { HasWords (guarded guard.now) course.now result }
+    ensures { HasWords (S.guarded guard.now) course.now result }
 {
     if course.course.survey.output < guard.state().outputs {
         course.words_now(guard.state())
@@ -243,9 +246,9 @@ pub(crate) fn words_by<S: Sight>(guard: &S, course: &FrameCourse) -> Result<Want
 
 // What a step asks for, which has begun or begins now, and its course then.
 fn ask<S: Sight>(guard: &S, begun: bool, step: &WordStep, course: &FrameCourse) -> (Said, FrameCourse)
-    requires step { step.now.output < (guarded guard.now).host.setup.outputs }
-    requires course { course.now.course.survey.output < (guarded guard.now).host.setup.outputs }
-    ensures { SaysStep (guarded guard.now) begun step.now course.now result.0 result.1 }
+    requires step { step.now.output < (S.guarded guard.now).host.setup.outputs }
+    requires course { course.now.course.survey.output < (S.guarded guard.now).host.setup.outputs }
+    ensures { SaysStep (S.guarded guard.now) begun step.now course.now result.0 result.1 }
 {
     let mut after = *course;
     let limits = guard.limits(course.course.survey.output);
@@ -259,8 +262,8 @@ fn ask<S: Sight>(guard: &S, begun: bool, step: &WordStep, course: &FrameCourse) 
 
 // What is due in a step by a guard.
 fn due_by<S: Sight>(guard: &S, step: &WordStep) -> Due
-    requires { step.now.output < (guarded guard.now).host.setup.outputs }
-    ensures { result ≡ spec_due_now (guarded guard.now).registers (limits_at (guarded guard.now) step.now.output) (guarded guard.now).host step.now }
+    requires { step.now.output < (S.guarded guard.now).host.setup.outputs }
+    ensures { result ≡ spec_due_now (S.guarded guard.now).registers (limits_at (S.guarded guard.now) step.now.output) (S.guarded guard.now).host step.now }
 {
     let limits = guard.limits(step.output);
     step.due(guard.state(), guard.stage(), guard.registers(), &limits)
@@ -304,8 +307,8 @@ fn looked(course: &FrameCourse, cell: Cell) -> FrameCourse
 
 // The step that undoes one that begins now.
 fn noted<S: Sight>(guard: &S, step: &WordStep) -> WordStep
-    requires { step.now.output < (guarded guard.now).host.setup.outputs }
-    ensures { result ≡ spec_noted (guarded guard.now).host step.now }
+    requires { step.now.output < (S.guarded guard.now).host.setup.outputs }
+    ensures { result ≡ spec_noted (S.guarded guard.now).host step.now }
 {
     step.noted(guard.state())
 }
