@@ -15,6 +15,7 @@ use Rattle.pm_rail.specs.Known.{known_word}
 use Rattle.pm_rail.specs.Orders.{plan_of}
 use Rattle.pm_rail.specs.Registers.{nothing, wants_of}
 use Rattle.pm_course.specs.declared.course_end.Refusal.{Refusal}
+use Rattle.pm_course.specs.declared.frame_course.FrameCourse.{FrameCourse}
 use Rattle.pm_course.specs.Ends.{refusal_of_plan}
 use Rattle.pm_stairs.specs.declared.step.Step.{Step}
 use Rattle.pm_stairs.specs.declared.step.WordAct.{WordAct}
@@ -84,7 +85,12 @@ checked None None = check.Accepted
 abbrev pub words_check : Guarded → WordStep → StepCheck
 words_check g step = if nat_lt step.output 8 then checked (act_fault g step step.act) (way_back_fault g (noted g.host step)) else check.Accepted
 
+-- its words are those of the format that is known now
+abbrev pub known_course : Step → FrameCourse
+known_course step = let c = step_course step 1 in
+    record c { course = record c.course { survey = record c.course.survey { learned = true } } }
+
 -- what is said of a step, by the words that are known now
 pub data Checks (g : Guarded) (step : Step) : StepCheck → Type 0 where
-  unformed : (refusal : Refusal) → HasWords g (step_course step 1) (Err refusal) → Checks g step (check.Refused refusal)
-  formed : (words : Wanted) → HasWords g (step_course step 1) (Ok words) → Checks g step (words_check g (step_with step words))
+  unformed : (refusal : Refusal) → HasWords g (known_course step) (Err refusal) → Checks g step (check.Refused refusal)
+  formed : (words : Wanted) → HasWords g (known_course step) (Ok words) → Checks g step (words_check g (step_with step words))

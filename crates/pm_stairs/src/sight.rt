@@ -2,6 +2,7 @@
 
 ghost use Rattle.std.specs.Prelude.{◌≡◌};
 ghost use Rattle.pm_host.specs.Image.{held};
+ghost use Rattle.pm_host.specs.Sound.{IsSound};
 ghost use Rattle.pm_limits.specs.Guard.{Guarded, limits_at};
 
 use pm_host::{Stage, State};
@@ -14,7 +15,8 @@ pub trait Sight {
 
     /// What its host holds beside the open job.
     fn state(&self) -> &State
-        ensures { held (guarded self.now).host.stage result.now ≡ (guarded self.now).host };
+        ensures state { held (guarded self.now).host.stage result.now ≡ (guarded self.now).host }
+        ensures sound { IsSound (guarded self.now).host };
 
     /// The stage of the open job; `None` if none is open.
     fn stage(&self) -> Option<Stage>

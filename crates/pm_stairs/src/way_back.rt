@@ -25,11 +25,13 @@ pub enum StepCheck {
     NoWayBack(PlanFault),
 }
 
-/// What is said of a step, by the words that are known now. What isn't known is a refusal: P1, P4.
+/// What is said of a step, by the format and the words that are known now. What isn't known is a refusal: P1, P4.
 pub fn check<S: Sight>(guard: &S, step: &Step) -> StepCheck
     ensures { Checks (S.guarded guard.now) step.now result }
 {
-    match words_by(guard, &step.course(1)) {
+    let mut course = step.course(1);
+    course.course.survey.learned = true;
+    match words_by(guard, &course) {
         Err(refusal) => StepCheck::Refused(refusal),
         Ok(words) => check_words(guard, &step.with_words(words)),
     }

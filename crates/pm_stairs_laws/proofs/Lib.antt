@@ -7,3 +7,5 @@ mod Followed
 mod Due
 mod Climb
 mod ComeBack
+mod Handed
+mod Turned

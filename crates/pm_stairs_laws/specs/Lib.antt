@@ -5,3 +5,4 @@ pub mod Back
 pub mod Followed
 pub mod Due
 pub mod Climb
+pub mod Handed

@@ -1,0 +1,12 @@
+use Rattle.pm_stairs_laws.proofs.Handed.{hands, hears}
+use Rattle.pm_stairs_laws.proofs.Turned.{sequences}
+use Rattle.pm_stairs_laws.proofs.laws.stairs_are_handed.Goals as goal
+
+pub returns : goal.returns
+returns c = record {
+  hands = λ config passes part steps before begun backs ahead stairs is events g new tries sent came.
+      hands c.moves_are_due.ensures config passes part steps before begun backs ahead stairs is events g new tries sent came;
+  hears = λ config passes part steps before begun backs ahead stairs is events g new entry result.
+      hears c.moves_are_due.ensures config passes part steps before begun backs ahead stairs is events g new entry result;
+  sequences = sequences c.moves_are_due.ensures;
+}
