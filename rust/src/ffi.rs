@@ -412,13 +412,7 @@ extern "C" {
     pub fn pm_stairs_write_ended(stairs: &mut StairsImage, host: &mut HostImage, acked: u8) -> StepImage;
     pub fn pm_stairs_read_ended(stairs: &mut StairsImage, host: &mut HostImage, bytes: *const u8, count: u64) -> StepImage;
     pub fn pm_stairs_skip(stairs: &mut StairsImage) -> u8;
-    pub fn pm_stairs_check(
-        host: &HostImage,
-        place: u8,
-        steps: *const StairsStepImage,
-        count: u64,
-        end: &mut StairsEndImage,
-    ) -> u8;
+    pub fn pm_stairs_check(host: &HostImage, step: &StairsStepImage, end: &mut StairsEndImage) -> u8;
     pub fn pm_refusal_name(number: u8, name: &mut NameImage) -> u8;
     pub fn pm_end_name(kind: u16, name: &mut NameImage) -> u8;
     pub fn pm_microvolts(format: &FormatImage, word: u16, microvolts: &mut i64) -> u8;

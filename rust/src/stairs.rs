@@ -199,17 +199,22 @@ impl Stairs {
         usize::from(self.image.begun)
     }
 
-    /// Judges the steps of the host at a place, each that is the first one of its output, by the words that it knows: survey first. What
-    /// speaks against the list, if anything does. NoHost, NoStep, H4.
-    pub fn check(host: &Host, place: usize, steps: &[StairsStep]) -> Result<Option<StairsEnd>, Refusal> {
-        let mut end = ffi::StairsEndImage::default();
-        let place = u8::try_from(place).map_err(|_| Refusal::NoStep)?;
-        let (list, count) = (steps.as_ptr().cast(), steps.len() as u64);
-        match unsafe { ffi::pm_stairs_check(&host.image, place, list, count, &mut end) } {
-            0 => Ok(None),
-            ENDED | NO_WAY_BACK => Ok(Some(end_of(&end, steps))),
-            number => Err(Refusal::of(number)),
+    /// Judges a list by the words that the hosts know: survey its outputs first. Each step is judged that is the first one of its output, since
+    /// the words before another one aren't held yet. What speaks against the first that is refused, if one is. NoHost, NoStep, H4.
+    pub fn check(hosts: &[&Host], steps: &[StairsStep]) -> Result<Option<StairsEnd>, Refusal> {
+        for (at, step) in steps.iter().enumerate() {
+            if steps[..at].iter().any(|other| (other.host(), other.output()) == (step.host(), step.output())) {
+                continue;
+            }
+            let host = hosts.get(step.host()).ok_or(Refusal::NoStep)?;
+            let mut end = ffi::StairsEndImage::default();
+            match unsafe { ffi::pm_stairs_check(&host.image, &step.image, &mut end) } {
+                0 => {}
+                ENDED | NO_WAY_BACK => return Ok(Some(StairsEnd { step: at, ..end_of(&end, &steps[at..]) })),
+                number => return Err(Refusal::of(number)),
+            }
         }
+        Ok(None)
     }
 }
 

@@ -753,11 +753,10 @@ pm_step pm_stairs_read_ended(pm_stairs *stairs, pm_host *host, const uint8_t *by
 PM_MUST_USE
 uint8_t pm_stairs_skip(pm_stairs *stairs);
 
-/* Judges a list for the host at `place`, by the words that it knows: survey first. Each step of this host is judged that is the first one
- * of its output. PM_OK; PM_ENDED if the plan of a step is refused (P1, P4: learn or check first), PM_NO_WAY_BACK if that of its way back is,
- * as `end` says. PM_NO_HOST, PM_NO_STEP, H4. */
+/* Judges a step by the words that its host knows: survey the output first. pm_stairs_check_all judges a list. PM_OK; PM_ENDED if its plan is
+ * refused (P1, P4: learn or check first), PM_NO_WAY_BACK if that of its way back is, as `end` says, of step 0. PM_NO_HOST, PM_NO_STEP, H4. */
 PM_MUST_USE
-uint8_t pm_stairs_check(const pm_host *host, uint8_t place, const pm_stairs_step *steps, uint64_t count, pm_stairs_end *end);
+uint8_t pm_stairs_check(const pm_host *host, const pm_stairs_step *step, pm_stairs_end *end);
 
 /* ---- The loop of a driver ---- */
 
@@ -1014,6 +1013,29 @@ static inline uint8_t pm_stairs_frame(pm_stairs *stairs, pm_host *const *hosts, 
         number = pm_stairs_ask(stairs, hosts[stairs->host], steps, count, backs, room, frame);
     }
     return number;
+}
+
+/* Judges a list as pm_stairs_check does: each step that is the first one of its output, since the words before another one aren't held yet. It
+ * stops at the first that is refused, which end->step names. */
+PM_MUST_USE
+static inline uint8_t pm_stairs_check_all(const pm_host *const *hosts, uint64_t host_count, const pm_stairs_step *steps, uint64_t count,
+                                          pm_stairs_end *end) {
+    uint64_t at, earlier;
+    for (at = 0; at < count; at++) {
+        uint8_t number = PM_OK;
+        if (steps[at].host >= host_count)
+            return PM_NO_STEP;
+        for (earlier = 0; earlier < at; earlier++)
+            if (steps[earlier].host == steps[at].host && steps[earlier].output == steps[at].output)
+                break;
+        if (earlier == at)
+            number = pm_stairs_check(hosts[steps[at].host], &steps[at], end);
+        if (number != PM_OK) {
+            end->step = (uint16_t)at;
+            return number;
+        }
+    }
+    return PM_OK;
 }
 
 /* Carries a list of steps out, frame after frame: the context at the place of a host is handed to `write` and `read` for its bus. It

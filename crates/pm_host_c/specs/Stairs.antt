@@ -2,6 +2,7 @@
 use Rattle.std.specs.Prelude.{◌≡◌, ◌≢◌, ℕ, Bool, true, false, ◌&&◌, ◌||◌, not, nat_lt, ◌==◌, ◌%◌, ◌+◌, if◌then◌else◌, List, length, slice_get, slice_set}
 use Rattle.std.specs.Prelude.{Option, Some, None, is_some, option_map, Result, Ok, Err}
 use Rattle.std.specs.Option.{option_map_or}
+use Rattle.pm_host.specs.declared.host.Step.{Step}
 use Rattle.pm_host.specs.declared.job.Job.{Job as Asked}
 use Rattle.pm_host.specs.declared.stage.Stage.{Stage}
 use Rattle.pm_host.specs.Image.{host_of}
@@ -22,6 +23,7 @@ use Rattle.pm_stairs.specs.declared.step.WordStep.{WordStep}
 use Rattle.pm_stairs.specs.declared.way_back.StepCheck.{StepCheck}
 use Rattle.pm_stairs.specs.declared.way_back.StepCheck.TheVariants as check
 use Rattle.pm_stairs.specs.Frames.{course_open, is_job_at}
+use Rattle.pm_stairs.specs.WayBack.{Checks}
 use Rattle.pm_stairs.specs.Sequence.{heard_with, refused_in, sequence_new, skipped, Turns}
 use Rattle.pm_host_c.specs.declared.guard_image.GuardImage.{GuardImage}
 use Rattle.pm_host_c.specs.declared.host_step.HostStep.{HostStep}
@@ -153,14 +155,14 @@ abbrev pub is_heard : Option Summary → Option Sequence → Entry → Bool
 is_heard host q entry = if is_some q then is_told host entry else false
 
 -- the stairs after it: the course whose job was named last has heard it, and a restart of the part is noted
-abbrev pub heard_course : Sequence → Summary → Entry → Stage → Option FrameCourse → Sequence
-heard_course q s entry stage None = q
-heard_course q s entry stage (Some c) =
-    heard_with q (heard_by c s.setup.addr stage entry (surprises s stage entry) (step_of s entry)) (surprises s stage entry)
+abbrev pub heard_course : Sequence → ℕ → Stage → Entry → Bool → Step → Option FrameCourse → Sequence
+heard_course q addr stage entry surprised step None = q
+heard_course q addr stage entry surprised step (Some c) = heard_with q (heard_by c addr stage entry surprised step) surprised
 
 abbrev pub heard_stage : Sequence → Summary → Entry → Option Stage → Sequence
 heard_stage q s entry None = q
-heard_stage q s entry (Some stage) = heard_course q s entry stage (course_open q.stairs)
+heard_stage q s entry (Some stage) =
+    heard_course q s.setup.addr stage entry (surprises s stage entry) (step_of s entry) (course_open q.stairs)
 
 abbrev pub heard_in : StairsImage → Option Summary → Option Sequence → Entry → StairsImage
 heard_in was (Some s) (Some q) entry = stairs_image (heard_stage q s entry s.stage) was.end
@@ -190,3 +192,20 @@ skip_number was (Some q) = if may_skip was q then accepted else no_step
 abbrev pub skip_image : StairsImage → Option Sequence → StairsImage
 skip_image was None = was
 skip_image was (Some q) = if may_skip was q then stairs_image (skipped q) end_none else was
+
+-- what is said of a step, by the words that are known now
+abbrev pub check_number : StepCheck → ℕ
+check_number check.Accepted = accepted
+check_number (check.Refused refusal) = ended
+check_number (check.NoWayBack fault) = no_way_back
+
+abbrev pub check_end : StairsEndImage → StepCheck → StairsEndImage
+check_end was check.Accepted = was
+check_end was (check.Refused refusal) = end_refused 0 refusal
+check_end was (check.NoWayBack fault) = end_no_way_back 0 fault
+
+pub data ChecksStep (guard : Option Guarded) (placed : Result Placed ℕ) (was : StairsEndImage) : ℕ → StairsEndImage → Type 0 where
+  no_host_checked : guard ≡ None → ChecksStep guard placed was no_host was
+  no_step_checked : (g : Guarded) (number : ℕ) → guard ≡ Some g → placed ≡ Err number → ChecksStep guard placed was number was
+  checked_step : (g : Guarded) (at : Placed) (said : StepCheck) → guard ≡ Some g → placed ≡ Ok at → Checks g at.step said →
+      ChecksStep guard placed was (check_number said) (check_end was said)

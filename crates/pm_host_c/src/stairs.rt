@@ -1,15 +1,18 @@
 //! Stairs over hosts in a caller's memory: a list of steps is carried out, frame after frame.
 
-ghost use Rattle.std.specs.Prelude.{◌≡◌, ◌≢◌, not, ◌==◌, option_map, is_some};
+ghost use Rattle.std.specs.Prelude.{◌≡◌, not, ◌==◌, true, Some};
+ghost use Rattle.pm_table.specs.Address.{IsAddress};
 ghost use Rattle.pm_host.specs.Image.{held, host_of};
-ghost use Rattle.pm_host.specs.Sound.{IsSound};
-ghost use Rattle.pm_host.specs.Told.{entry_told};
+ghost use Rattle.pm_host.specs.Sound.{HasWord, IsSound};
+ghost use Rattle.pm_host.specs.Told.{entry_told, is_awaited};
 ghost use Rattle.pm_host.specs.Transcript.{Finished, Got};
 ghost use Rattle.pm_host_c.specs.Course.{guard_at};
+ghost use Rattle.pm_stairs.specs.Frames.{course_open};
 ghost use Rattle.pm_stairs.specs.Sequence.{Turns};
 ghost use Rattle.pm_host_c.specs.Sizes.{stairs_size};
-ghost use Rattle.pm_host_c.specs.Stairs.{Asks, HandsOut as HandsOutStairs, TellsStairs, back_said as spec_back_said, backs_with, end_said as spec_end_said, first_ahead as spec_first_ahead, job_said as spec_job_said, kept_at, number_said as spec_number_said, skip_image, skip_number, stairs_begun, stopped_by};
-ghost use Rattle.pm_host_c.specs.StairsImage.{stairs_in, stairs_version};
+ghost use Rattle.pm_host_c.specs.Stairs.{Asks, HandsOut as HandsOutStairs, ChecksStep, TellsStairs, back_said as spec_back_said, backs_with, check_end, check_number, end_said as spec_end_said, heard_course, first_ahead as spec_first_ahead, job_said as spec_job_said, kept_at, number_said as spec_number_said, skip_image, skip_number, stairs_begun, stopped_by};
+ghost use Rattle.pm_host_c.specs.Guard.{guard_of};
+ghost use Rattle.pm_host_c.specs.StairsImage.{placed_in, stairs_in, stairs_version};
 
 use crate::guard_image::GuardImage;
 use crate::host::begin;
@@ -24,7 +27,7 @@ use crate::stairs_image::StairsImage;
 use crate::stairs_step::StairsStepImage;
 use crate::told::pm_host_frame;
 use pm_course::{CourseEnd, Refusal, surprises};
-use pm_host::{Job, Stage, Told};
+use pm_host::{Job, Stage, Step, Told};
 use pm_stairs::{Placed, Sequence, StepCheck, StepEnd, Turn, WordStep, check};
 use std::mem::size_of;
 
@@ -290,16 +293,35 @@ fn tell(stairs: &mut StairsImage, host: &mut GuardImage, told: Told<'_>) -> Host
             let progress = host.host.state.told(stage, told);
             let address = host.host.state.address;
             host.host.write_stage(progress.stage());
-            let mut is = was;
-            if let Some(course) = was.course_open() {
-                let mut heard = course;
-                heard.heard(address, stage, told, surprised, progress.step());
-                is = was.with_course(heard, surprised);
-            }
+            let is = heard_by(&was, address, stage, told, surprised, progress.step());
             *stairs = StairsImage::of(&is, stairs.end);
             step_after(progress.step(), address, stage, told)
         }
         _ => no_step(OTHER_FRAME),
+    }
+}
+
+// The stairs once the course whose job was named last has heard what became of a frame.
+fn heard_by(
+    was: &Sequence,
+    address: u8,
+    stage: Stage,
+    told: Told<'_>,
+    surprised: bool,
+    step: Step,
+) -> Sequence
+    requires address { IsAddress address }
+    requires word { HasWord stage }
+    requires awaited { is_awaited stage told ≡ true }
+    ensures { result ≡ heard_course was.now address stage (entry_told told.entry) surprised step (course_open was.now.stairs) }
+{
+    match was.course_open() {
+        Some(course) => {
+            let mut heard = course;
+            heard.heard(address, stage, told, surprised, step);
+            was.with_course(heard, surprised)
+        }
+        None => *was,
     }
 }
 
@@ -320,63 +342,47 @@ pub extern "C" fn pm_stairs_skip(stairs: &mut StairsImage) -> u8
     ACCEPTED
 }
 
-/// Judges the steps of one host, each that is the first of its output, by the words that are known now. 0; 95h where a step would be
-/// refused, 97h where its way back would be; E0h, EFh, H4.
+/// Judges a step by the words that are known now. 0; 95h where it would be refused, 97h where its way back would be; E0h, EFh, H4.
 #[unsafe(no_mangle)]
 pub extern "C" fn pm_stairs_check(
     host: &GuardImage,
-    place: u8,
-    steps: &[StairsStepImage],
+    step: &StairsStepImage,
     end: &mut StairsEndImage,
-) -> u8 {
+) -> u8
+    ensures { ChecksStep (guard_of host.now) (placed_in step.now) end.old result end.new }
+{
     let Ok(stage) = host.host.read_stage() else {
         return NO_HOST;
     };
-    let seen = Seen::of(host, stage);
-    for at in 0..steps.len() {
-        let number = check_step(&seen, place, steps, at, end);
-        if number != ACCEPTED {
-            return number;
+    match step.placed() {
+        Ok(placed) => {
+            let seen = Seen::of(host, stage);
+            let said = check(&seen, &placed.step);
+            *end = end_checked(said, *end);
+            number_checked(said)
         }
+        Err(number) => number,
     }
-    ACCEPTED
 }
 
-// Judges one of the steps.
-fn check_step(
-    seen: &Seen<'_>,
-    place: u8,
-    steps: &[StairsStepImage],
-    at: usize,
-    end: &mut StairsEndImage,
-) -> u8 {
-    let placed = match steps[at].placed() {
-        Ok(placed) => placed,
-        Err(number) => return number,
-    };
-    if placed.host != place || is_repeated(steps, at) {
-        return ACCEPTED;
-    }
-    let step = (at % 65536) as u16;
-    match check(seen, &placed.step) {
+// What is answered of a step.
+fn number_checked(said: StepCheck) -> u8
+    ensures { result ≡ check_number said }
+{
+    match said {
         StepCheck::Accepted => ACCEPTED,
-        StepCheck::Refused(refusal) => {
-            *end = StairsEndImage::refused(step, refusal);
-            ENDED
-        }
-        StepCheck::NoWayBack(fault) => {
-            *end = StairsEndImage::no_way_back(step, fault);
-            NO_WAY_BACK
-        }
+        StepCheck::Refused(_) => ENDED,
+        StepCheck::NoWayBack(_) => NO_WAY_BACK,
     }
 }
 
-// Whether an earlier step is one of the same output.
-fn is_repeated(steps: &[StairsStepImage], at: usize) -> bool {
-    for earlier in 0..at {
-        if steps[earlier].host == steps[at].host && steps[earlier].output == steps[at].output {
-            return true;
-        }
+// How it ends.
+fn end_checked(said: StepCheck, was: StairsEndImage) -> StairsEndImage
+    ensures { result ≡ check_end was said }
+{
+    match said {
+        StepCheck::Accepted => was,
+        StepCheck::Refused(refusal) => StairsEndImage::refused(0, refusal),
+        StepCheck::NoWayBack(fault) => StairsEndImage::no_way_back(0, fault),
     }
-    false
 }

@@ -132,20 +132,22 @@ pub data GoesApart (g : Guarded) (tries : ℕ) (step : Step) (old : Stairs) : Mo
   ended_apart : old.restarted ≡ true → GoesApart g tries step old (move.Stops Restarted) old
   goes_apart : (said : Move) (new : Stairs) → old.restarted ≡ false → GoesAhead g tries step old said new → GoesApart g tries step old said new
 
+-- What the stairs say: both steps are asked by one host (`here`), or the first one ahead by its own, once the one under way was over by its
+-- (`apart`).
+pub data Says (g : Guarded) (ahead : Option Placed) (q : Sequence) : Move → Stairs → Type 0 where
+  here : (said : Move) (asked : Stairs) → asked_apart q ahead ≡ None → Goes g q.tries (ahead_here q ahead) q.stairs said asked →
+      Says g ahead q said asked
+  apart : (step : Step) (said : Move) (asked : Stairs) → asked_apart q ahead ≡ Some step → GoesApart g q.tries step q.stairs said asked →
+      Says g ahead q said asked
+
 -- What comes next by the host at the place that was named. Another one is named where that is the one to ask (`elsewhere`). On a way
--- down an output is turned off at once (`at_once`). Otherwise the stairs are asked: both steps by one host (`here`), or the first one ahead
--- by its own, once the one under way was over by its (`apart`).
+-- down an output is turned off at once (`at_once_of`). Otherwise the stairs are asked (`asks`).
 pub data Turns (g : Guarded) (ahead : Option Placed) (old : Sequence) : Turn → Sequence → Type 0 where
   elsewhere : (old.host == host_due old ahead) ≡ false → Turns g ahead old turn.Again (record old { host = host_due old ahead })
   at_once_of : (step : Step) → (old.host == host_due old ahead) ≡ true → off_at_once old (is_under old ahead) ahead ≡ Some step →
       Turns g ahead old turn.Again (one_begun old (at_once old.stairs step old.tries))
-  here : (said : Move) (asked : Stairs) → (old.host == host_due old ahead) ≡ true → off_at_once old (is_under old ahead) ahead ≡ None →
-      asked_apart old ahead ≡ None → Goes g old.tries (ahead_here old ahead) old.stairs said asked →
-      Turns g ahead old (turned g ahead old said) (turned_after g ahead old said asked)
-  apart : (step : Step) (said : Move) (asked : Stairs) → (old.host == host_due old ahead) ≡ true →
-      off_at_once old (is_under old ahead) ahead ≡ None → asked_apart old ahead ≡ Some step →
-      GoesApart g old.tries step old.stairs said asked →
-      Turns g ahead old (turned g ahead old said) (turned_after g ahead old said asked)
+  asks : (said : Move) (asked : Stairs) → (old.host == host_due old ahead) ≡ true → off_at_once old (is_under old ahead) ahead ≡ None →
+      Says g ahead old said asked → Turns g ahead old (turned g ahead old said) (turned_after g ahead old said asked)
 
 -- the guard refuses what was named: all is as before, but for which step stopped
 abbrev pub refused_in : Sequence → Sequence → Bool → Sequence

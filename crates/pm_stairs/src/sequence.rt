@@ -2,7 +2,7 @@
 
 ghost use Rattle.std.specs.Prelude.{◌≡◌};
 ghost use Rattle.pm_stairs.specs.Frames.{course_open as spec_course_open, is_job_at as spec_is_job_at};
-ghost use Rattle.pm_stairs.specs.Sequence.{ahead_here as spec_ahead_here, asked_apart as spec_asked_apart, at_once, has_begun as spec_has_begun, heard_with, host_due as spec_host_due, is_at_once as spec_is_at_once, is_under as spec_is_under, off_at_once as spec_off_at_once, one_begun, one_more as spec_one_more, refused_back as spec_refused_back, refused_in, sequence_new, skipped, step_stopped, turned, turned_after, Turns};
+ghost use Rattle.pm_stairs.specs.Sequence.{ahead_here as spec_ahead_here, asked_apart as spec_asked_apart, at_once, has_begun as spec_has_begun, heard_with, host_due as spec_host_due, is_at_once as spec_is_at_once, is_under as spec_is_under, off_at_once as spec_off_at_once, one_begun, one_more as spec_one_more, refused_back as spec_refused_back, refused_in, sequence_new, skipped, step_stopped, turned, turned_after, Says, Turns};
 
 use crate::said::StepEnd;
 use crate::sight::Sight;
@@ -95,12 +95,25 @@ impl Sequence {
             self.begins_at_once(step);
             return Turn::Again;
         }
-        let mut asked = self.stairs;
-        let said = match self.asked_apart(ahead) {
-            Some(step) => asked.next_apart(guard, &step, self.tries),
-            None => asked.next(guard, self.ahead_here(ahead), self.tries),
-        };
+        let (said, asked) = self.said(guard, ahead);
         self.goes(guard, ahead, said, asked)
+    }
+
+    // What the stairs say, and the stairs then.
+    fn said<S: Sight>(&self, guard: &S, ahead: Option<Placed>) -> (Move, Stairs)
+        ensures { Says (S.guarded guard.now) ahead self.now result.0 result.1 }
+    {
+        let mut asked = self.stairs;
+        match self.asked_apart(ahead) {
+            Some(step) => {
+                let said = asked.next_apart(guard, &step, self.tries);
+                (said, asked)
+            }
+            None => {
+                let said = asked.next(guard, self.ahead_here(ahead), self.tries);
+                (said, asked)
+            }
+        }
     }
 
     // The place of the host that is to be asked.

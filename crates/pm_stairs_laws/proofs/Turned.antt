@@ -84,9 +84,9 @@ sequences moves g ahead q is said one (sequence.elsewhere due) = named.same turn
 sequences moves g ahead q is said one (sequence.at_once_of step due off) =
     let none = no-off q (is_under q ahead) ahead one.up in
     cc
-sequences moves g ahead q is said one (sequence.here move' asked due off apart goes) =
+sequences moves g ahead q is said one (sequence.asks move' asked due off (sequence.here m a apart goes)) =
     said-so moves g q ahead move' asked
     (subst (λ (o : Option Step). Goes g q.tries o q.stairs move' asked) (is-here q ahead one) goes)
-sequences moves g ahead q is said one (sequence.apart step move' asked due off apart goes) =
+sequences moves g ahead q is said one (sequence.asks move' asked due off (sequence.apart step m a apart goes)) =
     let none = not-apart q ahead one.bound in
     cc

@@ -119,7 +119,7 @@ fn what_has_no_way_back_says_so_once() {
     let said = StairsEnd { step: 0, has_begun: false, why };
     let mut up = Stairs::up(COURSE_TRIES).unwrap();
     assert!(matches!(board.carry_out(&mut up, &list, &mut backs), StairsNext::NoWayBack(end) if end == said));
-    assert_eq!(Stairs::check(&board.hosts[0], 0, &list), Ok(Some(said)));
+    assert_eq!(Stairs::check(&[&board.hosts[0]], &list), Ok(Some(said)));
     assert_eq!(up.begun(), 0);
     assert_eq!(board.end(&mut up, &list, &mut backs).why, StairsStop::Reached);
     assert_eq!(board.parts[0].word(Cell::Output(0, Register::VoutCommand)), Ok(0x1800));
@@ -141,6 +141,6 @@ fn wrong_lists_are_refused() {
     let mut later = Stairs::up(1).unwrap();
     let next = later.frame(&mut hosts, &[StairsStep::turns(0, 2, 0)], &mut backs);
     assert!(matches!(next, Ok(StairsNext::Ended(StairsEnd { why: StairsStop::Course(NotReached::Refused { .. }), .. }))), "{next:?}");
-    let unknown = Stairs::check(hosts[0], 0, &[StairsStep::turns(0, 0, 0)]).unwrap().unwrap();
+    let unknown = Stairs::check(&[&*hosts[0]], &[StairsStep::turns(0, 0, 0)]).unwrap().unwrap();
     assert_eq!(unknown.to_string(), "step 0: refused: P4 NotKnown Output(0, Operation)");
 }

@@ -106,7 +106,7 @@ fn wrong_memory_and_wrong_steps_are_refused(rt: HostRuntime) {
     far[0].kind = 3;
     equal(&rt, &ask(&mut stairs, &mut image, &far, &mut []), &(0xEF, 0, 0), &3);
     let mut said = StairsEndImage::none();
-    equal(&rt, &pm_stairs_check(&image, 0, &steps, &mut said), &0x95, &4);
+    equal(&rt, &pm_stairs_check(&image, &steps[0], &mut said), &0x95, &4);
     equal(&rt, &(said.kind, said.number, said.code), &(2, 0x64, 0x01), &5);
     stairs.version = 2;
     equal(&rt, &ask(&mut stairs, &mut image, &steps, &mut []), &(0xEE, 0, 0), &6);
