@@ -1,5 +1,5 @@
 -- A list of steps over the outputs of several parts: this project's own choice.
-use Rattle.std.specs.Prelude.{◌≡◌, ℕ, Bool, true, false, not, ◌&&◌, ◌||◌, ◌==◌, if◌then◌else◌, Option, Some, None, is_some, is_none, option_map}
+use Rattle.std.specs.Prelude.{◌≡◌, ◌≢◌, ℕ, Bool, true, false, not, ◌&&◌, ◌||◌, ◌==◌, if◌then◌else◌, Option, Some, None, is_some, is_none, option_map}
 use Rattle.std.specs.Prelude.{◌+◌, ◌-◌, nat_lt}
 use Rattle.std.specs.Option.{option_map_or}
 use Rattle.pm_table.specs.Operation.{has_on}
@@ -105,12 +105,12 @@ abbrev pub reached_turn : Option Placed → Turn
 reached_turn None = turn.Reached
 reached_turn (Some placed) = turn.Again
 
-abbrev pub turned : Guarded → Option Placed → Sequence → Move → Turn
-turned g ahead q (move.Job job) = turn.Job job
-turned g ahead q (move.Begins job back) = begins_turn job back (refused_back g q back)
-turned g ahead q (move.Passes back) = turn.Passes back
-turned g ahead q move.Reached = reached_turn ahead
-turned g ahead q (move.Stops why) = turn.Stops why
+abbrev pub turned : Option Placed → Move → Option PlanFault → Turn
+turned ahead (move.Job job) refused = turn.Job job
+turned ahead (move.Begins job back) refused = begins_turn job back refused
+turned ahead (move.Passes back) refused = turn.Passes back
+turned ahead move.Reached refused = reached_turn ahead
+turned ahead (move.Stops why) refused = turn.Stops why
 
 abbrev pub begins_after : Sequence → Stairs → Option PlanFault → Sequence
 begins_after q asked None = one_begun q asked
@@ -120,12 +120,20 @@ abbrev pub reached_after : Sequence → Stairs → Option Placed → Sequence
 reached_after q asked None = record q { stairs = asked }
 reached_after q asked (Some placed) = record q { stairs = asked; is_free = true; host = placed.host }
 
-abbrev pub turned_after : Guarded → Option Placed → Sequence → Move → Stairs → Sequence
-turned_after g ahead q (move.Job job) asked = record q { stairs = asked; is_free = false }
-turned_after g ahead q (move.Begins job back) asked = begins_after q asked (refused_back g q back)
-turned_after g ahead q (move.Passes back) asked = one_begun q asked
-turned_after g ahead q move.Reached asked = reached_after q asked ahead
-turned_after g ahead q (move.Stops why) asked = record q { stairs = asked; is_free = false }
+abbrev pub turned_after : Option Placed → Sequence → Move → Stairs → Option PlanFault → Sequence
+turned_after ahead q (move.Job job) asked refused = record q { stairs = asked; is_free = false }
+turned_after ahead q (move.Begins job back) asked refused = begins_after q asked refused
+turned_after ahead q (move.Passes back) asked refused = one_begun q asked
+turned_after ahead q move.Reached asked refused = reached_after q asked ahead
+turned_after ahead q (move.Stops why) asked refused = record q { stairs = asked; is_free = false }
+
+-- of the step that begins
+abbrev pub refused_for : Guarded → Sequence → Move → Option PlanFault
+refused_for g q (move.Job job) = None
+refused_for g q (move.Begins job back) = refused_back g q back
+refused_for g q (move.Passes back) = None
+refused_for g q move.Reached = None
+refused_for g q (move.Stops why) = None
 
 -- what the first step ahead asks for, where the one under way is over by its own host
 pub data GoesApart (g : Guarded) (tries : ℕ) (step : Step) (old : Stairs) : Move → Stairs → Type 0 where
@@ -143,11 +151,12 @@ pub data Says (g : Guarded) (ahead : Option Placed) (q : Sequence) : Move → St
 -- What comes next by the host at the place that was named. Another one is named where that is the one to ask (`elsewhere`). On a way
 -- down an output is turned off at once (`at_once_of`). Otherwise the stairs are asked (`asks`).
 pub data Turns (g : Guarded) (ahead : Option Placed) (old : Sequence) : Turn → Sequence → Type 0 where
-  elsewhere : (old.host == host_due old ahead) ≡ false → Turns g ahead old turn.Again (record old { host = host_due old ahead })
-  at_once_of : (step : Step) → (old.host == host_due old ahead) ≡ true → off_at_once old (is_under old ahead) ahead ≡ Some step →
+  elsewhere : old.host ≢ host_due old ahead → Turns g ahead old turn.Again (record old { host = host_due old ahead })
+  at_once_of : (step : Step) → old.host ≡ host_due old ahead → off_at_once old (is_under old ahead) ahead ≡ Some step →
       Turns g ahead old turn.Again (one_begun old (at_once old.stairs step old.tries))
-  asks : (said : Move) (asked : Stairs) → (old.host == host_due old ahead) ≡ true → off_at_once old (is_under old ahead) ahead ≡ None →
-      Says g ahead old said asked → Turns g ahead old (turned g ahead old said) (turned_after g ahead old said asked)
+  asks : (said : Move) (asked : Stairs) → old.host ≡ host_due old ahead → off_at_once old (is_under old ahead) ahead ≡ None →
+      Says g ahead old said asked →
+      Turns g ahead old (turned ahead said (refused_for g old said)) (turned_after ahead old said asked (refused_for g old said))
 
 -- the guard refuses what was named: all is as before, but for which step stopped
 abbrev pub refused_in : Sequence → Sequence → Bool → Sequence

@@ -63,7 +63,7 @@ lasting (AboveMax register) = Some (AboveMax register)
 lasting (Protected register) = Some (Protected register)
 
 -- Why a way back would be refused, by the words that are known as the step begins which it undoes: they are those that it leads to.
-abbrev pub way_back_fault : Guarded → WordStep → Option PlanFault
+unfoldable pub way_back_fault : Guarded → WordStep → Option PlanFault
 way_back_fault g back = if nat_lt back.output 8
     then option_and_then (λ wanted. option_and_then lasting (plan_fault g back.output wanted)) (goal_at g.host back.output back.act) else None
 

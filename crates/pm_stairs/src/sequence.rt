@@ -2,7 +2,7 @@
 
 ghost use Rattle.std.specs.Prelude.{◌≡◌};
 ghost use Rattle.pm_stairs.specs.Frames.{course_open as spec_course_open, is_job_at as spec_is_job_at};
-ghost use Rattle.pm_stairs.specs.Sequence.{ahead_here as spec_ahead_here, asked_apart as spec_asked_apart, at_once, has_begun as spec_has_begun, heard_with, host_due as spec_host_due, is_at_once as spec_is_at_once, is_under as spec_is_under, off_at_once as spec_off_at_once, one_begun, one_more as spec_one_more, refused_back as spec_refused_back, refused_in, sequence_new, skipped, step_stopped, turned, turned_after, Says, Turns};
+ghost use Rattle.pm_stairs.specs.Sequence.{ahead_here as spec_ahead_here, asked_apart as spec_asked_apart, at_once, has_begun as spec_has_begun, heard_with, host_due as spec_host_due, is_at_once as spec_is_at_once, is_under as spec_is_under, off_at_once as spec_off_at_once, one_begun, one_more as spec_one_more, refused_back as spec_refused_back, refused_for as spec_refused_for, refused_in, sequence_new, skipped, step_stopped, turned, turned_after, Says, Turns};
 
 use crate::said::StepEnd;
 use crate::sight::Sight;
@@ -96,7 +96,8 @@ impl Sequence {
             return Turn::Again;
         }
         let (said, asked) = self.said(guard, ahead);
-        self.goes(guard, ahead, said, asked)
+        let refused = self.refused_for(guard, said);
+        self.goes(ahead, said, asked, refused)
     }
 
     // What the stairs say, and the stairs then.
@@ -199,16 +200,16 @@ impl Sequence {
         self.is_warned = false;
     }
 
-    // What comes of what the stairs say.
-    fn goes<S: Sight>(
+    // What comes of what the stairs say, where the way back of the step that begins would be refused so.
+    fn goes(
         &mut self,
-        guard: &S,
         ahead: Option<Placed>,
         said: Move,
         asked: Stairs,
+        refused: Option<PlanFault>,
     ) -> Turn
-        ensures turn { result ≡ turned (S.guarded guard.now) ahead self.old said }
-        ensures after { self.new ≡ turned_after (S.guarded guard.now) ahead self.old said asked }
+        ensures turn { result ≡ turned ahead said refused }
+        ensures after { self.new ≡ turned_after ahead self.old said asked refused }
     {
         match said {
             Move::Job(job) => {
@@ -217,14 +218,18 @@ impl Sequence {
                 Turn::Job(job)
             }
             Move::Begins(job, back) => {
-                if let Some(fault) = self.refused_back(guard, &back) {
-                    self.is_free = false;
-                    self.is_warned = true;
-                    return Turn::NoWayBack(fault);
+                match refused {
+                    Some(fault) => {
+                        self.is_free = false;
+                        self.is_warned = true;
+                        Turn::NoWayBack(fault)
+                    }
+                    None => {
+                        self.stairs = asked;
+                        self.begins();
+                        Turn::Begins(job, back)
+                    }
                 }
-                self.stairs = asked;
-                self.begins();
-                Turn::Begins(job, back)
             }
             Move::Passes(back) => {
                 self.stairs = asked;
@@ -247,6 +252,16 @@ impl Sequence {
                 self.stairs = asked;
                 Turn::Stops(why)
             }
+        }
+    }
+
+    // Why the way back of the step that begins would be refused, where one begins.
+    fn refused_for<S: Sight>(&self, guard: &S, said: Move) -> Option<PlanFault>
+        ensures { result ≡ spec_refused_for (S.guarded guard.now) self.now said }
+    {
+        match said {
+            Move::Begins(_, back) => self.refused_back(guard, &back),
+            Move::Job(_) | Move::Passes(_) | Move::Reached | Move::Stops(_) => None,
         }
     }
 

@@ -79,6 +79,7 @@ fn checked(fault: Option<PlanFault>, back: Option<PlanFault>) -> StepCheck
 
 /// Why the plan of a way back would be refused, by the words that are known as the step begins which it undoes: they are those that it
 /// leads to. What isn't known is no reason, since the way back reads it.
+#[tactic(auto, unfolding(crate::specs::WayBack::way_back_fault))]
 pub fn way_back_fault<S: Sight>(guard: &S, back: &WordStep) -> Option<PlanFault>
     ensures { result ≡ spec_way_back_fault (S.guarded guard.now) back.now }
 {

@@ -89,12 +89,12 @@ module _ (due : MovesAreDue) (config : Config) (passes : ℕ) (part : PartRegist
       passes_by step back wishes rest is whole
       (climb.passes_by g tries step back wishes begun backs rest stairs is events cut at goes_on under)
 
-  hands : (begun backs : List WordStep) (ahead : List Step) (stairs is : Stairs) (events : List Event) (g new : Guarded) (tries : ℕ)
+  pub hands : (begun backs : List WordStep) (ahead : List Step) (stairs is : Stairs) (events : List Event) (g new : Guarded) (tries : ℕ)
       (sent : Option Sending) (came : Came) →
       IsClimb config passes part steps before begun backs ahead stairs events → IsGuardAt config passes part events g →
       HandsOut g tries (first ahead) stairs sent came new is →
       Handed config passes part steps before begun backs ahead events g came new is
-  hands begun backs ahead stairs is events g new tries sent came was at (frames.again stage sent' open job sending) = stays came stairs was
+  hands begun backs ahead stairs is events g new tries sent came was at (frames.again stage sent' stands job sending) = stays came stairs was
   hands begun backs ahead stairs is events g new tries sent came was at (frames.job job sent' new' is' goes lets sending) =
       asks job new is lets (λ event by. climb.asks g tries job begun backs ahead stairs is events event was at goes by)
   hands begun backs ahead stairs is events g new tries sent came was at (frames.begins job back sent' new' is' goes lets sending) =
@@ -111,13 +111,13 @@ module _ (due : MovesAreDue) (config : Config) (passes : ℕ) (part : PartRegist
   hands begun backs ahead stairs is events g new tries sent came was at (frames.stops why is' goes) =
       stays came is (climb.says g tries (move.Stops why) begun backs ahead stairs is events was at goes
       (stops-means (due g tries (first ahead) stairs is (move.Stops why) goes)))
-  hands begun backs ahead stairs is events g new tries sent came was at (frames.refused job fault is' goes no) = stays came stairs was
-  hands begun backs ahead stairs is events g new tries sent came was at (frames.refused_first job back fault is' goes no) = stays came stairs was
+  hands begun backs ahead stairs is events g new tries sent came was at (frames.refused job fault is' goes refuses) = stays came stairs was
+  hands begun backs ahead stairs is events g new tries sent came was at (frames.refused_first job back fault is' goes refuses) = stays came stairs was
 
-  hears : (begun backs : List WordStep) (ahead : List Step) (stairs is : Stairs) (events : List Event) (g new : Guarded) (entry : host.Entry)
+  pub hears : (begun backs : List WordStep) (ahead : List Step) (stairs is : Stairs) (events : List Event) (g new : Guarded) (entry : host.Entry)
       (result : Result (Unit {0}) Untold) → IsClimb config passes part steps before begun backs ahead stairs events →
       Hears g stairs entry result new is → IsClimb config passes part steps before begun backs ahead is events
   hears begun backs ahead stairs is events g new entry result was (frames.nothing none) = was
-  hears begun backs ahead stairs is events g new entry result was (frames.heard course heard result' new' open told) =
+  hears begun backs ahead stairs is events g new entry result was (frames.heard course heard result' new' named told) =
       climb.tells begun backs ahead stairs (with_course stairs heard (frames.shows_restart g entry)) events was
       (heard-stays stairs.reading stairs heard (frames.shows_restart g entry) refl)
