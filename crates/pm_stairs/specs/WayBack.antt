@@ -86,9 +86,11 @@ abbrev pub words_check : Guarded → WordStep → StepCheck
 words_check g step = if nat_lt step.output 8 then checked (act_fault g step step.act) (way_back_fault g (noted g.host step)) else check.Accepted
 
 -- its words are those of the format that is known now
+abbrev pub as_learned : FrameCourse → FrameCourse
+as_learned c = record c { course = record c.course { survey = record c.course.survey { learned = true } } }
+
 abbrev pub known_course : Step → FrameCourse
-known_course step = let c = step_course step 1 in
-    record c { course = record c.course { survey = record c.course.survey { learned = true } } }
+known_course step = as_learned (step_course step 1)
 
 -- what is said of a step, by the words that are known now
 pub data Checks (g : Guarded) (step : Step) : StepCheck → Type 0 where

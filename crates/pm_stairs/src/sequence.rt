@@ -87,10 +87,18 @@ impl Sequence {
         ensures { Turns (S.guarded guard.now) ahead self.old result self.new }
     {
         let due = self.host_due(ahead);
-        if self.host != due {
-            self.host = due;
-            return Turn::Again;
+        if self.host == due {
+            return self.asked(guard, ahead);
         }
+        self.host = due;
+        Turn::Again
+    }
+
+    // What comes next by the host that is the one to ask.
+    fn asked<S: Sight>(&mut self, guard: &S, ahead: Option<Placed>) -> Turn
+        requires { self.old.host ≡ spec_host_due self.old ahead }
+        ensures { Turns (S.guarded guard.now) ahead self.old result self.new }
+    {
         if let Some(step) = self.off_at_once(ahead) {
             self.begins_at_once(step);
             return Turn::Again;
