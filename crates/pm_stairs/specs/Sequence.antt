@@ -1,7 +1,6 @@
 -- A list of steps over the outputs of several parts: this project's own choice.
-use Rattle.std.specs.Prelude.{◌≡◌, ◌≢◌, ℕ, Bool, true, false, not, ◌&&◌, ◌||◌, ◌==◌, if◌then◌else◌, Option, Some, None, is_some, is_none, option_map}
+use Rattle.std.specs.Prelude.{◌≡◌, ◌≢◌, ℕ, Bool, true, false, not, ◌&&◌, ◌||◌, ◌==◌, if◌then◌else◌, Option, Some, None, is_some, is_none}
 use Rattle.std.specs.Prelude.{◌+◌, ◌-◌, nat_lt}
-use Rattle.std.specs.Option.{option_map_or}
 use Rattle.pm_table.specs.Operation.{has_on}
 use Rattle.pm_table.specs.Rules.{rule}
 use Rattle.pm_host.specs.declared.job.Job.{Job as Asked}

@@ -1,5 +1,5 @@
 -- Whether a step, or the one that undoes it, would be refused. This project's own choice.
-use Rattle.std.specs.Prelude.{◌≡◌, ℕ, Bool, true, false, not, if◌then◌else◌, Option, Some, None, is_none, option_map, option_and_then, nat_lt, Result, Ok, Err}
+use Rattle.std.specs.Prelude.{ℕ, true, if◌then◌else◌, Option, Some, None, option_map, option_and_then, nat_lt, Ok, Err}
 use Rattle.std.specs.Result.{result_err}
 use Rattle.pm_table.specs.declared.cell.Cell.TheVariants.{Out}
 use Rattle.pm_table.specs.declared.reg.Reg.{Reg}

@@ -1,4 +1,4 @@
-use Rattle.std.proofs.Common.{◌≡◌, ℕ, Option, Ok, Err, ap, sym, refl, ◌∙◌}
+use Rattle.std.proofs.Common.{Option, ap, sym, ◌∙◌}
 use Rattle.std.specs.Prelude.{Result}
 use Rattle.std.specs.Result.{result_err}
 use Rattle.pm_host.specs.declared.stage.Stage.{Stage}
