@@ -87,7 +87,7 @@ def calls():
     both = set()
     for crate, files in CRATES.items():
         types = {it for text in files.values() for it in re.findall(r'pub extern "C" fn (pm_\w+)\(', text)}
-        yield f"calls of {crate}", types, {"its header": set(re.findall(r"^(?:uint\d+_t|pm_\w+) (pm_\w+)\(", HEADERS[crate], re.MULTILINE))}
+        yield f"calls of {crate}", types, {"its header": set(re.findall(r"^(?:void|uint\d+_t|pm_\w+) (pm_\w+)\(", HEADERS[crate], re.MULTILINE))}
         both |= types
     yield "calls", both, {"python": set(re.findall(r'^    "(pm_\w+)": \(', PYTHON, re.MULTILINE)),
                           "rust": set(re.findall(r"pub fn (pm_\w+)\(", RUST))}

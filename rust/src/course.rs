@@ -78,6 +78,24 @@ pub enum NotReached<E = Infallible> {
 }
 
 impl<E> NotReached<E> {
+    /// How a course of an output ended; `None` if it goes on.
+    pub(crate) fn of(found: &ffi::CourseEndImage, output: u8, error: Option<E>) -> Option<Result<(), NotReached<E>>> {
+        let register = Register::of(found.code);
+        let cell = match (found.code, register) {
+            (0 | VOUT_MODE, _) => None,
+            (code, _) => Some(Cell::of(output, code)),
+        };
+        match (found.kind, register) {
+            (0, _) => None,
+            (1, _) => Some(Ok(())),
+            (3, Some(register)) => Some(Err(NotReached::Differs { register, word: found.word })),
+            (4, _) => Some(Err(NotReached::Spent { cell, fault: AnswerFault::of(found.fault.to_le_bytes()[0]), error })),
+            (5, _) => Some(Err(NotReached::NoFormat { mode: found.word.to_le_bytes()[0] })),
+            (6, _) => Some(Err(NotReached::OtherSource { byte: found.word.to_le_bytes()[0] })),
+            _ => Some(Err(NotReached::Refused { refusal: Refusal::of(found.number), cell })),
+        }
+    }
+
     fn refused(refusal: Refusal) -> NotReached<E> {
         NotReached::Refused { refusal, cell: None }
     }
@@ -275,20 +293,7 @@ impl Course {
         if let Err(refusal) = accepted(unsafe { ffi::pm_course_ended(&self.image, &mut found) }) {
             return Some(Err(refusal.into()));
         }
-        let register = Register::of(found.code);
-        let cell = match (found.code, register) {
-            (0 | VOUT_MODE, _) => None,
-            (code, _) => Some(Cell::of(self.output, code)),
-        };
-        match (found.kind, register) {
-            (0, _) => None,
-            (1, _) => Some(Ok(())),
-            (3, Some(register)) => Some(Err(NotReached::Differs { register, word: found.word })),
-            (4, _) => Some(Err(NotReached::Spent { cell, fault: AnswerFault::of(found.fault.to_le_bytes()[0]), error })),
-            (5, _) => Some(Err(NotReached::NoFormat { mode: found.word.to_le_bytes()[0] })),
-            (6, _) => Some(Err(NotReached::OtherSource { byte: found.word.to_le_bytes()[0] })),
-            _ => Some(Err(NotReached::Refused { refusal: Refusal::of(found.number), cell })),
-        }
+        NotReached::of(&found, self.output, error)
     }
 
     /// Which job it would begin now; `None` if it would end. Nothing begins, and nothing changes.

@@ -8,6 +8,9 @@ pub const COURSE_VERSION: u16 = 1;
 pub const COURSE_SIZE: usize = 104;
 pub const DELIVERY_VERSION: u16 = 1;
 pub const DELIVERY_SIZE: usize = 66;
+pub const STAIRS_VERSION: u16 = 1;
+pub const STAIRS_SIZE: usize = 272;
+pub const STAIRS_STEP_SIZE: usize = 88;
 pub const CELLS: usize = 49;
 pub const PART_SIZE: usize = 372;
 
@@ -208,6 +211,57 @@ pub struct JudgementImage {
 
 #[repr(C)]
 #[derive(Clone, Copy, Default)]
+pub struct StairsWishImage {
+    pub kind: u16,
+    pub word: u16,
+    pub unused: u32,
+    pub microvolts: i64,
+}
+
+#[repr(C)]
+#[derive(Clone, Copy, Default)]
+pub struct StairsStepImage {
+    pub host: u8,
+    pub output: u8,
+    pub kind: u8,
+    pub byte: u8,
+    pub unused: [u8; 4],
+    pub command: StairsWishImage,
+    pub max: StairsWishImage,
+    pub margin_high: StairsWishImage,
+    pub margin_low: StairsWishImage,
+    pub min: StairsWishImage,
+}
+
+#[repr(C)]
+#[derive(Clone, Copy, Default)]
+pub struct StairsEndImage {
+    pub kind: u8,
+    pub number: u8,
+    pub code: u8,
+    pub has_begun: u8,
+    pub word: u16,
+    pub fault: u16,
+    pub step: u16,
+    pub unused: [u16; 3],
+}
+
+#[repr(C)]
+#[derive(Clone, Copy, Default)]
+pub struct StairsImage {
+    pub mark: u16,
+    pub version: u16,
+    pub tries: u16,
+    pub begun: u16,
+    pub host: u8,
+    pub is_down: u8,
+    pub unused: [u8; 6],
+    pub end: StairsEndImage,
+    pub held: [u64; 30],
+}
+
+#[repr(C)]
+#[derive(Clone, Copy, Default)]
 pub struct NameImage {
     pub text: [u8; 32],
 }
@@ -282,6 +336,7 @@ pub struct ReplyImage {
 
 const _: () = assert!(size_of::<HostImage>() == HOST_SIZE && size_of::<PartImage>() == PART_SIZE);
 const _: () = assert!(size_of::<CourseImage>() == COURSE_SIZE && size_of::<DeliveryImage>() == DELIVERY_SIZE);
+const _: () = assert!(size_of::<StairsImage>() == STAIRS_SIZE && size_of::<StairsStepImage>() == STAIRS_STEP_SIZE);
 
 extern "C" {
     pub fn pm_version() -> u16;
@@ -342,6 +397,22 @@ extern "C" {
     pub fn pm_delivery_read_ended(delivery: &mut DeliveryImage, host: &HostImage, bytes: *const u8, count: u64) -> u8;
     pub fn pm_delivery_verdict(delivery: &DeliveryImage, host: &HostImage, delivered: &mut DeliveredImage) -> u8;
     pub fn pm_delivery_judge(delivery: &DeliveryImage, host: &HostImage, word: u16, judgement: &mut JudgementImage) -> u8;
+    pub fn pm_stairs_size() -> u64;
+    pub fn pm_stairs_version() -> u16;
+    pub fn pm_stairs_new(stairs: &mut StairsImage, tries: u16, is_down: u8);
+    pub fn pm_stairs_ask(
+        stairs: &mut StairsImage,
+        host: &mut HostImage,
+        steps: *const StairsStepImage,
+        count: u64,
+        backs: *mut StairsStepImage,
+        room: u64,
+        frame: &mut SendingImage,
+    ) -> u8;
+    pub fn pm_stairs_write_ended(stairs: &mut StairsImage, host: &mut HostImage, acked: u8) -> StepImage;
+    pub fn pm_stairs_read_ended(stairs: &mut StairsImage, host: &mut HostImage, bytes: *const u8, count: u64) -> StepImage;
+    pub fn pm_stairs_skip(stairs: &mut StairsImage) -> u8;
+    pub fn pm_stairs_check(host: &HostImage, step: &StairsStepImage, end: &mut StairsEndImage) -> u8;
     pub fn pm_refusal_name(number: u8, name: &mut NameImage) -> u8;
     pub fn pm_end_name(kind: u16, name: &mut NameImage) -> u8;
     pub fn pm_microvolts(format: &FormatImage, word: u16, microvolts: &mut i64) -> u8;

@@ -25,6 +25,8 @@ mod rail;
 mod refusal;
 #[cfg(feature = "linux")]
 mod reserved;
+mod stairs;
+mod stairs_step;
 mod status;
 mod verdict;
 
@@ -47,4 +49,6 @@ pub use rail::{Power, Rail, Selected, Wanted};
 pub use refusal::Refusal;
 #[cfg(feature = "linux")]
 pub use reserved::Reserved;
+pub use stairs::{Stairs, StairsEnd, StairsNext, StairsStop};
+pub use stairs_step::{Act, StairsStep, Wish, Wishes};
 pub use verdict::Verdict;

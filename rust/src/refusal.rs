@@ -157,12 +157,18 @@ refusals! {
     /// The memory holds no course, or none to which a voltage can be added. Of a course that is made: the linked library's have another
     /// layout than this crate's.
     NoCourse = 0xE9,
+    /// There is room for fewer steps of the way back than there are steps.
+    NoRoom = 0xEA,
     /// OPERATION may be a byte that hands the output's voltage to AVSBus.
     NoBand = 0xEB,
     /// The memory holds no delivery. Of one that is made: the linked library's have another layout than this crate's.
     NoDelivery = 0xEC,
     /// The course orders no word of this register.
     NoGoal = 0xED,
+    /// The memory holds no stairs. Of stairs that are made: the linked library's have another layout than this crate's.
+    NoStairs = 0xEE,
+    /// A step names a host that isn't there, or no step has stopped that can be left.
+    NoStep = 0xEF,
 }
 
 impl fmt::Display for Refusal {

@@ -60,6 +60,9 @@ extern "C" {
 #define PM_COURSE_SIZE 104
 #define PM_DELIVERY_VERSION 1
 #define PM_DELIVERY_SIZE 66
+#define PM_STAIRS_VERSION 1
+#define PM_STAIRS_SIZE 272
+#define PM_STAIRS_STEP_SIZE 88
 #define PM_STACK 3072
 #define PM_NAME_STACK 4096
 
@@ -104,9 +107,12 @@ enum {
     PM_NO_LIMITS = 0xE6,          /* the output was given no limits */
     PM_NO_NAME = 0xE7,            /* the number has no name */
     PM_NO_COURSE = 0xE9,          /* the memory holds no course of this version, or none to which a voltage can be added */
+    PM_NO_ROOM = 0xEA,            /* there is room for fewer steps of the way back than there are steps */
     PM_NO_BAND = 0xEB,            /* OPERATION may be a byte that hands the output's voltage to AVSBus */
     PM_NO_DELIVERY = 0xEC,        /* the memory holds no delivery of this version */
     PM_NO_GOAL = 0xED,            /* the course asks for no word of this register */
+    PM_NO_STAIRS = 0xEE,          /* the memory holds no stairs of this version */
+    PM_NO_STEP = 0xEF,            /* a step has a kind, a host or a wish that there isn't, or none is there to be left */
     PM_F1_NOT_OURS = 0x31,        /* F1 to F8: what is wrong with the bytes of a packet */
     PM_F2_SHORT = 0x32,
     PM_F3_LONG = 0x33,
@@ -117,8 +123,9 @@ enum {
     PM_F8_NESTED = 0x38
 };
 
-/* What pm_course_frame and pm_course_next answer if the course has ended, and pm_delivery_frame if nothing is left to ask. */
-enum { PM_ENDED = 0x95 };
+/* What pm_course_frame and pm_course_next answer if the course has ended, pm_delivery_frame if nothing is left to ask, and pm_stairs_ask
+ * and pm_stairs_check if stairs have ended. The others are answers of these two. */
+enum { PM_ENDED = 0x95, PM_AGAIN = 0x96, PM_NO_WAY_BACK = 0x97 };
 
 /* The cells: an output and one of these command codes; with WRITE_PROTECT, which is the device's, the
  * output isn't looked at. */
@@ -319,6 +326,63 @@ typedef struct {
     uint16_t fault_word, warning_word;
 } pm_judgement;
 
+/* What a step of stairs asks for of a register: nothing, a word, or a voltage, which gets its word as the step begins, as
+ * pm_course_microvolts forms it. */
+enum { PM_STAY = 0, PM_WORD = 1, PM_MICROVOLTS = 2 };
+typedef struct {
+    uint16_t kind;      /* PM_STAY, PM_WORD or PM_MICROVOLTS */
+    uint16_t word;      /* of PM_WORD, otherwise 0 */
+    uint32_t unused;
+    int64_t microvolts; /* of PM_MICROVOLTS, otherwise 0 */
+} pm_stairs_wish;
+
+/* A step: one output of one of several parts, and what is done to it. */
+enum { PM_SETS = 1, PM_TURNS = 2 };
+typedef struct {
+    uint8_t host;   /* the place of its host among yours, 0 to 7 */
+    uint8_t output; /* 0 to 7 */
+    uint8_t kind;   /* PM_SETS: registers get words or voltages; PM_TURNS: OPERATION gets `byte`, on, off or a margin */
+    uint8_t byte;   /* of PM_TURNS, otherwise 0 */
+    uint8_t unused[4];
+    pm_stairs_wish command, max, margin_high, margin_low, min; /* of PM_SETS */
+} pm_stairs_step;
+
+typedef char pm_stairs_step_has_its_size[sizeof(pm_stairs_step) == PM_STAIRS_STEP_SIZE ? 1 : -1];
+
+/* How stairs ended; kind 0 if they go on. PM_REACHED if each step is over, PM_REFUSED to PM_OTHER_SOURCE as the course of the step
+ * `step` ended, or: */
+enum {
+    PM_STEP_CHANGED = 7,    /* its next order isn't due by the words with which it began: the format changed, or another orders beside it */
+    PM_PART_RESTARTED = 8,  /* an answer showed that a part restarted or was exchanged */
+    PM_WAY_BACK_REFUSED = 9 /* with PM_NO_WAY_BACK: the plan of the step's way back would be refused, as `number` and `code` say */
+};
+typedef struct {
+    uint8_t kind;
+    uint8_t number;    /* of PM_REFUSED and PM_WAY_BACK_REFUSED; otherwise 0 */
+    uint8_t code;      /* a register's command code, VOUT_MODE (20h) of a learn, or 0 */
+    uint8_t has_begun; /* 1 if the step had begun; 0 if all outputs stand on the stair before it */
+    uint16_t word;     /* of PM_STILL_DIFFERS, PM_OTHER_FORMAT and PM_OTHER_SOURCE; otherwise 0 */
+    uint16_t fault;    /* of PM_SPENT, as of a course; otherwise 0 */
+    uint16_t step;     /* its place in the list, from 0; of PM_REACHED how many steps there are */
+    uint16_t unused[3];
+} pm_stairs_end;
+
+/* Stairs, in memory of yours: how far a list of steps has come. The fields before `held` are there to be read; only the calls write
+ * them. They hold no host, no list and no pointer, and may be copied. A call asks first for the mark, the version and fields that
+ * stairs have, and answers PM_NO_STAIRS if one lacks. */
+typedef struct {
+    uint16_t mark, version;
+    uint16_t tries;   /* how many jobs each step has at most */
+    uint16_t begun;   /* how many steps have begun or were left: the outputs stand on this stair, that of the newest step or on the one before */
+    uint8_t host;     /* the place of the host that the next call takes, and on whose bus the frame goes */
+    uint8_t is_down;  /* 1 of a way down */
+    uint8_t unused[6];
+    pm_stairs_end end;
+    uint64_t held[30];
+} pm_stairs;
+
+typedef char pm_stairs_has_its_size[sizeof(pm_stairs) == PM_STAIRS_SIZE ? 1 : -1];
+
 /* The format of an output's voltages, or of a reading: LINEAR11, which READ_VIN, READ_IOUT and READ_TEMPERATURE_1
  * have, and which no host learns of an output. Microvolts are then millionths of a volt, an ampere or a degree. */
 enum { PM_NO_FORMAT = 0, PM_ULINEAR16 = 1, PM_DIRECT = 2, PM_LINEAR11 = 3 };
@@ -340,6 +404,8 @@ uint64_t pm_course_size(void);
 uint16_t pm_course_version(void);
 uint64_t pm_delivery_size(void);
 uint16_t pm_delivery_version(void);
+uint64_t pm_stairs_size(void);
+uint16_t pm_stairs_version(void);
 
 /* Makes a host, whatever stood in the memory, for the device at this address, 08h to 77h, which has this
  * many outputs, 1 to 8; a job has at most this many passes or tries, 1 to 15. Nothing is known, no limits either: give each
@@ -657,6 +723,43 @@ PM_MUST_USE
 uint8_t pm_read_paged(uint8_t address, uint8_t page, uint8_t code, uint8_t size, const uint8_t *bytes, uint64_t count,
                       pm_block *block);
 
+/* ---- Stairs ---- */
+
+/* Steps of several outputs of at most eight hosts, one after another: each output stands on a stair or on the next one, in the list's
+ * order, whatever is lost, cut or repeated. A step begins only if the one before is over by what its host knows then. Begin no job
+ * and no restore of these outputs meanwhile. */
+
+/* Makes stairs, whatever stood in the memory: no step has begun, and each has at most this many jobs. If `is_down` isn't 0 it is a way
+ * down: it notes no way back, reads nothing before an order that turns an output off, goes on after a restart of a part, and can leave a
+ * step that stopped. */
+void pm_stairs_new(pm_stairs *stairs, uint16_t tries, uint8_t is_down);
+
+/* What is to be sent now, by the host at the place stairs->host. `steps` is the whole list, the same each time. As step N begins,
+ * backs[N] becomes the step that undoes it: carried out the newest first, by stairs of their own, they are the way back. Of a way
+ * down nothing is written there, and `room` may be 0. pm_stairs_frame takes all hosts.
+ *   PM_OK           the frame goes on the bus of that host, and stays the same until it was told what became of it
+ *   PM_AGAIN        ask at once by the host at stairs->host, which may be another; with all but PM_OK the frame is PM_NOTHING
+ *   PM_NO_WAY_BACK  before the first order of a step, once: the plan of its way back would be refused by the words that are known, as
+ *                   stairs->end says. Asked again the step begins
+ *   PM_ENDED        as stairs->end says
+ * PM_NO_HOST, PM_NO_STAIRS, PM_NO_ROOM; PM_NO_STEP and H4 for the first step that hasn't begun. Then nothing changes. */
+PM_MUST_USE
+uint8_t pm_stairs_ask(pm_stairs *stairs, pm_host *host, const pm_stairs_step *steps, uint64_t count, pm_stairs_step *backs, uint64_t room,
+                      pm_sending *frame);
+
+/* What became of the frame, by the host at stairs->host, as of a course. PM_NO_HOST, PM_NO_STAIRS, PM_OTHER_FRAME. */
+pm_step pm_stairs_write_ended(pm_stairs *stairs, pm_host *host, uint8_t acked);
+pm_step pm_stairs_read_ended(pm_stairs *stairs, pm_host *host, const uint8_t *bytes, uint64_t count);
+
+/* Leaves the step of a way down that stopped, so that the next one goes on. PM_NO_STAIRS; PM_NO_STEP if there is none. */
+PM_MUST_USE
+uint8_t pm_stairs_skip(pm_stairs *stairs);
+
+/* Judges a step by the words that its host knows: survey the output first. pm_stairs_check_all judges a list. PM_OK; PM_ENDED if its plan is
+ * refused (P1, P4: learn or check first), PM_NO_WAY_BACK if that of its way back is, as `end` says, of step 0. PM_NO_HOST, PM_NO_STEP, H4. */
+PM_MUST_USE
+uint8_t pm_stairs_check(const pm_host *host, const pm_stairs_step *step, pm_stairs_end *end);
+
 /* ---- The loop of a driver ---- */
 
 #if defined __cplusplus || (defined __STDC_VERSION__ && __STDC_VERSION__ >= 199901L)
@@ -898,6 +1001,63 @@ static inline pm_course_end pm_host_deliver(pm_host *host, pm_course *course, pm
         end.number = number;
     }
     return end;
+}
+
+/* What stairs have to send now, by an array of hosts: as pm_stairs_ask, and never PM_AGAIN. PM_NO_STEP if a step names a host that isn't
+ * there. */
+PM_MUST_USE
+static inline uint8_t pm_stairs_frame(pm_stairs *stairs, pm_host *const *hosts, uint64_t host_count, const pm_stairs_step *steps,
+                                      uint64_t count, pm_stairs_step *backs, uint64_t room, pm_sending *frame) {
+    uint8_t number = PM_AGAIN;
+    while (number == PM_AGAIN) {
+        if (stairs->host >= host_count)
+            return PM_NO_STEP;
+        number = pm_stairs_ask(stairs, hosts[stairs->host], steps, count, backs, room, frame);
+    }
+    return number;
+}
+
+/* Judges a list as pm_stairs_check does: each step that is the first one of its output, since the words before another one aren't held yet. It
+ * stops at the first that is refused, which end->step names. */
+PM_MUST_USE
+static inline uint8_t pm_stairs_check_all(const pm_host *const *hosts, uint64_t host_count, const pm_stairs_step *steps, uint64_t count,
+                                          pm_stairs_end *end) {
+    uint64_t at, earlier;
+    for (at = 0; at < count; at++) {
+        uint8_t number = PM_OK;
+        if (steps[at].host >= host_count)
+            return PM_NO_STEP;
+        for (earlier = 0; earlier < at; earlier++)
+            if (steps[earlier].host == steps[at].host && steps[earlier].output == steps[at].output)
+                break;
+        if (earlier == at)
+            number = pm_stairs_check(hosts[steps[at].host], &steps[at], end);
+        if (number != PM_OK) {
+            end->step = (uint16_t)at;
+            return number;
+        }
+    }
+    return PM_OK;
+}
+
+/* Carries a list of steps out, frame after frame: the context at the place of a host is handed to `write` and `read` for its bus. It
+ * answers as pm_stairs_frame does once nothing is to be sent: PM_ENDED, PM_NO_WAY_BACK (asked again it goes on), or a refusal. */
+PM_MUST_USE
+static inline uint8_t pm_run_stairs(pm_stairs *stairs, pm_host *const *hosts, void *const *contexts, uint64_t host_count,
+                                    const pm_stairs_step *steps, uint64_t count, pm_stairs_step *backs, uint64_t room, pm_write write,
+                                    pm_read read) {
+    pm_sending frame;
+    uint8_t answer[8];
+    uint8_t number;
+    while ((number = pm_stairs_frame(stairs, hosts, host_count, steps, count, backs, room, &frame)) == PM_OK) {
+        pm_host *host = hosts[stairs->host];
+        void *context = contexts[stairs->host];
+        if (frame.kind == PM_WRITE)
+            (void)pm_stairs_write_ended(stairs, host, write(context, frame.bytes, frame.length) == PM_ACKED);
+        else
+            (void)pm_stairs_read_ended(stairs, host, answer, pm_answer(&frame, answer, read, context));
+    }
+    return number;
 }
 
 /* Whether an output does what it is to by this verdict, isn't asked since it isn't commanded on, or can't be judged, since its part has no

@@ -15,5 +15,7 @@ pub mod Packets
 pub mod Paged
 pub mod Rail
 pub mod Sizes
+pub mod Stairs
+pub mod StairsImage
 pub mod Voltages
 pub mod Wanted

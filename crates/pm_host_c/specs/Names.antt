@@ -113,9 +113,12 @@ own_words n =
     else (if n == 0xE7 then Some (codes "NoName")
     else (if n == 0xE8 then Some (codes "NoReading")
     else (if n == 0xE9 then Some (codes "NoCourse")
+    else (if n == 0xEA then Some (codes "NoRoom")
     else (if n == 0xEB then Some (codes "NoBand")
     else (if n == 0xEC then Some (codes "NoDelivery")
-    else (if n == 0xED then Some (codes "NoGoal") else None))))))))))))
+    else (if n == 0xED then Some (codes "NoGoal")
+    else (if n == 0xEE then Some (codes "NoStairs")
+    else (if n == 0xEF then Some (codes "NoStep") else None)))))))))))))))
 
 -- the words of a refusal, of which each kind has numbers that begin with a digit of its own
 abbrev pub refusal_words : ℕ → Option (List ℕ)

@@ -1,6 +1,6 @@
 -- The numbers that calls answer, of which no two mean two things: 0 where nothing is refused; a refusal's own,
--- which stands beside its words; E0h to E4h, E6h, E7h, E9h and EBh to EDh for what only a caller in C can ask wrongly; 91h
--- to 93h for where a voltage lies; and 95h for a course that has ended. This project's own choice.
+-- which stands beside its words; E0h to E4h, E6h, E7h, E9h to EFh for what only a caller in C can ask wrongly; 91h
+-- to 93h for where a voltage lies; 95h for a course that has ended; and 96h and 97h for stairs. This project's own choice.
 use Rattle.std.specs.Prelude.{ℕ, Bool, if◌then◌else◌, Option, Some, None}
 use Rattle.pm_host.specs.declared.fault.HostFault.{HostFault}
 use Rattle.pm_host.specs.FaultWords.{host_fault_number}
@@ -55,6 +55,18 @@ no_delivery = 0xEC
 abbrev pub no_goal : ℕ
 no_goal = 0xED
 
+-- there is less room than there are steps
+abbrev pub no_room : ℕ
+no_room = 0xEA
+
+-- the memory holds no stairs
+abbrev pub no_stairs : ℕ
+no_stairs = 0xEE
+
+-- the numbers mean no step, or there is none to leave
+abbrev pub no_step : ℕ
+no_step = 0xEF
+
 -- an output's voltage lies within its limits, or outside them, or it isn't known
 abbrev pub within_yes : ℕ
 within_yes = 0x91
@@ -68,6 +80,13 @@ within_not_known = 0x93
 -- a course has ended
 abbrev pub ended : ℕ
 ended = 0x95
+
+-- stairs are to be asked again, or the way back of a step would be refused
+abbrev pub again : ℕ
+again = 0x96
+
+abbrev pub no_way_back : ℕ
+no_way_back = 0x97
 
 -- a flag is 1 or 0
 abbrev pub flag : Bool → ℕ

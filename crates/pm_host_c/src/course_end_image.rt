@@ -57,7 +57,7 @@ const OTHER_SOURCE: u8 = 6;
 
 impl EndNumbers {
     // Nothing but a kind.
-    fn kind(kind: u8) -> EndNumbers
+    pub(crate) fn kind(kind: u8) -> EndNumbers
         ensures { result ≡ kind_alone kind }
     {
         EndNumbers {

@@ -44,7 +44,12 @@ mod numbers;
 mod other_read;
 mod packet;
 mod rail;
+mod seen;
 mod sending_image;
+mod stairs;
+mod stairs_end;
+mod stairs_image;
+mod stairs_step;
 #[cfg(test)]
 mod tests;
 mod told;

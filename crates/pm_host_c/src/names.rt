@@ -247,9 +247,12 @@ fn words_of_own(number: u8) -> Option<&'static str>
         0xE7 => Some("NoName"),
         0xE8 => Some("NoReading"),
         0xE9 => Some("NoCourse"),
+        0xEA => Some("NoRoom"),
         0xEB => Some("NoBand"),
         0xEC => Some("NoDelivery"),
         0xED => Some("NoGoal"),
+        0xEE => Some("NoStairs"),
+        0xEF => Some("NoStep"),
         _ => None,
     }
 }

@@ -47,3 +47,18 @@ pub const WITHIN_NOT_KNOWN: u8 = 0x93;
 
 /// A course has ended.
 pub const ENDED: u8 = 0x95;
+
+/// The memory holds no stairs.
+pub const NO_STAIRS: u8 = 0xEE;
+
+/// The numbers mean no step, or there is none to leave.
+pub const NO_STEP: u8 = 0xEF;
+
+/// There is less room than there are steps.
+pub const NO_ROOM: u8 = 0xEA;
+
+/// Stairs are to be asked again.
+pub const AGAIN: u8 = 0x96;
+
+/// The way back of a step would be refused.
+pub const NO_WAY_BACK: u8 = 0x97;

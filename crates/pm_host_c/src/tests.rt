@@ -7,6 +7,7 @@ mod law_uses;
 mod limits;
 mod packets;
 mod rails;
+mod stairs;
 
 use self::calls::{
     at_least, at_most, band, check, clear, finished, format, got, host, kept, learn, limits,

@@ -1,1 +1,2 @@
--- Lemmas of this crate: none.
+-- Lemmas of this crate.
+mod Seen

@@ -3,3 +3,5 @@ pub mod Steps
 pub mod Due
 pub mod Stairs
 pub mod Frames
+pub mod WayBack
+pub mod Sequence

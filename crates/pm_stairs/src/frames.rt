@@ -102,7 +102,7 @@ impl Stairs {
     }
 
     // The course whose job was named last.
-    fn course_open(&self) -> Option<FrameCourse>
+    pub(crate) fn course_open(&self) -> Option<FrameCourse>
         ensures { result ≡ spec_course_open self.now }
     {
         if self.reading {
@@ -115,7 +115,7 @@ impl Stairs {
     }
 
     // Whether the job that stands at this stage is its.
-    fn is_job_at(&self, stage: Stage) -> bool
+    pub(crate) fn is_job_at(&self, stage: Stage) -> bool
         ensures { result ≡ spec_is_job_at self.now stage }
     {
         match self.course_open() {
@@ -125,7 +125,7 @@ impl Stairs {
     }
 
     // The stairs where that course has become this one, and an answer showed a restart or didn't.
-    fn with_course(&self, course: FrameCourse, restarted: bool) -> Stairs
+    pub(crate) fn with_course(&self, course: FrameCourse, restarted: bool) -> Stairs
         ensures { result ≡ spec_with_course self.now course restarted }
     {
         let mut heard = *self;

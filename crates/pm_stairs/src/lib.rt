@@ -14,11 +14,17 @@
 mod due;
 mod frames;
 mod said;
+mod sequence;
+mod sight;
 mod stairs;
 mod step;
+mod way_back;
 
 pub use due::Due;
 pub use frames::Came;
 pub use said::{Said, StepEnd};
+pub use sequence::{Placed, Sequence, Turn};
+pub use sight::Sight;
 pub use stairs::{Move, Stairs, Under};
 pub use step::{Act, Step, WordAct, WordStep};
+pub use way_back::{StepCheck, check, way_back_fault};

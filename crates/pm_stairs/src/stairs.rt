@@ -3,15 +3,16 @@
 ghost use Rattle.std.specs.Prelude.{◌≡◌, ◌<◌, true};
 ghost use Rattle.pm_limits.specs.Guard.{limits_at};
 ghost use Rattle.pm_stairs.specs.Due.{due_now as spec_due_now};
+ghost use Rattle.pm_stairs.specs.Sequence.{GoesApart};
 ghost use Rattle.pm_stairs.specs.Steps.{noted as spec_noted};
 ghost use Rattle.pm_stairs.specs.Stairs.{ahead_move as spec_ahead_move, are_there as spec_are_there, begins_now as spec_begins_now, begun_with, coming_course, course_after, looked as spec_looked, no_output as spec_no_output, reading_for, stairs_new, trying as spec_trying, under_move as spec_under_move, AsksAhead, Goes, GoesAhead, GoesUnder, HasWords, SaysStep};
 
 use crate::due::Due;
 use crate::said::{Said, StepEnd, said_of};
+use crate::sight::Sight;
 use crate::step::{Step, WordStep};
 use pm_course::{CourseEnd, FrameCourse, Refusal};
 use pm_host::{HostFault, Job};
-use pm_limits::Guard;
 use pm_rail::Wanted;
 use pm_table::Cell;
 
@@ -66,8 +67,8 @@ impl Stairs {
     }
 
     /// What comes next, where this is the first step ahead, which gets so many tries.
-    pub fn next(&mut self, guard: &Guard, ahead: Option<Step>, tries: u16) -> Move
-        ensures { Goes guard.now tries ahead self.old result self.new }
+    pub fn next<S: Sight>(&mut self, guard: &S, ahead: Option<Step>, tries: u16) -> Move
+        ensures { Goes (S.guarded guard.now) tries ahead self.old result self.new }
     {
         if self.restarted {
             return Move::Stops(StepEnd::Restarted);
@@ -81,9 +82,19 @@ impl Stairs {
         }
     }
 
+    /// What the first step ahead asks for, where the step under way is over by its own host.
+    pub(crate) fn next_apart<S: Sight>(&mut self, guard: &S, step: &Step, tries: u16) -> Move
+        ensures { GoesApart (S.guarded guard.now) tries step.now self.old result self.new }
+    {
+        if self.restarted {
+            return Move::Stops(StepEnd::Restarted);
+        }
+        self.ahead(guard, step, tries)
+    }
+
     // What the step under way asks for; nothing where it is over, or none has begun.
-    fn under(&mut self, guard: &Guard) -> Option<Move>
-        ensures { GoesUnder guard.now self.old result self.new }
+    fn under<S: Sight>(&mut self, guard: &S) -> Option<Move>
+        ensures { GoesUnder (S.guarded guard.now) self.old result self.new }
     {
         self.reading = false;
         let Some(under) = self.under else {
@@ -99,8 +110,8 @@ impl Stairs {
     }
 
     // What the first step ahead asks for.
-    fn ahead(&mut self, guard: &Guard, step: &Step, tries: u16) -> Move
-        ensures { GoesAhead guard.now tries step.now self.old result self.new }
+    fn ahead<S: Sight>(&mut self, guard: &S, step: &Step, tries: u16) -> Move
+        ensures { GoesAhead (S.guarded guard.now) tries step.now self.old result self.new }
     {
         let course = self.coming_course(step, tries);
         match words_by(guard, &course) {
@@ -113,8 +124,8 @@ impl Stairs {
     }
 
     // What a first step ahead asks for, in words.
-    fn asks(&mut self, guard: &Guard, step: &WordStep, course: &FrameCourse) -> Move
-        ensures { AsksAhead guard.now step.now course.now self.old result self.new }
+    fn asks<S: Sight>(&mut self, guard: &S, step: &WordStep, course: &FrameCourse) -> Move
+        ensures { AsksAhead (S.guarded guard.now) step.now course.now self.old result self.new }
     {
         if !are_there(guard, step, course) {
             self.reads_for(*course);
@@ -213,34 +224,35 @@ fn absent() -> StepEnd
 }
 
 // Whether the guard's host has the output of a step and that of its course, which are one.
-fn are_there(guard: &Guard, step: &WordStep, course: &FrameCourse) -> bool
-    ensures is { result ≡ spec_are_there guard.now step.now course.now }
-    ensures step { result ≡ true → step.now.output < guard.now.host.setup.outputs }
-    ensures course { result ≡ true → course.now.course.survey.output < guard.now.host.setup.outputs }
+fn are_there<S: Sight>(guard: &S, step: &WordStep, course: &FrameCourse) -> bool
+    ensures is { result ≡ spec_are_there (S.guarded guard.now) step.now course.now }
+    ensures step { result ≡ true → step.now.output < (S.guarded guard.now).host.setup.outputs }
+    ensures course { result ≡ true → course.now.course.survey.output < (S.guarded guard.now).host.setup.outputs }
 {
-    let outputs = guard.host().outputs();
+    let outputs = guard.state().outputs;
     step.output < outputs && course.course.survey.output < outputs
 }
 
 // The words of the wishes of a step, by the format that is known.
-fn words_by(guard: &Guard, course: &FrameCourse) -> Result<Wanted, Refusal>
-    ensures { HasWords guard.now course.now result }
+pub(crate) fn words_by<S: Sight>(guard: &S, course: &FrameCourse) -> Result<Wanted, Refusal>
+    ensures { HasWords (S.guarded guard.now) course.now result }
 {
-    if course.course.survey.output < guard.host().outputs() {
-        course.words_now(guard.host().state())
+    if course.course.survey.output < guard.state().outputs {
+        course.words_now(guard.state())
     } else {
         Err(no_output())
     }
 }
 
 // What a step asks for, which has begun or begins now, and its course then.
-fn ask(guard: &Guard, begun: bool, step: &WordStep, course: &FrameCourse) -> (Said, FrameCourse)
-    requires step { step.now.output < guard.now.host.setup.outputs }
-    requires course { course.now.course.survey.output < guard.now.host.setup.outputs }
-    ensures { SaysStep guard.now begun step.now course.now result.0 result.1 }
+fn ask<S: Sight>(guard: &S, begun: bool, step: &WordStep, course: &FrameCourse) -> (Said, FrameCourse)
+    requires step { step.now.output < (S.guarded guard.now).host.setup.outputs }
+    requires course { course.now.course.survey.output < (S.guarded guard.now).host.setup.outputs }
+    ensures { SaysStep (S.guarded guard.now) begun step.now course.now result.0 result.1 }
 {
     let mut after = *course;
-    let next = after.next_by(guard);
+    let limits = guard.limits(course.course.survey.output);
+    let next = after.next_in(guard.state(), guard.stage(), guard.registers(), &limits);
     let said = trying(
         course,
         said_of(begun, step.output, &due_by(guard, step), next),
@@ -249,13 +261,12 @@ fn ask(guard: &Guard, begun: bool, step: &WordStep, course: &FrameCourse) -> (Sa
 }
 
 // What is due in a step by a guard.
-fn due_by(guard: &Guard, step: &WordStep) -> Due
-    requires { step.now.output < guard.now.host.setup.outputs }
-    ensures { result ≡ spec_due_now guard.now.registers (limits_at guard.now step.now.output) guard.now.host step.now }
+fn due_by<S: Sight>(guard: &S, step: &WordStep) -> Due
+    requires { step.now.output < (S.guarded guard.now).host.setup.outputs }
+    ensures { result ≡ spec_due_now (S.guarded guard.now).registers (limits_at (S.guarded guard.now) step.now.output) (S.guarded guard.now).host step.now }
 {
-    let host = guard.host();
     let limits = guard.limits(step.output);
-    step.due(host.state(), host.stage(), guard.registers(), &limits)
+    step.due(guard.state(), guard.stage(), guard.registers(), &limits)
 }
 
 // A look takes a try.
@@ -295,9 +306,9 @@ fn looked(course: &FrameCourse, cell: Cell) -> FrameCourse
 }
 
 // The step that undoes one that begins now.
-fn noted(guard: &Guard, step: &WordStep) -> WordStep
-    requires { step.now.output < guard.now.host.setup.outputs }
-    ensures { result ≡ spec_noted guard.now.host step.now }
+fn noted<S: Sight>(guard: &S, step: &WordStep) -> WordStep
+    requires { step.now.output < (S.guarded guard.now).host.setup.outputs }
+    ensures { result ≡ spec_noted (S.guarded guard.now).host step.now }
 {
-    step.noted(guard.host().state())
+    step.noted(guard.state())
 }

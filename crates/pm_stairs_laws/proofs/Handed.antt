@@ -1,6 +1,7 @@
 -- The calls over frames are steps of a caller of the stairs.
-use Rattle.std.proofs.Common.{◌≡◌, ℕ, Bool, true, false, List, [], ◌∷◌, Option, Some, None, Ok, refl, ap, subst}
-use Rattle.std.specs.Prelude.{option_map, Result}
+use Rattle.std.proofs.Common.{◌≡◌, ℕ, Bool, true, false, not, List, [], ◌∷◌, Option, Some, None, Ok, Err, refl, sym, ◌∙◌, ap, subst}
+use Rattle.std.specs.Prelude.{◌==◌, ◌&&◌, ◌||◌, is_none, is_some, option_map, if◌then◌else◌, Result}
+use Rattle.pm_table.specs.Rules.{rule}
 use Rattle.pm_device.specs.declared.config.Config.{Config}
 use Rattle.pm_host.specs.declared.fault.Untold.{Untold}
 use Rattle.pm_host.specs.declared.job.Job.{Job as Asked}
@@ -10,7 +11,8 @@ use Rattle.pm_limits.specs.Guard.{Guarded, LetsBegin}
 use Rattle.pm_course.specs.declared.frame_course.FrameCourse.{FrameCourse}
 use Rattle.pm_course.specs.declared.frames.Sending.{Sending}
 use Rattle.pm_stairs.specs.declared.frames.Came.{Came}
-use Rattle.pm_stairs.specs.declared.frames.Came.TheVariants.{Begun, Passed}
+use Rattle.pm_stairs.specs.declared.frames.Came.TheVariants.{Goes as GoesOn, Begun, Passed}
+use Rattle.pm_stairs.specs.declared.stairs.Move.{Move}
 use Rattle.pm_stairs.specs.declared.stairs.Move.TheVariants as move
 use Rattle.pm_stairs.specs.declared.said.StepEnd.{StepEnd}
 use Rattle.pm_stairs.specs.declared.stairs.Stairs.{Stairs}
@@ -22,6 +24,7 @@ use Rattle.pm_stairs.specs.Frames as frames
 use Rattle.pm_stairs.specs.Stairs.{Goes}
 use Rattle.pm_host.specs.Summary.{Summary}
 use Rattle.pm_world.specs.declared.event.Event.{Event}
+use Rattle.pm_world.specs.Job.{asked_by}
 use Rattle.pm_stairs_laws.specs.Climb.{IsClimb, IsGuardAt, first}
 use Rattle.pm_stairs_laws.specs.Climb as climb
 use Rattle.pm_stairs_laws.specs.Due.{IsFirst, Means, MovesAreDue, step_under}
@@ -91,8 +94,7 @@ module _ (due : MovesAreDue) (config : Config) (passes : ℕ) (part : PartRegist
       IsClimb config passes part steps before begun backs ahead stairs events → IsGuardAt config passes part events g →
       HandsOut g tries (first ahead) stairs sent came new is →
       Handed config passes part steps before begun backs ahead events g came new is
-  hands begun backs ahead stairs is events g new tries sent came was at (frames.again stage sent' stands job sending) =
-      stays came stairs was
+  hands begun backs ahead stairs is events g new tries sent came was at (frames.again stage sent' stands job sending) = stays came stairs was
   hands begun backs ahead stairs is events g new tries sent came was at (frames.job job sent' new' is' goes lets sending) =
       asks job new is lets (λ event by. climb.asks g tries job begun backs ahead stairs is events event was at goes by)
   hands begun backs ahead stairs is events g new tries sent came was at (frames.begins job back sent' new' is' goes lets sending) =
@@ -109,13 +111,11 @@ module _ (due : MovesAreDue) (config : Config) (passes : ℕ) (part : PartRegist
   hands begun backs ahead stairs is events g new tries sent came was at (frames.stops why is' goes) =
       stays came is (climb.says g tries (move.Stops why) begun backs ahead stairs is events was at goes
       (stops-means (due g tries (first ahead) stairs is (move.Stops why) goes)))
-  hands begun backs ahead stairs is events g new tries sent came was at (frames.refused job fault is' goes refuses) =
-      stays came stairs was
-  hands begun backs ahead stairs is events g new tries sent came was at (frames.refused_first job back fault is' goes refuses) =
-      stays came stairs was
+  hands begun backs ahead stairs is events g new tries sent came was at (frames.refused job fault is' goes refuses) = stays came stairs was
+  hands begun backs ahead stairs is events g new tries sent came was at (frames.refused_first job back fault is' goes refuses) = stays came stairs was
 
-  pub hears : (begun backs : List WordStep) (ahead : List Step) (stairs is : Stairs) (events : List Event) (g new : Guarded)
-      (entry : host.Entry) (result : Result (Unit {0}) Untold) → IsClimb config passes part steps before begun backs ahead stairs events →
+  pub hears : (begun backs : List WordStep) (ahead : List Step) (stairs is : Stairs) (events : List Event) (g new : Guarded) (entry : host.Entry)
+      (result : Result (Unit {0}) Untold) → IsClimb config passes part steps before begun backs ahead stairs events →
       Hears g stairs entry result new is → IsClimb config passes part steps before begun backs ahead is events
   hears begun backs ahead stairs is events g new entry result was (frames.nothing none) = was
   hears begun backs ahead stairs is events g new entry result was (frames.heard course heard result' new' named told) =

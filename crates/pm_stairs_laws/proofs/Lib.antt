@@ -8,3 +8,4 @@ mod Due
 mod Climb
 mod ComeBack
 mod Handed
+mod Turned

@@ -10,6 +10,7 @@ mod formats;
 mod other_library;
 mod patience;
 mod rails;
+mod stairs;
 
 use pmhost::*;
 

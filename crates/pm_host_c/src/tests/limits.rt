@@ -168,7 +168,7 @@ fn a_band_beyond_its_limits_is_outside(rt: HostRuntime) {
 
 // Each refusal that a caller in C alone gets and one of each other kind, with its name; an empty name for a number
 // that has none.
-static REFUSALS: [(u8, &[u8]); 30] = [
+static REFUSALS: [(u8, &[u8]); 33] = [
     (0x00, b""),
     (0x06, b"H6 TooUncertain\0\0"),
     (0x15, b"N5 TooLarge\0"),
@@ -196,9 +196,12 @@ static REFUSALS: [(u8, &[u8]); 30] = [
     (0xE7, b"NoName\0"),
     (0xE8, b"NoReading\0"),
     (0xE9, b"NoCourse\0"),
+    (0xEA, b"NoRoom\0"),
     (0xEB, b"NoBand\0"),
     (0xEC, b"NoDelivery\0"),
     (0xED, b"NoGoal\0"),
+    (0xEE, b"NoStairs\0"),
+    (0xEF, b"NoStep\0"),
 ];
 
 // The kind of a step, and its name.

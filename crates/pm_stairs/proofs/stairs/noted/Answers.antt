@@ -4,4 +4,4 @@ use Rattle.pm_stairs.specs.Steps.{noted}
 use Rattle.pm_stairs.proofs.stairs.noted.Goals as goal
 
 pub returns : goal.returns
-returns c = c.noted.ensures ∙ ap (λ (s : Summary). noted s c.args.step.now) (c.state.ensures.state ∙ c.host.ensures)
+returns g c = c.noted.ensures ∙ ap (λ (s : Summary). noted s c.args.step.now) c.state.ensures.state

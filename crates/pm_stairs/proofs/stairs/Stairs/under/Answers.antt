@@ -6,15 +6,15 @@ use Rattle.pm_stairs.specs.Stairs.{GoesUnder, absent, asks, free, under_after}
 use Rattle.pm_stairs.proofs.stairs.Stairs.under.Goals as goal
 
 pub returns-in_default : goal.returns-in_default
-returns-in_default c = free c.in_default.is
+returns-in_default g c = free c.in_default.is
 
 pub returns-then-not-are_there : goal.returns-then-not-are_there
-returns-then-not-are_there c =
-    subst (λ (why : StepEnd). GoesUnder c.args.guard.now c.args.self.now (Some (Stops why)) (record c.args.self.now { reading = false }))
+returns-then-not-are_there g c =
+    subst (λ (why : StepEnd). GoesUnder (g.S.Sight.guarded c.args.guard.now) c.args.self.now (Some (Stops why)) (record c.args.self.now { reading = false }))
     (sym c.absent.ensures) (absent c.in-Some.under c.in-Some.is (sym c.are_there.ensures.is ∙ c.if-not-are_there.true))
 
 pub returns : goal.returns
-returns c =
-    subst (λ (next : Option Move). GoesUnder c.args.guard.now c.args.self.now next
+returns g c =
+    subst (λ (next : Option Move). GoesUnder (g.S.Sight.guarded c.args.guard.now) c.args.self.now next
     (under_after c.args.self.now c.in-Some.under.step c.ask-said.result.1)) (sym c.under_move.ensures)
     (asks c.in-Some.under c.ask-said.result.0 c.ask-said.result.1 c.in-Some.is c.ask-said.ensures)
