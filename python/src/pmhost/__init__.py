@@ -18,6 +18,7 @@ from .host import Host
 from .packets import Packet, code_request, pec, read_answer, read_block, read_plain, read_request, read_write
 from .look import Delivered, Looks, NotDelivered
 from .part import ModelPart, ModelPartBus, Output
+from .stairs import NoWayBack, Stairs, StairsEnd, StairsStep, run_stairs
 from .states import Band, Bus, Known, Limits, RailState, Sending, Step
 from .transfers import Transfers
 from .values import CODES, LINEAR11, Format
@@ -26,8 +27,8 @@ from .voltages import Voltage
 __all__ = [
     "Band", "Bus", "CODES", "Course", "CourseEnd", "Delivered", "Device", "Differs", "Format", "FrameRefused", "Host",
     "HostRefused", "Job", "Known", "LINEAR11", "LimitRefused", "Limits", "LinuxBus", "Looks", "MemoryRefused", "ModelBus",
-    "ModelPart", "ModelPartBus", "NoBus", "NoFormat", "NoTransfer", "NotDelivered", "NotDone", "NumberRefused", "OtherSource",
+    "ModelPart", "ModelPartBus", "NoBus", "NoFormat", "NoTransfer", "NoWayBack", "NotDelivered", "NotDone", "NumberRefused", "OtherSource",
     "Output", "Packet", "PartRefused", "PatientBus", "PlanRefused", "PmhostError", "RailState", "Refused", "Sending",
-    "SetupRefused", "Smbus2Bus", "Spent", "Step", "Transfers", "Unknown", "Voltage", "Wanted", "__version__", "code_request",
-    "pec", "read_answer", "read_block", "read_plain", "read_request", "read_write",
+    "SetupRefused", "Smbus2Bus", "Spent", "Stairs", "StairsEnd", "StairsStep", "Step", "Transfers", "Unknown", "Voltage", "Wanted", "__version__", "code_request",
+    "pec", "read_answer", "read_block", "read_plain", "read_request", "read_write", "run_stairs",
 ]

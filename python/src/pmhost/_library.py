@@ -17,6 +17,7 @@ HOST_SIZE = 2064
 COURSE_VERSION = 1
 COURSE_SIZE = 104
 DELIVERY_VERSION = 1
+STAIRS_VERSION = 1
 PART_SIZE = 372
 CELLS = 49
 
@@ -120,6 +121,25 @@ class DeliveredImage(c.Structure):
                 ("unused", c.c_uint8), ("word", c.c_uint16), ("microvolts", c.c_int64)]
 
 
+class StairsWishImage(c.Structure):
+    _fields_ = [("kind", c.c_uint16), ("word", c.c_uint16), ("unused", c.c_uint32), ("microvolts", c.c_int64)]
+
+
+class StairsStepImage(c.Structure):
+    _fields_ = [("host", c.c_uint8), ("output", c.c_uint8), ("kind", c.c_uint8), ("byte", c.c_uint8), ("unused", c.c_uint8 * 4)] + [
+        (name, StairsWishImage) for name in ("command", "max", "margin_high", "margin_low", "min")]
+
+
+class StairsEndImage(c.Structure):
+    _fields_ = [("kind", c.c_uint8), ("number", c.c_uint8), ("code", c.c_uint8), ("has_begun", c.c_uint8), ("word", c.c_uint16),
+                ("fault", c.c_uint16), ("step", c.c_uint16), ("unused", c.c_uint16 * 3)]
+
+
+class StairsImage(c.Structure):
+    _fields_ = [("mark", c.c_uint16), ("version", c.c_uint16), ("tries", c.c_uint16), ("begun", c.c_uint16), ("host", c.c_uint8),
+                ("is_down", c.c_uint8), ("unused", c.c_uint8 * 6), ("end", StairsEndImage), ("held", c.c_uint64 * 30)]
+
+
 class JudgementImage(c.Structure):
     _fields_ = [("fault", c.c_uint8), ("warning", c.c_uint8), ("fault_word", c.c_uint16), ("warning_word", c.c_uint16)]
 
@@ -163,6 +183,7 @@ class ReplyImage(c.Structure):
 _u8, _u16, _u32, _u64, _i64, _at = c.c_uint8, c.c_uint16, c.c_uint32, c.c_uint64, c.c_int64, c.POINTER
 _host, _part, _bytes = _at(HostImage), _at(PartImage), c.c_char_p
 _wanted, _course, _delivery = _at(WantedImage), _at(CourseImage), _at(DeliveryImage)
+_stairs, _steps = _at(StairsImage), _at(StairsStepImage)
 
 # Each call: what it answers, and what it takes.
 CALLS = {
@@ -217,6 +238,13 @@ CALLS = {
     "pm_delivery_read_ended": (_u8, [_delivery, _host, _bytes, _u64]),
     "pm_delivery_verdict": (_u8, [_delivery, _host, _at(DeliveredImage)]),
     "pm_delivery_judge": (_u8, [_delivery, _host, _u16, _at(JudgementImage)]),
+    "pm_stairs_size": (_u64, []),
+    "pm_stairs_version": (_u16, []),
+    "pm_stairs_new": (None, [_stairs, _u16, _u8]),
+    "pm_stairs_ask": (_u8, [_stairs, _host, _steps, _u64, _steps, _u64, _at(SendingImage)]),
+    "pm_stairs_write_ended": (StepImage, [_stairs, _host, _u8]),
+    "pm_stairs_read_ended": (StepImage, [_stairs, _host, _bytes, _u64]),
+    "pm_stairs_skip": (_u8, [_stairs]),
     "pm_refusal_name": (_u8, [_u8, _at(NameImage)]),
     "pm_end_name": (_u8, [_u16, _at(NameImage)]),
     "pm_microvolts": (_u8, [_at(FormatImage), _u16, _at(_i64)]),
@@ -262,9 +290,9 @@ def _load() -> c.CDLL:
         call = getattr(loaded, name)
         call.restype, call.argtypes = answers, takes
     found = (loaded.pm_version() >> 8, loaded.pm_host_version(), loaded.pm_host_size(), loaded.pm_course_version(), loaded.pm_course_size(),
-             loaded.pm_delivery_version(), loaded.pm_delivery_size(), loaded.pm_part_size())
+             loaded.pm_delivery_version(), loaded.pm_delivery_size(), loaded.pm_stairs_version(), loaded.pm_stairs_size(), loaded.pm_part_size())
     wanted = (VERSION >> 8, HOST_VERSION, c.sizeof(HostImage), COURSE_VERSION, c.sizeof(CourseImage), DELIVERY_VERSION,
-              c.sizeof(DeliveryImage), c.sizeof(PartImage))
+              c.sizeof(DeliveryImage), STAIRS_VERSION, c.sizeof(StairsImage), c.sizeof(PartImage))
     if found != wanted:
         _stop(f"{PATH} is another library than this package is for: it says {found}, and not {wanted}")
     return loaded

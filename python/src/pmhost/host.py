@@ -234,7 +234,7 @@ class Host:
         kept.has_stored = False
         try:
             while (sending := self.frame()) is not None:
-                step = self._hear(sending, self._came(bus, sending, kept))
+                step = self._hear(sending, self.came(bus, sending, kept))
         except BaseException:
             self.give_up()
             raise
@@ -261,7 +261,7 @@ class Host:
                     order = None if sending.is_request or not has_hooks else course.job()
                     if order and before_order:
                         self._tell(before_order, order, course, *memory)
-                step = self._hear(sending, self._came(bus, sending, kept), course)
+                step = self._hear(sending, self.came(bus, sending, kept), course)
                 is_open = not step.is_over
                 if step.is_over and order and after_order:
                     after_order(order, step)
@@ -275,7 +275,7 @@ class Host:
         try:
             before_order(order)
         except BaseException:
-            self._image = at.HostImage.from_buffer_copy(host)
+            self.load(host)
             course.load(way)
             raise
 
@@ -292,7 +292,7 @@ class Host:
             return self.write_ended(came) if course is None else course.write_ended(self, came)
         return self.read_ended(came) if course is None else course.read_ended(self, came)
 
-    def _came(self, bus: Bus, sending: Sending, transfers: Transfers) -> bytes | bool:
+    def came(self, bus: Bus, sending: Sending, transfers: Transfers) -> bytes | bool:
         """What came of a frame: the answer to a request, or whether a write was acknowledged."""
         return self._asked(bus, sending, transfers) if sending.is_request else self._written(bus, sending, transfers)
 
@@ -370,6 +370,10 @@ class Host:
     def save(self) -> bytes:
         """The host as bytes, to be kept with a checksum of one's own."""
         return bytes(self._image)
+
+    def load(self, memory: bytes) -> None:
+        """It is what it was when these bytes were saved."""
+        self._image = at.HostImage.from_buffer_copy(memory)
 
     def copy(self) -> Host:
         """Another host that knows the same."""
