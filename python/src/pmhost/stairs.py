@@ -7,8 +7,9 @@ from typing import TYPE_CHECKING, Any, Callable, Mapping, Optional, Sequence, Un
 
 from . import _library as at
 from ._library import library
-from .course import FAULTS, REGISTERS, TRIES, CourseEnd
+from .course import FAULTS, REGISTERS, TRIES, CourseEnd, Job
 from .errors import PmhostError, accepted, name_of
+from .packets import read_write
 from .states import Bus, Step
 from .transfers import Transfers
 from .values import CODES, NAMES, code_of, frame_bytes, whole
@@ -26,6 +27,8 @@ ENDS = ("", "reached", "refused", "differs", "spent", "format", "source", "chang
 # The fields of a step by their registers.
 FIELDS = {name: name.removeprefix("VOUT_").lower() for name in CODES if name.startswith("VOUT_")}
 
+# The stairs, the steps back and the hosts as bytes.
+Memory = tuple[bytes, bytes, list[bytes]]
 # What is wanted of registers, by their names or codes: a word, as 0x34CD, or a voltage, as "3.3V", which gets its word as its step begins.
 Wishes = Mapping[Union[str, int], Union[int, GivenVoltage]]
 
@@ -176,11 +179,11 @@ class Stairs:
 
     # ---- Their memory ----
 
-    def save(self) -> tuple[bytes, bytes, list[bytes]]:
+    def save(self) -> Memory:
         """The stairs, the steps back and the hosts as bytes."""
         return bytes(self._image), bytes(self._backs), [host.save() for host in self.hosts]
 
-    def load(self, memory: tuple[bytes, bytes, list[bytes]]) -> None:
+    def load(self, memory: Memory) -> None:
         """They are what they were when these bytes were saved."""
         self._image = at.StairsImage.from_buffer_copy(memory[0])
         self._backs = (at.StairsStepImage * len(self._backs)).from_buffer_copy(memory[1])
@@ -192,15 +195,18 @@ class Stairs:
 Gate = Callable[[int], None]
 
 
-def run_stairs(stairs: Stairs, buses: Sequence[Bus], before_step: Optional[Gate] = None, transfers: Optional[Transfers] = None) -> None:
+def run_stairs(stairs: Stairs, buses: Sequence[Bus], before_step: Optional[Gate] = None, transfers: Optional[Transfers] = None,
+               before_order: Optional[Callable[[Job], None]] = None, after_order: Optional[Callable[[Job, Step], None]] = None) -> None:
     """Carries steps out, frame after frame, each over the bus of its host; `ended` says how. Stops at NoWayBack too: another call goes on.
 
-    `before_step` is told of each step before its first frame, while no job is open: where it raises, the step hasn't begun. Whatever is
-    raised meanwhile goes on to the caller, with the job that was under way ended as unknown."""
-    kept, passed, is_open = Transfers() if transfers is None else transfers, stairs.begun, False
+    `before_step` is told of each step before its first frame, while no job is open, `before_order` of each order before its first frame: where
+    one raises, the step or the order hasn't begun. `after_order` is told of how an order ended. Whatever is raised meanwhile goes on to the
+    caller, with the job that was under way ended as unknown. `transfers` has those of the last job."""
+    kept, passed, order = Transfers() if transfers is None else transfers, stairs.begun, None
+    is_open = False
     try:
         while True:
-            memory = stairs.save() if before_step is not None and not is_open else None
+            memory = stairs.save() if not is_open else None
             found = stairs.frame()
             if found is None:
                 return
@@ -210,11 +216,32 @@ def run_stairs(stairs: Stairs, buses: Sequence[Bus], before_step: Optional[Gate]
                 passed += 1
                 continue
             place, sending = found
-            if not is_open:
+            if memory is not None:
                 kept.begin()
-            is_open = not heard(stairs, sending, stairs.host.came(buses[place], sending, kept)).is_over
+                order = None if sending.is_request else ordered(stairs.host, sending)
+                if order and before_order:
+                    told(before_order, order, stairs, memory)
+            step = heard(stairs, sending, stairs.host.came(buses[place], sending, kept))
+            is_open = not step.is_over
+            if step.is_over and order and after_order:
+                after_order(order, step)
     except BaseException:
         give_up(stairs)
+        raise
+
+
+def ordered(host: Host, sending: Sending) -> Job:
+    """The order that a write begins."""
+    found = read_write(host.address, sending.frame)
+    return Job("order", NAMES[found.code], found.word)
+
+
+def told(before_order: Callable[[Job], None], order: Job, stairs: Stairs, memory: Memory) -> None:
+    """Tells of an order that has begun; where that raises, stairs and hosts hold what they did before it."""
+    try:
+        before_order(order)
+    except BaseException:
+        stairs.load(memory)
         raise
 
 

@@ -351,7 +351,7 @@ def run_once(arguments: argparse.Namespace, register: str, course: Course) -> Ac
                                                     "wasn't read")
 
     try:
-        complete(part, course, before, after, call.only().ask_operation)
+        getattr(arguments, "carry_out", complete)(part, course, before, after, call.only().ask_operation)
     except Nobody as nobody:
         return call.say(call.nobody(arguments, str(nobody)))
     except PlanRefused as fault:
@@ -423,7 +423,8 @@ def note_way_back(arguments: argparse.Namespace) -> int:
 def turn(arguments: argparse.Namespace, byte: int) -> int:
     """Brings OPERATION to a byte. One that turns the output off is the first frame."""
     arguments.byte = byte
-    return tell_course(arguments, "OPERATION", Course.power(arguments.output, byte, TRIES if byte & 0x80 else OFF_TRIES))
+    kind: type[Course] = getattr(arguments, "course", Course)
+    return tell_course(arguments, "OPERATION", kind.power(arguments.output, byte, TRIES if byte & 0x80 else OFF_TRIES))
 
 
 def send_command(arguments: argparse.Namespace) -> int:

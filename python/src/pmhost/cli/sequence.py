@@ -1,14 +1,19 @@
-"""`on board.toml` and `off board.toml`: the rails of a file one after another, on in their order and off in reverse."""
+"""`on board.toml` and `off board.toml`: the rails of a file one after another, on in their order and off in reverse, each a step of the
+library's stairs."""
 from __future__ import annotations
 
 import argparse
+import functools
 
 from .. import clock
 from ..bus import NoBus
 from ..errors import PmhostError
 from ..look import Look, Looks
 from ..rails import Rail
+from ..stairs import StairsStep
+from ..step_run import StepCourse, StepRun
 from ..steps import why_not_before
+from ..survey import OFF_TRIES, TRIES
 from . import orders, streams
 from .answer import Answer
 from .call import Call, said
@@ -28,9 +33,18 @@ def turn_all(arguments: argparse.Namespace) -> int:
     return status or call.ordered.look(call)
 
 
-def of_rail(arguments: argparse.Namespace, rail: Rail) -> argparse.Namespace:
-    """The same command about one of its rails, which has begun."""
-    one = argparse.Namespace(**{**vars(arguments), "named": rail, "output": rail.output, "said": f"{arguments.command} {rail.name}"})
+def run_of(arguments: argparse.Namespace, rails: list[Rail]) -> StepRun:
+    """The steps of the rails."""
+    call: Call = arguments.call
+    is_down = arguments.command == "off"
+    steps = [(call.places()[rail.part].pmbus(), StairsStep.turns(0, rail.output, arguments.byte)) for rail in rails]
+    return StepRun(steps, OFF_TRIES if is_down else TRIES, is_down)
+
+
+def of_rail(arguments: argparse.Namespace, rail: Rail, run: StepRun, place: int) -> argparse.Namespace:
+    """The same command about one of its rails, which has begun: a step of the list."""
+    one = argparse.Namespace(**{**vars(arguments), "named": rail, "output": rail.output, "said": f"{arguments.command} {rail.name}",
+                                "course": StepCourse, "carry_out": functools.partial(run.carry_out, place)})
     call: Call = arguments.call
     call.begin(one)
     return one
@@ -39,8 +53,11 @@ def of_rail(arguments: argparse.Namespace, rail: Rail) -> argparse.Namespace:
 def turn_on(arguments: argparse.Namespace, rails: list[Rail]) -> int:
     """In their order, up to the first that doesn't come to its end. The status."""
     call: Call = arguments.call
+    run = run_of(arguments, rails)
     for place, rail in enumerate(rails):
-        one = of_rail(arguments, rail)
+        one = of_rail(arguments, rail, run, place)
+        if rail.wait or rail.delivers:
+            run.read_anew()
         if why := before(call, rail, rails[:place]):
             status = call.say(Answer(one.said, "not begun", "not begun, nothing was ordered", 1, why, rail.output))
         else:
@@ -67,9 +84,11 @@ def turn_off(arguments: argparse.Namespace, rails: list[Rail]) -> int:
     """In reverse. One that isn't known to be off is left, which its line says, and the next one is turned off all the same. The status."""
     call: Call = arguments.call
     status, fault, silent = 0, None, list[str]()
+    opened = [rail for rail in rails if is_open(call, rail)]
+    run = run_of(arguments, opened)
     for place, rail in enumerate(rails):
         clock.wait(max([0, *(it.wait for it in rails[:place] if rail.name in it.after)]) / 1000)
-        one = of_rail(arguments, rail)
+        one = of_rail(arguments, rail, run, opened.index(rail) if rail in opened else -1)
         try:
             found = turn_one_off(call, one)
         except streams.NoStream as closed:
@@ -82,6 +101,15 @@ def turn_off(arguments: argparse.Namespace, rails: list[Rail]) -> int:
     if fault is not None:
         raise fault
     return call.say(Answer(said(arguments), "unknown", "", 1, f"not known to be off: {', '.join(silent)}")) if silent else status
+
+
+def is_open(call: Call, rail: Rail) -> bool:
+    """Whether the bus of a rail can be opened."""
+    try:
+        call.places()[rail.part].pmbus()
+    except NoBus:
+        return False
+    return True
 
 
 def turn_one_off(call: Call, one: argparse.Namespace) -> int:
