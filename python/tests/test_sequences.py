@@ -144,6 +144,17 @@ class Frames(unittest.TestCase):
                 self.assertEqual(outputs, sorted(outputs))
                 self.assertEqual((status == 0, status == 0), (set(outputs) == {0, 1, 2} and err == "", err == ""))
 
+    def test_a_restart_at_each_transfer(self):
+        """Each call ends in a status of its own, and no rail comes before another."""
+        ends = set()
+        for place in range(60):
+            with self.subTest(place=place):
+                status, orders, _, err = self.run_board("on", "FILE", mishaps=["ok"] * place + ["restart"])
+                self.assertEqual([output for output, _ in orders], sorted(output for output, _ in orders))
+                self.assertEqual((status == 0, status in (0, 1, 3)), (err == "", True))
+                ends.add(status)
+        self.assertLessEqual({0, 3}, ends)
+
     def test_off_goes_on_behind_a_rail_that_is_not_known_to_be_off(self):
         """The bus is away for as long as one rail is tried: the others are off, and the one is named."""
         named = set()

@@ -24,6 +24,9 @@ ENDED, AGAIN, NO_WAY_BACK = 0x95, 0x96, 0x97
 STAY, WORD, MICROVOLTS = 0, 1, 2
 SETS, TURNS = 1, 2
 ENDS = ("", "reached", "refused", "differs", "spent", "format", "source", "changed", "restarted", "way back")
+# Why steps ended otherwise than a course does.
+WHY = {"changed": "its format changed, or another one orders beside this call: look at what it holds",
+       "restarted": "the part restarted, or was exchanged: the same call again may end well"}
 # The fields of a step by their registers.
 FIELDS = {name: name.removeprefix("VOUT_").lower() for name in CODES if name.startswith("VOUT_")}
 

@@ -2,8 +2,10 @@
 from __future__ import annotations
 
 import argparse
+import contextlib
+import functools
 from dataclasses import dataclass, field
-from typing import Any, Callable
+from typing import Any, Callable, Iterator
 
 from .. import rails, voltages
 from ..apply import Board
@@ -17,6 +19,8 @@ from ..parts import BadRails
 from ..rail_course import Due, Stopped
 from ..rails import Rail
 from ..rehearsal import first_not_reached
+from ..stairs import WHY, StairsStep
+from ..step_run import StepCourse, StepRun
 from ..survey import TRIES, Commanded, Nobody, commanded, complete, only_word, survey
 from ..zeros import NotBelieved
 from .about import described
@@ -125,10 +129,8 @@ class RailTest:
             self.look.before(course, order)
             raise Due
 
-        try:
-            self.carry_out(course, before)
-        except Due:
-            pass
+        with contextlib.suppress(Due), self.stopping():
+            complete(self.part, course, before)
         end = course.ended
         if end is not None and end.kind == "refused" and refusal(end.number).letter == "P7" and self.call.protection.is_in_the_way(self.rail.part):
             return
@@ -143,8 +145,10 @@ class RailTest:
         protection.touch(part)
         protection.lift(part)
         self.call.back.note(Held(self.rail.name, part, self.rail.output, {OPERATION: self.byte}))
-        for point, byte in zip(POINTS, (self.byte, MARGINS["high"], MARGINS["low"])):
-            self.turn(point, byte)
+        way = (self.byte, MARGINS["high"], MARGINS["low"])
+        run = StepRun([(self.part, StairsStep.turns(0, self.rail.output, byte)) for byte in way], TRIES)
+        for place, (point, byte) in enumerate(zip(POINTS, way)):
+            self.turn(point, byte, functools.partial(run.carry_out, place))
             self.measure(point)
         for held, why in self.call.back.go():
             self.is_back = not why
@@ -152,14 +156,15 @@ class RailTest:
                 raise Stopped(words_of(held, why))
         self.measure(POINTS[-1])
 
-    def turn(self, point: str, byte: int) -> None:
-        """Orders a byte. Stopped if that isn't confirmed."""
-        course, call = Course.power(self.rail.output, byte, TRIES), self.call
+    def turn(self, point: str, byte: int, carry_out: Callable[..., None]) -> None:
+        """Orders a byte, a step of stairs. Stopped if that isn't confirmed."""
+        course, call = StepCourse.power(self.rail.output, byte, TRIES), self.call
 
         def before(_: Job) -> None:
             call.maybe = f"{self.rail.name} may be on a margin"
 
-        self.carry_out(course, before)
+        with self.stopping():
+            carry_out(self.part, course, before, lambda *_: None, call.places()[self.rail.part].ask_operation)
         end = course.ended or CourseEnd("")
         if end.kind != "reached":
             raise self.stopped(f"at {point}: {self.why_ended(byte, end)}")
@@ -176,10 +181,11 @@ class RailTest:
 
     # ---- Courses ----
 
-    def carry_out(self, course: Course, before: Callable[[Job], None]) -> None:
-        """Carries a course out. Stopped if nobody answers, or a voltage is at or beyond a fault limit."""
+    @contextlib.contextmanager
+    def stopping(self) -> Iterator[None]:
+        """Within it Stopped is raised if nobody answers, or a voltage is at or beyond a fault limit."""
         try:
-            complete(self.part, course, before)
+            yield
         except (Nobody, NotBelieved) as silent:
             raise self.stopped(f"no good answer: {silent}") from None
         except PlanRefused as fault:
@@ -194,7 +200,7 @@ class RailTest:
             return f"{said}: {why or SAYINGS.get(fault.letter, fault.name)}: {fault.letter} {fault.name}"
         if end.word is not None:
             return f"{said}: {end.register} is {in_hexadecimal(end.register, end.word)}"
-        return f"{said}: {self.part.transfers.why() or end.fault or 'no good answer'}"
+        return f"{said}: {WHY.get(end.kind) or self.part.transfers.why() or end.fault or 'no good answer'}"
 
     def stopped(self, why: str) -> Stopped:
         return Stopped(f"{self.rail.name}: {why}")

@@ -10,9 +10,11 @@ from ..device import Device
 from ..errors import SAYINGS, PlanRefused, Refused, refusal
 from ..look import Delivered
 from ..rail_course import OUTSIDE
+from ..stairs import WHY
 from ..states import Step
 from ..survey import FORMAT, Commanded, behind, commanded
 from ..values import CODES, Format
+from .again import RESTARTED
 from .answer import Answer, between, in_digits
 from .call import PROBE_TELLS, said
 from .readings import read_notes, read_protect
@@ -158,7 +160,7 @@ def is_well(found: Commanded, register: str, microvolts: int | None) -> bool:
 
 
 # What a course's end is called in the object of --json.
-ENDS = {"differs": "differs", "format": "no format", "source": "other source", "spent": "spent"}
+ENDS = {"differs": "differs", "format": "no format", "source": "other source", "spent": "spent", "changed": "changed", "restarted": "restarted"}
 
 
 def course_answer(arguments: argparse.Namespace, part: Device, register: str, course: Course, is_accepted: bool = False) -> Answer:
@@ -171,7 +173,9 @@ def course_answer(arguments: argparse.Namespace, part: Device, register: str, co
         return reached(arguments, part, register, state, is_accepted, course.turns_off)
     found = answer_of(arguments, part, register, ENDS[end.kind], state, status=1)
     has_written, cell = part.transfers.has_written, state.cells.get(end.register or "")
-    if end.kind == "differs" and end.word is not None:
+    if end.kind in WHY:
+        found.status, found.text, found.why = RESTARTED if end.kind == "restarted" else 1, possible_words(found), WHY[end.kind]
+    elif end.kind == "differs" and end.word is not None:
         found.text = f"{cell_words(arguments, part, end.register or register, end.word)} differs"
         found.why = (f"{end.register}: the part holds {in_hexadecimal(end.register, end.word)}: the write was lost, refused, limited or "
                      f"rounded{with_why(part)}{read_protect(part)}")
