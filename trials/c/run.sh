@@ -419,6 +419,7 @@ for each in $compilers; do
         program "$name both ends" examples/c/faults.expected "$compiler $strict" examples/c/faults.c $rest --
         program "$name HAL" examples/c/hal_bus.expected "$compiler $strict" examples/c/hal_bus.c $rest --
         program "$name rail" examples/c/rail.expected "$compiler $strict" examples/c/rail.c $rest --
+        program "$name bring-up" examples/c/bring_up.expected "$compiler $strict" examples/c/bring_up.c $rest --
         case $each in gcc | clang)
             program "$name firmware" examples/firmware/console.expected "$compiler $strict -Iexamples/firmware" $firmware --
             program "$name field" trials/field/rows.expected "$compiler $strict" trials/field/{rows,field,frames}.c -- trials/field/rows.txt ;;
