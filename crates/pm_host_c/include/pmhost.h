@@ -737,7 +737,7 @@ void pm_stairs_new(pm_stairs *stairs, uint16_t tries, uint8_t is_down);
 /* What is to be sent now, by the host at the place stairs->host. `steps` is the whole list, the same each time. As step N begins,
  * backs[N] becomes the step that undoes it: carried out the newest first, by stairs of their own, they are the way back. Of a way
  * down nothing is written there, and `room` may be 0. pm_stairs_frame takes all hosts.
- *   PM_OK           the frame goes on the bus of that host, and stays the same until it was told what became of it
+ *   PM_OK           the frame goes on the bus of that host, and stays the same until pm_stairs_write_ended or pm_stairs_read_ended
  *   PM_AGAIN        ask at once by the host at stairs->host, which may be another; with all but PM_OK the frame is PM_NOTHING
  *   PM_NO_WAY_BACK  before the first order of a step, once: the plan of its way back would be refused by the words that are known, as
  *                   stairs->end says. Asked again the step begins
@@ -780,6 +780,11 @@ typedef uint64_t (*pm_read)(void *context, const uint8_t *request, uint64_t coun
 
 /* Waits before all is asked again of an output that doesn't do yet what it is to: a ramp takes time. */
 typedef void (*pm_pause)(void *context);
+
+/* Sends a write, and answers whether it was acknowledged. */
+static inline uint8_t pm_was_acked(const pm_sending *frame, pm_write write, void *context) {
+    return write(context, frame->bytes, frame->length) == PM_ACKED;
+}
 
 /* Reads the answer to a request, the read address first, and answers how many bytes came with it; 0 if none did. A `read` that says
  * that more bytes came than there was room for counts as one to which none came. */
@@ -926,7 +931,7 @@ static inline pm_step pm_carry_out(pm_host *host, pm_course *course, pm_delivery
         if (number != PM_OK || frame.kind == PM_NOTHING)
             break;
         if (frame.kind == PM_WRITE) {
-            uint8_t acked = write(context, frame.bytes, frame.length) == PM_ACKED;
+            uint8_t acked = pm_was_acked(&frame, write, context);
             step = course ? pm_course_write_ended(course, host, acked) : pm_host_write_ended(host, acked);
         } else {
             uint64_t count = pm_answer(&frame, answer, read, context);
@@ -1053,7 +1058,7 @@ static inline uint8_t pm_run_stairs(pm_stairs *stairs, pm_host *const *hosts, vo
         pm_host *host = hosts[stairs->host];
         void *context = contexts[stairs->host];
         if (frame.kind == PM_WRITE)
-            (void)pm_stairs_write_ended(stairs, host, write(context, frame.bytes, frame.length) == PM_ACKED);
+            (void)pm_stairs_write_ended(stairs, host, pm_was_acked(&frame, write, context));
         else
             (void)pm_stairs_read_ended(stairs, host, answer, pm_answer(&frame, answer, read, context));
     }

@@ -52,7 +52,7 @@ delivery_size = 2 * word_size + 4 + 3 * word_size + 13 * heard_size
 abbrev pub stairs_step_size : ℕ
 stairs_step_size = 8 + 5 * (2 * word_size + 4 + 8)
 
--- stairs: the mark, the version, the tries and the steps begun; eight bytes; how they ended, in sixteen; the step under way, in eight bytes,
--- two words and five wishes; and two courses
+-- stairs: the mark, the version, the tries and the steps begun; eight bytes; how they ended, in sixteen; the step under way, in eight
+-- bytes, two words and five wishes; and two courses
 abbrev pub stairs_size : ℕ
 stairs_size = 4 * word_size + 8 + 16 + (8 + 2 * word_size + 5 * (2 * word_size)) + 2 * course_size

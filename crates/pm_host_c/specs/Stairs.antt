@@ -1,5 +1,6 @@
 -- What the calls of stairs answer and write, by the definitions of pm_stairs. This project's own choice.
-use Rattle.std.specs.Prelude.{◌≡◌, ◌≢◌, ℕ, Bool, true, false, ◌&&◌, ◌||◌, not, nat_lt, ◌==◌, ◌%◌, ◌+◌, if◌then◌else◌, List, length, slice_get, slice_set}
+use Rattle.std.specs.Prelude.{◌≡◌, ◌≢◌, ℕ, Bool, true, false, ◌&&◌, ◌||◌, not, nat_lt, ◌==◌, ◌%◌, ◌+◌, if◌then◌else◌, List, length}
+use Rattle.std.specs.Prelude.{slice_get, slice_set}
 use Rattle.std.specs.Prelude.{Option, Some, None, is_some, option_map, Result, Ok, Err}
 use Rattle.std.specs.Option.{option_map_or}
 use Rattle.pm_host.specs.declared.host.Step.{Step}
@@ -36,7 +37,8 @@ use Rattle.pm_host_c.specs.Guard.{guard_of}
 use Rattle.pm_host_c.specs.Host.{after, is_told, job_number, refused_step, told_answer, IsNothing, IsSent}
 use Rattle.pm_host_c.specs.Memory.{IsMemory}
 use Rattle.pm_host_c.specs.Numbers.{accepted, again, ended, no_host, no_room, no_stairs, no_step, no_way_back}
-use Rattle.pm_host_c.specs.StairsImage.{end_no_way_back, end_none, end_reached, end_refused, end_stopped, is_stopped, placed_in, stairs_image, stairs_in, step_image}
+use Rattle.pm_host_c.specs.StairsImage.{end_no_way_back, end_none, end_reached, end_refused, end_stopped, is_stopped, placed_in}
+use Rattle.pm_host_c.specs.StairsImage.{stairs_image, stairs_in, step_image}
 
 -- stairs are made
 abbrev pub stairs_begun : ℕ → ℕ → StairsImage
@@ -116,7 +118,8 @@ refused_with was is said number job = stopped_by (refused_in was is (is_some (ba
 
 -- How stairs hand out what is next, by the host at the place that they name: the frame of their open job, or the first of the job that
 -- they name, which begins; nothing where they name none, or where the host or its limits refuse it.
-pub data HandsOut (g : Guarded) (old : GuardImage) (q : Sequence) (was : StairsImage) (ahead : Option Placed) (backs : List StairsStepImage) :
+pub data HandsOut (g : Guarded) (old : GuardImage) (q : Sequence) (was : StairsImage) (ahead : Option Placed)
+    (backs : List StairsStepImage) :
     ℕ → GuardImage → StairsImage → List StairsStepImage → SendingImage → Type 0 where
   same_frame : (stage : Stage) (sending : SendingImage) → g.host.stage ≡ Some stage → is_job_at q.stairs stage ≡ true →
       IsSent (host_of old.host) sending → HandsOut g old q was ahead backs accepted old was backs sending
@@ -132,7 +135,8 @@ pub data HandsOut (g : Guarded) (old : GuardImage) (q : Sequence) (was : StairsI
 -- Memory that holds no host or no stairs, want of room and a wrong step are refused first.
 pub data Asks (old : GuardImage) (was : StairsImage) (steps backs : List StairsStepImage) :
     ℕ → GuardImage → StairsImage → List StairsStepImage → SendingImage → Type 0 where
-  no_host_asked : (sending : SendingImage) → guard_of old ≡ None → IsNothing sending → Asks old was steps backs no_host old was backs sending
+  no_host_asked : (sending : SendingImage) → guard_of old ≡ None → IsNothing sending →
+      Asks old was steps backs no_host old was backs sending
   no_stairs_asked : (sending : SendingImage) (g : Guarded) → guard_of old ≡ Some g → stairs_in was ≡ None → IsNothing sending →
       Asks old was steps backs no_stairs old was backs sending
   no_room_asked : (sending : SendingImage) (g : Guarded) (q : Sequence) → guard_of old ≡ Some g → stairs_in was ≡ Some q →

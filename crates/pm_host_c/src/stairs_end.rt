@@ -31,7 +31,7 @@ pub struct StairsEndImage {
 }
 
 impl StairsEndImage {
-    // These numbers of an end, of a step that had begun or hadn't, at this place.
+    // The image of an end by its numbers, of a step that had begun or hadn't, at this place.
     fn of(end: EndNumbers, begun: bool, step: u16) -> StairsEndImage
         ensures { result ≡ stairs_end end begun step }
     {

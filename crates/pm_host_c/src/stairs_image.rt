@@ -78,7 +78,7 @@ impl StairsImage {
     /// The number of the layout.
     pub const VERSION: u16 = 1;
 
-    /// These stairs, with how they ended.
+    /// The image of stairs, with how they ended.
     pub(crate) fn of(stairs: &Sequence, end: StairsEndImage) -> StairsImage
         ensures { result ≡ stairs_image stairs.now end }
     {

@@ -126,7 +126,7 @@ turned_after ahead q (move.Passes back) asked refused = one_begun q asked
 turned_after ahead q move.Reached asked refused = reached_after q asked ahead
 turned_after ahead q (move.Stops why) asked refused = record q { stairs = asked; is_free = false }
 
--- of the step that begins
+-- why the way back of the step that begins would be refused
 abbrev pub refused_for : Guarded → Sequence → Move → Option PlanFault
 refused_for g q (move.Job job) = None
 refused_for g q (move.Begins job back) = refused_back g q back
@@ -137,7 +137,8 @@ refused_for g q (move.Stops why) = None
 -- what the first step ahead asks for, where the one under way is over by its own host
 pub data GoesApart (g : Guarded) (tries : ℕ) (step : Step) (old : Stairs) : Move → Stairs → Type 0 where
   ended_apart : old.restarted ≡ true → GoesApart g tries step old (move.Stops Restarted) old
-  goes_apart : (said : Move) (new : Stairs) → old.restarted ≡ false → GoesAhead g tries step old said new → GoesApart g tries step old said new
+  goes_apart : (said : Move) (new : Stairs) → old.restarted ≡ false → GoesAhead g tries step old said new →
+      GoesApart g tries step old said new
 
 -- What the stairs say: both steps are asked by one host (`here`), or the first one ahead by its own, once the one under way was over by its
 -- (`apart`).

@@ -28,12 +28,10 @@ use Rattle.pm_stairs.specs.Steps.{noted, step_course, step_with}
 
 -- one word is wanted, of VOUT_COMMAND or a margin
 abbrev pub one_word : Reg → ℕ → Wanted
-one_word Operation word = nothing
 one_word VoutCommand word = record nothing { command = Some word }
-one_word VoutMax word = nothing
 one_word MarginHigh word = record nothing { margin_high = Some word }
 one_word MarginLow word = record nothing { margin_low = Some word }
-one_word VoutMin word = nothing
+one_word register word = nothing
 
 -- the word of the register that a byte selects, where it is known
 abbrev pub selected_at : Summary → ℕ → Reg → Option Wanted
@@ -65,7 +63,8 @@ lasting (Protected register) = Some (Protected register)
 -- Why a way back would be refused, by the words that are known as the step begins which it undoes: they are those that it leads to.
 unfoldable pub way_back_fault : Guarded → WordStep → Option PlanFault
 way_back_fault g back = if nat_lt back.output 8
-    then option_and_then (λ wanted. option_and_then lasting (plan_fault g back.output wanted)) (goal_at g.host back.output back.act) else None
+    then option_and_then (λ wanted. option_and_then lasting (plan_fault g back.output wanted))
+        (goal_at g.host back.output back.act) else None
 
 -- why a step in words would be refused, by the words that are known now
 abbrev pub unknown_byte : Guarded → WordStep → Option ℕ → Option PlanFault
@@ -83,7 +82,8 @@ checked None (Some fault) = check.NoWayBack fault
 checked None None = check.Accepted
 
 abbrev pub words_check : Guarded → WordStep → StepCheck
-words_check g step = if nat_lt step.output 8 then checked (act_fault g step step.act) (way_back_fault g (noted g.host step)) else check.Accepted
+words_check g step = if nat_lt step.output 8 then checked (act_fault g step step.act)
+    (way_back_fault g (noted g.host step)) else check.Accepted
 
 -- its words are those of the format that is known now
 abbrev pub as_learned : FrameCourse → FrameCourse

@@ -37,7 +37,7 @@ pub fn check<S: Sight>(guard: &S, step: &Step) -> StepCheck
     }
 }
 
-// The same of a step in words.
+// Whether the plan of a step in words or that of its way back would be refused.
 fn check_words<S: Sight>(guard: &S, step: &WordStep) -> StepCheck
     ensures { result ≡ words_check (S.guarded guard.now) step.now }
 {

@@ -94,7 +94,8 @@ module _ (due : MovesAreDue) (config : Config) (passes : ℕ) (part : PartRegist
       IsClimb config passes part steps before begun backs ahead stairs events → IsGuardAt config passes part events g →
       HandsOut g tries (first ahead) stairs sent came new is →
       Handed config passes part steps before begun backs ahead events g came new is
-  hands begun backs ahead stairs is events g new tries sent came was at (frames.again stage sent' stands job sending) = stays came stairs was
+  hands begun backs ahead stairs is events g new tries sent came was at (frames.again stage sent' stands job sending) =
+      stays came stairs was
   hands begun backs ahead stairs is events g new tries sent came was at (frames.job job sent' new' is' goes lets sending) =
       asks job new is lets (λ event by. climb.asks g tries job begun backs ahead stairs is events event was at goes by)
   hands begun backs ahead stairs is events g new tries sent came was at (frames.begins job back sent' new' is' goes lets sending) =
@@ -112,9 +113,11 @@ module _ (due : MovesAreDue) (config : Config) (passes : ℕ) (part : PartRegist
       stays came is (climb.says g tries (move.Stops why) begun backs ahead stairs is events was at goes
       (stops-means (due g tries (first ahead) stairs is (move.Stops why) goes)))
   hands begun backs ahead stairs is events g new tries sent came was at (frames.refused job fault is' goes refuses) = stays came stairs was
-  hands begun backs ahead stairs is events g new tries sent came was at (frames.refused_first job back fault is' goes refuses) = stays came stairs was
+  hands begun backs ahead stairs is events g new tries sent came was at (frames.refused_first job back fault is' goes refuses) =
+      stays came stairs was
 
-  pub hears : (begun backs : List WordStep) (ahead : List Step) (stairs is : Stairs) (events : List Event) (g new : Guarded) (entry : host.Entry)
+  pub hears : (begun backs : List WordStep) (ahead : List Step) (stairs is : Stairs) (events : List Event) (g new : Guarded)
+      (entry : host.Entry)
       (result : Result (Unit {0}) Untold) → IsClimb config passes part steps before begun backs ahead stairs events →
       Hears g stairs entry result new is → IsClimb config passes part steps before begun backs ahead is events
   hears begun backs ahead stairs is events g new entry result was (frames.nothing none) = was

@@ -17,7 +17,8 @@ use Rattle.pm_stairs.specs.declared.step.Act.{Act}
 use Rattle.pm_stairs.specs.declared.step.Act.TheVariants as act
 use Rattle.pm_stairs.specs.declared.step.Step.{Step}
 use Rattle.pm_stairs.specs.declared.step.WordStep.{WordStep}
-use Rattle.pm_stairs.specs.Sequence.{Turns, ahead_here, asked_apart, begins_after, begins_turn, host_due, is_at_once, is_under, off_at_once, one_begun, reached_after, reached_turn, refused_back, refused_for, turned, turned_after}
+use Rattle.pm_stairs.specs.Sequence.{Turns, ahead_here, asked_apart, begins_after, begins_turn, host_due, is_at_once, is_under, off_at_once}
+use Rattle.pm_stairs.specs.Sequence.{one_begun, reached_after, reached_turn, refused_back, refused_for, turned, turned_after}
 use Rattle.pm_stairs.specs.Sequence as sequence
 use Rattle.pm_stairs.specs.Stairs.{Goes}
 use Rattle.pm_host.specs.Summary.{Summary}
@@ -71,14 +72,16 @@ reached-so due g q (Some placed) asked goes =
 
 said-so : MovesAreDue → (g : Guarded) (q : Sequence) (ahead : Option Placed) (said : Move) (asked : Stairs) →
     Goes g q.tries (step_of_placed ahead) q.stairs said asked →
-    Named g q.tries (step_of_placed ahead) q.stairs (turned_after ahead q said asked (refused_for g q said)).stairs (turned ahead said (refused_for g q said))
+    Named g q.tries (step_of_placed ahead) q.stairs (turned_after ahead q said asked (refused_for g q said)).stairs
+        (turned ahead said (refused_for g q said))
 said-so due g q ahead (move.Job job) asked goes = named.job job goes
 said-so due g q ahead (move.Begins job back) asked goes = begins-so g q (step_of_placed ahead) asked job back (refused_back g q back) goes
 said-so due g q ahead (move.Passes back) asked goes = named.passes back goes
 said-so g q ahead move.Reached asked goes = reached-so due g q ahead asked goes
 said-so due g q ahead (move.Stops why) asked goes = named.stops why goes
 
-pub sequences : MovesAreDue → (g : Guarded) (ahead : Option Placed) (q is : Sequence) (said : Turn) → IsOfOneHost q ahead → Turns g ahead q said is →
+pub sequences : MovesAreDue → (g : Guarded) (ahead : Option Placed) (q is : Sequence) (said : Turn) → IsOfOneHost q ahead →
+    Turns g ahead q said is →
     Named g q.tries (step_of_placed ahead) q.stairs is.stairs said
 sequences moves g ahead q is said one (sequence.elsewhere due) = named.same turn.Again refl
 sequences moves g ahead q is said one (sequence.at_once_of step due off) =

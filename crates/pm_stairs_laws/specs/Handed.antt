@@ -26,9 +26,10 @@ use Rattle.pm_world.specs.Job.{asked_by}
 use Rattle.pm_stairs_laws.specs.Climb.{IsClimb, IsGuardAt, first}
 use Rattle.pm_stairs_laws.specs.Due.{step_under}
 
--- The call that hands out a frame is a step of a caller of the stairs, or none (`stays`): a job begins, which each event asks for that begins
--- it (`asks`), and the first step ahead with it (`begins`), or that step is over as it begins (`passes`).
-pub data Handed (config : Config) (passes : ℕ) (part : PartRegisters) (steps : List Step) (before : List Event) (begun backs : List WordStep)
+-- The call that hands out a frame is a step of a caller of the stairs, or none (`stays`): a job begins, which each event asks for that
+-- begins it (`asks`), and the first step ahead with it (`begins`), or that step is over as it begins (`passes`).
+pub data Handed (config : Config) (passes : ℕ) (part : PartRegisters) (steps : List Step) (before : List Event)
+    (begun backs : List WordStep)
     (ahead : List Step) (events : List Event) (g : Guarded) : Came → Guarded → Stairs → Type 0 where
   stays : (came : Came) (is : Stairs) → IsClimb config passes part steps before begun backs ahead is events →
       Handed config passes part steps before begun backs ahead events g came g is
@@ -43,8 +44,8 @@ pub data Handed (config : Config) (passes : ℕ) (part : PartRegisters) (steps :
       IsClimb config passes part steps before (step ∷ begun) (back ∷ backs) rest is events →
       Handed config passes part steps before begun backs ahead events g (Passed back) g is
 
--- What is said of a list whose steps are all of one host, on no way down: the stairs are asked with both steps (`asked`), and what they name
--- is answered, or that the way back of a step would be refused; then nothing changes that they go by (`warned`).
+-- What is said of a list whose steps are all of one host, on no way down: the stairs are asked with both steps (`asked`), and what they
+-- name is answered, or that the way back of a step would be refused; then nothing changes that they go by (`warned`).
 pub data Named (g : Guarded) (tries : ℕ) (ahead : Option Step) (old new : Stairs) : Turn → Type 0 where
   job : (named : Asked) → Goes g tries ahead old (move.Job named) new → Named g tries ahead old new (turn.Job named)
   begins : (named : Asked) (back : WordStep) → Goes g tries ahead old (move.Begins named back) new →
@@ -64,8 +65,8 @@ pub record IsOfOneHost (q : Sequence) (ahead : Option Placed) : Type 0 where
   pub under : q.under_host ≡ q.host
   pub next : option_map (λ placed. placed.host) ahead ≡ option_map (λ placed. q.host) ahead
 
--- The calls over frames are steps of a caller of the stairs (`hands`, `hears`), so that all that the laws say of one is true of who sends what
--- they hand out and tells what became of it. A list over one host names what its stairs do (`sequences`).
+-- The calls over frames are steps of a caller of the stairs (`hands`, `hears`), so that all that the laws say of one is true of who
+-- sends what they hand out and tells what became of it. A list over one host names what its stairs do (`sequences`).
 pub record StairsAreHanded : Type 0 where
   pub hands : (config : Config) (passes : ℕ) (part : PartRegisters) (steps : List Step) (before : List Event) (begun backs : List WordStep)
       (ahead : List Step) (stairs is : Stairs) (events : List Event) (g new : Guarded) (tries : ℕ) (sent : Option Sending) (came : Came) →

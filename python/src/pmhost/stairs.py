@@ -80,8 +80,8 @@ class StairsStep:
 
 @dataclass(frozen=True)
 class StairsEnd:
-    """How steps ended: `course` as the course of the step did; or its kind is `changed`, where the step's next order isn't due by the words
-    with which it began; `restarted`, where a part was seen to restart; `way back`, where the plan of the way back of the step would be
+    """How steps ended: `course` as the course of the step did; or its kind is `changed` if the step's next order isn't due by the words
+    with which it began; `restarted` if a part was seen to restart; `way back` if the plan of the way back of the step would be
     refused. `step` is the place of the step, of `reached` how many there are."""
 
     course: CourseEnd
@@ -103,7 +103,7 @@ class NoWayBack(PmhostError):
 
 
 def end_of(image: at.StairsEndImage) -> Optional[StairsEnd]:
-    """An end as the library says it, None where the steps go on."""
+    """An end as the library says it, None if the steps go on."""
     if image.kind == 0:
         return None
     kind = ENDS[image.kind]
@@ -114,7 +114,7 @@ def end_of(image: at.StairsEndImage) -> Optional[StairsEnd]:
 
 
 class Stairs:
-    """Steps over these hosts, each begun only where the one before is over. `tries` is how many jobs a step has at most. A way down
+    """Steps over these hosts, each begun only if the one before is over. `tries` is how many jobs a step has at most. A way down
     (`is_down`) notes no way back, says no NoWayBack, reads nothing before an order that turns an output off, and can skip a step that
     stopped.
 
@@ -142,7 +142,7 @@ class Stairs:
 
     @property
     def ended(self) -> Optional[StairsEnd]:
-        """How they ended, None where they go on."""
+        """How they ended, None if they go on."""
         return end_of(self._image.end)
 
     def way_back(self) -> list[StairsStep]:
@@ -172,7 +172,7 @@ class Stairs:
         return self.host.step_of(library.pm_stairs_write_ended(REFERENCE(self._image), self.host.reference, acked))
 
     def read_ended(self, answer: bytes) -> Step:
-        """A request was sent, and these bytes came back, the read address first; none where there was no answer."""
+        """A request was sent, and these bytes came back, the read address first; none if there was no answer."""
         taken = frame_bytes(answer, 2**16, "answer")
         return self.host.step_of(library.pm_stairs_read_ended(REFERENCE(self._image), self.host.reference, taken, len(taken)))
 
@@ -202,8 +202,8 @@ def run_stairs(stairs: Stairs, buses: Sequence[Bus], before_step: Optional[Gate]
                before_order: Optional[Callable[[Job], None]] = None, after_order: Optional[Callable[[Job, Step], None]] = None) -> None:
     """Carries steps out, frame after frame, each over the bus of its host; `ended` says how. Stops at NoWayBack too: another call goes on.
 
-    `before_step` is told of each step before its first frame, while no job is open, `before_order` of each order before its first frame: where
-    one raises, the step or the order hasn't begun. `after_order` is told of how an order ended. Whatever is raised meanwhile goes on to the
+    `before_step` is called with each step before its first frame, while no job is open, `before_order` with each order before its first frame:
+    if one raises, the step or the order hasn't begun. `after_order` is called with how an order ended. Whatever is raised meanwhile goes on to the
     caller, with the job that was under way ended as unknown. `transfers` has those of the last job."""
     kept, passed, order = Transfers() if transfers is None else transfers, stairs.begun, None
     is_open = False
@@ -240,7 +240,7 @@ def ordered(host: Host, sending: Sending) -> Job:
 
 
 def told(before_order: Callable[[Job], None], order: Job, stairs: Stairs, memory: Memory) -> None:
-    """Tells of an order that has begun; where that raises, stairs and hosts hold what they did before it."""
+    """Calls `before_order` with an order that has begun; if that raises, stairs and hosts hold what they did before it."""
     try:
         before_order(order)
     except BaseException:
@@ -249,13 +249,13 @@ def told(before_order: Callable[[Job], None], order: Job, stairs: Stairs, memory
 
 
 def heard(stairs: Stairs, sending: Sending, came: Any) -> Step:
-    """The stairs are told what came of a frame."""
+    """The stairs hear what came of a frame."""
     if stairs.host.listener is not None:
         stairs.host.listener.told(sending, came)
     return stairs.write_ended(came) if isinstance(came, bool) else stairs.read_ended(came)
 
 
 def give_up(stairs: Stairs) -> None:
-    """Ends the open job: its frames that are left aren't sent, and are told as failed."""
+    """Ends the open job: its frames that are left aren't sent, and count as failed."""
     while (sending := stairs.host.frame()) is not None:
         heard(stairs, sending, b"" if sending.is_request else False)

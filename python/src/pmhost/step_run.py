@@ -32,14 +32,14 @@ class StepCourse(Course):
 
 
 class StepRun:
-    """A list of steps, each with its part. `tries` is how many jobs each has at most; a way down (`is_down`) goes on behind one that stopped."""
+    """A list of steps, each with its part. `tries` is how many jobs each has at most; a way down (`is_down`) goes on after one that stopped."""
 
     def __init__(self, steps: list[tuple[Device, StairsStep]], tries: int, is_down: bool = False) -> None:
         self.steps, self.tries, self.is_down = steps, tries, is_down
         self._devices, self._first, self._stairs = list[Device](), 0, Stairs((), (), tries, is_down)
 
     def _at(self, place: int) -> Stairs:
-        """The stairs of which the step at a place of the list is the next or under way; they begin there where those before have ended."""
+        """The stairs of which the step at a place of the list is the next or under way; they begin there if those before have ended."""
         ended = self._stairs.ended
         if ended is not None and self.is_down and ended.kind != "reached" and self._first + ended.step < place:
             self._stairs.skip()
@@ -61,7 +61,7 @@ class StepRun:
 
     def carry_out(self, place: int, part: Device, course: StepCourse, before_order: Callable[[Job], None],
                   after_order: Callable[[Job, Step], None], ask: Callable[[], str]) -> None:
-        """Carries the step at a place out, up to its end, which the course has then. As `survey.complete` does: Nobody where nobody answers
+        """Carries the step at a place out, up to its end, which the course has then. As `survey.complete` does: Nobody if nobody answers
         its first job and `ask` says why."""
         part.transfers = Listening(part.host.passes)
         try:
