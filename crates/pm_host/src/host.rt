@@ -79,7 +79,7 @@ pub enum Told<'a> {
 #[derive(Debug, Drop)]
 pub struct Host {
     state: State,
-    // What the open job is sending; nothing where no job is open.
+    // What the open job is sending; `None` if no job is open.
     sending: Option<Sending>,
 }
 
@@ -265,7 +265,7 @@ impl Host {
         cells_have_places();
         self.state.known.has_places();
         let Some(sending) = &self.sending else {
-            // What is told is of a frame that is being sent.
+            // A report always speaks of a frame that is being sent.
             unreachable!()
         };
         let progress = self.state.told(sending.stage, told);

@@ -12,7 +12,7 @@ use pm_table::cells_have_places;
 pub fn transcripts_are_followed()
     ensures { TranscriptsAreFollowed }
 {
-    // Each cell has a place of its own, where what is known of it stands.
+    // law: each cell has a place of its own, for what is known of it
     cells_have_places();
 }
 
@@ -22,7 +22,7 @@ pub fn transcripts_are_followed()
 pub fn ends_are_told()
     ensures { EndsAreTold }
 {
-    // Each cell has a place of its own, where what is known of it stands.
+    // law: each cell has a place of its own, for what is known of it
     cells_have_places();
     transcripts_are_followed();
 }
@@ -31,7 +31,7 @@ pub fn ends_are_told()
 pub fn jobs_are_bounded()
     ensures { JobsAreBounded }
 {
-    // Each cell has a place of its own, where what is known of it stands.
+    // law: each cell has a place of its own, for what is known of it
     cells_have_places();
 }
 

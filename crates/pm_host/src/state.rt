@@ -118,7 +118,7 @@ impl State {
             (Stage::Asks { question, tries }, Told::Got(bytes)) => {
                 self.answered(question, tries, bytes)
             }
-            // What is told is of the kind of the frame that is being sent.
+            // A report is of the kind of the frame that is being sent.
             _ => unreachable!(),
         }
     }
