@@ -213,7 +213,7 @@ impl Course {
         }
     }
 
-    // The next order of a course to a byte of OPERATION, where no job is open.
+    // The next order of a course to a byte of OPERATION, if no job is open.
     fn power_next(
         &self,
         host: &State,
@@ -303,7 +303,7 @@ impl Course {
         }
     }
 
-    // This job, where a try is left.
+    // This job, if a try is left.
     fn taking(&self, job: Job) -> Next
         ensures { result ≡ taking self.now job }
     {

@@ -290,7 +290,7 @@ impl Survey {
         is_stuck_in(host, form, &self.settings(host, form))
     }
 
-    // The words of its output that are known, and those that its plan wants.
+    // The words of its output that are known, and the wanted words of its plan.
     fn settings(&self, host: &State, form: &OutputForm) -> Settings
         requires { self.now.output < 8 }
         ensures output { result.output ≡ self.now.output }
@@ -306,7 +306,7 @@ impl Survey {
     }
 }
 
-// The words that are wanted by the plan that a survey is for; none where it is for no plan.
+// The wanted words of the plan that a survey is for; none if it is for no plan.
 pub(crate) fn wanted_of(plan: Option<Wanted>) -> Wanted
     ensures { result ≡ wanted_in plan }
 {
