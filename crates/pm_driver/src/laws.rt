@@ -43,7 +43,8 @@ pub(crate) fn laws_of_lives()
     lists_say_enough();
 }
 
-/// What leads on from where something led is one that leads from its beginning: calls compose.
+/// Calls compose: if one way leads to a point and another leads on from there, both together lead from the first one's
+/// beginning.
 pub fn leads_compose<B: Bus>()
     ensures { LeadsCompose B.gives B.held B.restarts }
 {}
@@ -53,8 +54,8 @@ pub fn restarts_are_counted<B: Bus>()
     ensures { RestartsAreCounted B.gives B.held B.restarts }
 {}
 
-/// In every life whose newest event is one that the host was told of, the end of the last job says what it is worth:
-/// an order that is done is confirmed and held, one that differs stands with the word that was read, a check that is
+/// The end of the last job says what it is worth, in every life whose newest event is one that the host heard of. An
+/// order that is done is confirmed and held; one that differs stands with the word that was read. A check that is
 /// done stands with some word, and a learned format is the converter's.
 pub fn ends_are_true()
     ensures { EndsAreTrue }
@@ -64,8 +65,8 @@ pub fn ends_are_true()
     laws_of_lives();
 }
 
-/// Between two answers of a life that surprise the host, the converter restarted. So without a restart of it since the first
-/// good answer behind a moment, one answer at most surprises behind that moment, whatever else happened.
+/// Between two answers of a life that surprise the host, the converter restarted. At most one answer after a moment
+/// surprises, whatever else happened, if the converter didn't restart since the first good answer after that moment.
 pub fn one_surprise_at_most()
     ensures { OneSurpriseAtMost }
 {
@@ -146,7 +147,7 @@ pub(crate) fn calls_go()
     laws_of_lives();
 }
 
-/// A call of the frame that the host was sending, whose answer the host is told, leads on.
+/// A call of the frame that the host was sending leads on, once the host has heard its answer.
 pub(crate) fn frames_lead<B: Bus>()
     ensures { FramesLead B.gives B.held B.restarts }
 {

@@ -76,8 +76,9 @@ pub fn surveys_are_true<B: Bus>()
     laws_of_rails();
 }
 
-/// A survey that began with nothing read, and each of whose checks is done, takes at most one check less than two for each cell
-/// that it reads, where the converter didn't restart since the first of its reads: an answer that surprises shows a restart.
+/// A survey that began with nothing read, and each of whose checks is done, takes few checks: at most one less than two for
+/// each cell that it reads, if the converter didn't restart since the first of its reads. An answer that surprises shows a
+/// restart.
 pub fn surveys_take_few_checks<B: Bus>()
     ensures { SurveysTakeFewChecks B.gives B.held B.restarts }
 {
@@ -89,14 +90,14 @@ pub fn surveys_take_few_checks<B: Bus>()
     one_surprise_at_most();
 }
 
-/// A survey is one way from first to last, asked for its jobs and nothing else, and so is a course that is carried out: by the
+/// A survey, or a course that is carried out, is one way from first to last, asked for its jobs and nothing else: by the
 /// events that the laws on their worth speak of.
 pub fn rails_lead<B: Bus>()
     ensures { RailsLead B.gives B.held B.restarts }
 {}
 
-/// What an output commands lies in its band, and within its limits where the guard says so, where the converter didn't restart
-/// since the host's last good answer for any of the registers that the band rests on.
+/// What an output commands lies in its band, if the converter didn't restart since the host's last good answer for any of the
+/// registers that the band rests on. It lies within its limits, too, if the guard says so.
 pub fn bands_stand()
     ensures { BandsStand }
 {

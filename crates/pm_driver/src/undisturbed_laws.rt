@@ -72,9 +72,9 @@ pub fn courses_end_once_undisturbed<B: Bus>()
     surveys_end_known();
 }
 
-/// Over such a bus a course to a byte of OPERATION ends with that byte in OPERATION and each other word kept, whatever the host
-/// knew: with 16 tries where it leaves the output on, and with one where it turns it off. It is refused by the output's limits
-/// alone, and then no word moved. The part has the register that the byte selects, and WRITE_PROTECT allows OPERATION.
+/// A course to a byte of OPERATION over such a bus ends with that byte in OPERATION and each other word kept, whatever the host
+/// knew. It needs 16 tries to a byte that leaves the output on, and one to a byte that turns it off. Only the output's limits
+/// refuse it, and then no word moved. The part has the register that the byte selects, and WRITE_PROTECT allows OPERATION.
 pub fn undisturbed_power_ends<B: Bus>()
     ensures { UndisturbedPowerEnds B.gives B.held B.restarts }
 {
@@ -90,7 +90,7 @@ pub fn whole_parts_fit()
     ensures { WholePartsFit }
 {}
 
-/// A bus that tries a write again is undisturbed where the bus below is.
+/// A bus that tries a write again is undisturbed if the bus below it is.
 pub fn retrying_is_undisturbed<B: Bus>()
     ensures { RetryingIsUndisturbed B.gives B.held }
 {}

@@ -11,7 +11,7 @@ use crate::{
 };
 
 /// What happens to a converter in parts, put together: a write that is heard in two goes, and times in which it heard
-/// nothing before a write and before a request, or alone.
+/// nothing: before a write, before a request, or with no frame after them.
 pub fn parts_compose()
     ensures { PartsCompose }
 {
