@@ -14,8 +14,7 @@ use pm_host::{Host, State};
 use pm_num::{AnyFormat, Frac};
 use pm_table::{Cell, Reg};
 
-// What stands for the bytes that OPERATION may be where it may be any: on, on with margin high, and on with
-// margin low.
+// What stands for the bytes of an OPERATION that may be any: on, on with margin high, and on with margin low.
 static EACH_SELECTION: [u16; 3] = [0x80, 0xA8, 0x94];
 
 /// The least and the greatest voltage that an output may command, in volts, by what is known.
@@ -114,7 +113,7 @@ fn may_select_avsbus(host: &State, output: u8) -> bool
     }
 }
 
-// The bytes that an output's OPERATION may be, where it may not be any.
+// The bytes that an output's OPERATION may be; `None` if it may be any.
 fn listed(host: &State, output: u8) -> Option<&[u16]>
     requires { output < 8 }
     ensures { MatchOption result (possible_at (held None host.now) (Out output Operation) ≡ Any)
