@@ -66,7 +66,7 @@ impl FrameCourse {
         }
     }
 
-    // The course that wants the held word, or why it isn't taken.
+    // The course whose wanted word is the held one, or why that isn't taken.
     fn accepted(
         &self,
         host: &State,
@@ -149,7 +149,7 @@ impl FrameCourse {
         }
     }
 
-    // The course that wants the word of a register, as a word or as a voltage that means it.
+    // The course whose wish is the word of a register, as a word or as a voltage that means it.
     fn taking(
         &self,
         words: &Wanted,
@@ -180,7 +180,7 @@ impl FrameCourse {
     }
 }
 
-// P9 where nothing is wanted.
+// P9, for a course with no wish.
 fn nothing_near() -> Refusal
     ensures { result ≡ record { number = spec_not_near; register = None } }
 {
