@@ -92,11 +92,11 @@ impl World {
         })
     }
 
-    /// Makes a new world, and lets the events happen one after another, up to the first that isn't taken.
-    /// It gives the world after them, and where it stopped and why, or `None` where every event was
-    /// taken. `Err` is why no world is made.
+    /// Makes a new world, and lets the events happen one after another, up to the first that isn't taken. It
+    /// gives the world after them, and where it stopped and why, or `None` if every event was taken. `Err` is
+    /// why no world is made.
     ///
-    /// The *taken events* are those before the stop, or all where there is none. Whatever was lost, cut,
+    /// The *taken events* are those before the stop, or all if there is none. Whatever was lost, cut,
     /// damaged, repeated or falsely acknowledged, and whichever end started again:
     ///
     /// - `orders`: the converter's words, and those in its store, are those of the run of the order machine that
@@ -109,10 +109,10 @@ impl World {
     ///   take, so it has the settings of one earlier moment.
     /// - `commanded`: each output commands the value of one of its own words, cut to its own VOUT_MIN and VOUT_MAX.
     /// - `confirmed`: a word that the host calls confirmed is held, unless the converter restarted since it was read.
-    /// - `possible`: where the host lists the words that are possible for a cell, the converter's is among
-    ///   them, unless the converter restarted since the host's last good answer for the cell.
-    /// - `seen`: a good answer that the host didn't think possible comes only where the converter restarted since the
-    ///   one before it for the same cell. So where the host saw a restart, there was one since the host started.
+    /// - `possible`: the converter's word is among those that the host lists as possible for a cell, unless
+    /// the converter restarted since the host's last good answer for the cell.
+    /// - `seen`: a good answer that the host didn't think possible comes only if the converter restarted since the
+    /// one before it for the same cell. A restart that the host saw happened since the host started.
     /// - `limited`: at each moment of the taken events an output commands a voltage within limits that allow all of its
     ///   own words, and no more than the most of all words of its VOUT_MAX; words that a guard let be ordered lie within
     ///   its limits.
@@ -124,7 +124,7 @@ impl World {
     /// - `formats`, `nearest`: a format that the host learned is the converter's, and an order in
     ///   microvolts is that of the nearest word in it. A learn that learned leaves a format until the host restarts,
     ///   and no other job changes one.
-    /// - `never`: an order that differs never took, where the converter didn't restart since it was accepted.
+    /// - `never`: an order that differs never took, if the converter didn't restart since it was accepted.
     /// - `taken`, `room`: how many events the world took, no more than there are.
     /// - `now`, `all`, `lived`, `stop`: the world is what its definition says of the taken events, each of them was
     ///   taken, so that a world lived through them, and the first other one has a cause, which is the stop's.
@@ -260,8 +260,8 @@ impl World {
         &self.host
     }
 
-    /// How the last job that was accepted since the host's start ended; `None` while it is open, and
-    /// where there is none.
+    /// How the last job that was accepted since the host's start ended; `None` if it is open or there is
+    /// none.
     pub fn last_end(&self) -> Option<JobEnd>
         ensures { result ≡ self.now.end }
     {
