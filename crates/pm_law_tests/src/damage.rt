@@ -81,7 +81,7 @@ pub fn answers_in_bytes(device: &Converter, bytes: &[u8])
     let _ = answer_in(&device.reply(bytes, End::Restart));
 }
 
-/// A write that is damaged so is a legal hearing, however it ends.
+/// A write with such damage is a legal hearing, however it ends.
 pub fn a_damaged_hearing(frame: &[u8], bytes: &[u8], ending: End) -> bool
     ensures { (addr : ℕ) (message : Message) → IsWrite addr message frame.now →
         IsBetrayedDamage frame.now bytes.now → result ≡ true }
@@ -90,7 +90,7 @@ pub fn a_damaged_hearing(frame: &[u8], bytes: &[u8], ending: End) -> bool
     is_legal_hearing(frame, bytes, ending)
 }
 
-/// An answer to the host's own request that is damaged so is a legal return.
+/// An answer to the host's own request with such damage is a legal return.
 pub fn a_damaged_return(
     request: &[u8],
     needed: usize,
