@@ -9,7 +9,7 @@ use crate::commands::Code;
 pub enum Protection {
     /// The code isn't written at any value.
     NotWritten,
-    /// Written at 00h alone.
+    /// Written only at 00h.
     At00,
     /// Written at 00h and 20h.
     At20,
