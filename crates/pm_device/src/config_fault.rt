@@ -83,7 +83,7 @@ impl ConfigFault {
     }
 }
 
-// An output as it stands behind the words of a fault, where the fault has one.
+// An output as it follows the words of a fault, if the fault has one.
 #[derive(Clone, Copy)]
 struct Place(Option<u8>);
 
