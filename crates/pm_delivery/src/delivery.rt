@@ -306,7 +306,7 @@ impl Delivery {
     }
 }
 
-// A fault of a register, where there is one.
+// A fault of a register, if there is one.
 fn fault_in(register: Question, place: Option<u8>) -> Option<FaultBit>
     ensures { result ≡ option_map (fault_bit register) place }
 {
