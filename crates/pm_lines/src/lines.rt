@@ -15,9 +15,9 @@ pub struct Line<'a> {
     pub text: &'a [u8],
 }
 
-/// The lines of a text that are not skipped, one after another. A line ends at a line feed or at the
-/// text's end, and a carriage return before either is no part of it. Lines that are empty, have
-/// spaces alone or begin with `#` are skipped, and numbered like any other.
+/// The lines of a text that are not skipped, one after another. A line ends at a line feed or at the text's
+/// end, and a carriage return before either is no part of it. Lines that are empty, have nothing but spaces
+/// or begin with `#` are skipped, and numbered like any other.
 #[derive(Debug, Drop)]
 pub struct Lines<'a> {
     rest: &'a [u8],
@@ -94,7 +94,7 @@ impl<'a> Lines<'a> {
     }
 }
 
-/// The line without one carriage return at its end, where it has one.
+/// The line without one carriage return at its end, if it has one.
 pub fn without_carriage_return(line: &[u8]) -> &[u8]
     ensures { result.now ≡ without_return line.now }
 {
