@@ -25,7 +25,7 @@
 //!         payload: Payload::Word(0x34CD),
 //!     };
 //!     let bytes = write_part(0x58, &written); // B0 05 04 00 21 CD 34 5A
-//!     let view = read_write(0x58, bytes.as_slice())?; // F5 where one of its bits changed
+//!     let view = read_write(0x58, bytes.as_slice())?; // F5 if one of its bits changed
 //!     Ok(view.message()) // what was written
 //! }
 //! ```
