@@ -176,7 +176,7 @@ impl<B: Bus> Driver<B> {
     ///     // law: no beginning of the request is a write
     ///     requests_are_no_writes();
     ///     let count = driver.read(&code_request(0x58, code), &mut room).ok()?; // H3: a job is open
-    ///     let payload = read_plain(0x58, code, 2, &room[..count]).ok()?; // F5 where a bit changed
+    ///     let payload = read_plain(0x58, code, 2, &room[..count]).ok()?; // F5 if a bit changed
     ///     Some(u16::from_le_bytes([payload[0], payload[1]]))
     /// }
     /// ```
