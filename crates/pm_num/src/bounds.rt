@@ -9,8 +9,8 @@ use crate::fault::NumFault;
 use crate::frac::{Frac, micro};
 use crate::num_format::NumFormat;
 
-/// A format that rounds a number down and up to a word. Of several words with one value it gives the
-/// one that [`NumFormat::nearest`] gives for this value.
+/// A format that rounds a number down and up to a word. It gives the word that [`NumFormat::nearest`] gives
+/// for the value, if several words have this value.
 pub trait BoundFormat: NumFormat {
     /// The word of the greatest value that is not above `x`. N3 [`NumFault::BelowLeast`] exactly if `x` lies
     /// strictly below the least value. The word is that of the greatest value if `x` lies above it.
