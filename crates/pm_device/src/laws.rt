@@ -8,10 +8,10 @@ use pm_frame::{requests_are_exact, writes_are_exact};
 use pm_model::{outputs_stand_alone, settings_are_a_map};
 use pm_table::{cells_are_told_apart, payloads_are_short, registers_are_in_the_table};
 
-/// What a converter with 1 to 8 outputs holds after any list of hearings, restarts and readings is
-/// what one event after another makes of its start. So the status bits that are latched are those
-/// that are found by looking back, PAGE always names an output that exists, and there is always a word
-/// for each cell, in the store too.
+/// What a converter with 1 to 8 outputs holds after any list of hearings, restarts and readings is what one
+/// event after another makes of its start. The status bits that are latched are those that are found by
+/// looking back. PAGE always names an output that exists, and there is always a word for each cell, in the
+/// store too.
 pub fn pasts_are_followed()
     ensures { PastsAreFollowed }
 {
@@ -26,11 +26,11 @@ pub fn sound_configurations_have_no_fault()
     ensures { SoundConfigurationsHaveNoFault }
 {}
 
-/// Over any list of hearings, restarts and readings, each cell's word is the one that it last got from
-/// the store, at a restart or by RESTORE_USER_ALL, or at the start, or one that a frame which was taken
-/// since carried for that very cell. Its word in the store is the one that it had at the last
-/// STORE_USER_ALL, or its start word. So both are the cell's start word or one that a frame which was
-/// taken carried for that very cell, and both are words that the cell accepts.
+/// Each cell's word after any list of hearings, restarts and readings is the one that it last got from the
+/// store, at a restart or by RESTORE_USER_ALL, or at the start, or one that a frame which was taken since
+/// carried for that very cell. Its word in the store is the one that it had at the last STORE_USER_ALL, or
+/// its start word. Both are the cell's start word or one that a frame which was taken carried for that very
+/// cell, and both are words that the cell accepts.
 pub fn words_have_an_origin()
     ensures { WordsHaveAnOrigin }
 {
@@ -112,7 +112,7 @@ pub fn device_codes_ignore_pages()
 }
 
 /// A hearing that a repeated start ended, as the request of a read of any code is, changes no setting, no store, no PAGE,
-/// no reading and no latch of STATUS_VOUT: at most it latches a bit of STATUS_CML. So what is held after any past is, but
+/// no reading and no latch of STATUS_VOUT: at most it latches a bit of STATUS_CML. What is held after any past is, but
 /// for those bits, what is held after the past without such hearings.
 pub fn requests_latch_at_most()
     ensures { RequestsLatchAtMost }
@@ -122,7 +122,7 @@ pub fn requests_latch_at_most()
 }
 
 /// Whatever is heard for another device is met with silence and changes nothing that is held, and nothing else is met with
-/// silence: bytes for this device begin with its address and the write bit. So what is held after any past is what is held
+/// silence: bytes for this device begin with its address and the write bit. What is held after any past is what is held
 /// after the past without the bytes for others.
 pub fn frames_for_others_are_silent()
     ensures { FramesForOthersAreSilent }
