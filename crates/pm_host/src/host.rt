@@ -71,11 +71,10 @@ pub enum Told<'a> {
 /// error code covers too.
 ///
 /// At most one job is open. `begin` begins one, and is refused (H3) until it has ended; `order`, `check` and
-/// the like are `begin` for one kind of job. Until then `turn` shows what to send now, and each frame that
-/// was sent is followed by one call of `told`, which has to be of the kind that `turn` showed: ask `turn`
-/// before each `told`. A job has ended once `told` answers `Step::Ended`, after at most twice `passes`
-/// frames. `restart`, `standing`, `possible` and `restart_seen` may come at any time. A refused call
-/// changes nothing. No call takes memory.
+/// the like are `begin` for one kind of job. `turn` shows until then what to send now. One call of `told`
+/// follows each frame that was sent, of the kind that `turn` showed: ask `turn` before each `told`. A job has
+/// ended once `told` answers `Step::Ended`, after at most twice `passes` frames. `restart`, `standing`,
+/// `possible` and `restart_seen` may come at any time. A refused call changes nothing. No call takes memory.
 #[derive(Debug, Drop)]
 pub struct Host {
     state: State,
@@ -242,16 +241,16 @@ impl Host {
     }
 
     /// What became of the frame that `turn` showed: `Finished` for a write, `Got` for a request, with
-    /// whatever came back. Ask `turn` first, or `sending` and `sending_reads`: it may be called only
-    /// if a frame of that kind is being sent. `Step::Next` asks to send what `turn` shows now;
-    /// `Step::Ended` says how the job ended, and that nothing is being sent. With each call the job
-    /// has fewer frames left to send, so that a loop of these two calls ends.
+    /// whatever came back. Ask `turn` first, or `sending` and `sending_reads`: it may be called only if a
+    /// frame of that kind is being sent. `Step::Next` asks to send what `turn` shows now; `Step::Ended` says
+    /// how the job ended, and that nothing is being sent. Each call leaves the job fewer frames to send, so
+    /// that a loop of these two calls ends.
     ///
-    /// What an end says (`says`): an order that is `Done` has its cell confirmed with its word, and possible is that
-    /// word only; one that `Differs` the same with the word that was read, which is another; one that is `Unknown` has
-    /// its word among the possible ones, and none confirmed. A check that is `Done` has its cell confirmed with the word
-    /// that came, one that is `Unknown` changes nothing of what is known. A learn that has `Learned` has left a format,
-    /// any other end keeps the formats. `Step::Next` keeps the job.
+    /// What an end says (`says`): an order that is `Done` has its cell confirmed with its word, and only that word is
+    /// possible. An order that `Differs` has its cell confirmed with the word that was read, which is another. An order
+    /// that is `Unknown` has its word among the possible ones, and none confirmed. A check that is `Done` has its cell
+    /// confirmed with the word that came, one that is `Unknown` changes nothing of what is known. A learn that has
+    /// `Learned` has left a format, any other end keeps the formats. `Step::Next` keeps the job.
     pub fn told(&mut self, told: Told<'_>) -> Step
         requires { may_come self.old (entry_told told) ≡ true }
         ensures after { self.new ≡ next self.old (entry_told told.entry) }

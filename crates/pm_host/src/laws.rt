@@ -6,9 +6,8 @@ ghost use Rattle.pm_host.specs.Memory.{ImagesAreMeanings};
 
 use pm_table::cells_have_places;
 
-/// What a host holds after its transcript, which the definitions find by looking back over the whole
-/// of it, is what one entry after another makes of its start; so what the host answers is what they
-/// find.
+/// What a host holds after its transcript, which the definitions find by looking back over the whole of it,
+/// is what one entry after another makes of its start. What the host answers is what the definitions find.
 pub fn transcripts_are_followed()
     ensures { TranscriptsAreFollowed }
 {
