@@ -26,9 +26,9 @@ pub struct Band {
     pub greatest: Frac,
 }
 
-/// Between which voltages an output may be, by what a host knows: the least and the greatest that it commands
-/// with the words that its registers may hold; if a register may hold any, the ends of its format stand, and if
-/// the part doesn't have VOUT_MIN or VOUT_MAX, neither cuts. OPERATION may be any if it may be a byte that its cell
+/// Between which voltages an output may be, by what a host knows: the least and the greatest that it commands with
+/// the words that its registers may hold. The ends of its format stand for a register that may hold any. A VOUT_MIN
+/// or VOUT_MAX that the part doesn't have doesn't cut. OPERATION may be any if it may be a byte that its cell
 /// doesn't take, as A0h. `None` exactly if the format isn't known, or if such a byte hands the voltage to AVSBus:
 /// its bits 5 and 4 are 11, as of B0h. The output is there.
 ///

@@ -7,8 +7,8 @@ pub enum Within {
     Yes,
     /// The whole band lies below the limits, or above them.
     No,
-    /// The band lies partly within, or there is none: the format isn't known, or a byte of AVSBus is possible for OPERATION. Or no
-    /// limits are known.
+    /// The band lies partly within, or there is none: the format isn't known, or a byte of AVSBus is possible for OPERATION. It is
+    /// also the answer if no limits are known.
     NotKnown,
 }
 
@@ -43,12 +43,12 @@ const OUTPUTS: usize = 8;
 
 /// A host that refuses orders beyond the limits of their output.
 ///
-/// It has the host's calls, which do what they do there. For an output with limits it also refuses an order
-/// of a voltage, VOUT_COMMAND, VOUT_MAX, VOUT_MIN or a margin, whose word stands for a value outside them, in
-/// the exact fraction of the word that would be sent; and an order of OPERATION that leaves the output on,
-/// unless the band with that byte lies within the limits. It refuses both for an output of which no limits are known: neither
-/// were any given, nor was it said that there are none. Turning an output off is never refused by a limit, and an output that
-/// is said to have none is as at a host.
+/// It has the host's calls, which do what they do there. It also refuses, for an output with limits, an order of
+/// VOUT_COMMAND, VOUT_MAX, VOUT_MIN or a margin whose word stands for a value outside them, in the exact fraction of the word
+/// that would be sent. It refuses an order of OPERATION that leaves such an output on, unless the band with that byte lies
+/// within the limits. It refuses both for an output of which no limits are known: neither were any given, nor was it said
+/// that there are none. Turning an output off is never refused by a limit, and an output that is said to have none is as at a
+/// host.
 ///
 /// It learns once which registers the part has. It refuses a job on another, and an order of OPERATION that selects
 /// a missing margin.

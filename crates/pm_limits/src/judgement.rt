@@ -54,10 +54,10 @@ pub struct NewLimits {
     pub most: i64,
 }
 
-/// What a host is to be asked for in place of this job, whose output has these limits, and whose part these registers:
-/// the same, and of an order in microvolts the order of the nearest word. Or why it isn't asked at all, as
-/// [`crate::Guard::begin`] says. A guard asks its host so; who keeps limits otherwise asks as well, and then begins what
-/// is answered.
+/// What a host is to be asked for in place of this job, by the limits of its output and the registers of its part. It is
+/// the job itself, or the order of the nearest word for an order in microvolts. A refusal says why the host isn't asked
+/// at all, as [`crate::Guard::begin`] does. A guard calls this; a caller who keeps limits otherwise calls it as well,
+/// and then begins what it answers.
 // An order of a word for an output without limits is judged only by whether the register is there: the host refuses it for all else
 // that a guard does.
 #[inline(always)]
