@@ -145,8 +145,8 @@ impl Course {
         }
     }
 
-    /// How the job ended that `next` named. If nothing says so, nothing that the job read counts, and `next` goes on from
-    /// what the host knows.
+    /// How the job ended that `next` named. Nothing that the job read counts until this call; `next` without it goes
+    /// on from what the host knows.
     pub fn told(&mut self, end: JobEnd)
         ensures { self.new ≡ told_of self.old end }
     {

@@ -157,8 +157,8 @@ fn planned(
     }
 }
 
-/// Begins the next order of an output's plan, as [`next_order`] gives it, and says which. If there is none, or it is
-/// refused, nothing changes. The output is there.
+/// Begins the next order of an output's plan, as [`next_order`] gives it, and says which. Nothing changes if there
+/// is none, or it is refused. The output is there.
 pub fn begin_next(
     guard: &mut Guard,
     output: u8,
