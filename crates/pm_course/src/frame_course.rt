@@ -51,9 +51,9 @@ impl FrameCourse {
         begun(Course::survey(output, tries), Voltages::nothing())
     }
 
-    /// The way to a byte of OPERATION. One that turns the output off is ordered at once; before one that leaves it on
-    /// WRITE_PROTECT is read too, and P7 refuses it if that doesn't allow it; and the register that it selects, by which limits
-    /// judge it.
+    /// The way to a byte of OPERATION. A byte that turns the output off is ordered at once. WRITE_PROTECT is read before a byte
+    /// that leaves it on is ordered, and P7 refuses the byte if that doesn't allow it. The register that the byte selects is
+    /// read, too, by which limits judge it.
     pub fn power(output: u8, byte: u16, tries: u16) -> FrameCourse
         ensures { result ≡ to_byte output byte tries }
     {
