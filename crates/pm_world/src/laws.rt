@@ -58,11 +58,11 @@ pub fn events_are_lived()
     ensures { EventsAreLived }
 {}
 
-/// However frames are delivered, lost, cut, damaged, repeated or falsely acknowledged, and whenever an
-/// end restarts: the converter's words, and those in its store, are those of a run of the order machine that
-/// retells the events (`orders`). So each cell has its start word, or the word of an order that was taken for
-/// that very cell (`own`), and so it has in the store (`stored`), and each output commands the value of one
-/// of its own words, cut to its own VOUT_MIN and VOUT_MAX (`commanded`).
+/// However frames are delivered, lost, cut, damaged, repeated or falsely acknowledged, and whenever an end
+/// restarts: the converter's words, and those in its store, are those of a run of the order machine that
+/// retells the events (`orders`). Each cell has its start word, or the word of an order that was taken for
+/// that very cell (`own`), and such a word in the store (`stored`). Each output commands the value of one of
+/// its own words, cut to its own VOUT_MIN and VOUT_MAX (`commanded`).
 pub fn lives_are_orders()
     ensures { LivesAreOrders }
 {
@@ -159,8 +159,7 @@ fn spell_byte(byte: u8)
     ensures { byte < 2 ^ 8 }
 {}
 
-/// After each of the events, the last job has sent at most twice as many frames as a
-/// job has passes.
+/// The last job has sent at most twice as many frames as a job has passes, after each of the events.
 pub fn frames_are_few()
     ensures { FramesAreFew }
 {

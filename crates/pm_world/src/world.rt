@@ -100,9 +100,9 @@ impl World {
     /// damaged, repeated or falsely acknowledged, and whichever end started again:
     ///
     /// - `orders`: the converter's words, and those in its store, are those of the run of the order machine that
-    ///   retells the taken events. In it exactly the orders, stores and restores are accepted, each in its place, an
-    ///   order with its word, and each takes exactly at those deliveries between its acceptance and its job's end by
-    ///   which its frame is heard whole while WRITE_PROTECT allows its code.
+    /// retells the taken events. Exactly the orders, stores and restores are accepted in it, each in its place, an
+    /// order with its word. Each takes exactly at those deliveries between its acceptance and its job's end by which
+    /// its frame is heard whole while WRITE_PROTECT allows its code.
     /// - `own`, `stored`: each cell has its start word, or that of an order for that very cell, also in the store.
     /// - `moves`: at each moment a cell gets another word only by a restart of the converter, or by a delivery that lets
     ///   an order of this word for this very cell, or a restore, take; the store only by one that lets an open store
