@@ -108,9 +108,9 @@ pub fn lives_lead_on()
     laws_of_lives();
 }
 
-/// Whatever a driver was asked for since it began beside a part as it is, and whatever its bus lost, cut, damaged, repeated or
-/// restarted: each output commands a value of words that the part held or had stored as the driver began, or that were
-/// ordered since for that same output; and each of its registers holds such a word, and has one stored.
+/// Each output commands a value of words that the part held or had stored as the driver began, or that were ordered since for
+/// that same output. Each of its registers holds such a word, and has one stored. This holds whatever the driver was asked for
+/// since it began beside a part as it is, and whatever its bus lost, cut, damaged, repeated or restarted.
 pub fn parts_command_their_own<B: Bus>()
     ensures { PartsCommandTheirOwn B.gives B.held B.restarts }
 {
@@ -122,14 +122,14 @@ pub fn whole_frames_are_legal()
     ensures { WholeFramesAreLegal }
 {}
 
-/// Over a bus whose calls nothing disturbs, an order that WRITE_PROTECT allows is done, and the converter holds its word.
+/// An order that WRITE_PROTECT allows is done over a bus whose calls nothing disturbs, and the converter holds its word.
 pub fn undisturbed_orders_are_done<B: Bus>()
     ensures { UndisturbedOrdersAreDone B.gives B.held B.restarts }
 {
     undisturbed_jobs::<B>();
 }
 
-/// Over a bus whose calls restart nothing, what the host confirms of a cell that was read is held: no job ends that.
+/// What the host confirms of a cell that was read is held over a bus whose calls restart nothing: no job ends that.
 pub fn jobs_restart_nothing<B: Bus>()
     ensures { JobsRestartNothing B.gives B.held B.restarts }
 {}
