@@ -57,8 +57,8 @@ pub fn unknown_voltages_are_open()
     bands_are_exact();
 }
 
-/// After an accepted log the word that it claims stays, while the converter doesn't restart and neither an order of the cell
-/// nor a restore is open.
+/// The word that an accepted log claims stays, while the converter doesn't restart and neither an order of the cell nor a
+/// restore is open.
 pub fn accepted_claims_stay()
     ensures { AcceptedClaimsStay }
 {
@@ -71,9 +71,9 @@ pub fn accepted_claims_stay()
     settings_move_by_the_open_job();
 }
 
-/// After an accepted log what an output commands stays between the microvolts that it claims, while the converter doesn't restart
-/// and neither a restore is open nor an order of one of the four registers by which the output commands: OPERATION, the one that
-/// it selects, VOUT_MAX and VOUT_MIN.
+/// What an output commands stays between the microvolts that an accepted log claims, while the converter doesn't restart and no
+/// restore is open, nor an order of a register by which the output commands. Four registers are such: OPERATION, the one that it
+/// selects, VOUT_MAX and VOUT_MIN.
 pub fn accepted_voltages_stay()
     ensures { AcceptedVoltagesStay }
 {
