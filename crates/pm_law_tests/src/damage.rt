@@ -26,7 +26,7 @@ use pm_world::{
     is_legal_hearing, is_legal_return, own_requests_are_answered,
 };
 
-/// After a run of fewer than a million events, a damaged write is taken, which the converter then ignores.
+/// A damaged write is taken after a run of fewer than a million events, and the converter then ignores it.
 pub fn a_damaged_write(c: Config, passes: u8, events: &[Event]) -> Result<Option<World>, SetupFault>
     ensures { IfOk result (λ found. OnSome found ((message : Message) (bytes : List ℕ) (ending : Ending) →
         sending_in (now c passes (reverse events.now)).host ≡ Some message → is_read_message message ≡ false →

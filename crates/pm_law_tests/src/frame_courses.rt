@@ -20,7 +20,7 @@ pub fn a_course_to_wishes(
     run_all(c, passes, events)
 }
 
-/// After a run each course to wishes of which one has no word in the format, and each survey, has ordered nothing.
+/// Each course of a run to wishes of which one has no word in the format, and each survey, has ordered nothing.
 pub fn a_course_that_orders_nothing(
     c: Config,
     passes: u8,
@@ -33,7 +33,7 @@ pub fn a_course_that_orders_nothing(
     run_all(c, passes, events)
 }
 
-/// After a run each course that turns an output off left each register as it was, or OPERATION with its byte.
+/// Each course of a run that turns an output off left each register as it was, or OPERATION with its byte.
 pub fn a_course_that_turns_off(
     c: Config,
     passes: u8,

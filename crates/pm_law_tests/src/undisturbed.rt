@@ -154,7 +154,7 @@ pub fn a_plan_that_retries<B: Bus>(
     driver.apply(output, wanted, 27)
 }
 
-/// Over a plan of faults at its end, as an empty one is, a plan ends as the words say that the converter holds.
+/// A plan ends as the words say that the converter holds, over a plan of faults at its end, as an empty one is.
 pub fn a_simulated_plan<'a>(
     driver: &mut Driver<SimulatedBus<'a>>,
     output: u8,
