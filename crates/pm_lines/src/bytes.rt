@@ -33,7 +33,7 @@ fn first_place(bytes: &[u8], mark: u8) -> Option<usize>
 /// Appends the bytes that a line's words write in hexadecimal. Each word is an even number of digits,
 /// of either case.
 ///
-/// X2 with the line's number if a word isn't, and X6 if memory was refused. Then the bytes are as they were.
+/// X2 with the line's number if a word isn't, and X6 if memory was refused. The bytes are then as they were.
 /// Takes memory as the bytes grow.
 pub fn push_bytes(line: Line<'_>, bytes: &mut Vec<u8>) -> Result<(), TextFault>
     ensures all { OnOk result (option_map (λ more. bytes.old.items ++ more)

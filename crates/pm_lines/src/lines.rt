@@ -62,7 +62,7 @@ impl<'a> Lines<'a> {
         Iterator::count(memchr_iter(b'\n', self.rest)) + 1
     }
 
-    /// The next line that is not skipped. After None every line of the text was passed.
+    /// The next line that is not skipped. Every line of the text was passed after None.
     pub fn next_line(&mut self) -> Option<Line<'a>>
         ensures unskipped { MatchOption result (self.old.unskipped ≡ [])
             (λ line. self.old.unskipped ≡ (line.number, line.text.now) ∷ self.new.unskipped) }

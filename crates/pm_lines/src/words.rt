@@ -43,7 +43,7 @@ impl<'a> Words<'a> {
         self.line
     }
 
-    /// The next word. After None no word is left.
+    /// The next word. No word is left after None.
     pub fn next_word(&mut self) -> Option<&'a [u8]>
         ensures words { MatchOption result (self.old.words ≡ [])
             (λ word. self.old.words ≡ word.now ∷ self.new.words) }
