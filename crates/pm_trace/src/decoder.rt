@@ -110,7 +110,7 @@ impl Decoder {
         fed
     }
 
-    // As `feed`. After a refusal nothing is shown, and the decoder has yet to fail.
+    // As `feed`. Nothing is shown after a refusal, and the decoder has yet to fail.
     fn take(&mut self, piece: &[u8]) -> Result<Fed, TextFault>
         ensures fed { IfOk result (λ fed. Feeds self.old piece.now fed self.new) }
         ensures within { IfOk result (λ fed. fed.taken ≤ length piece.now) }
