@@ -5,7 +5,7 @@
 //! first whether a part is there, and refuses if none is. The library takes no memory, keeps nothing between calls
 //! and calls nothing. Firmware that links a host needs nothing of it.
 //!
-//! A write and a request, by the exported calls. In C each reference is a pointer, and bytes are a pointer and their
+//! A write and a request, by the exported calls. Each reference is a pointer in C, and bytes are a pointer and their
 //! number:
 //!
 //! ```
