@@ -10,7 +10,7 @@ ghost use Rattle.pm_frame.specs.Laws.{BurstsAreBetrayed, FewChangesAreBetrayed, 
 use pm_table::payloads_are_short;
 
 /// Bytes have no fault as a write exactly if they have the layout of some message that writes, which is the
-/// one read by their places; they are then no other message, and no strict prefix of them is a write to the
+/// one read by their places. They are then no other message, and no strict prefix of them is a write to the
 /// same address.
 pub fn writes_are_exact()
     ensures { WritesAreExact }
@@ -19,14 +19,14 @@ pub fn writes_are_exact()
 }
 
 /// Bytes have no fault as a request exactly if they have the layout of some message that reads, which is the
-/// one read by their places; they are then no other message, and no strict prefix of them is a request to the
+/// one read by their places. They are then no other message, and no strict prefix of them is a request to the
 /// same address.
 pub fn requests_are_exact()
     ensures { RequestsAreExact }
 {}
 
 /// What came back for a read that fits has no fault exactly if it has the layout of an answer with some
-/// payload, which stands at its place; it then has no other payload, and no strict prefix of it is an answer
+/// payload, which stands at its place. It then has no other payload, and no strict prefix of it is an answer
 /// to that request.
 pub fn answers_are_exact()
     ensures { AnswersAreExact }

@@ -45,8 +45,8 @@ pub fn pec(bytes: &[u8]) -> u8
     pec_after(0, bytes)
 }
 
-/// The PEC of what came before, carried on over further bytes of the same message, as that of a
-/// request is over the bytes of its answer: byte by byte, as no packet of a `Message` has more than twelve before its PEC.
+/// The PEC of what came before, carried on over further bytes of the same message, as that of a request is over the bytes
+/// of its answer. It goes byte by byte, as no packet of a `Message` has more than twelve before its PEC.
 pub fn pec_after(so_far: u8, bytes: &[u8]) -> u8
     ensures { (front : List ℕ) → so_far ≡ pec_of front → result ≡ pec_of (front ++ bytes.now) }
 {
