@@ -15,8 +15,8 @@ pub fn transcripts_are_followed()
     cells_have_places();
 }
 
-/// What the end of a job says of what a host then knows, over its whole transcript: the open job is the one that its
-/// stage says (`job`), and each entry that says what came of a frame leaves it open, or ends it with what
+/// What the end of a job says of what a host then knows, over its whole transcript. The open job is the one that its
+/// stage says (`job`). Each entry that says what came of a frame leaves it open, or ends it with what
 /// [`Host::told`](crate::Host::told) says then (`says`).
 pub fn ends_are_told()
     ensures { EndsAreTold }
