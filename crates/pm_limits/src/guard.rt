@@ -287,8 +287,8 @@ impl Guard {
     }
 
     /// Whether an output's voltage lies within its limits, by the words that its registers may hold: `Yes` if its
-    /// whole band does or it is said to have no limits, `No` if the whole band lies below the limits or above them,
-    /// otherwise `NotKnown`. The output is there.
+    /// whole band does or it is said to have none, `No` if its whole band lies below them or above them, otherwise
+    /// `NotKnown`. The output is there.
     ///
     /// The limits hold for good if each word lies within them that the registers of the output, and the device's user
     /// store, had before the guard, or that was ordered before these limits were given. Check the registers, and see that this answers `Yes`. What the store
