@@ -116,7 +116,7 @@ impl Reads {
     }
 }
 
-/// A survey of an output: it asks for one job after another until all that decides what the output commands, or all
+/// A survey of an output. It asks for one job after another until all that decides what the output commands, or all
 /// that a plan needs, is known by good answers that came since it began. It is a plain value, and holds no guard.
 ///
 /// Ask `next` for a job while the guard's host is idle, carry the job out, and tell `told` how it ended; if `next` answers
