@@ -20,8 +20,8 @@ use pm_table::registers_are_in_the_table;
 /// through without neighbours (`lived`). Only latched bits of STATUS_CML differ (`alone`). Each converter hears what
 /// is on the wire for the others, each in its own way. Another host's frame passes by it however it legally arrives,
 /// even if damage turns one address into another (`frames`). What follows another's read address passes by it, too
-/// (`answers`). A request whose address was damaged may be answered by another one: what comes back is then given by
-/// its bytes, which are legal if the packet error code betrays them over the host's own request.
+/// (`answers`). A request whose address was damaged may be answered by another converter. What comes back is then
+/// given by its bytes, which are legal if the packet error code betrays them over the host's own request.
 pub fn neighbours_are_apart()
     ensures { NeighboursAreApart }
 {
@@ -51,12 +51,12 @@ pub fn ones_are_no_answer()
 {}
 
 /// Which of a host's requests to one converter share their packet error code (PEC) up to the read address, from which on
-/// the PEC of an answer depends only on the answer. Two reads of outputs share it exactly if they are one request, or
-/// VOUT_COMMAND of an output and VOUT_MARGIN_LOW of its neighbour (0 and 1, 2 and 3, 4 and 5, 6 and 7), or VOUT_MARGIN_HIGH
-/// of an output and VOUT_MIN of the one two further on or back (0 and 2, 1 and 3, 4 and 6, 5 and 7), so that VOUT_MODE and
-/// OPERATION share it with no other read of an output. COEFFICIENTS shares it with no read of an output. WRITE_PROTECT may
-/// share it at some addresses, but its answer has fewer bytes than any other. The law holds of any address, and of pages
-/// below 8.
+/// the PEC of an answer depends only on the answer. Two different reads of outputs share it in two cases only. One is
+/// VOUT_COMMAND of an output and VOUT_MARGIN_LOW of its neighbour (0 and 1, 2 and 3, 4 and 5, 6 and 7). The other is
+/// VOUT_MARGIN_HIGH of an output and VOUT_MIN of the one two further on or back (0 and 2, 1 and 3, 4 and 6, 5 and 7).
+/// VOUT_MODE and OPERATION share it with no other read of an output. COEFFICIENTS shares it with no read of an output.
+/// WRITE_PROTECT may share it at some addresses, but its answer has fewer bytes than any other. The law holds of any
+/// address, and of pages below 8.
 pub fn reads_that_share_their_code()
     ensures { ReadsThatShareTheirCode }
 {}

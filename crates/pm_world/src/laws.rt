@@ -58,20 +58,20 @@ pub fn events_are_lived()
     ensures { EventsAreLived }
 {}
 
-/// However frames are delivered, lost, cut, damaged, repeated or falsely acknowledged, and whenever an end
-/// restarts: the converter's words, and those in its store, are those of a run of the order machine that
-/// retells the events (`orders`). Each cell has its start word, or the word of an order that was taken for
-/// that very cell (`own`), and such a word in the store (`stored`). Each output commands the value of one of
-/// its own words, cut to its own VOUT_MIN and VOUT_MAX (`commanded`).
+/// The converter's words, and those in its store, are those of a run of the order machine that retells the
+/// events (`orders`). This holds however frames are delivered, lost, cut, damaged, repeated or falsely
+/// acknowledged, and whenever an end restarts. Each cell has its start word, or the word of an order that was
+/// taken for that very cell (`own`), and such a word in the store (`stored`). Each output commands the value
+/// of one of its own words, cut to its own VOUT_MIN and VOUT_MAX (`commanded`).
 pub fn lives_are_orders()
     ensures { LivesAreOrders }
 {
     lower_laws();
 }
 
-/// However frames are delivered, lost, cut, damaged, repeated or falsely acknowledged, and whenever an
-/// end restarts: a word that the host calls confirmed is the one that the converter holds, unless the
-/// converter restarted since the host read the cell.
+/// A word that the host calls confirmed is the one that the converter holds, unless the converter restarted
+/// since the host read the cell. This holds however frames are delivered, lost, cut, damaged, repeated or
+/// falsely acknowledged, and whenever an end restarts.
 pub fn confirmed_settings_are_held()
     ensures { ConfirmedSettingsAreHeld }
 {
@@ -95,10 +95,10 @@ pub fn possible_words_are_held()
 /// WRITE_PROTECT or read from it since then, and no restore. Choose a word for each cell of each output: one
 /// that the host lists, or any word that the cell accepts if the host says that any is possible. One list of
 /// events without a restart leaves all these words together, in a new world with the same address, outputs,
-/// formats and passes, and its host hears just what this one heard since it started. That list is named: each
-/// cell starts with the word that is due there, jobs and answers come as they came, and a write is delivered
-/// if its word is due after it (`witness`). Conversely, words that some such list leaves are all possible
-/// (`only`). A list is legal if nothing but the limit of events may be against it (`legal`).
+/// formats and passes. The host of that world hears just what this one heard since it started. That list is
+/// named: each cell starts with the word that is due there, jobs and answers come as they came, and a write
+/// is delivered if its word is due after it (`witness`). Conversely, words that some such list leaves are all
+/// possible (`only`). A list is legal if nothing but the limit of events may be against it (`legal`).
 pub fn possible_words_are_exact()
     ensures { PossibleWordsAreExact }
 {
@@ -203,7 +203,7 @@ pub fn betrayed_damage_is_taken()
 /// limits. A word of VOUT_MAX is within if it is at least the lower limit, and one of VOUT_MIN if it is at most the upper
 /// one. All this holds however frames are delivered, lost, cut, damaged, repeated or falsely acknowledged, and whenever
 /// an end restarts. The output commands no more than the most of all words of its VOUT_MAX, whatever else was ordered
-/// (`most`), and no less than the least of all words of its VOUT_MIN, if none of these is above one of VOUT_MAX
+/// (`most`). It commands no less than the least of all words of its VOUT_MIN, if none of these is above one of VOUT_MAX
 /// (`least`). Each word that a guard lets be ordered lies within its limits (`ordered`), so all own words are within if
 /// the start words are (`guarded`). They stay so while no other is ordered (`kept`, `newer`).
 pub fn lives_stay_limited()
@@ -243,11 +243,11 @@ pub fn differing_orders_never_took()
 
 /// Nothing moves but by the open job, at each moment of a life, whatever was lost, cut, damaged, repeated or falsely
 /// acknowledged. A cell's word changes in an event only by a restart of the converter, to the stored word, or by a
-/// delivery that let the open job take, its frame heard whole and its code allowed. That job is an order of this word for
-/// this very cell, or a restore, and then the word is the stored one (`moves`). The store changes only by a delivery that
-/// let an open store take, which copies all outputs' words at once (`stores`). It has the words of one earlier moment, or
-/// of the start, never a mixture, and of WRITE_PROTECT the start word (`moment`). Each delivery that hears the open job's
-/// frame whole, while its code is allowed, leaves what that job makes of them (`takes`).
+/// delivery that let the open job take. The job's frame was heard whole then, and its code is allowed. That job is an
+/// order of this word for this very cell, or a restore, and then the word is the stored one (`moves`). The store changes
+/// only by a delivery that let an open store take, which copies all outputs' words at once (`stores`). It has the words
+/// of one earlier moment, or of the start, never a mixture, and of WRITE_PROTECT the start word (`moment`). Each delivery
+/// that hears the open job's frame whole, while its code is allowed, leaves what that job makes of them (`takes`).
 pub fn settings_move_by_the_open_job()
     ensures { SettingsMoveByTheOpenJob }
 {
@@ -262,21 +262,21 @@ pub fn lists_say_enough()
 {}
 
 /// What the converter answers to the host's own request that arrives whole is an answer to it, of the payload that it
-/// has for the request (`answered`): to each read of a cell (`cell`), and to that of the coefficients if an output
-/// has the DIRECT format. The damage of which [`betrayed_damage_is_taken`] speaks has something to damage.
+/// has for the request (`answered`). It answers each read of a cell (`cell`), and that of the coefficients if an
+/// output has the DIRECT format. The damage of which [`betrayed_damage_is_taken`] speaks has something to damage.
 pub fn own_requests_are_answered()
     ensures { OwnRequestsAreAnswered }
 {
     lower_laws();
 }
 
-/// A bus that is good again. Let a frame be undisturbed: a write is heard whole at least once, whatever else is delivered
-/// of it, or all of a request is heard and the converter's answer comes back, by the bytes and by how they end. Readings
-/// may change in between, and nothing else happens. The following holds at any moment of a life, whatever went before.
-/// One read ends an open check Done, its cell confirmed and only its word possible; the host says from then on that it
-/// saw a restart if that word wasn't possible before (`check`). The write and the read of one pass end an order that
+/// A bus that is good again. Let a frame be undisturbed. A write is heard whole at least once, whatever else is delivered
+/// of it; all of a request is heard and the converter's answer comes back, by the bytes and by how they end. Readings may
+/// change in between, and nothing else happens. The following holds at any moment of a life, whatever went before. One
+/// read ends an open check Done, its cell confirmed and only its word possible; the host says from then on that it saw a
+/// restart if that word wasn't possible before (`check`). The write and the read of one pass end an order that
 /// WRITE_PROTECT allows Done, whichever pass it is (`order`). An order that is to be read back first ends by that read,
-/// or by that and the next pass (`read_back`, `again`, `three`); in the last pass it ends Differs with the word that the
+/// or by that and the next pass (`read_back`, `again`, `three`). It ends Differs in the last pass, with the word that the
 /// converter holds (`last`). A write that WRITE_PROTECT forbids is followed by a read like any other, and changes no word
 /// (`write`). A clear, a store or a restore ends Done by one write that is acknowledged (`send`). It is sent again if the
 /// write isn't acknowledged, and ends Unknown after the last try (`resend`, `unacked`). A learn ends Learned by one read
@@ -289,8 +289,8 @@ pub fn good_frames_end_jobs()
 
 /// Each frame of an open job that comes whole makes of the job just what its stage says, whatever went
 /// before, with what the converter holds and whether the write was acknowledged (`turn`): its end, or its
-/// next stage. Once its frames come whole, a command's acknowledged, there are no more of them than the job
-/// had left (`few`), and it ends as its stage says (`ends`): a check and a command Done, a learn Learned. An
+/// next stage. There are no more frames than the job had left once these come whole, a command's acknowledged
+/// (`few`), and the job ends as its stage says (`ends`): a check and a command Done, a learn Learned. An
 /// order ends Done if the converter holds its word, or if WRITE_PROTECT allows it and a write of it isn't
 /// over. Otherwise it ends Differs with the word that the converter holds.
 pub fn open_jobs_end()
