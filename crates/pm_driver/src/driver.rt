@@ -62,9 +62,10 @@ impl<B: Bus> Driver<B> {
         Driver::guarded(Guard::over(host), bus)
     }
 
-    /// A driver of a new host with its limits, made for the address and the outputs of a part as it is (`MayBegin`): any words
-    /// that its cells accept, held and stored, any PAGE, readings and latched status bits, whatever was there before. A converter
-    /// as it was made is such a part ([`new_converters_may_begin`](crate::new_converters_may_begin)), and any life leaves one
+    /// A driver of a new host with its limits, made for the address and the outputs of a part as it is (`MayBegin`). The part
+    /// may hold and have stored any words that its cells accept, and have any PAGE, readings and latched status bits, whatever
+    /// was there before. A converter as it was made is such a part
+    /// ([`new_converters_may_begin`](crate::new_converters_may_begin)), and any life leaves one
     /// ([`lives_lead_on`](crate::lives_lead_on)).
     ///
     /// An output's words lie within its limits here (`begun`) and after each call if the limits allow the words that the part holds and has
@@ -160,9 +161,9 @@ impl<B: Bus> Driver<B> {
     /// least. Give just the room of a whole answer: a bus promises nothing of an answer with fewer bytes. A block that is
     /// shorter than its room is judged by its packet error code only.
     ///
-    /// No beginning of the request is a write to the converter, since the bus may cut it off there by a stop: that of
-    /// [`code_request`](pm_frame::code_request) never is one, nor bytes whose code isn't written, as PAGE_PLUS_READ, nor the
-    /// request of a message that reads ([`requests_are_no_writes`](crate::requests_are_no_writes)).
+    /// No beginning of the request is a write to the converter, since the bus may cut it off there by a stop. Three requests
+    /// have none: that of [`code_request`](pm_frame::code_request), bytes whose code isn't written, as PAGE_PLUS_READ, and
+    /// the request of a message that reads ([`requests_are_no_writes`](crate::requests_are_no_writes)).
     ///
     /// The converter latches bits of STATUS_CML at most. Settings, store and PAGE stay, unless it restarts, which the bus
     /// counts; what the host calls confirmed holds on as between two jobs.

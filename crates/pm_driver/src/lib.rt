@@ -2,11 +2,11 @@
 //! answers is proved to the calls of the bus.
 //!
 //! A [`Bus`] has two calls, `write` and `read`, and its contract says what a bus may do to the converter at its
-//! other end: lose, cut, repeat and damage frames, acknowledge falsely and restart the converter, but no damage that
-//! the packet error code doesn't betray. [`carry_out`] sends each frame of the host's open job by one such call, and
-//! the host hears what the call answered. Its contract (`Leads`) says just that, and that every life which led to
-//! the host and the converter before leads to those after. What holds of lives thus holds of a caller's own loop,
-//! with no list of events.
+//! other end. It may lose, cut, repeat and damage frames, acknowledge falsely and restart the converter, but do no
+//! damage that the packet error code doesn't betray. [`carry_out`] sends each frame of the host's open job by one
+//! such call, and the host hears what the call answered. Its contract (`Leads`) says just that, and that every life
+//! which led to the host and the converter before leads to those after. What holds of lives thus holds of a caller's
+//! own loop, with no list of events.
 //!
 //! An [`Adapter`] is what lies below a bus that knows more than whether a frame was acknowledged: it says which frames the
 //! converter heard nothing of, so that a bus over it may send these again.
