@@ -122,11 +122,15 @@ impl Host {
 
     /// Begins a job, whose first frame `turn` then shows.
     ///
-    /// The first that applies refuses: H3 if a job is open, H4 if its output isn't there. An order
-    /// is then refused with H5 if the cell doesn't accept the word, and H6 if the cell may hold any
-    /// of 16 words and this is another. An order in microvolts is refused, in this order, with H5 if the
-    /// cell isn't a voltage, H7 if the format isn't known, N5 if the number is beyond 10^15 in size,
-    /// N3 or N4 if it lies outside the format's range, and H6 as for an order.
+    /// It is refused with the first of these that applies:
+    ///
+    /// - H3: a job is open.
+    /// - H4: its output isn't there.
+    /// - An order: H5 if the cell doesn't accept the word, H6 if the cell may hold any of 16 words and
+    ///   this is another.
+    /// - An order in microvolts: H5 if the cell isn't a voltage, H7 if the format isn't known, N5 if the
+    ///   number is beyond 10^15 in size, N3 or N4 if it lies outside the format's range, and H6 as for
+    ///   an order.
     ///
     /// Once it is accepted it is the open job (`begun`), and the word of an order is one that its cell may hold, of
     /// which none is confirmed (`uncertain`).
