@@ -201,11 +201,11 @@ pub fn betrayed_damage_is_taken()
 /// An output commands a voltage within limits at each moment if its own words are within them (`limited`): its start
 /// words and those that were ordered for it. A word of VOUT_COMMAND or of a margin is within if its value lies within the
 /// limits. A word of VOUT_MAX is within if it is at least the lower limit, and one of VOUT_MIN if it is at most the upper
-/// one. All this holds however frames are delivered, lost, cut, damaged, repeated or falsely acknowledged, and whenever
-/// an end restarts. The output commands no more than the most of all words of its VOUT_MAX, whatever else was ordered
-/// (`most`). It commands no less than the least of all words of its VOUT_MIN, if none of these is above one of VOUT_MAX
-/// (`least`). Each word that a guard lets be ordered lies within its limits (`ordered`), so all own words are within if
-/// the start words are (`guarded`). They stay so while no other is ordered (`kept`, `newer`).
+/// one. The output commands no more than the most of all words of its VOUT_MAX, whatever else was ordered (`most`). It
+/// commands no less than the least of all words of its VOUT_MIN, if none of these is above one of VOUT_MAX (`least`).
+/// Each word that a guard lets be ordered lies within its limits (`ordered`), so all own words are within if the start
+/// words are (`guarded`). They stay so while no other is ordered (`kept`, `newer`). All this holds however frames are
+/// delivered, lost, cut, damaged, repeated or falsely acknowledged, and whenever an end restarts.
 pub fn lives_stay_limited()
     ensures { LivesStayLimited }
 {
@@ -270,17 +270,18 @@ pub fn own_requests_are_answered()
     lower_laws();
 }
 
-/// A bus that is good again. Let a frame be undisturbed. A write is heard whole at least once, whatever else is delivered
-/// of it; all of a request is heard and the converter's answer comes back, by the bytes and by how they end. Readings may
-/// change in between, and nothing else happens. The following holds at any moment of a life, whatever went before. One
-/// read ends an open check Done, its cell confirmed and only its word possible; the host says from then on that it saw a
-/// restart if that word wasn't possible before (`check`). The write and the read of one pass end an order that
-/// WRITE_PROTECT allows Done, whichever pass it is (`order`). An order that is to be read back first ends by that read,
-/// or by that and the next pass (`read_back`, `again`, `three`). It ends Differs in the last pass, with the word that the
-/// converter holds (`last`). A write that WRITE_PROTECT forbids is followed by a read like any other, and changes no word
-/// (`write`). A clear, a store or a restore ends Done by one write that is acknowledged (`send`). It is sent again if the
-/// write isn't acknowledged, and ends Unknown after the last try (`resend`, `unacked`). A learn ends Learned by one read
-/// or by two (`mode`, `coefficients`). [`open_jobs_end`] has it of any job at once.
+/// A bus that is good again. Let a frame be undisturbed. That means, of a write, that it is heard whole at least once,
+/// whatever else is delivered of it. It means, of a request, that all of it is heard and the converter's answer comes
+/// back, by the bytes and by how they end. Readings may change in between, and nothing else happens. The following holds
+/// at any moment of a life, whatever went before. One read ends an open check Done, its cell confirmed and only its word
+/// possible; the host says from then on that it saw a restart if that word wasn't possible before (`check`). The write
+/// and the read of one pass end an order that WRITE_PROTECT allows Done, whichever pass it is (`order`). An order that is
+/// to be read back first ends by that read, or by that and the next pass (`read_back`, `again`, `three`). It ends Differs
+/// in the last pass, with the word that the converter holds (`last`). A write that WRITE_PROTECT forbids is followed by a
+/// read like any other, and changes no word (`write`). A clear, a store or a restore ends Done by one write that is
+/// acknowledged (`send`). It is sent again if the write isn't acknowledged, and ends Unknown after the last try
+/// (`resend`, `unacked`). A learn ends Learned by one read or by two (`mode`, `coefficients`). [`open_jobs_end`] has it
+/// of any job at once.
 pub fn good_frames_end_jobs()
     ensures { GoodFramesEndJobs }
 {
