@@ -21,7 +21,7 @@ impl<B: Bus> Driver<B> {
     /// At each moment the output commands what it commanded before or what is wanted, unless the converter restarted:
     /// [`applied_plans_keep_rails`](crate::applied_plans_keep_rails). `Reached`: unless it restarted, the converter holds each
     /// wanted word, by [`applied_plans_come_true`](crate::applied_plans_come_true). Both hold of a part that is said to lack
-    /// registers, too, if no lacking VOUT_MIN or VOUT_MAX cuts its outputs and the host had no good answer for a lacking one.
+    /// registers, too, if no missing VOUT_MIN or VOUT_MAX cuts its outputs and the host had no good answer for a missing one.
     /// `Stopped` says why, and [`known`](Driver::known) what each register is known to hold. H3 if a job is open; nothing
     /// changes then. The output is there.
     pub fn apply(&mut self, output: u8, wanted: &Wanted, tries: u16) -> ApplyEnd

@@ -41,8 +41,8 @@ pub fn courses_are_lived<B: Bus>()
 
 /// The output commands, at each moment since a plan began to be carried out, what it commanded before or what is
 /// wanted, and changes once at most, if the bus counted no restart since. This holds however the plan's jobs ended
-/// and wherever it stopped. This law and the next two ask of a part that is said to lack registers that no lacking
-/// VOUT_MIN or VOUT_MAX cuts its outputs, and that the host had no good answer for a lacking one.
+/// and wherever it stopped. This law and the next two ask of a part that is said to lack registers that no missing
+/// VOUT_MIN or VOUT_MAX cuts its outputs, and that the host had no good answer for a missing one.
 pub fn applied_plans_keep_rails<B: Bus>()
     ensures { AppliedPlansKeepRails B.gives B.held B.restarts }
 {
