@@ -2,8 +2,8 @@
 //! streaming decoder that is fed the bytes in any pieces.
 //!
 //! A line is the write part of a packet in hexadecimal, and optionally `/` and the read part. A [`Decoder`]
-//! keeps no line as text, and takes memory only for the counts of codes. A line by itself, `B0 05 04 00 21 CD
-//! 34 5A` of number 1, says `1 58 page 0 VOUT_COMMAND write 34CD`:
+//! keeps no line as text, and takes memory only for the counts of codes. A line by itself,
+//! `B0 05 04 00 21 CD 34 5A` of number 1, says `1 58 page 0 VOUT_COMMAND write 34CD`:
 //!
 //! ```
 //! fn rendered(alloc: Global, line: &str, number: u64) -> Result<String, TextFault> {
