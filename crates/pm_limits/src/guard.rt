@@ -3,13 +3,14 @@ mod calls;
 /// Whether an output's voltage lies within its limits, by what is known.
 #[derive(Clone, Copy, Debug, PartialEq, Eq)]
 pub enum Within {
-    /// The whole band lies within the limits, or the output is said to have none.
+    /// The whole band lies within the limits.
     Yes,
     /// The whole band lies below the limits, or above them.
     No,
-    /// The band lies partly within, or there is none: the format isn't known, or a byte of AVSBus is possible for OPERATION. It is
-    /// also the answer if no limits are known.
+    /// The band lies partly within, or there is none: the format isn't known, or a byte of AVSBus is possible for OPERATION.
     NotKnown,
+    /// The output has no limits: none were given, or it was said that it has none.
+    NoLimits,
 }
 
 ghost use Rattle.std.specs.Prelude.{◌≡◌, ◌<◌, IfOk, OnOk, OnErr, [], ◌∷◌, replicate, slice_set};
@@ -293,8 +294,8 @@ impl Guard {
     }
 
     /// Whether an output's voltage lies within its limits, by the words that its registers may hold: `Yes` if its
-    /// whole band does or it is said to have none, `No` if its whole band lies below them or above them, otherwise
-    /// `NotKnown`. The output is there.
+    /// whole band does, `No` if the whole band lies below the limits or above them, otherwise `NotKnown`. It is `NoLimits`
+    /// if the output has none. The output is there.
     ///
     /// The limits hold for good if each word lies within them that the registers of the output, and the device's user
     /// store, had before the guard, or that was ordered before these limits were given. Check the registers, and see that this answers `Yes`. What the store

@@ -10,7 +10,7 @@ ghost use Rattle.pm_host.specs.Refusals.{cell_fault, micro_word as spec_micro_wo
 ghost use Rattle.pm_host.specs.Sound.{IsSound};
 ghost use Rattle.pm_host.specs.Summary.{format_at};
 ghost use Rattle.pm_host.specs.Transcript as accepted;
-ghost use Rattle.pm_limits.specs.Band.{within_of};
+ghost use Rattle.pm_limits.specs.Band.{lets_on as spec_lets_on, within_of};
 ghost use Rattle.pm_limits.specs.declared.fault.LimitFault.TheVariants.{Host};
 ghost use Rattle.pm_limits.specs.declared.output_limits.OutputLimits.TheVariants.{Between};
 ghost use Rattle.pm_host.specs.declared.fault.HostFault.TheVariants.{Busy};
@@ -200,14 +200,25 @@ pub(crate) fn output_of(cell: Cell) -> u8
     }
 }
 
-/// Whether a band lies within limits; any does if there are none, and of unknown ones nothing is known.
+/// Whether a band lies within limits, if there are any.
 pub fn within_limits(limits: &OutputLimits, band: Option<Band>) -> Within
     ensures { result ≡ within_of limits.now band }
 {
     match (limits, band) {
-        (OutputLimits::Unlimited, _) => Within::Yes,
         (OutputLimits::Between(limits), Some(band)) => limits.within(&band),
-        _ => Within::NotKnown,
+        (OutputLimits::Between(_), None) => Within::NotKnown,
+        (OutputLimits::Unknown | OutputLimits::Unlimited, _) => Within::NoLimits,
+    }
+}
+
+// Whether limits let an output be on with this band: it lies within them, or the output is said to have none.
+fn lets_on(limits: &OutputLimits, band: Option<Band>) -> bool
+    ensures { result ≡ spec_lets_on limits.now band }
+{
+    match limits {
+        OutputLimits::Unknown => false,
+        OutputLimits::Unlimited => true,
+        OutputLimits::Between(_) => within_limits(limits, band) == Within::Yes,
     }
 }
 
@@ -364,8 +375,7 @@ fn may_command_beyond(
     ensures { let s = held None state.now in
         rule result (unsure_fault limits.now (format_at s output)) ≡ operation_limit registers limits.now s output byte }
 {
-    Operation::has_on(byte)
-        && within_limits(limits, band_on(state, registers, output, byte)) != Within::Yes
+    Operation::has_on(byte) && !lets_on(limits, band_on(state, registers, output, byte))
 }
 
 /// Limits of these microvolts in the place of those that an output has, or of none, as [`crate::Guard::narrow`] says: N5,

@@ -128,11 +128,11 @@ fn a_band_is_within_or_not_or_that_isnt_known(rt: HostRuntime) {
         }
         equal(&rt, &within(&guard), &Some(wanted), &command);
     }
-    // Everything is within the limits of a guard that is said to have none.
+    // Nothing lies within limits that aren't there.
     let mut free = guard_without_limits();
-    equal(&rt, &within(&free), &Some(Within::Yes), &3);
+    equal(&rt, &within(&free), &Some(Within::NoLimits), &3);
     learn(&mut free, 0, LINEAR, &[]);
-    equal(&rt, &within(&free), &Some(Within::Yes), &4);
+    equal(&rt, &within(&free), &Some(Within::NoLimits), &4);
 }
 
 fn guard_without_limits() -> Guard {
