@@ -43,7 +43,7 @@ fn a_band_is_what_the_words_can_command(rt: HostRuntime) {
     is_true(&rt, band(&guard).is_none(), &1);
     learn(&mut guard, 0, LINEAR, &[]);
     is_band(&rt, &guard, 4096, 0, 0xFFFF);
-    // VOUT_MAX alone bounds it from above.
+    // Only VOUT_MAX bounds it from above.
     read(&mut guard, Reg::VoutMax, 14000);
     is_band(&rt, &guard, 4096, 0, 14000);
     read(&mut guard, Reg::VoutMin, 13000);

@@ -158,7 +158,7 @@ fn a_voltage_without_limits_lies_within_none(rt: HostRuntime) {
     equal(&rt, &guard.limits(1).are_known(), &false, &5);
 }
 
-// Why a plan for the first output gives no order; none where the output isn't there.
+// Why a plan for the first output gives no order; none if the output isn't there.
 fn refused(guard: &Guard, wanted: &Wanted) -> Option<PlanFault> {
     if guard.host().outputs() == 0 {
         return None;
