@@ -4,3 +4,5 @@ mod Ceils
 mod Kept
 mod Courses
 mod Narrows
+mod TellsStairs
+mod HandsStairs

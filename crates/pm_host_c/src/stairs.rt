@@ -10,7 +10,7 @@ ghost use Rattle.pm_host_c.specs.Course.{guard_at};
 ghost use Rattle.pm_stairs.specs.Frames.{course_open};
 ghost use Rattle.pm_stairs.specs.Sequence.{Turns};
 ghost use Rattle.pm_host_c.specs.Sizes.{stairs_size};
-ghost use Rattle.pm_host_c.specs.Stairs.{Asks, HandsOut as HandsOutStairs, ChecksStep, TellsStairs, back_said as spec_back_said, backs_with, check_end, check_number, end_said as spec_end_said, heard_course, first_ahead as spec_first_ahead, job_said as spec_job_said, kept_at, number_said as spec_number_said, skip_image, skip_number, stairs_begun, stopped_by};
+ghost use Rattle.pm_host_c.specs.Stairs.{Asks, HandsOut as HandsOutStairs, ChecksStep, TellsStairs, back_said as spec_back_said, backs_with, check_end, check_number, end_said as spec_end_said, heard_course, first_ahead as spec_first_ahead, job_said as spec_job_said, kept_at, lacks_room as spec_lacks_room, number_said as spec_number_said, skip_image, skip_number, stairs_begun, stopped_by};
 ghost use Rattle.pm_host_c.specs.Guard.{guard_of};
 ghost use Rattle.pm_host_c.specs.StairsImage.{placed_in, stairs_in, stairs_version};
 
@@ -83,7 +83,7 @@ pub extern "C" fn pm_stairs_ask(
         sending.clear();
         return NO_STAIRS;
     };
-    if !was.is_down && backs.len() < steps.len() {
+    if lacks_room(&was, steps.len(), backs.len()) {
         sending.clear();
         return NO_ROOM;
     }
@@ -100,6 +100,13 @@ pub extern "C" fn pm_stairs_ask(
             number
         }
     }
+}
+
+// Whether there is less room for the way back than there are steps, where one is noted.
+fn lacks_room(stairs: &Sequence, steps: usize, room: usize) -> bool
+    ensures { result ≡ spec_lacks_room stairs.now steps room }
+{
+    !stairs.is_down && room < steps
 }
 
 // The first step that hasn't begun, or the number of what is wrong with it.
