@@ -16,7 +16,7 @@
  *
  * A part lives in memory of yours, a pm_part, with no pointer in it, so it may be copied. Any bytes may stand there:
  * pm_part_new makes a part of them, and each other call asks first whether it is one. It answers PM_NO_PART if the mark or
- * the version is another, or the configuration is one that pm_part_new refuses. It does so, too, if PAGE names no output, a
+ * the version is another, or the configuration is one that pm_part_new refuses. It answers it, too, if PAGE names no output, a
  * cell doesn't accept its word, or WRITE_PROTECT has another word in the store than its start. */
 #ifndef PM_PART_H
 #define PM_PART_H
