@@ -297,8 +297,8 @@ fn twice_of(end: Option<CourseEnd>) -> Option<Differing>
     }
 }
 
-// 1 where it holds, otherwise 0.
-fn flag(holds: bool) -> u8
+/// 1 if it holds, otherwise 0.
+pub(crate) fn flag(holds: bool) -> u8
     ensures { result ≡ spec_flag holds }
 {
     if holds { 1 } else { 0 }

@@ -1,9 +1,9 @@
 //! Stairs in a caller's memory: plain numbers, and what they mean.
 
-ghost use Rattle.std.specs.Prelude.{◌≡◌};
+ghost use Rattle.std.specs.Prelude.{◌≡◌, option_map};
 ghost use Rattle.pm_host_c.specs.StairsImage.{course_written, held_with, sequence_held, stairs_image, stairs_in, under_image, under_numbers, under_words};
 
-use crate::course_image::CourseImage;
+use crate::course_image::{CourseImage, flag};
 use crate::stairs_end::StairsEndImage;
 use crate::wanted_image::WantedImage;
 use pm_course::FrameCourse;
@@ -88,14 +88,11 @@ impl StairsImage {
             tries: stairs.tries,
             begun: stairs.begun,
             host: stairs.host,
-            is_down: u8::from(stairs.is_down),
+            is_down: flag(stairs.is_down),
             unused: [0; 6],
             end,
             under: UnderImage::of(stairs),
-            course: course_of(match stairs.stairs.under {
-                Some(under) => Some(under.course),
-                None => None,
-            }),
+            course: course_of(course_under(stairs)),
             coming: course_of(stairs.stairs.coming),
         }
     }
@@ -146,6 +143,16 @@ impl StairsImage {
             is_warned: self.under.is_warned == 1,
             is_down: self.is_down == 1,
         }
+    }
+}
+
+// The course of the step under way.
+fn course_under(stairs: &Sequence) -> Option<FrameCourse>
+    ensures { result ≡ option_map (λ under. under.course) stairs.now.stairs.under }
+{
+    match stairs.stairs.under {
+        Some(under) => Some(under.course),
+        None => None,
     }
 }
 
