@@ -1,5 +1,5 @@
 -- Stairs hear what became of a frame where their host does.
-use Rattle.std.proofs.Common.{◌≡◌, ◌∙◌, true, false, Option, Some, None, ap, refl, sym}
+use Rattle.std.proofs.Common.{◌≡◌, ◌∙◌, true, false, Option, Some, ap, refl, sym}
 use Rattle.pm_host.specs.declared.stage.Stage.{Stage}
 use Rattle.pm_host.specs.Image.{host_of}
 use Rattle.pm_host.specs.Refusals.{may_come}

@@ -1,6 +1,6 @@
 -- Stairs, their steps and their ends as plain numbers in a caller's memory, and what they mean. This project's own choice.
-use Rattle.std.specs.Prelude.{◌≡◌, ℕ, Bool, true, false, ◌&&◌, ◌||◌, not, ◌%◌, ◌==◌, nat_lt, if◌then◌else◌, List, [], ◌∷◌, replicate, pos}
-use Rattle.std.specs.Prelude.{Option, Some, None, is_some, option_map, option_and_then, unwrap_or, Result, Ok, Err}
+use Rattle.std.specs.Prelude.{ℕ, Bool, false, ◌&&◌, not, ◌%◌, ◌==◌, nat_lt, if◌then◌else◌, replicate, pos}
+use Rattle.std.specs.Prelude.{Option, Some, None, is_some, option_map, unwrap_or, Result, Ok, Err}
 use Rattle.std.specs.Option.{option_map_or}
 use Rattle.pm_table.specs.declared.commands.Code.{Code}
 use Rattle.pm_table.specs.Rules.{rule}
@@ -20,7 +20,6 @@ use Rattle.pm_stairs.specs.declared.said.StepEnd.{StepEnd}
 use Rattle.pm_stairs.specs.declared.said.StepEnd.TheVariants as stop
 use Rattle.pm_stairs.specs.declared.sequence.Placed.{Placed}
 use Rattle.pm_stairs.specs.declared.sequence.Sequence.{Sequence}
-use Rattle.pm_stairs.specs.declared.stairs.Stairs.{Stairs}
 use Rattle.pm_stairs.specs.declared.stairs.Under.{Under}
 use Rattle.pm_stairs.specs.declared.step.Act.{Act}
 use Rattle.pm_stairs.specs.declared.step.Act.TheVariants as act

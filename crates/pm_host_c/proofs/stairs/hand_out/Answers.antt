@@ -1,4 +1,4 @@
-use Rattle.std.proofs.Common.{◌≡◌, ◌∙◌, Bool, Option, ap, sym}
+use Rattle.std.proofs.Common.{◌∙◌, Bool, Option, ap, sym}
 use Rattle.std.specs.Prelude.{is_some}
 use Rattle.pm_stairs.specs.declared.sequence.Sequence.{Sequence}
 use Rattle.pm_stairs.specs.declared.step.WordStep.{WordStep}

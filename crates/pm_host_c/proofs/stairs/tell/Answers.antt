@@ -2,7 +2,7 @@ use Rattle.std.proofs.Common.{◌≡◌, ◌∙◌, Some, None, ap, sym, refl, r
 use Rattle.pm_host.specs.declared.stage.Stage.{Stage}
 use Rattle.std.specs.Prelude.{Option}
 use Rattle.pm_host.specs.Image.{held, host_of}
-use Rattle.pm_host.specs.Summary.{Summary, next, step_of}
+use Rattle.pm_host.specs.Summary.{next, step_of}
 use Rattle.pm_host.specs.Told.{entry_told}
 use Rattle.pm_course.specs.Surprise.{surprises}
 use Rattle.pm_stairs.specs.Frames.{course_open}

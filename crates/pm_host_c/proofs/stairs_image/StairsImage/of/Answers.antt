@@ -1,4 +1,4 @@
-use Rattle.std.proofs.Common.{◌≡◌, refl}
+use Rattle.std.proofs.Common.{refl}
 use Rattle.pm_host_c.proofs.stairs_image.StairsImage.of.Goals as goal
 
 pub returns : goal.returns
