@@ -1,7 +1,7 @@
 """Steps of several outputs and parts by the library's calls: in order, cut at each transfer, and undone."""
 import unittest
 
-from pmhost import Host, ModelPart, NoWayBack, Output, Refused, Stairs, StairsStep, run_stairs
+from pmhost import Course, Host, ModelPart, NoWayBack, Output, Refused, Stairs, StairsStep, run_stairs
 
 from .fixtures import Faulty
 
@@ -135,6 +135,20 @@ class StairsCalls(unittest.TestCase):
         self.assertEqual((caught.exception.end.kind, caught.exception.end.step, board.held()), ("way back", 0, OLD))
         run_stairs(stairs, board.buses)
         self.assertEqual((stairs.ended.kind, board.held()[0]), ("reached", (0x10CD, 0)))
+
+    def test_a_list_is_judged_by_what_is_known(self):
+        board = Board()
+        for host, bus in zip(board.hosts, board.buses):
+            for output in range(host.outputs):
+                host.run_course(Course.survey(output), bus)
+            host.check(0, "WRITE_PROTECT")
+            host.run(bus)
+        self.assertIsNone(Stairs.check(board.hosts, STEPS))
+        first = Stairs.check([Host(0x40, 2), board.hosts[1]], STEPS)
+        self.assertEqual((first.kind, first.course.number, first.step), ("refused", 0x61, 0))
+        board.hosts[1].set_limits(0, "1.02V", "1.1V")
+        back = Stairs.check(board.hosts, STEPS)
+        self.assertEqual((back.kind, back.course.register, back.course.number, back.step), ("way back", "VOUT_COMMAND", 0x23, 2))
 
     def test_wrong_calls(self):
         host = Host(0x40, 1)

@@ -199,8 +199,8 @@ impl Stairs {
         usize::from(self.image.begun)
     }
 
-    /// Judges a list by the words that the hosts know: survey its outputs first. Each step is judged that is the first one of its output, since
-    /// the words before another one aren't held yet. What speaks against the first that is refused, if one is. NoHost, NoStep, H4.
+    /// Judges a list by the words that the hosts know: survey its outputs first, and check WRITE_PROTECT and what the steps change. Each step
+    /// is judged that is the first one of its output, since the words before another one aren't held yet. What speaks against the first that is refused, if one is. NoHost, NoStep, H4.
     pub fn check(hosts: &[&Host], steps: &[StairsStep]) -> Result<Option<StairsEnd>, Refusal> {
         for (at, step) in steps.iter().enumerate() {
             if steps[..at].iter().any(|other| (other.host(), other.output()) == (step.host(), step.output())) {

@@ -322,6 +322,12 @@ pm_delivery_judge_course(&delivery, &course, &host, &judgement)
 pm_is_delivered(&delivery, &delivered)
 pm_paged_request(0x58, 0, 0x40, 2, &sending)
 pm_read_paged(0x58, 0, 0x40, 2, sending.bytes, 5, &block)
+pm_stairs_ask(&stairs, &host, steps, 1, steps, 1, &sending)
+pm_stairs_skip(&stairs)
+pm_stairs_check(&host, steps, &stopped)
+pm_stairs_frame(&stairs, hosts, 1, steps, 1, steps, 1, &sending)
+pm_stairs_check_all(asked, 1, steps, 1, &stopped)
+pm_run_stairs(&stairs, hosts, 0, 1, steps, 1, steps, 1, 0, 0)
 END
 }
 
@@ -336,7 +342,13 @@ static pm_delivery delivery;
 static pm_delivered delivered;
 static pm_judgement judgement;
 static pm_block block;
-int main(void) { (void)host; (void)wanted; (void)course; (void)sending; (void)delivery; (void)delivered; (void)judgement; (void)block;' row=0
+static pm_stairs stairs;
+static pm_stairs_step steps[1];
+static pm_stairs_end stopped;
+static pm_host *const hosts[1] = {&host};
+static const pm_host *const asked[1] = {&host};
+int main(void) { (void)host; (void)wanted; (void)course; (void)sending; (void)delivery; (void)delivered; (void)judgement; (void)block;
+(void)stairs; (void)steps; (void)stopped; (void)hosts; (void)asked;' row=0
     while read -r call; do
         row=$((row + 1))
         echo "$before return $call; }" > "$folder/asks.c"

@@ -755,8 +755,9 @@ pm_step pm_stairs_read_ended(pm_stairs *stairs, pm_host *host, const uint8_t *by
 PM_MUST_USE
 uint8_t pm_stairs_skip(pm_stairs *stairs);
 
-/* Judges a step by the words that its host knows: survey the output first. pm_stairs_check_all judges a list. PM_OK; PM_ENDED if its plan is
- * refused (P1, P4: learn or check first), PM_NO_WAY_BACK if that of its way back is, as `end` says, of step 0. PM_NO_HOST, PM_NO_STEP, H4. */
+/* Judges a step by the words that its host knows: survey the output first, and check WRITE_PROTECT and what the step changes.
+ * pm_stairs_check_all judges a list. PM_OK; PM_ENDED if its plan is refused (P1, P4: learn or check first), PM_NO_WAY_BACK if that of its
+ * way back is, as `end` says, of step 0. PM_NO_HOST, PM_NO_STEP, H4. */
 PM_MUST_USE
 uint8_t pm_stairs_check(const pm_host *host, const pm_stairs_step *step, pm_stairs_end *end);
 

@@ -245,6 +245,7 @@ CALLS = {
     "pm_stairs_write_ended": (StepImage, [_stairs, _host, _u8]),
     "pm_stairs_read_ended": (StepImage, [_stairs, _host, _bytes, _u64]),
     "pm_stairs_skip": (_u8, [_stairs]),
+    "pm_stairs_check": (_u8, [_host, _steps, _at(StairsEndImage)]),
     "pm_refusal_name": (_u8, [_u8, _at(NameImage)]),
     "pm_end_name": (_u8, [_u16, _at(NameImage)]),
     "pm_microvolts": (_u8, [_at(FormatImage), _u16, _at(_i64)]),

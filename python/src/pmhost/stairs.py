@@ -180,6 +180,25 @@ class Stairs:
         """Leaves the step of a way down that stopped, so that the next one goes on. NoStep."""
         accepted(library.pm_stairs_skip(REFERENCE(self._image)))
 
+    @staticmethod
+    def check(hosts: Sequence[Host], steps: Sequence[StairsStep]) -> Optional[StairsEnd]:
+        """What speaks against the first step that would be refused, or the way back of which would be, by the words that the hosts know; None if
+        nothing does. Survey the outputs first, and check WRITE_PROTECT and what the steps change. Each step is judged that is the first one of
+        its output: the words before another one aren't held yet."""
+        judged = set[tuple[int, int]]()
+        for place, step in enumerate(steps):
+            whole(step.host, 0, len(hosts) - 1, "host of a step")
+            if (step.host, step.output) in judged:
+                continue
+            judged.add((step.host, step.output))
+            found = at.StairsEndImage()
+            number = library.pm_stairs_check(hosts[step.host].reference, REFERENCE(step.image()), REFERENCE(found))
+            if number in (ENDED, NO_WAY_BACK):
+                found.step = place
+                return end_of(found)
+            accepted(number)
+        return None
+
     # ---- Their memory ----
 
     def save(self) -> Memory:
