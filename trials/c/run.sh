@@ -58,16 +58,27 @@ told() {
     fi
 }
 
-# bound OBJECT: the stack that it says it needs is at most what the header promises
+# bound OBJECT: the stack that it says it needs is at most what the header promises; of a host's that is what stairs need, and the others'
+# is judged by the frames
 bound() {
-    local most=PM_STACK needed promised
-    if nm "$1" | grep -q ' T pm_part_'; then most=PM_PART_STACK; fi
-    needed=$(readelf -p .comment "$1" | grep -o 'stack-bytes=[0-9]*' | cut -d= -f2)
-    promised=$(sed -n "s/^#define $most \([0-9]*\)$/\1/p" crates/pm_host_c/include/pmhost.h crates/pm_device_c/include/pmpart.h)
-    if [ "${needed:-none}" != none ] && [ "$needed" -le "$promised" ]; then
-        tell 0; echo "$(basename "$1") stack: ok, $needed of $most, $promised"
+    local says
+    says=$(readelf -p .comment "$1" | grep -o 'stack-bytes=[0-9]*' | cut -d= -f2)
+    if nm "$1" | grep -q ' T pm_part_'; then
+        promised "$1" PM_PART_STACK "$says"
     else
-        tell 1; echo "$(basename "$1") stack: FAILED, ${needed:-no stack-bytes} of $most, $promised"
+        promised "$1" PM_STAIRS_STACK "$says"
+        promised "$1" PM_STACK "$(trials/c/frames.py "$1" pm_stairs_ask pm_stairs_write_ended pm_stairs_read_ended | cut -d' ' -f1)"
+    fi
+}
+
+# promised OBJECT NAME BYTES: they are at most what the header promises by this name
+promised() {
+    local most
+    most=$(sed -n "s/^#define $2 \([0-9]*\)$/\1/p" crates/pm_host_c/include/pmhost.h crates/pm_device_c/include/pmpart.h)
+    if [ -n "$3" ] && [ "$3" -le "$most" ]; then
+        tell 0; echo "$(basename "$1") stack: ok, $3 of $2, $most"
+    else
+        tell 1; echo "$(basename "$1") stack: FAILED, ${3:-no number} of $2, $most"
     fi
 }
 

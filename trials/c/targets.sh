@@ -135,20 +135,18 @@ instructions() {
     echo $(((count[1] - count[0]) / 10))
 }
 
-# deepest NAME EXPORT ..: the stack of a call and then of each export that the header promises by itself, by the frames; or
-# as the archive says of itself, which is one bound of all
+# deepest NAME EXPORT ..: the stack of a call and then of each export that the header promises by itself, by the frames
 deepest() {
-    local of=$1 most each; shift
+    local of=$1; shift
     if [ -f "$folder/$of.passed" ]; then
         trials/c/stack.py "$folder/$of.passed" "$folder/$of.su" "${call[${of%.part}]-0}" "$@" 2>&1
     else
-        most=$(readelf -p .comment "$folder/$of.a" | grep -o 'stack-bytes=[0-9]*' | cut -d= -f2 | sort -n | tail -1)
-        for each in "" "$@"; do echo -n "${most:-none} "; done
+        trials/c/frames.py "$folder/$of.a" "$@" 2>&1
     fi
 }
 
-# measured NAME: text of the host's archive, flash of an order alone, stack of a host's call, of pm_refusal_name and of a
-# part's call, instructions
+# measured NAME: text of the host's archive, flash of an order alone, stack of a host's call, of pm_refusal_name, of the three calls of
+# stairs that the header promises by themselves and of a part's call, instructions
 measured() {
     local name=$1 text order=-
     text=$(size -t "$folder/$name.a" 2> /dev/null | awk 'END {print $1}')
@@ -158,20 +156,21 @@ measured() {
             -u pm_host_confirmed_word "$folder/$name.a" -o "$folder/$name.alone" 2> /dev/null &&
             order=$(size "$folder/$name.alone" | awk 'END {print $1}')
     fi
-    echo "$text $order $(deepest "$name" pm_refusal_name) $(deepest "$name.part") $(instructions "$name")"
+    echo "$text $order $(deepest "$name" pm_refusal_name pm_stairs_ask pm_stairs_write_ended pm_stairs_read_ended) $(deepest "$name.part") $(instructions "$name")"
 }
 
 # within NAME: the stack is at most what the header promises
 within() {
-    local host naming part most=() each
-    read -r _ _ host naming part _ < "$folder/$1.measured"
-    for each in PM_STACK PM_NAME_STACK PM_PART_STACK; do
+    local host naming asks writes reads part most=() each
+    read -r _ _ host naming asks writes reads part _ < "$folder/$1.measured"
+    for each in PM_STACK PM_NAME_STACK PM_STAIRS_STACK PM_PART_STACK; do
         most+=("$(sed -n "s/^#define $each \([0-9]*\)$/\1/p" crates/pm_host_c/include/pmhost.h crates/pm_device_c/include/pmpart.h)")
     done
-    if { [ "$host" -le "${most[0]}" ] && [ "$naming" -le "${most[1]}" ] && [ "$part" -le "${most[2]}" ]; } 2> /dev/null; then
+    if { [ "$host" -le "${most[0]}" ] && [ "$naming" -le "${most[1]}" ] && [ "$asks" -le "${most[2]}" ] && [ "$writes" -le "${most[2]}" ] &&
+        [ "$reads" -le "${most[2]}" ] && [ "$part" -le "${most[3]}" ]; } 2> /dev/null; then
         echo "$1 stack: ok"
     else
-        echo "$1 stack: FAILED, $host of ${most[0]}, $naming of ${most[1]} and $part of ${most[2]}"
+        echo "$1 stack: FAILED, $host of ${most[0]}, $naming of ${most[1]}, $asks, $writes and $reads of ${most[2]} and $part of ${most[3]}"
     fi
 }
 
@@ -190,27 +189,27 @@ target() {
 
 # leave NAME: the archives, the headers and the line of facts
 leave() {
-    local name=$1 text order host naming part orders
-    read -r text order host naming part orders < "$folder/$name.measured"
+    local name=$1 text order host naming stairs part orders
+    read -r text order host naming stairs _ _ part orders < "$folder/$name.measured"
     mkdir -p "$out/$name"
     cp "$folder/$name.a" "$out/$name/libpm_host_c.a"
     cp "$folder/$name.part.a" "$out/$name/libpm_device_c.a"
     cp crates/pm_host_c/include/pmhost.h crates/pm_device_c/include/pmpart.h "$out/$name/"
     echo "commit=$(git rev-parse HEAD) toolchain=$(rt version | tr ' ' '-') target=$name proof=${class[$name]} flags=$(tr ' ' ',' <<< "${flags[$name]}")" \
-        "text=$text order=$order stack-host=$host stack-name=$naming stack-part=$part instructions=$orders sha256=$(sha256sum "$folder/$name.a" | cut -d' ' -f1)" \
+        "text=$text order=$order stack-host=$host stack-name=$naming stack-stairs=$stairs stack-part=$part instructions=$orders sha256=$(sha256sum "$folder/$name.a" | cut -d' ' -f1)" \
         "sha256-part=$(sha256sum "$folder/$name.part.a" | cut -d' ' -f1)" \
         > "$out/$name/facts"
 }
 
 # table: what the page shows
 table() {
-    local name text order host naming part orders
-    echo "| target | how | host's archive, bytes | only an order | stack of a host's call | of pm_refusal_name | of a part's call | instructions of an order |"
-    echo "|---|---|---|---|---|---|---|---|"
+    local name text order host naming stairs part orders
+    echo "| target | how | host's archive, bytes | only an order | stack of a host's call | of pm_refusal_name | of pm_stairs_ask | of a part's call | instructions of an order |"
+    echo "|---|---|---|---|---|---|---|---|---|"
     for name in $names; do
         [ -f "$folder/$name.measured" ] || continue
-        read -r text order host naming part orders < "$folder/$name.measured"
-        echo "| ${title[$name]} | ${meaning[${class[$name]}]} | $text | $order | $host | $naming | $part | $orders |"
+        read -r text order host naming stairs _ _ part orders < "$folder/$name.measured"
+        echo "| ${title[$name]} | ${meaning[${class[$name]}]} | $text | $order | $host | $naming | $stairs | $part | $orders |"
     done
 }
 

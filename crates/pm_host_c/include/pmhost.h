@@ -12,7 +12,8 @@
  *   - counts are in elements, uint64_t on every processor, and tell the truth;
  *   - one call at a time works on a host, a course or a delivery: no call waits for another one or refuses it, so threads that share
  *     a host hold a lock of yours over each whole job or course;
- *   - each call has PM_STACK bytes of stack, pm_refusal_name PM_NAME_STACK.
+ *   - each call has PM_STACK bytes of stack, pm_refusal_name PM_NAME_STACK, and pm_stairs_ask, pm_stairs_write_ended and
+ *     pm_stairs_read_ended PM_STAIRS_STACK.
  *
  * The library takes no memory, keeps nothing between calls, calls nothing and never blocks.
  *
@@ -52,8 +53,8 @@ extern "C" {
 #define PM_VERSION 0x0001
 
 /* The versions of the layouts of a host, a course and a delivery, and their sizes in bytes. A call takes at most PM_STACK bytes of
- * stack, and pm_refusal_name PM_NAME_STACK, since a loader may bind memmove in it. docs/c.md has what calls take on each
- * processor. An archive says its own bound as stack-bytes in its section .comment. */
+ * stack, the three of stairs named above PM_STAIRS_STACK, and pm_refusal_name PM_NAME_STACK, since a loader may bind memmove in it.
+ * docs/c.md has what calls take on each processor. An archive says its own bound as stack-bytes in its section .comment. */
 #define PM_HOST_VERSION 6
 #define PM_HOST_SIZE 2064
 #define PM_COURSE_VERSION 1
@@ -64,6 +65,7 @@ extern "C" {
 #define PM_STAIRS_SIZE 272
 #define PM_STAIRS_STEP_SIZE 88
 #define PM_STACK 3072
+#define PM_STAIRS_STACK 12288
 #define PM_NAME_STACK 4096
 
 /* What a call answers: 0, or why it is refused. A refused call changes nothing, but for these: pm_host_frame, pm_course_frame and
@@ -742,7 +744,8 @@ void pm_stairs_new(pm_stairs *stairs, uint16_t tries, uint8_t is_down);
  *   PM_NO_WAY_BACK  before the first order of a step, once: the plan of its way back would be refused by the words that are known, as
  *                   stairs->end says. Asked again the step begins
  *   PM_ENDED        as stairs->end says
- * PM_NO_HOST, PM_NO_STAIRS, PM_NO_ROOM; PM_NO_STEP and H4 for the first step that hasn't begun. Then nothing changes. */
+ * PM_NO_HOST, PM_NO_STAIRS, PM_NO_ROOM; PM_NO_STEP and H4 for the first step that hasn't begun. Then nothing changes.
+ * This call and the next two take at most PM_STAIRS_STACK bytes of stack. */
 PM_MUST_USE
 uint8_t pm_stairs_ask(pm_stairs *stairs, pm_host *host, const pm_stairs_step *steps, uint64_t count, pm_stairs_step *backs, uint64_t room,
                       pm_sending *frame);
