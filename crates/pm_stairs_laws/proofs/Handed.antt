@@ -1,7 +1,6 @@
 -- The calls over frames are steps of a caller of the stairs.
-use Rattle.std.proofs.Common.{◌≡◌, ℕ, Bool, true, false, not, List, [], ◌∷◌, Option, Some, None, Ok, Err, refl, sym, ◌∙◌, ap, subst}
-use Rattle.std.specs.Prelude.{◌==◌, ◌&&◌, ◌||◌, is_none, is_some, option_map, if◌then◌else◌, Result}
-use Rattle.pm_table.specs.Rules.{rule}
+use Rattle.std.proofs.Common.{◌≡◌, ℕ, Bool, true, false, List, [], ◌∷◌, Option, Some, None, Ok, refl, ap, subst}
+use Rattle.std.specs.Prelude.{option_map, Result}
 use Rattle.pm_device.specs.declared.config.Config.{Config}
 use Rattle.pm_host.specs.declared.fault.Untold.{Untold}
 use Rattle.pm_host.specs.declared.job.Job.{Job as Asked}
@@ -11,8 +10,7 @@ use Rattle.pm_limits.specs.Guard.{Guarded, LetsBegin}
 use Rattle.pm_course.specs.declared.frame_course.FrameCourse.{FrameCourse}
 use Rattle.pm_course.specs.declared.frames.Sending.{Sending}
 use Rattle.pm_stairs.specs.declared.frames.Came.{Came}
-use Rattle.pm_stairs.specs.declared.frames.Came.TheVariants.{Goes as GoesOn, Begun, Passed}
-use Rattle.pm_stairs.specs.declared.stairs.Move.{Move}
+use Rattle.pm_stairs.specs.declared.frames.Came.TheVariants.{Begun, Passed}
 use Rattle.pm_stairs.specs.declared.stairs.Move.TheVariants as move
 use Rattle.pm_stairs.specs.declared.said.StepEnd.{StepEnd}
 use Rattle.pm_stairs.specs.declared.stairs.Stairs.{Stairs}
@@ -24,7 +22,6 @@ use Rattle.pm_stairs.specs.Frames as frames
 use Rattle.pm_stairs.specs.Stairs.{Goes}
 use Rattle.pm_host.specs.Summary.{Summary}
 use Rattle.pm_world.specs.declared.event.Event.{Event}
-use Rattle.pm_world.specs.Job.{asked_by}
 use Rattle.pm_stairs_laws.specs.Climb.{IsClimb, IsGuardAt, first}
 use Rattle.pm_stairs_laws.specs.Climb as climb
 use Rattle.pm_stairs_laws.specs.Due.{IsFirst, Means, MovesAreDue, step_under}

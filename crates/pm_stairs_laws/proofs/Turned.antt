@@ -1,8 +1,5 @@
 -- A list of steps over one host names what its stairs do.
-use Rattle.std.proofs.Common.{◌≡◌, ℕ, Bool, true, false, not, Option, Some, None, refl, sym, ◌∙◌, ap, subst}
-use Rattle.std.specs.Prelude.{◌==◌, ◌&&◌, ◌||◌, is_none, is_some, option_map, if◌then◌else◌}
-use Rattle.std.proofs.lemmas.Bool.{eqb-refl}
-use Rattle.pm_table.specs.Rules.{rule}
+use Rattle.std.proofs.Common.{◌≡◌, Bool, true, false, Option, Some, None, refl, subst}
 use Rattle.pm_host.specs.declared.job.Job.{Job as Asked}
 use Rattle.pm_limits.specs.Guard.{Guarded}
 use Rattle.pm_rail.specs.declared.fault.PlanFault.{PlanFault}
@@ -27,6 +24,7 @@ use Rattle.pm_stairs_laws.specs.Due.{Means, MovesAreDue}
 use Rattle.pm_stairs_laws.specs.Due as means
 use Rattle.pm_stairs_laws.specs.Handed.{IsOfOneHost, Named, step_of_placed}
 use Rattle.pm_stairs_laws.specs.Handed as named
+use Rattle.pm_stairs_laws.proofs.Segments.{itself}
 
 -- on a way up no step begins at once
 never-at-once : (a : Act) → is_at_once false a ≡ false
@@ -48,7 +46,7 @@ is-here : (q : Sequence) (ahead : Option Placed) → IsOfOneHost q ahead → ahe
 is-here q None one = refl
 is-here q (Some placed) one =
     let same : placed.host ≡ q.host = cc in
-    rw (same, one.up, never-at-once placed.step.act, eqb-refl q.host) refl
+    rw (same, one.up, never-at-once placed.step.act, itself q.host) refl
 
 -- what is answered, by the move that the stairs name
 begins-so : (g : Guarded) (q : Sequence) (ahead : Option Step) (asked : Stairs) (job : Asked) (back : WordStep) (fault : Option PlanFault) →
@@ -73,11 +71,11 @@ reached-so due g q (Some placed) asked goes =
 said-so : MovesAreDue → (g : Guarded) (q : Sequence) (ahead : Option Placed) (said : Move) (asked : Stairs) →
     Goes g q.tries (step_of_placed ahead) q.stairs said asked →
     Named g q.tries (step_of_placed ahead) q.stairs (turned_after ahead q said asked (refused_for g q said)).stairs
-        (turned ahead said (refused_for g q said))
+    (turned ahead said (refused_for g q said))
 said-so due g q ahead (move.Job job) asked goes = named.job job goes
 said-so due g q ahead (move.Begins job back) asked goes = begins-so g q (step_of_placed ahead) asked job back (refused_back g q back) goes
 said-so due g q ahead (move.Passes back) asked goes = named.passes back goes
-said-so g q ahead move.Reached asked goes = reached-so due g q ahead asked goes
+said-so due g q ahead move.Reached asked goes = reached-so due g q ahead asked goes
 said-so due g q ahead (move.Stops why) asked goes = named.stops why goes
 
 pub sequences : MovesAreDue → (g : Guarded) (ahead : Option Placed) (q is : Sequence) (said : Turn) → IsOfOneHost q ahead →

@@ -1,5 +1,5 @@
 -- What the calls of stairs do, over a life: this project's own choice. Lists are newest first, but for the steps that are ahead.
-use Rattle.std.specs.Prelude.{◌≡◌, ℕ, Bool, true, false, not, List, [], ◌∷◌, Option, Some, None, option_map, Result, Ok, Err}
+use Rattle.std.specs.Prelude.{◌≡◌, ℕ, false, List, ◌∷◌, Option, Some, option_map, Result, Ok}
 use Rattle.pm_device.specs.declared.config.Config.{Config}
 use Rattle.pm_host.specs.declared.fault.Untold.{Untold}
 use Rattle.pm_host.specs.declared.job.Job.{Job as Asked}
@@ -24,7 +24,6 @@ use Rattle.pm_stairs.specs.Stairs.{Goes}
 use Rattle.pm_world.specs.declared.event.Event.{Event}
 use Rattle.pm_world.specs.Job.{asked_by}
 use Rattle.pm_stairs_laws.specs.Climb.{IsClimb, IsGuardAt, first}
-use Rattle.pm_stairs_laws.specs.Due.{step_under}
 
 -- The call that hands out a frame is a step of a caller of the stairs, or none (`stays`): a job begins, which each event asks for that
 -- begins it (`asks`), and the first step ahead with it (`begins`), or that step is over as it begins (`passes`).
