@@ -88,13 +88,7 @@ pub extern "C" fn pm_stairs_ask(
         return NO_ROOM;
     }
     match first_ahead(steps, was.begun) {
-        Ok(ahead) => hand_out(
-            stairs,
-            host,
-            &Asked { was, stage, ahead },
-            backs,
-            sending,
-        ),
+        Ok(ahead) => hand_out(stairs, host, &Asked { was, stage, ahead }, backs, sending),
         Err(number) => {
             sending.clear();
             number
@@ -184,11 +178,7 @@ fn job_said(said: Turn) -> Option<Job>
     match said {
         Turn::Job(job) => Some(job),
         Turn::Begins(job, _) => Some(job),
-        Turn::Passes(_)
-        | Turn::Again
-        | Turn::NoWayBack(_)
-        | Turn::Reached
-        | Turn::Stops(_) => None,
+        Turn::Passes(_) | Turn::Again | Turn::NoWayBack(_) | Turn::Reached | Turn::Stops(_) => None,
     }
 }
 

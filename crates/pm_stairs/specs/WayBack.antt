@@ -64,7 +64,7 @@ lasting (Protected register) = Some (Protected register)
 unfoldable pub way_back_fault : Guarded → WordStep → Option PlanFault
 way_back_fault g back = if nat_lt back.output 8
     then option_and_then (λ wanted. option_and_then lasting (plan_fault g back.output wanted))
-        (goal_at g.host back.output back.act) else None
+    (goal_at g.host back.output back.act) else None
 
 -- why a step in words would be refused, by the words that are known now
 abbrev pub unknown_byte : Guarded → WordStep → Option ℕ → Option PlanFault

@@ -180,7 +180,9 @@ impl Sequence {
         ensures { result ≡ spec_off_at_once self.now (spec_is_under self.now ahead) ahead }
     {
         match ahead {
-            Some(placed) if !self.is_under(ahead) && self.is_at_once(&placed.step) => Some(placed.step),
+            Some(placed) if !self.is_under(ahead) && self.is_at_once(&placed.step) => Some(
+                placed.step,
+            ),
             _ => None,
         }
     }
@@ -313,9 +315,7 @@ impl Sequence {
         ensures { result ≡ heard_with self.now course restarted }
     {
         let mut heard = *self;
-        heard.stairs = self
-            .stairs
-            .with_course(course, restarted && !self.is_down);
+        heard.stairs = self.stairs.with_course(course, restarted && !self.is_down);
         heard
     }
 

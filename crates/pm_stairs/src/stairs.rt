@@ -245,7 +245,12 @@ pub(crate) fn words_by<S: Sight>(guard: &S, course: &FrameCourse) -> Result<Want
 }
 
 // What a step asks for, which has begun or begins now, and its course then.
-fn ask<S: Sight>(guard: &S, begun: bool, step: &WordStep, course: &FrameCourse) -> (Said, FrameCourse)
+fn ask<S: Sight>(
+    guard: &S,
+    begun: bool,
+    step: &WordStep,
+    course: &FrameCourse,
+) -> (Said, FrameCourse)
     requires step { step.now.output < (S.guarded guard.now).host.setup.outputs }
     requires course { course.now.course.survey.output < (S.guarded guard.now).host.setup.outputs }
     ensures { SaysStep (S.guarded guard.now) begun step.now course.now result.0 result.1 }

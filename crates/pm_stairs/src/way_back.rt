@@ -105,7 +105,13 @@ fn plan_fault<S: Sight>(guard: &S, output: u8, wanted: &Wanted) -> Option<PlanFa
         output,
         wanted: *wanted,
     };
-    match next_order_in(guard.state(), guard.stage(), guard.registers(), &limits, &plan) {
+    match next_order_in(
+        guard.state(),
+        guard.stage(),
+        guard.registers(),
+        &limits,
+        &plan,
+    ) {
         Ok(_) => None,
         Err(fault) => Some(fault),
     }

@@ -65,17 +65,37 @@ fn a_way_down_orders_before_it_reads_and_leaves_a_step(rt: HostRuntime) {
     let mut image = host(1);
     let steps = [turns(0, 1, 0), turns(0, 0, 0)];
     let mut stairs = begun(1, 1);
-    equal(&rt, &ask(&mut stairs, &mut image, &steps, &mut []), &(0, 1, 0), &1);
+    equal(
+        &rt,
+        &ask(&mut stairs, &mut image, &steps, &mut []),
+        &(0, 1, 0),
+        &1,
+    );
     let step = pm_stairs_write_ended(&mut stairs, &mut image, 1);
     equal(&rt, &(step.kind, step.word), &(0, 0), &2);
-    equal(&rt, &ask(&mut stairs, &mut image, &steps, &mut []), &(0, 2, 0), &3);
+    equal(
+        &rt,
+        &ask(&mut stairs, &mut image, &steps, &mut []),
+        &(0, 2, 0),
+        &3,
+    );
     let step = pm_stairs_read_ended(&mut stairs, &mut image, &[]);
     equal(&rt, &(step.kind, step.word), &(3, 0), &4);
-    equal(&rt, &ask(&mut stairs, &mut image, &steps, &mut []), &(0x95, 0, 0), &5);
+    equal(
+        &rt,
+        &ask(&mut stairs, &mut image, &steps, &mut []),
+        &(0x95, 0, 0),
+        &5,
+    );
     equal(&rt, &end(&stairs), &(4, 0, 0x01, 1, 0), &6);
     equal(&rt, &pm_stairs_skip(&mut stairs), &0, &7);
     equal(&rt, &pm_stairs_skip(&mut stairs), &0xEF, &8);
-    equal(&rt, &ask(&mut stairs, &mut image, &steps, &mut []), &(0, 1, 0), &9);
+    equal(
+        &rt,
+        &ask(&mut stairs, &mut image, &steps, &mut []),
+        &(0, 1, 0),
+        &9,
+    );
     equal(&rt, &stairs.begun, &2, &10);
 }
 
@@ -85,8 +105,18 @@ fn a_way_up_reads_before_it_turns(rt: HostRuntime) {
     let steps = [turns(0, 0, 0)];
     let mut backs = [turns(0, 7, 0)];
     let mut stairs = begun(5, 0);
-    equal(&rt, &ask(&mut stairs, &mut image, &steps, &mut []), &(0xEA, 0, 0), &1);
-    equal(&rt, &ask(&mut stairs, &mut image, &steps, &mut backs), &(0, 2, 0), &2);
+    equal(
+        &rt,
+        &ask(&mut stairs, &mut image, &steps, &mut []),
+        &(0xEA, 0, 0),
+        &1,
+    );
+    equal(
+        &rt,
+        &ask(&mut stairs, &mut image, &steps, &mut backs),
+        &(0, 2, 0),
+        &2,
+    );
     let step = pm_stairs_read_ended(&mut stairs, &mut image, &[0xB1, 0x01, 0x80, 0xB5]);
     equal(&rt, &(step.kind, step.word), &(3, 0x35), &3);
     equal(&rt, &(stairs.begun, backs[0].output), &(0, 7), &4);
@@ -98,16 +128,46 @@ fn wrong_memory_and_wrong_steps_are_refused(rt: HostRuntime) {
     let steps = [turns(0, 0, 0)];
     let mut stairs = begun(5, 1);
     let mut none = GuardImage::blank();
-    equal(&rt, &ask(&mut stairs, &mut none, &steps, &mut []), &(0xE0, 0, 0), &1);
+    equal(
+        &rt,
+        &ask(&mut stairs, &mut none, &steps, &mut []),
+        &(0xE0, 0, 0),
+        &1,
+    );
     let mut far = steps;
     far[0].output = 8;
-    equal(&rt, &ask(&mut stairs, &mut image, &far, &mut []), &(0x04, 0, 0), &2);
+    equal(
+        &rt,
+        &ask(&mut stairs, &mut image, &far, &mut []),
+        &(0x04, 0, 0),
+        &2,
+    );
     far = steps;
     far[0].kind = 3;
-    equal(&rt, &ask(&mut stairs, &mut image, &far, &mut []), &(0xEF, 0, 0), &3);
+    equal(
+        &rt,
+        &ask(&mut stairs, &mut image, &far, &mut []),
+        &(0xEF, 0, 0),
+        &3,
+    );
     let mut said = StairsEndImage::none();
-    equal(&rt, &pm_stairs_check(&image, &steps[0], &mut said), &0x95, &4);
-    equal(&rt, &(said.kind, said.number, said.code), &(2, 0x64, 0x01), &5);
+    equal(
+        &rt,
+        &pm_stairs_check(&image, &steps[0], &mut said),
+        &0x95,
+        &4,
+    );
+    equal(
+        &rt,
+        &(said.kind, said.number, said.code),
+        &(2, 0x64, 0x01),
+        &5,
+    );
     stairs.version = 2;
-    equal(&rt, &ask(&mut stairs, &mut image, &steps, &mut []), &(0xEE, 0, 0), &6);
+    equal(
+        &rt,
+        &ask(&mut stairs, &mut image, &steps, &mut []),
+        &(0xEE, 0, 0),
+        &6,
+    );
 }

@@ -22,7 +22,7 @@ returns-in-Ok-placed c =
     subst (λ (n : ℕ). ChecksStep (guard_of c.args.host.now) (placed_in c.args.step.now) c.args.end.now n c.end_checked.result)
     (sym c.number_checked.ensures)
     (subst (λ (e : StairsEndImage). ChecksStep (guard_of c.args.host.now) (placed_in c.args.step.now) c.args.end.now
-        (check_number c.check-said.result) e) (sym c.end_checked.ensures)
+    (check_number c.check-said.result) e) (sym c.end_checked.ensures)
     (checked_step g c.in-Ok-placed.placed c.check-said.result found (sym c.placed.ensures ∙ c.in-Ok-placed.is) checks))
 
 pub returns-in-Err : goal.returns-in-Err

@@ -29,7 +29,7 @@ returns-in-Some-stage c =
     let answered : c.step_after.result ≡ host_step (fault_in s entry) (step_of s entry) = search rules in
     let may = awaited stage before.host.state c.args.told (search rules) in
     let heard : c.of.result ≡ stairs_image (heard_course q s.setup.addr stage entry (surprises s stage entry) (step_of s entry)
-        (course_open q.stairs)) c.args.stairs.now.end = search rules in
+    (course_open q.stairs)) c.args.stairs.now.end = search rules in
     tells-stairs before new c.args.stairs.now c.of.result s q stage entry c.step_after.result found
     (sym c.stairs.ensures ∙ c.in-Some.is) refl may heard
     (tells before new s entry c.step_after.result found may became answered refl refl

@@ -12,7 +12,7 @@ use Rattle.pm_stairs.proofs.way_back.check.Goals as goal
 pub returns-in-Err : goal.returns-in-Err
 returns-in-Err g c = unformed c.in-Err.refusal
     (subst (λ (k : FrameCourse). HasWords (g.S.Sight.guarded c.args.guard.now) (as_learned k) (Err c.in-Err.refusal))
-        c.course-course.ensures
+    c.course-course.ensures
     (subst (λ (r : Result Wanted Refusal). HasWords (g.S.Sight.guarded c.args.guard.now) (as_learned c.course-course.result) r) c.in-Err.is
     c.words_by.ensures))
 

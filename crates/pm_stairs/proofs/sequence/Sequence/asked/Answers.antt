@@ -9,7 +9,7 @@ use Rattle.pm_stairs.proofs.sequence.Sequence.asked.Goals as goal
 pub returns-in-Some : goal.returns-in-Some
 returns-in-Some g c =
     subst (λ (q : Sequence). Turns (g.S.Sight.guarded c.args.guard.now) c.args.ahead c.args.self.now turn.Again q)
-        (sym c.begins_at_once.ensures)
+    (sym c.begins_at_once.ensures)
     (at_once_of c.in-Some.step c.requires (sym c.off_at_once.ensures ∙ c.in-Some.is))
 
 pub returns : goal.returns

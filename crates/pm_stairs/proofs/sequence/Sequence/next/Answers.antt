@@ -6,5 +6,5 @@ use Rattle.pm_stairs.proofs.sequence.Sequence.next.Goals as goal
 pub returns : goal.returns
 returns g c =
     subst (λ (d : ℕ). Turns (g.S.Sight.guarded c.args.guard.now) c.args.ahead c.args.self.now turn.Again
-        (record c.args.self.now { host = d }))
+    (record c.args.self.now { host = d }))
     (sym c.host_due-due.ensures) (elsewhere (λ same. c.if-self-due.false (same ∙ sym c.host_due-due.ensures)))

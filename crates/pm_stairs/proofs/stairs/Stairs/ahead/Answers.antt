@@ -15,29 +15,29 @@ use Rattle.pm_stairs.proofs.stairs.Stairs.ahead.Goals as goal
 pub returns-in-Err : goal.returns-in-Err
 returns-in-Err g c =
     let none : HasWords (g.S.Sight.guarded c.args.guard.now) (coming_course c.args.self.now c.args.step.now c.args.tries)
-        (Err c.in-Err.refusal) =
+    (Err c.in-Err.refusal) =
     subst (λ (course : FrameCourse). HasWords (g.S.Sight.guarded c.args.guard.now) course (Err c.in-Err.refusal))
-        c.coming_course-course.ensures
+    c.coming_course-course.ensures
     (subst (λ (r : Result Wanted Refusal). HasWords (g.S.Sight.guarded c.args.guard.now) c.coming_course-course.result r) c.in-Err.is
-        c.words_by.ensures) in
+    c.words_by.ensures) in
     subst (λ (s : Stairs). GoesAhead (g.S.Sight.guarded c.args.guard.now) c.args.tries c.args.step.now c.args.self.now
-        (Stops (Course (Refused c.in-Err.refusal))) s)
+    (Stops (Course (Refused c.in-Err.refusal))) s)
     (sym (c.reads_for.ensures ∙ ap (λ (course : FrameCourse). reading_for c.args.self.now course) c.coming_course-course.ensures))
     (unformed c.in-Err.refusal none)
 
 pub returns-in-Ok : goal.returns-in-Ok
 returns-in-Ok g c =
     let some : HasWords (g.S.Sight.guarded c.args.guard.now) (coming_course c.args.self.now c.args.step.now c.args.tries)
-        (Ok c.in-Ok.words) =
+    (Ok c.in-Ok.words) =
     subst (λ (course : FrameCourse). HasWords (g.S.Sight.guarded c.args.guard.now) course (Ok c.in-Ok.words)) c.coming_course-course.ensures
     (subst (λ (r : Result Wanted Refusal). HasWords (g.S.Sight.guarded c.args.guard.now) c.coming_course-course.result r) c.in-Ok.is
-        c.words_by.ensures) in
+    c.words_by.ensures) in
     let says : AsksAhead (g.S.Sight.guarded c.args.guard.now) (step_with c.args.step.now c.in-Ok.words)
     (coming_course c.args.self.now c.args.step.now c.args.tries) c.args.self.now c.asks.result c.asks.new.self =
     subst (λ (course : FrameCourse). AsksAhead (g.S.Sight.guarded c.args.guard.now)
-        (step_with c.args.step.now c.in-Ok.words) course c.args.self.now c.asks.result
+    (step_with c.args.step.now c.in-Ok.words) course c.args.self.now c.asks.result
     c.asks.new.self) c.coming_course-course.ensures
     (subst (λ (step : WordStep). AsksAhead (g.S.Sight.guarded c.args.guard.now) step c.coming_course-course.result c.args.self.now
-        c.asks.result c.asks.new.self)
+    c.asks.result c.asks.new.self)
     c.with_words.ensures c.asks.ensures) in
     asks c.in-Ok.words c.asks.result c.asks.new.self some says

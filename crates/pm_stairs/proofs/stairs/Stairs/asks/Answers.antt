@@ -25,7 +25,7 @@ returns-then-not-are_there g c =
     let gone : AsksAhead (g.S.Sight.guarded c.args.guard.now) c.args.step.now c.args.course.now c.args.self.now (Stops _) _ =
     absent (sym c.are_there.ensures.is ∙ c.if-not-are_there.true) in
     subst (λ (s : Stairs). AsksAhead (g.S.Sight.guarded c.args.guard.now) c.args.step.now c.args.course.now c.args.self.now
-        (Stops c.absent.result) s)
+    (Stops c.absent.result) s)
     (sym c.reads_for.ensures)
     (subst (λ (why : StepEnd). AsksAhead (g.S.Sight.guarded c.args.guard.now) c.args.step.now c.args.course.now c.args.self.now (Stops why)
     (reading_for c.args.self.now c.args.course.now)) (sym c.absent.ensures) gone)
@@ -36,7 +36,7 @@ returns g c =
     let after : FrameCourse = c.ask-said.result.1 in
     let is : (b : Bool) → c.begins_now.result ≡ b → begins_now said ≡ b = λ b e. sym c.begins_now.ensures ∙ e in
     asked (g.S.Sight.guarded c.args.guard.now) c.args.step.now c.args.course.now c.args.self.now said after c.ahead_move.result
-        c.if-begins_now.self
+    c.if-begins_now.self
     c.ask-said.ensures
     (c.ahead_move.ensures ∙ ap (λ (back : WordStep). ahead_move back said) c.noted.ensures)
     (elim c.if-begins_now.branch [

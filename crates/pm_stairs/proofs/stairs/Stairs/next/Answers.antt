@@ -9,16 +9,16 @@ returns-then-self g c = restarted c.if-self.true
 pub returns-in-Some : goal.returns-in-Some
 returns-in-Some g c = under c.in-Some.said c.under.new.self c.if-self.false
     (subst (λ (o : Option Move). GoesUnder (g.S.Sight.guarded c.args.guard.now) c.args.self.now o c.under.new.self) c.in-Some.is
-        c.under.ensures)
+    c.under.ensures)
 
 pub returns-in-Some-ahead : goal.returns-in-Some-ahead
 returns-in-Some-ahead g c = first c.in-Some-ahead.step c.ahead.result c.under.new.self c.ahead.new.self c.if-self.false
     (subst (λ (o : Option Move). GoesUnder (g.S.Sight.guarded c.args.guard.now) c.args.self.now o c.under.new.self) c.in_default.is
-        c.under.ensures)
+    c.under.ensures)
     c.in-Some-ahead.is c.ahead.ensures
 
 pub returns-in-None : goal.returns-in-None
 returns-in-None g c = all c.under.new.self c.if-self.false
     (subst (λ (o : Option Move). GoesUnder (g.S.Sight.guarded c.args.guard.now) c.args.self.now o c.under.new.self) c.in_default.is
-        c.under.ensures)
+    c.under.ensures)
     c.in-None.is

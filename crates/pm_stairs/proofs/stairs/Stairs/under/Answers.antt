@@ -11,7 +11,7 @@ returns-in_default g c = free c.in_default.is
 pub returns-then-not-are_there : goal.returns-then-not-are_there
 returns-then-not-are_there g c =
     subst (λ (why : StepEnd). GoesUnder (g.S.Sight.guarded c.args.guard.now) c.args.self.now (Some (Stops why))
-        (record c.args.self.now { reading = false }))
+    (record c.args.self.now { reading = false }))
     (sym c.absent.ensures) (absent c.in-Some.under c.in-Some.is (sym c.are_there.ensures.is ∙ c.if-not-are_there.true))
 
 pub returns : goal.returns
