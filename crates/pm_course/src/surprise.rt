@@ -8,8 +8,10 @@ ghost use Rattle.pm_host.specs.Possible.{is_possible as spec_is_possible};
 ghost use Rattle.pm_host.specs.Sound.{IsSound};
 ghost use Rattle.pm_host.specs.Summary.{possible_at};
 ghost use Rattle.pm_host.specs.Told.{entry_told, is_awaited};
-ghost use Rattle.pm_course.specs.Surprise.{cell_read as spec_cell_read, surprises as spec_surprises};
+ghost use Rattle.pm_course.specs.Heard.{entry_fault};
+ghost use Rattle.pm_course.specs.Surprise.{cell_read as spec_cell_read, is_new as is_new_in, surprises as spec_surprises};
 
+use crate::answer_fault::AnswerFault;
 use pm_frame::read_answer;
 use pm_host::{Question, Stage, State, Told};
 use pm_table::Cell;
@@ -30,6 +32,46 @@ pub fn surprises(host: &State, stage: Stage, told: Told<'_>) -> bool
             }
         }
         _ => false,
+    }
+}
+
+/// What a course notes of what became of a frame.
+#[derive(Clone, Copy, Debug, PartialEq, Eq)]
+pub struct Noticed {
+    /// Whether it [`surprises`].
+    pub surprised: bool,
+    /// What was wrong with it.
+    pub fault: Option<AnswerFault>,
+}
+
+/// What a course is to note of what became of the frame of a stage, by what the host knows before it is told.
+#[tactic(auto, unfolding(pm_host::specs::Answers::good_payload))]
+pub fn notices(host: &State, stage: Stage, told: Told<'_>) -> Noticed
+    requires sound { IsSound (held (Some stage) host.now) }
+    requires awaited { is_awaited stage told ≡ true }
+    ensures surprised { result.surprised ≡ spec_surprises (held (Some stage) host.now) stage (entry_told told.entry) }
+    ensures fault { result.fault ≡ entry_fault host.now.address stage (entry_told told.entry) }
+{
+    let (surprised, fault) = match told {
+        Told::Finished { acked: true } => (false, None),
+        Told::Finished { acked: false } => (false, Some(AnswerFault::NotAcknowledged)),
+        Told::Got(bytes) => match read_answer(host.address, &stage.message(), bytes) {
+            Ok(payload) => (is_new(host, stage, payload), None),
+            Err(_) if bytes.is_empty() => (false, Some(AnswerFault::NoAnswer)),
+            Err(fault) => (false, AnswerFault::of_frame(fault)),
+        },
+    };
+    Noticed { surprised, fault }
+}
+
+// Whether the cell that a stage reads couldn't hold the word of a payload.
+fn is_new(host: &State, stage: Stage, payload: &[u8]) -> bool
+    requires sound { IsSound (held (Some stage) host.now) }
+    ensures { result ≡ is_new_in (held None host.now) (spec_cell_read stage) payload.now }
+{
+    match cell_read(stage) {
+        Some(cell) => !is_possible(host, cell, word_in(payload)),
+        None => false,
     }
 }
 

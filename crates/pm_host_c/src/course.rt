@@ -13,13 +13,13 @@ ghost use Rattle.pm_host_c.specs.Sizes.{course_size};
 use crate::course_end_image::CourseEndImage;
 use crate::course_image::{CourseImage, numbers_of};
 use crate::guard_image::GuardImage;
-use crate::host::begin;
+use crate::host::begin_at;
 use crate::host_step::{HostStep, no_step, step_after};
 use crate::numbers::{ACCEPTED, ENDED, NO_COURSE, NO_HOST, OTHER_FRAME};
 use crate::sending_image::SendingImage;
-use crate::told::pm_host_frame;
+use crate::told::send;
 use crate::wanted_image::WantedImage;
-use pm_course::{CourseEnd, CourseNext, FrameCourse, Refusal, Wishes, surprises};
+use pm_course::{CourseEnd, CourseNext, FrameCourse, Refusal, Wishes, notices};
 use pm_host::{HostFault, Job, Stage, Told};
 use pm_table::{Cell, Code, Reg, cell_of};
 use std::mem::size_of;
@@ -272,7 +272,7 @@ pub extern "C" fn pm_course_frame(
     };
     if let Some(at) = stage {
         if asked.is_job_of(at) {
-            pm_host_frame(host, sending);
+            send(host, at, sending);
             return ACCEPTED;
         }
     }
@@ -282,18 +282,18 @@ pub extern "C" fn pm_course_frame(
             sending.clear();
             ENDED
         }
-        CourseNext::Job(job) => {
-            let number = begin(host, Some(job));
-            if number == ACCEPTED {
+        CourseNext::Job(job) => match begin_at(host, stage, job) {
+            Ok(at) => {
                 *course = CourseImage::of(&asked);
-                pm_host_frame(host, sending);
+                send(host, at, sending);
                 ACCEPTED
-            } else {
+            }
+            Err(number) => {
                 refuse(course, number, job);
                 sending.clear();
                 ENDED
             }
-        }
+        },
     }
 }
 
@@ -357,11 +357,11 @@ fn tell(course: &mut CourseImage, host: &mut GuardImage, told: Told<'_>) -> Host
     };
     match stage {
         Some(stage) if stage.awaits(&told) => {
-            let surprised = surprises(&host.host.state, stage, told);
+            let noticed = notices(&host.host.state, stage, told);
             let progress = host.host.state.told(stage, told);
             let address = host.host.state.address;
             host.host.write_stage(progress.stage());
-            asked.heard(address, stage, told, surprised, progress.step());
+            asked.heard_so(address, stage, told, noticed, progress.step());
             *course = CourseImage::of(&asked);
             step_after(progress.step(), address, stage, told)
         }
