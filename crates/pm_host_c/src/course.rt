@@ -20,7 +20,7 @@ use crate::sending_image::SendingImage;
 use crate::told::send;
 use crate::wanted_image::WantedImage;
 use pm_course::{CourseEnd, CourseNext, FrameCourse, Refusal, Wishes, notices};
-use pm_host::{HostFault, Job, Stage, Told};
+use pm_host::{HostFault, Job, Progress, Stage, Told};
 use pm_table::{Cell, Code, Reg, cell_of};
 use std::mem::size_of;
 
@@ -266,44 +266,65 @@ pub extern "C" fn pm_course_frame(
         sending.clear();
         return NO_HOST;
     };
-    let Some(mut asked) = course.course() else {
+    let Some(asked) = course.course() else {
         sending.clear();
         return NO_COURSE;
     };
-    if let Some(at) = stage {
-        if asked.is_job_of(at) {
+    match own_stage(&asked, stage) {
+        Some(at) => {
             send(host, at, sending);
-            return ACCEPTED;
+            ACCEPTED
         }
+        None => begin_next(course, host, stage, &asked, false, sending),
     }
-    match says(host, stage, &mut asked) {
+}
+
+// The stage of a course's open job.
+fn own_stage(asked: &FrameCourse, stage: Option<Stage>) -> Option<Stage>
+    ensures { result ≡ spec_own_stage asked.now stage }
+{
+    match stage {
+        Some(at) if asked.is_job_of(at) => Some(at),
+        _ => None,
+    }
+}
+
+// The first frame of what a course says next, which begins; or none, where it has ended, or waits before an order.
+fn begin_next(
+    course: &mut CourseImage,
+    host: &mut GuardImage,
+    stage: Option<Stage>,
+    asked: &FrameCourse,
+    stops: bool,
+    sending: &mut SendingImage,
+) -> u8
+{
+    let mut said = *asked;
+    match says(host, stage, &mut said) {
         CourseNext::Ended(_) => {
-            *course = CourseImage::of(&asked);
+            *course = CourseImage::of(&said);
             sending.clear();
             ENDED
         }
+        CourseNext::Job(Job::Order(..)) if stops => {
+            *course = CourseImage::of(asked);
+            sending.clear();
+            ACCEPTED
+        }
         CourseNext::Job(job) => match begin_at(host, stage, job) {
             Ok(at) => {
-                *course = CourseImage::of(&asked);
+                *course = CourseImage::of(&said);
                 send(host, at, sending);
                 ACCEPTED
             }
             Err(number) => {
-                refuse(course, number, job);
+                let mut refused = *asked;
+                refused.refused(number, job);
+                *course = CourseImage::of(&refused);
                 sending.clear();
                 ENDED
             }
         },
-    }
-}
-
-// A course ends, since the host or its limits refuse the job that it said, by this number.
-fn refuse(course: &mut CourseImage, number: u8, job: Job)
-    ensures { course.new ≡ refused_in course.old number job }
-{
-    if let Some(mut asked) = course.course() {
-        asked.refused(number, job);
-        *course = CourseImage::of(&asked);
     }
 }
 
@@ -357,15 +378,102 @@ fn tell(course: &mut CourseImage, host: &mut GuardImage, told: Told<'_>) -> Host
     };
     match stage {
         Some(stage) if stage.awaits(&told) => {
-            let noticed = notices(&host.host.state, stage, told);
-            let progress = host.host.state.told(stage, told);
-            let address = host.host.state.address;
-            host.host.write_stage(progress.stage());
-            asked.heard_so(address, stage, told, noticed, progress.step());
+            let progress = hear(host, &mut asked, stage, told);
             *course = CourseImage::of(&asked);
-            step_after(progress.step(), address, stage, told)
+            step_after(progress.step(), host.host.state.address, stage, told)
         }
         _ => no_step(OTHER_FRAME),
+    }
+}
+
+// Tells a host and a course what became of the frame of a stage: if the job still stands.
+fn hear(host: &mut GuardImage, asked: &mut FrameCourse, stage: Stage, told: Told<'_>) -> Progress
+{
+    let noticed = notices(&host.host.state, stage, told);
+    let progress = host.host.state.told(stage, told);
+    let address = host.host.state.address;
+    host.host.write_stage(progress.stage());
+    asked.heard_so(address, stage, told, noticed, progress.step());
+    progress
+}
+
+/// A write was sent, and acknowledged or not (0); and what is to be sent next, as `pm_course_frame` hands it out. It is nothing once the
+/// course has ended, and, where `stops` isn't 0, where an order is next, which then doesn't begin. E0h, E9h, E2h where no write is
+/// being sent; then nothing changes, and it is nothing.
+#[unsafe(no_mangle)]
+pub extern "C" fn pm_course_after_write(
+    course: &mut CourseImage,
+    host: &mut GuardImage,
+    acked: u8,
+    stops: u8,
+    sending: &mut SendingImage,
+) -> HostStep
+{
+    let told = Told::Finished { acked: acked != 0 };
+    tell_and_send(course, host, told, stops != 0, sending)
+}
+
+/// A request was sent, and these bytes came back, the read address first; none where there was no answer. And what is to be sent next,
+/// as by `pm_course_after_write`. E0h, E9h, E2h where no request is being sent; then nothing changes, and it is nothing.
+#[unsafe(no_mangle)]
+pub extern "C" fn pm_course_after_read(
+    course: &mut CourseImage,
+    host: &mut GuardImage,
+    bytes: &[u8],
+    stops: u8,
+    sending: &mut SendingImage,
+) -> HostStep
+{
+    tell_and_send(course, host, Told::Got(bytes), stops != 0, sending)
+}
+
+// Tells a host what became of its frame, and the course where it is of its job; and hands out what is to be sent next.
+fn tell_and_send(
+    course: &mut CourseImage,
+    host: &mut GuardImage,
+    told: Told<'_>,
+    stops: bool,
+    sending: &mut SendingImage,
+) -> HostStep
+{
+    let Ok(stage) = host.host.read_stage() else {
+        sending.clear();
+        return no_step(NO_HOST);
+    };
+    let Some(mut asked) = course.course() else {
+        sending.clear();
+        return no_step(NO_COURSE);
+    };
+    match stage {
+        Some(stage) if stage.awaits(&told) => {
+            let progress = hear(host, &mut asked, stage, told);
+            send_next(course, host, progress.stage(), &asked, stops, sending);
+            step_after(progress.step(), host.host.state.address, stage, told)
+        }
+        _ => {
+            sending.clear();
+            no_step(OTHER_FRAME)
+        }
+    }
+}
+
+// The frame of a course's open job, or else the first frame of what it says next.
+fn send_next(
+    course: &mut CourseImage,
+    host: &mut GuardImage,
+    stage: Option<Stage>,
+    asked: &FrameCourse,
+    stops: bool,
+    sending: &mut SendingImage,
+) -> u8
+{
+    match own_stage(asked, stage) {
+        Some(at) => {
+            *course = CourseImage::of(asked);
+            send(host, at, sending);
+            ACCEPTED
+        }
+        None => begin_next(course, host, stage, asked, stops, sending),
     }
 }
 
