@@ -143,8 +143,7 @@ impl FrameCourse {
             Next::Ended(end) => self.ends(self.end_of(end)),
             Next::Job(job) => match self.asked_for(host, job) {
                 Ok(asked) => {
-                    self.course = self.asking_for(&course, job, asked);
-                    self.end = None;
+                    self.ask_for(&course, job, asked);
                     CourseNext::Job(asked)
                 }
                 Err(refusal) => self.ends(CourseEnd::Refused(refusal)),
@@ -294,19 +293,20 @@ impl FrameCourse {
         }
     }
 
-    // The way once a job was asked for, whether it named this job or another.
-    fn asking_for(&self, after: &Course, named: Job, job: Job) -> Course
-        ensures { result ≡ spec_asking_for self.now.course after.now named job }
+    // It goes on by the way once a job was asked for, where that named another or the same.
+    fn ask_for(&mut self, after: &Course, named: Job, job: Job)
+        ensures { self.new ≡ (specs.asks self.old (spec_asking_for self.old.course after.now named job) job).after }
     {
-        let mut course = *after;
-        course.survey.plan = self.course.survey.plan;
-        course.survey.asked = Some(job);
+        let plan = self.course.survey.plan;
         let was_ordered = match named {
             Job::Order(..) => self.course.ordered,
             _ => after.ordered,
         };
-        course.ordered = matches!(job, Job::Order(..)) || was_ordered;
-        course
+        self.course = *after;
+        self.course.survey.plan = plan;
+        self.course.survey.asked = Some(job);
+        self.course.ordered = matches!(job, Job::Order(..)) || was_ordered;
+        self.end = None;
     }
 }
 

@@ -37,7 +37,7 @@ impl FrameCourse {
         requires address { IsAddress address }
         requires word { HasWord stage }
         requires awaited { is_awaited stage told ≡ true }
-        requires fault { noticed.fault ≡ spec_entry_fault address stage (entry_told told.entry) }
+        requires fault { noticed.fault ≡ spec_entry_fault address stage (entry_told told) }
         ensures { self.new ≡ heard_by self.old address stage (entry_told told.entry) noticed.surprised step }
     {
         if !self.is_job_of(stage) {

@@ -142,10 +142,6 @@ pub record BeginsIn (old : GuardImage) (job : Asked) (new : GuardImage) : Type 0
   pub registers : new.registers ≡ old.registers
   pub written : IsMemory old → IsMemory new
 
--- a course whose job the host or its limits refuse has ended
-abbrev pub refused_in : CourseImage → ℕ → Asked → CourseImage
-refused_in was number job = option_map_or (λ c. course_image (refused_by c number job)) (course_in was) was
-
 -- the stage of a course's open job
 abbrev pub own_at : FrameCourse → Stage → Option Stage
 own_at c stage = rule (is_job_of c.course.survey.asked stage) stage

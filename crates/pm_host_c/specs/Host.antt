@@ -8,6 +8,8 @@ use Rattle.pm_frame.specs.declared.message.Message.{Message}
 use Rattle.pm_frame.specs.Fault.{answer_fault, whole_answer}
 use Rattle.pm_frame.specs.FaultWords.{frame_fault_number}
 use Rattle.pm_frame.specs.Layout.{is_read_message}
+use Rattle.pm_limits.specs.declared.fault.LimitFault.{LimitFault}
+use Rattle.pm_limits.specs.FaultWords.{limit_fault_number}
 use Rattle.pm_limits.specs.Guard.{Guarded, guard_fault}
 use Rattle.pm_host_c.specs.declared.guard_image.GuardImage.{GuardImage}
 use Rattle.pm_host_c.specs.Guard.{guard_of}
@@ -57,10 +59,10 @@ pub record BeginsJob (old : GuardImage) (job : Option Job) (result : ℕ) (new :
   pub written : IsMemory old → IsMemory new
   pub refused : result ≢ 0 → new ≡ old
 
--- the number that stands for where a job that began stands, or for its refusal
-abbrev pub begun_answer : Result Stage ℕ → ℕ
+-- the number of a job that began and stands somewhere, or of why it is refused
+abbrev pub begun_answer : Result Stage LimitFault → ℕ
 begun_answer (Ok stage) = accepted
-begun_answer (Err number) = number
+begun_answer (Err fault) = limit_fault_number fault
 
 -- the memory holds a host
 abbrev pub memory_number : Option Summary → ℕ

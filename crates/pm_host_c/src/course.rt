@@ -1,10 +1,17 @@
 //! A course of an output: it is made, hands out frames, and is told what became of them.
 
-ghost use Rattle.std.specs.Prelude.{◌≡◌, ◌≢◌, ◌<◌, not, ◌==◌, nat_lt};
+ghost use Rattle.std.specs.Prelude.{◌≡◌, ◌≢◌, true, not, ◌==◌, nat_lt, Some, None, IfSome};
+ghost use Rattle.pm_host.specs.Image.{held, host_of, is_current};
+ghost use Rattle.pm_host.specs.Progress.{stage_after, step_after as step_told};
+ghost use Rattle.pm_host.specs.Sound.{IsSound};
+ghost use Rattle.pm_host.specs.Summary.{next, step_of};
 ghost use Rattle.pm_host.specs.Transcript.{Finished, Got};
-ghost use Rattle.pm_host.specs.Told.{entry_told};
+ghost use Rattle.pm_host.specs.Told.{entry_told, is_awaited};
+ghost use Rattle.pm_course.specs.Heard.{heard_by};
+ghost use Rattle.pm_course.specs.Surprise.{surprises as surprises_by};
+ghost use Rattle.pm_host_c.specs.Memory.{IsMemory};
 ghost use Rattle.pm_course.specs.FrameCourse.{to_byte, to_survey};
-ghost use Rattle.pm_host_c.specs.Course.{begun_number, guard_at, job_answer, kept_number, refused_in, voltage_begun, voltage_number, voltage_register, want_number, wanted_more, words_course, AcceptsIn, HandsOut, SaysIn, TellsCourse, WouldBegin};
+ghost use Rattle.pm_host_c.specs.Course.{begun_number, guard_at, job_answer, kept_number, own_stage as spec_own_stage, voltage_begun, voltage_number, voltage_register, want_number, wanted_more, words_course, AcceptsIn, GoesOn, HandsOut, SaysIn, TellsAndSends, TellsCourse, WouldBegin};
 ghost use Rattle.pm_host_c.specs.CourseEnd.{end_answer};
 ghost use Rattle.pm_host_c.specs.Guard.{guard_of};
 ghost use Rattle.pm_host_c.specs.CourseImage.{course_image, course_in, course_version, job_image};
@@ -236,7 +243,7 @@ pub extern "C" fn pm_course_next(
 
 // What a course says next. H4 ends it where the host has no such output.
 fn says(host: &GuardImage, stage: Option<Stage>, course: &mut FrameCourse) -> CourseNext
-    requires { course.old.course.survey.output < 8 }
+    requires { IsSound (held stage host.now.host.state) }
     ensures { SaysIn (guard_at host.now stage) course.old result course.new }
 {
     if host.host.state.outputs <= course.course.survey.output {
@@ -266,10 +273,11 @@ pub extern "C" fn pm_course_frame(
         sending.clear();
         return NO_HOST;
     };
-    let Some(asked) = course.course() else {
+    if !course.is_course() {
         sending.clear();
         return NO_COURSE;
-    };
+    }
+    let asked = course.held();
     match own_stage(&asked, stage) {
         Some(at) => {
             send(host, at, sending);
@@ -281,7 +289,8 @@ pub extern "C" fn pm_course_frame(
 
 // The stage of a course's open job.
 fn own_stage(asked: &FrameCourse, stage: Option<Stage>) -> Option<Stage>
-    ensures { result ≡ spec_own_stage asked.now stage }
+    ensures own { result ≡ spec_own_stage asked.now stage }
+    ensures open { IfSome result (λ at. stage ≡ Some at) }
 {
     match stage {
         Some(at) if asked.is_job_of(at) => Some(at),
@@ -298,6 +307,11 @@ fn begin_next(
     stops: bool,
     sending: &mut SendingImage,
 ) -> u8
+    requires there { host_of host.old.host ≡ Some (held stage host.old.host.state) }
+    requires current { is_current host.old.host ≡ true }
+    requires sound { IsSound (held stage host.old.host.state) }
+    requires other { spec_own_stage asked.now stage ≡ None }
+    ensures { GoesOn stops host.old (course_image asked.now) (guard_at host.old stage) asked.now result host.new course.new sending.new }
 {
     let mut said = *asked;
     match says(host, stage, &mut said) {
@@ -317,9 +331,9 @@ fn begin_next(
                 send(host, at, sending);
                 ACCEPTED
             }
-            Err(number) => {
+            Err(fault) => {
                 let mut refused = *asked;
-                refused.refused(number, job);
+                refused.refused(fault.number(), job);
                 *course = CourseImage::of(&refused);
                 sending.clear();
                 ENDED
@@ -373,14 +387,16 @@ fn tell(course: &mut CourseImage, host: &mut GuardImage, told: Told<'_>) -> Host
     let Ok(stage) = host.host.read_stage() else {
         return no_step(NO_HOST);
     };
-    let Some(mut asked) = course.course() else {
+    if !course.is_course() {
         return no_step(NO_COURSE);
-    };
+    }
+    let mut asked = course.held();
     match stage {
         Some(stage) if stage.awaits(&told) => {
+            let address = host.host.state.address;
             let progress = hear(host, &mut asked, stage, told);
             *course = CourseImage::of(&asked);
-            step_after(progress.step(), host.host.state.address, stage, told)
+            step_after(progress.step(), address, stage, told)
         }
         _ => no_step(OTHER_FRAME),
     }
@@ -388,10 +404,23 @@ fn tell(course: &mut CourseImage, host: &mut GuardImage, told: Told<'_>) -> Host
 
 // Tells a host and a course what became of the frame of a stage: if the job still stands.
 fn hear(host: &mut GuardImage, asked: &mut FrameCourse, stage: Stage, told: Told<'_>) -> Progress
+    requires current { is_current host.old.host ≡ true }
+    requires sound { IsSound (held (Some stage) host.old.host.state) }
+    requires awaited { is_awaited stage told ≡ true }
+    ensures there { host_of host.new.host ≡ Some (held (stage_after result) host.new.host.state) }
+    ensures current { is_current host.new.host ≡ true }
+    ensures sound { IsSound (held (stage_after result) host.new.host.state) }
+    ensures after { held (stage_after result) host.new.host.state ≡ next (held (Some stage) host.old.host.state) (entry_told told.entry) }
+    ensures step { step_told result ≡ step_of (held (Some stage) host.old.host.state) (entry_told told.entry) }
+    ensures heard { let s = held (Some stage) host.old.host.state in
+        asked.new ≡ heard_by asked.old s.setup.addr stage (entry_told told.entry) (surprises_by s stage (entry_told told.entry)) (step_of s (entry_told told.entry)) }
+    ensures limits { host.new.limits ≡ host.old.limits }
+    ensures registers { host.new.registers ≡ host.old.registers }
+    ensures written { IsMemory host.old → IsMemory host.new }
 {
+    let address = host.host.state.address;
     let noticed = notices(&host.host.state, stage, told);
     let progress = host.host.state.told(stage, told);
-    let address = host.host.state.address;
     host.host.write_stage(progress.stage());
     asked.heard_so(address, stage, told, noticed, progress.step());
     progress
@@ -408,6 +437,7 @@ pub extern "C" fn pm_course_after_write(
     stops: u8,
     sending: &mut SendingImage,
 ) -> HostStep
+    ensures { TellsAndSends (not (stops == 0)) host.old course.old (Finished (not (acked == 0))) result host.new course.new sending.new }
 {
     let told = Told::Finished { acked: acked != 0 };
     tell_and_send(course, host, told, stops != 0, sending)
@@ -423,6 +453,7 @@ pub extern "C" fn pm_course_after_read(
     stops: u8,
     sending: &mut SendingImage,
 ) -> HostStep
+    ensures { TellsAndSends (not (stops == 0)) host.old course.old (Got bytes.now) result host.new course.new sending.new }
 {
     tell_and_send(course, host, Told::Got(bytes), stops != 0, sending)
 }
@@ -435,20 +466,23 @@ fn tell_and_send(
     stops: bool,
     sending: &mut SendingImage,
 ) -> HostStep
+    ensures { TellsAndSends stops host.old course.old (entry_told told.entry) result host.new course.new sending.new }
 {
     let Ok(stage) = host.host.read_stage() else {
         sending.clear();
         return no_step(NO_HOST);
     };
-    let Some(mut asked) = course.course() else {
+    if !course.is_course() {
         sending.clear();
         return no_step(NO_COURSE);
-    };
+    }
+    let mut asked = course.held();
     match stage {
         Some(stage) if stage.awaits(&told) => {
+            let address = host.host.state.address;
             let progress = hear(host, &mut asked, stage, told);
             send_next(course, host, progress.stage(), &asked, stops, sending);
-            step_after(progress.step(), host.host.state.address, stage, told)
+            step_after(progress.step(), address, stage, told)
         }
         _ => {
             sending.clear();
@@ -466,6 +500,10 @@ fn send_next(
     stops: bool,
     sending: &mut SendingImage,
 ) -> u8
+    requires there { host_of host.old.host ≡ Some (held stage host.old.host.state) }
+    requires current { is_current host.old.host ≡ true }
+    requires sound { IsSound (held stage host.old.host.state) }
+    ensures { GoesOn stops host.old (course_image asked.now) (guard_at host.old stage) asked.now result host.new course.new sending.new }
 {
     match own_stage(asked, stage) {
         Some(at) => {

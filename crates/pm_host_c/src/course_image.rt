@@ -3,7 +3,7 @@
 ghost use Rattle.std.specs.Prelude.{◌≡◌};
 ghost use Rattle.pm_rail.specs.Survey.{wanted_in};
 ghost use Rattle.pm_host_c.specs.Numbers.{flag as spec_flag};
-ghost use Rattle.pm_host_c.specs.CourseImage.{course_image, course_in, differed_held, differed_image, end_in, has_image, job_code, job_held, job_kind, job_word, plan_held, read_held, read_image, twice_held, voltages_held, voltages_image, way_held};
+ghost use Rattle.pm_host_c.specs.CourseImage.{course_held, course_image, course_in, differed_held, differed_image, end_in, has_image, is_course as spec_is_course, job_code, job_held, job_kind, job_word, plan_held, read_held, read_image, twice_held, voltages_held, voltages_image, way_held};
 
 use crate::course_end_image::{EndNumbers, end_held, fault_held, number_of};
 use crate::wanted_image::WantedImage;
@@ -181,23 +181,35 @@ impl CourseImage {
         }
     }
 
-    /// The course; `None` where the memory holds none.
+    /// The course; `None` if the memory holds none.
     pub(crate) fn course(&self) -> Option<FrameCourse>
         ensures { result ≡ course_in self.now }
     {
-        if self.mark != CourseImage::MARK
-            || self.version != CourseImage::VERSION
-            || 8 <= self.output
-        {
-            return None;
+        if self.is_course() {
+            Some(self.held())
+        } else {
+            None
         }
+    }
+
+    /// Whether the memory holds a course.
+    pub(crate) fn is_course(&self) -> bool
+        ensures { result ≡ spec_is_course self.now }
+    {
+        self.mark == CourseImage::MARK && self.version == CourseImage::VERSION && self.output < 8
+    }
+
+    /// What the numbers mean of memory that holds a course.
+    pub(crate) fn held(&self) -> FrameCourse
+        ensures { result ≡ course_held self.now }
+    {
         let end = self.end();
-        Some(FrameCourse {
+        FrameCourse {
             course: self.way(end),
             voltages: self.wanted_voltages(),
             fault: fault_held(self.fault),
             end,
-        })
+        }
     }
 
     // The way.

@@ -121,12 +121,16 @@ pub(crate) fn begin(host: &mut GuardImage, job: Option<Job>) -> u8
     };
     match begin_at(host, stage, job) {
         Ok(_) => ACCEPTED,
-        Err(number) => number,
+        Err(fault) => fault.number(),
     }
 }
 
-/// Begins a job where the open one stands at this stage: where it stands then, or the number of its refusal.
-pub(crate) fn begin_at(host: &mut GuardImage, stage: Option<Stage>, job: Job) -> Result<Stage, u8>
+/// Begins a job where the open one stands at this stage: where it stands then, or why it is refused.
+pub(crate) fn begin_at(
+    host: &mut GuardImage,
+    stage: Option<Stage>,
+    job: Job,
+) -> Result<Stage, LimitFault>
     requires there { host_of host.old.host ≡ Some (held stage host.old.host.state) }
     requires current { is_current host.old.host ≡ true }
     requires sound { IsSound (held stage host.old.host.state) }
@@ -141,7 +145,7 @@ pub(crate) fn begin_at(host: &mut GuardImage, stage: Option<Stage>, job: Job) ->
             host.host.write_stage(Some(stage));
             Ok(stage)
         }
-        Err(fault) => Err(fault.number()),
+        Err(fault) => Err(fault),
     }
 }
 
