@@ -138,7 +138,8 @@ impl FrameCourse {
         ensures after { let s = held None host.now in
             self.new ≡ (specs.saying_planned part limits.now s self.old (Ok words.now)).after }
     {
-        let mut course = self.planned(words);
+        let mut course = self.course;
+        plan_to(&mut course, words);
         match course.next_in(host, None, part, limits) {
             Next::Ended(end) => self.ends(self.end_of(end)),
             Next::Job(job) => match self.asked_for(host, job) {
@@ -149,18 +150,6 @@ impl FrameCourse {
                 Err(refusal) => self.ends(CourseEnd::Refused(refusal)),
             },
         }
-    }
-
-    // The way to these words, if it is a way to wanted words.
-    fn planned(&self, words: &Wanted) -> Course
-        ensures { result ≡ with_plan self.now.course (planning self.now.course words.now) }
-    {
-        let mut course = self.course;
-        course.survey.plan = match course.survey.plan {
-            Some(_) => Some(*words),
-            None => None,
-        };
-        course
     }
 
     /// The host or its limits refuse the job that it said, by this number: it has ended.
@@ -307,6 +296,15 @@ impl FrameCourse {
         self.course.survey.asked = Some(job);
         self.course.ordered = matches!(job, Job::Order(..)) || was_ordered;
         self.end = None;
+    }
+}
+
+// The way to these words, if it is a way to wanted words.
+fn plan_to(course: &mut Course, words: &Wanted)
+    ensures { course.new ≡ with_plan course.old (planning course.old words.now) }
+{
+    if course.survey.plan.is_some() {
+        course.survey.plan = Some(*words);
     }
 }
 

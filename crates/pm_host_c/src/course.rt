@@ -10,7 +10,8 @@ ghost use Rattle.pm_host.specs.Told.{entry_told, is_awaited};
 ghost use Rattle.pm_course.specs.Heard.{heard_by};
 ghost use Rattle.pm_course.specs.Surprise.{surprises as surprises_by};
 ghost use Rattle.pm_host_c.specs.Memory.{IsMemory};
-ghost use Rattle.pm_course.specs.FrameCourse.{to_byte, to_survey};
+ghost use Rattle.pm_limits.specs.FaultWords.{limit_fault_number};
+ghost use Rattle.pm_course.specs.FrameCourse.{refused_by, to_byte, to_survey};
 ghost use Rattle.pm_host_c.specs.Course.{begun_number, guard_at, job_answer, kept_number, own_stage as spec_own_stage, voltage_begun, voltage_number, voltage_register, want_number, wanted_more, words_course, AcceptsIn, GoesOn, HandsOut, SaysIn, TellsAndSends, TellsCourse, WouldBegin};
 ghost use Rattle.pm_host_c.specs.CourseEnd.{end_answer};
 ghost use Rattle.pm_host_c.specs.Guard.{guard_of};
@@ -28,6 +29,7 @@ use crate::told::send;
 use crate::wanted_image::WantedImage;
 use pm_course::{CourseEnd, CourseNext, FrameCourse, Refusal, Wishes, notices};
 use pm_host::{HostFault, Job, Progress, Stage, Told};
+use pm_limits::LimitFault;
 use pm_table::{Cell, Code, Reg, cell_of};
 use std::mem::size_of;
 
@@ -316,30 +318,38 @@ fn begin_next(
     let mut said = *asked;
     match says(host, stage, &mut said) {
         CourseNext::Ended(_) => {
-            *course = CourseImage::of(&said);
+            course.write(&said);
             sending.clear();
             ENDED
         }
         CourseNext::Job(Job::Order(..)) if stops => {
-            *course = CourseImage::of(asked);
+            course.write(asked);
             sending.clear();
             ACCEPTED
         }
         CourseNext::Job(job) => match begin_at(host, stage, job) {
             Ok(at) => {
-                *course = CourseImage::of(&said);
+                course.write(&said);
                 send(host, at, sending);
                 ACCEPTED
             }
             Err(fault) => {
-                let mut refused = *asked;
-                refused.refused(fault.number(), job);
-                *course = CourseImage::of(&refused);
+                refuse(course, asked, fault, job);
                 sending.clear();
                 ENDED
             }
         },
     }
+}
+
+// A course ends, since the host or its limits refuse the job that it said. That is seldom.
+#[inline(never)]
+fn refuse(course: &mut CourseImage, asked: &FrameCourse, fault: LimitFault, job: Job)
+    ensures { course.new ≡ course_image (refused_by asked.now (limit_fault_number fault) job) }
+{
+    let mut refused = *asked;
+    refused.refused(fault.number(), job);
+    course.write(&refused);
 }
 
 /// The job of a course that is under way, by what it asked for last: none once it was told the end of that. E9h.
@@ -395,7 +405,7 @@ fn tell(course: &mut CourseImage, host: &mut GuardImage, told: Told<'_>) -> Host
         Some(stage) if stage.awaits(&told) => {
             let address = host.host.state.address;
             let progress = hear(host, &mut asked, stage, told);
-            *course = CourseImage::of(&asked);
+            course.write(&asked);
             step_after(progress.step(), address, stage, told)
         }
         _ => no_step(OTHER_FRAME),
@@ -507,7 +517,7 @@ fn send_next(
 {
     match own_stage(asked, stage) {
         Some(at) => {
-            *course = CourseImage::of(asked);
+            course.write(asked);
             send(host, at, sending);
             ACCEPTED
         }

@@ -258,8 +258,8 @@ class Host:
                     if order and before_order:
                         self._tell(before_order, order, course, *memory)
                 came = self._came(bus, sending, kept)
-                if order and after_order:
-                    # Nothing begins before the hook has heard how the order ended.
+                if order and after_order and sending.is_request:
+                    # Nothing begins before the hook has heard how the order ended: a read may be its last frame.
                     step, sending = self._hear(sending, came, course), None
                 else:
                     step, sending = self._hear_on(sending, came, course, bool(before_order))

@@ -2,7 +2,7 @@ use Rattle.std.proofs.Common.{◌≡◌, ◌∙◌, Bool, ap, refl}
 use Rattle.pm_rail.specs.declared.wanted.Wanted.{Wanted}
 use Rattle.pm_host_c.specs.Numbers.{flag}
 use Rattle.pm_host_c.specs.Wanted.{wanted_image}
-use Rattle.pm_host_c.proofs.course_image.CourseImage.of.Goals as goal
+use Rattle.pm_host_c.proofs.course_image.CourseImage.write.Goals as goal
 
 pub returns : goal.returns
 returns c = rw (
