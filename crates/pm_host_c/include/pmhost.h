@@ -63,10 +63,11 @@ extern "C" {
 #define PM_STACK 3072
 #define PM_NAME_STACK 4096
 
-/* What a call answers: 0, or why it is refused. A refused call changes nothing, but for these: pm_host_frame, pm_course_frame and
- * pm_delivery_frame then write PM_NOTHING, and pm_delivery_judge that answers P8 says of which limit. pm_pec, pm_host_restart_seen
- * and pm_host_limits_state answer something else: each says what. Of these numbers the last answers PM_NO_LIMITS only. PM_ENDED
- * refuses nothing, and is none of them. pm_refusal_name gives the name of each, and of those of pmpart.h. */
+/* What a call answers: 0, or why it is refused. A refused call changes nothing, but for these: pm_host_frame, pm_course_frame,
+ * pm_course_after_write, pm_course_after_read and pm_delivery_frame then write PM_NOTHING, and pm_delivery_judge that answers P8 says
+ * of which limit. pm_pec, pm_host_restart_seen and pm_host_limits_state answer something else: each says what. Of these numbers the
+ * last answers PM_NO_LIMITS only. PM_ENDED refuses nothing, and is none of them. pm_refusal_name gives the name of each, and of those
+ * of pmpart.h. */
 enum {
     PM_OK = 0,
     PM_H1_OUTPUT_COUNT = 0x01,    /* a number of outputs other than 1 to 8 */
@@ -507,9 +508,8 @@ uint8_t pm_course_frame(pm_course *course, pm_host *host, pm_sending *sending);
 pm_step pm_course_write_ended(pm_course *course, pm_host *host, uint8_t acked);
 pm_step pm_course_read_ended(pm_course *course, pm_host *host, const uint8_t *bytes, uint64_t count);
 
-/* The same, and what is to be sent next, as pm_course_frame hands it out, by one call that is cheaper than two. PM_NOTHING once the
- * course has ended, and, if `stops` isn't 0, before an order: it doesn't begin, and pm_course_frame begins it. After a refusal
- * nothing has changed, and it is PM_NOTHING. */
+/* The same, and what is to be sent next, as pm_course_frame hands it out: one call is cheaper than two. It is PM_NOTHING once the course
+ * has ended, and, if `stops` isn't 0, before an order: that doesn't begin, and pm_course_frame begins it. */
 pm_step pm_course_after_write(pm_course *course, pm_host *host, uint8_t acked, uint8_t stops, pm_sending *sending);
 pm_step pm_course_after_read(pm_course *course, pm_host *host, const uint8_t *bytes, uint64_t count, uint8_t stops,
                              pm_sending *sending);

@@ -210,10 +210,10 @@ pub record TellsCourse (old : GuardImage) (was : CourseImage) (entry : Entry) (r
 -- and then nothing is handed out.
 pub data TellsAndSends (stops : Bool) (old : GuardImage) (was : CourseImage) (entry : Entry) :
     HostStep → GuardImage → CourseImage → SendingImage → Type 0 where
-  unheard : (result : HostStep) (sending : SendingImage) → is_heard (host_of old.host) (course_in was) entry ≡ false
+  nothing_told : (result : HostStep) (sending : SendingImage) → is_heard (host_of old.host) (course_in was) entry ≡ false
       → result ≡ course_answer (host_of old.host) (course_in was) entry → IsNothing sending
       → TellsAndSends stops old was entry result old was sending
-  told : (result : HostStep) (between new : GuardImage) (is : CourseImage) (sending : SendingImage) (s : Summary) (c : FrameCourse)
+  told_on : (result : HostStep) (between new : GuardImage) (is : CourseImage) (sending : SendingImage) (s : Summary) (c : FrameCourse)
       (g : Guarded) (number : ℕ) → host_of old.host ≡ Some s → course_in was ≡ Some c
       → is_heard (Some s) (Some c) entry ≡ true → TellsCourse old was entry result between (heard_in was (Some s) (Some c) entry)
       → guard_of between ≡ Some g

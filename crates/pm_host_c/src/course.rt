@@ -1,6 +1,6 @@
 //! A course of an output: it is made, hands out frames, and is told what became of them.
 
-ghost use Rattle.std.specs.Prelude.{◌≡◌, ◌≢◌, true, not, ◌==◌, nat_lt, Some, None, IfSome};
+ghost use Rattle.std.specs.Prelude.{◌≡◌, ◌≢◌, true, not, ◌&&◌, ◌==◌, nat_lt, Some, None, IfSome};
 ghost use Rattle.pm_host.specs.Image.{held, host_of, is_current};
 ghost use Rattle.pm_host.specs.Progress.{stage_after, step_after as step_told};
 ghost use Rattle.pm_host.specs.Sound.{IsSound};
@@ -10,6 +10,7 @@ ghost use Rattle.pm_host.specs.Told.{entry_told, is_awaited};
 ghost use Rattle.pm_course.specs.Heard.{heard_by};
 ghost use Rattle.pm_course.specs.Surprise.{surprises as surprises_by};
 ghost use Rattle.pm_host_c.specs.Memory.{IsMemory};
+ghost use Rattle.pm_rail.specs.Course.{is_order};
 ghost use Rattle.pm_limits.specs.FaultWords.{limit_fault_number};
 ghost use Rattle.pm_course.specs.FrameCourse.{refused_by, to_byte, to_survey};
 ghost use Rattle.pm_host_c.specs.Course.{begun_number, guard_at, job_answer, kept_number, own_stage as spec_own_stage, voltage_begun, voltage_number, voltage_register, want_number, wanted_more, words_course, AcceptsIn, GoesOn, HandsOut, SaysIn, TellsAndSends, TellsCourse, WouldBegin};
@@ -322,24 +323,33 @@ fn begin_next(
             sending.clear();
             ENDED
         }
-        CourseNext::Job(Job::Order(..)) if stops => {
-            course.write(asked);
-            sending.clear();
-            ACCEPTED
-        }
-        CourseNext::Job(job) => match begin_at(host, stage, job) {
-            Ok(at) => {
-                course.write(&said);
-                send(host, at, sending);
-                ACCEPTED
-            }
-            Err(fault) => {
-                refuse(course, asked, fault, job);
+        CourseNext::Job(job) => {
+            if waits(stops, job) {
+                course.write(asked);
                 sending.clear();
-                ENDED
+                return ACCEPTED;
             }
-        },
+            match begin_at(host, stage, job) {
+                Ok(at) => {
+                    course.write(&said);
+                    send(host, at, sending);
+                    ACCEPTED
+                }
+                Err(fault) => {
+                    refuse(course, asked, fault, job);
+                    sending.clear();
+                    ENDED
+                }
+            }
+        }
     }
+}
+
+// Whether a course waits before a job: one that stops does before an order.
+fn waits(stops: bool, job: Job) -> bool
+    ensures { result ≡ (stops && is_order job) }
+{
+    stops && matches!(job, Job::Order(..))
 }
 
 // A course ends, since the host or its limits refuse the job that it said. That is seldom.

@@ -264,3 +264,24 @@ fn a_course_is_told_and_hands_out_what_is_next(rt: HostRuntime) {
     let read = [0xB1, 0x01, 0x00, 0x00];
     equal(&rt, &after_read(&mut course, &mut image, &read), &(3, 0x35, 1, 0x01), &10);
 }
+
+#[test]
+fn a_course_that_stops_waits_before_an_order(rt: HostRuntime) {
+    let mut image = host(1);
+    let mut course = blank();
+    let mut sending = NOTHING;
+    equal(&rt, &pm_course_power(&mut course, 0, 0x00, 3), &0, &1);
+    equal(&rt, &frame(&mut course, &mut image), &(0, 1, 0x01), &2);
+    let step = pm_course_after_write(&mut course, &mut image, 1, 1, &mut sending);
+    equal(&rt, &(step.kind, sending.kind, code_of(&sending)), &(0, 2, 0x01), &3);
+    let step = pm_course_after_read(&mut course, &mut image, &[], 1, &mut sending);
+    equal(&rt, &(step.kind, sending.kind), &(3, 0), &4);
+    equal(&rt, &job_now(&course), &(0, 0, 0, 0), &5);
+    equal(&rt, &next(&course, &image), &(0, 3, 0x01, 0), &6);
+    equal(&rt, &frame(&mut course, &mut image), &(0, 1, 0x01), &7);
+    let _ = pm_course_after_write(&mut course, &mut image, 1, 1, &mut sending);
+    let read = [0xB1, 0x01, 0x00, 0xFA];
+    let step = pm_course_after_read(&mut course, &mut image, &read, 1, &mut sending);
+    equal(&rt, &(step.kind, step.word, sending.kind), &(1, 0, 0), &8);
+    equal(&rt, &end(&course), &(1, 0, 0, 0, 0), &9);
+}
