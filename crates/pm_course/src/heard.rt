@@ -32,7 +32,7 @@ impl FrameCourse {
         self.heard_so(address, stage, told, Noticed { surprised, fault }, step);
     }
 
-    /// The same, by what [`notices`](crate::notices) found: an answer is read once.
+    /// Hears it by what [`notices`](crate::notices) found, so that an answer is read once.
     pub fn heard_so(&mut self, address: u8, stage: Stage, told: Told<'_>, noticed: Noticed, step: Step)
         requires address { IsAddress address }
         requires word { HasWord stage }

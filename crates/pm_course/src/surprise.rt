@@ -37,7 +37,7 @@ pub struct Noticed {
     pub fault: Option<AnswerFault>,
 }
 
-/// What a course is to note of what became of the frame of a stage, by what the host knows before it is told.
+/// What a course is to note of what became of the frame of a stage, by what the host knows before it hears that.
 pub fn notices(host: &State, stage: Stage, told: Told<'_>) -> Noticed
     requires sound { IsSound (held (Some stage) host.now) }
     requires awaited { is_awaited stage told ≡ true }

@@ -17,14 +17,15 @@ use Rattle.pm_host_c.specs.declared.sending_image.SendingImage.{SendingImage}
 use Rattle.pm_host_c.specs.Course.{GoesOn, again, begun, over, own_stage, refused, waits}
 
 -- what stood in its memory doesn't matter, unless it stops
-pub whatever : (old new : GuardImage) (a b is : CourseImage) (g : Guarded) (c : FrameCourse) (number : ℕ) (sending : SendingImage)
-    → own_stage c g.host.stage ≡ None → GoesOn false old a g c number new is sending → GoesOn false old b g c number new is sending
-whatever old new a b is g c number sending none (again sent stage own frame) = let never = sym own ∙ none in cc
-whatever old new a b is g c number sending none (waits sent said job other says stops nothing) = cc
-whatever old new a b is g c number sending none (begun sent said job began other says stops begins frame) =
+pub whatever : (old : GuardImage) (g : Guarded) (c : FrameCourse) (a b : CourseImage) (number : ℕ) (new : GuardImage) (is : CourseImage)
+    (sending : SendingImage) → own_stage c g.host.stage ≡ None → GoesOn false old a g c number new is sending
+    → GoesOn false old b g c number new is sending
+whatever old g c a b number new is sending none (again sent stage own frame) = let never = sym own ∙ none in cc
+whatever old g c a b number new is sending none (waits sent said job other says stops nothing) = cc
+whatever old g c a b number new is sending none (begun sent said job began other says stops begins frame) =
     begun sent said job began other says stops begins frame
-whatever old new a b is g c number sending none (over sent said last other says nothing) = over sent said last other says nothing
-whatever old new a b is g c number sending none (refused sent said job other says stops refuses nothing) =
+whatever old g c a b number new is sending none (over sent said last other says nothing) = over sent said last other says nothing
+whatever old g c a b number new is sending none (refused sent said job other says stops refuses nothing) =
     refused sent said job other says stops refuses nothing
 
 -- the number of a refusal isn't that of what is accepted

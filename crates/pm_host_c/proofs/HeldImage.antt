@@ -17,10 +17,10 @@ unwrapped x y is = ap (λ (o : Option Summary). unwrap_or o x) is
 staged : (state : State) (stage : Option Stage) (s : Summary) → sound_in state stage ≡ Some s → held s.stage state ≡ s
 staged state stage s is = by (is_sound (held stage state)) refl where
   by : (b : Bool) → is_sound (held stage state) ≡ b → held s.stage state ≡ s
-  by true yes =
-      let same : held stage state ≡ s = unwrapped (held stage state) s (rw yes at is) in
+  by true holds =
+      let same : held stage state ≡ s = unwrapped (held stage state) s (rw holds at is) in
       ap (λ (x : Summary). held x.stage state) (sym same) ∙ same
-  by false no = let never = rw no at is in cc
+  by false other = let never = rw other at is in cc
 
 stood : (state : State) (at : Option (Option Stage)) (s : Summary) → option_and_then (sound_in state) at ≡ Some s → held s.stage state ≡ s
 stood state None s is = cc
@@ -30,5 +30,5 @@ pub held-of : (image : HostImage) (s : Summary) → host_of image ≡ Some s →
 unfolding host_of
 held-of image s is = by (is_current image) refl where
   by : (b : Bool) → is_current image ≡ b → IsHeld image s
-  by true yes = record { current = yes; whole = stood image.state (stage_held image.stage) s (rw yes at is) }
-  by false no = let never = rw no at is in cc
+  by true holds = record { current = holds; whole = stood image.state (stage_held image.stage) s (rw holds at is) }
+  by false other = let never = rw other at is in cc

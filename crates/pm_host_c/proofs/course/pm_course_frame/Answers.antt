@@ -47,5 +47,5 @@ returns-in-None c =
     let other : own_stage c.held-asked.result c.in-Ok.stage ≡ None = sym c.own_stage.ensures.own ∙ c.in-None.is in
     goes_on c.begin_next.result c.begin_next.new.host c.begin_next.new.course c.begin_next.new.sending g c.held-asked.result found
     (kept ∙ ap (λ (f : FrameCourse). Some f) (sym c.held-asked.ensures))
-    (whatever host c.begin_next.new.host (course_image c.held-asked.result) c.args.course.now c.begin_next.new.course g c.held-asked.result
-    c.begin_next.result c.begin_next.new.sending other c.begin_next.ensures)
+    (whatever host g c.held-asked.result (course_image c.held-asked.result) c.args.course.now c.begin_next.result c.begin_next.new.host
+    c.begin_next.new.course c.begin_next.new.sending other c.begin_next.ensures)

@@ -2,6 +2,7 @@ use Rattle.std.proofs.Common.{◌≡◌, ◌∙◌, Some, None, false, true, ap,
 use Rattle.pm_host.specs.declared.stage.Stage.{Stage}
 use Rattle.std.specs.Prelude.{Option}
 use Rattle.pm_host.specs.Image.{held, host_of}
+use Rattle.pm_host.specs.Progress.{stage_after}
 use Rattle.pm_host.specs.Summary.{Summary, next, step_of}
 use Rattle.pm_host.specs.Told.{entry_told}
 use Rattle.pm_course.specs.declared.frame_course.FrameCourse.{FrameCourse}
@@ -24,12 +25,14 @@ returns-in-Some c =
     let s = held (Some stage) before.host.state in
     let kept : course_in c.args.course.now ≡ Some was = rw (sym c.is_course.ensures ∙ c.if-not-is_course.false) refl in
     let found : host_of before.host ≡ Some s = c.in-Ok.ensures.found ∙ ap (λ (at : Option Stage). Some (held at before.host.state)) is_open in
-    let became : host_of new.host ≡ Some (next s entry) =
-    c.hear-progress.ensures.there ∙ ap (λ (h : Summary). Some h) c.hear-progress.ensures.after in
+    let after : held (stage_after c.hear-progress.result) new.host.state ≡ next s entry = search rules in
+    let became : host_of new.host ≡ Some (next s entry) = c.hear-progress.ensures.there ∙ ap (λ (h : Summary). Some h) after in
+    let hears : c.hear-progress.new.asked ≡ heard_by c.held-asked.result s.setup.addr stage entry (surprises s stage entry) (step_of s entry) =
+    search rules in
     let answered : c.step_after.result ≡ host_step (fault_in s entry) (step_of s entry) = search rules in
     let may = awaited stage before.host.state c.args.told (search rules) in
     let heard : c.write.new.self ≡ course_image (heard_by was s.setup.addr stage entry (surprises s stage entry) (step_of s entry)) =
-    c.write.ensures ∙ ap (λ (f : FrameCourse). course_image f) (c.hear-progress.ensures.heard
+    c.write.ensures ∙ ap (λ (f : FrameCourse). course_image f) (hears
     ∙ ap (λ (f : FrameCourse). heard_by f s.setup.addr stage entry (surprises s stage entry) (step_of s entry)) c.held-asked.ensures) in
     tells-course before new c.args.course.now c.write.new.self s was stage entry c.step_after.result found kept refl may heard
     (tells before new s entry c.step_after.result found may became answered c.hear-progress.ensures.limits c.hear-progress.ensures.registers

@@ -38,8 +38,10 @@ returns-in-Some c =
     let s = held (Some stage) before.host.state in
     let kept : course_in c.args.course.now ≡ Some was = rw (sym c.is_course.ensures ∙ c.if-not-is_course.false) refl in
     let found : host_of before.host ≡ Some s = c.in-Ok.ensures.found ∙ ap (λ (at : Option Stage). Some (held at before.host.state)) is_open in
-    let became : host_of between.host ≡ Some (next s entry) =
-    c.hear-progress.ensures.there ∙ ap (λ (h : Summary). Some h) c.hear-progress.ensures.after in
+    let after : held (stage_after c.hear-progress.result) between.host.state ≡ next s entry = search rules in
+    let became : host_of between.host ≡ Some (next s entry) = c.hear-progress.ensures.there ∙ ap (λ (h : Summary). Some h) after in
+    let hears : c.hear-progress.new.asked ≡ heard_by c.held-asked.result s.setup.addr stage entry (surprises s stage entry) (step_of s entry) =
+    search rules in
     let answered : c.step_after.result ≡ host_step (fault_in s entry) (step_of s entry) = search rules in
     let may = awaited stage before.host.state c.args.told (search rules) in
     let now = stage_after c.hear-progress.result in
@@ -47,7 +49,7 @@ returns-in-Some c =
     let guarded : guard_of between ≡ Some g = rw c.hear-progress.ensures.there refl in
     let at : c.stage.result ≡ now = c.stage.ensures in
     let heard : c.hear-progress.new.asked ≡ heard_by was s.setup.addr stage entry (surprises s stage entry) (step_of s entry) =
-    c.hear-progress.ensures.heard
+    hears
     ∙ ap (λ (f : FrameCourse). heard_by f s.setup.addr stage entry (surprises s stage entry) (step_of s entry)) c.held-asked.ensures in
     let sent = c.send_next in
     let goes : GoesOn c.args.stops between (course_image c.hear-progress.new.asked) g c.hear-progress.new.asked sent.result sent.new.host

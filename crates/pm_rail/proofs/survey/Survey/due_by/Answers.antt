@@ -8,7 +8,6 @@ use Rattle.pm_rail.specs.Registers.{wants_of}
 use Rattle.pm_rail.specs.Survey.{due_in}
 use Rattle.pm_rail.proofs.survey.Survey.due_by.Goals as goal
 
--- Of the words that are held that of OPERATION alone counts.
 pub returns : goal.returns
 returns c =
     let part = c.args.form.now.registers in

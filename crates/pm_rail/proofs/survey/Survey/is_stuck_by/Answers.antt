@@ -8,7 +8,6 @@ use Rattle.pm_rail.specs.Registers.{held_by, wants_of}
 use Rattle.pm_rail.specs.Survey.{is_stuck_in}
 use Rattle.pm_rail.proofs.survey.Survey.is_stuck_by.Goals as goal
 
--- Of the words that are held that of OPERATION alone counts.
 pub returns : goal.returns
 returns c =
     let part = c.args.form.now.registers in
