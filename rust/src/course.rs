@@ -282,6 +282,22 @@ impl Course {
         step_of(unsafe { ffi::pm_course_read_ended(&mut self.image, &mut host.image, from, count) })
     }
 
+    /// A write was sent, and acknowledged or not; and what is to be sent next, as [`Course::frame`] hands it out, by one call. That is
+    /// `Sending::Nothing` once the course has ended, and, if it `stops`, before an order, which `frame` begins.
+    pub fn after_write(&mut self, host: &mut Host, acked: bool, stops: bool) -> Result<(Step, Sending), Refusal> {
+        let (mut next, acked, stops) = (ffi::SendingImage::default(), u8::from(acked), u8::from(stops));
+        let step = unsafe { ffi::pm_course_after_write(&mut self.image, &mut host.image, acked, stops, &mut next) };
+        Ok((step_of(step)?, Sending::of(next)))
+    }
+
+    /// A request was sent, and these bytes came back, the read address first, none if there was no answer; and what is to be sent next, as
+    /// by [`Course::after_write`].
+    pub fn after_read(&mut self, host: &mut Host, bytes: &[u8], stops: bool) -> Result<(Step, Sending), Refusal> {
+        let (mut next, from, count) = (ffi::SendingImage::default(), bytes.as_ptr(), bytes.len() as u64);
+        let step = unsafe { ffi::pm_course_after_read(&mut self.image, &mut host.image, from, count, u8::from(stops), &mut next) };
+        Ok((step_of(step)?, Sending::of(next)))
+    }
+
     /// How it ended; `None` if it goes on. H3 is no last end: the course goes on once the other job is over.
     #[must_use]
     pub fn end(&self) -> Option<Result<(), NotReached>> {

@@ -8,7 +8,7 @@ use crate::delivered::{BeyondFaultLimit, Delivered, Goal, NotDelivered, GOALS};
 use crate::ffi;
 use crate::host::{Cell, Host, Register, Sending};
 use crate::jobs::Job;
-use crate::loops::{Failures, Frames};
+use crate::loops::{is_order, Failures, Frames};
 use crate::refusal::{accepted, Refusal};
 use crate::verdict::Verdict;
 
@@ -363,8 +363,7 @@ impl Host {
     ) -> Result<Delivered, NotDelivered<B::Error>> {
         let turns_off = is_off(course.next(self)) || is_off(course.job());
         let mut failures = Failures::default();
-        let _step =
-            Frames::of_course(self, course).carry_out_until(bus, &mut failures, |course, host| is_order(course.next(host)))?;
+        let _step = Frames::before_order(self, course).carry_out(bus, &mut failures)?;
         if !turns_off && is_order(course.next(self)) {
             if delivery.image.before.asked == 0 {
                 delivery.look_before()?;
@@ -384,8 +383,4 @@ impl Host {
             Err(NotDelivered::Does(found))
         }
     }
-}
-
-fn is_order(job: Option<Job>) -> bool {
-    matches!(job, Some(Job::Order(..)))
 }

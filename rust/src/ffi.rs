@@ -377,6 +377,15 @@ extern "C" {
     pub fn pm_course_frame(course: &mut CourseImage, host: &mut HostImage, sending: &mut SendingImage) -> u8;
     pub fn pm_course_write_ended(course: &mut CourseImage, host: &mut HostImage, acked: u8) -> StepImage;
     pub fn pm_course_read_ended(course: &mut CourseImage, host: &mut HostImage, bytes: *const u8, count: u64) -> StepImage;
+    pub fn pm_course_after_write(course: &mut CourseImage, host: &mut HostImage, acked: u8, stops: u8, next: &mut SendingImage) -> StepImage;
+    pub fn pm_course_after_read(
+        course: &mut CourseImage,
+        host: &mut HostImage,
+        bytes: *const u8,
+        count: u64,
+        stops: u8,
+        next: &mut SendingImage,
+    ) -> StepImage;
     pub fn pm_course_ended(course: &CourseImage, end: &mut CourseEndImage) -> u8;
     pub fn pm_course_next(course: &CourseImage, host: &HostImage, next: &mut CourseJobImage) -> u8;
     pub fn pm_course_job_now(course: &CourseImage, now: &mut CourseJobImage) -> u8;

@@ -3,6 +3,7 @@
 use crate::bus::{Bus, Operation};
 use crate::course::Course;
 use crate::host::{Host, Sending, Step};
+use crate::jobs::Job;
 use crate::packet::Packet;
 use crate::patient::STORE_USER_ALL;
 use crate::refusal::Refusal;
@@ -33,75 +34,76 @@ impl<E> Failures<E> {
 pub(crate) struct Frames<'a> {
     host: &'a mut Host,
     course: Option<&'a mut Course>,
+    /// Whether it ends before an order of the course.
+    stops: bool,
 }
 
 impl<'a> Frames<'a> {
     /// Those of the host's open job.
     pub(crate) fn of_job(host: &'a mut Host) -> Frames<'a> {
-        Frames { host, course: None }
+        Frames { host, course: None, stops: false }
     }
 
     /// Those of a course.
     pub(crate) fn of_course(host: &'a mut Host, course: &'a mut Course) -> Frames<'a> {
-        Frames { host, course: Some(course) }
+        Frames { host, course: Some(course), stops: false }
     }
 
-    fn frame(&mut self) -> Sending {
+    /// Those of a course before its next order.
+    pub(crate) fn before_order(host: &'a mut Host, course: &'a mut Course) -> Frames<'a> {
+        Frames { host, course: Some(course), stops: true }
+    }
+
+    fn first(&mut self) -> Sending {
         match &mut self.course {
+            Some(course) if self.stops && is_order(course.next(self.host)) => Sending::Nothing,
             Some(course) => course.frame(self.host),
             None => self.host.frame(),
         }
     }
 
-    fn write_ended(&mut self, acked: bool) -> Result<Step, Refusal> {
+    fn after_write(&mut self, acked: bool) -> Result<(Step, Sending), Refusal> {
         match &mut self.course {
-            Some(course) => course.write_ended(self.host, acked),
-            None => self.host.write_ended(acked),
+            Some(course) => course.after_write(self.host, acked, self.stops),
+            None => Ok((self.host.write_ended(acked)?, self.host.frame())),
         }
     }
 
-    fn read_ended(&mut self, bytes: &[u8]) -> Result<Step, Refusal> {
+    fn after_read(&mut self, bytes: &[u8]) -> Result<(Step, Sending), Refusal> {
         match &mut self.course {
-            Some(course) => course.read_ended(self.host, bytes),
-            None => self.host.read_ended(bytes),
+            Some(course) => course.after_read(self.host, bytes, self.stops),
+            None => Ok((self.host.read_ended(bytes)?, self.host.frame())),
         }
     }
 
     /// Sends frame after frame over a bus until none is left: the last step, `None` if there was no frame. A store, which wears
     /// the part's memory, is sent once: its later passes end as not acknowledged, unsent.
     pub(crate) fn carry_out<B: Bus>(&mut self, bus: &mut B, failures: &mut Failures<B::Error>) -> Result<Option<Step>, Refusal> {
-        self.carry_out_until(bus, failures, |_, _| false)
-    }
-
-    /// The same, until this holds of a course and its host before a frame.
-    pub(crate) fn carry_out_until<B: Bus>(
-        &mut self,
-        bus: &mut B,
-        failures: &mut Failures<B::Error>,
-        is_far: impl Fn(&Course, &Host) -> bool,
-    ) -> Result<Option<Step>, Refusal> {
-        let (mut last, mut has_stored) = (None, false);
+        let (mut last, mut has_stored, mut sending) = (None, false, self.first());
         loop {
-            if self.course.as_ref().is_some_and(|course| is_far(course, self.host)) {
-                return Ok(last);
-            }
-            last = Some(match self.frame() {
+            let (step, next) = match sending {
                 Sending::Nothing => return Ok(last),
-                Sending::Write(_) if has_stored => self.write_ended(false)?,
+                Sending::Write(_) if has_stored => self.after_write(false)?,
                 Sending::Write(frame) => {
                     has_stored = frame[1..frame.len() - 1] == [STORE_USER_ALL];
                     self.written(bus, &frame, failures)?
                 }
                 Sending::Request { frame, answer } => self.asked(bus, &frame, answer, failures)?,
-            });
+            };
+            (last, sending) = (Some(step), next);
         }
     }
 
-    fn written<B: Bus>(&mut self, bus: &mut B, frame: &[u8], failures: &mut Failures<B::Error>) -> Result<Step, Refusal> {
+    fn written<B: Bus>(
+        &mut self,
+        bus: &mut B,
+        frame: &[u8],
+        failures: &mut Failures<B::Error>,
+    ) -> Result<(Step, Sending), Refusal> {
         let ended = bus.transaction(frame[0] >> 1, &mut [Operation::Write(&frame[1..])]);
         let acked = ended.is_ok();
         failures.error = ended.err().or(failures.error.take());
-        self.write_ended(acked)
+        self.after_write(acked)
     }
 
     fn asked<B: Bus>(
@@ -110,7 +112,7 @@ impl<'a> Frames<'a> {
         frame: &[u8],
         answer: usize,
         failures: &mut Failures<B::Error>,
-    ) -> Result<Step, Refusal> {
+    ) -> Result<(Step, Sending), Refusal> {
         let mut bytes = [0; 8];
         let came = &mut bytes[..answer.min(8)];
         let mut operations = [Operation::Write(&frame[1..]), Operation::Read(&mut came[1..])];
@@ -118,10 +120,15 @@ impl<'a> Frames<'a> {
         failures.is_answered = false;
         if let Err(why) = ended {
             failures.error = Some(why);
-            return self.read_ended(&[]);
+            return self.after_read(&[]);
         }
         came[0] = frame[0] | 1;
         failures.answered(frame, came);
-        self.read_ended(came)
+        self.after_read(came)
     }
+}
+
+/// Whether a job is an order.
+pub(crate) fn is_order(job: Option<Job>) -> bool {
+    matches!(job, Some(Job::Order(..)))
 }

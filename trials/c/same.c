@@ -42,7 +42,7 @@ uint32_t wide_word(const pm_format *format, int64_t microvolts, uint16_t *word) 
 #define wide_word pm_nearest_word
 #endif
 
-enum { HOSTS = 4, HALVES = PM_HOST_SIZE / 2, GUARD = 4, ROOM = 320, EXPORTS = 76 };
+enum { HOSTS = 4, HALVES = PM_HOST_SIZE / 2, GUARD = 4, ROOM = 320, EXPORTS = 78 };
 
 /* Hosts at addresses that eight divides, with guards around them: the last is damaged. */
 static uint64_t memory[HOSTS][(GUARD + HALVES + GUARD) / 4];
@@ -264,7 +264,9 @@ static void exchange(pm_host *host, int is_course) {
     unsigned answer = fate == 1 ? 0 : hear(out.sending.bytes, count, is_request);
     if (!is_request) {
         uint8_t acked = (uint8_t)(fate == 2 ? draw(256) : answer == PM_HEARD_TAKEN ? 1 + draw(255) : 0);
-        if (is_course)
+        if (is_course && fate > 5)
+            told(76, pm_course_after_write(&asked.course, host, acked, (uint8_t)draw(3), &out.sending));
+        else if (is_course)
             told(62, pm_course_write_ended(&asked.course, host, acked));
         else
             told(10, pm_host_write_ended(host, acked));
@@ -277,7 +279,10 @@ static void exchange(pm_host *host, int is_course) {
         damage(at, count);
     if (fate == 4)
         count = draw(ROOM - 4);
-    if (is_course)
+    if (is_course && fate > 5) {
+        told(77, pm_course_after_read(&asked.course, host, at, count, (uint8_t)draw(3), &out.sending));
+        wrote(&out.sending, sizeof out.sending);
+    } else if (is_course)
         told(63, pm_course_read_ended(&asked.course, host, at, fate == 5 ? 0 : count));
     else
         told(11, pm_host_read_ended(host, at, fate == 5 ? 0 : count));

@@ -63,11 +63,21 @@ abbrev pub answer_after : Option AnswerFault → Stage → Option AnswerFault �
 answer_after fault stage (Some wrong) = Some wrong
 answer_after fault stage None = good_after fault stage
 
+-- what was wrong with what became of a frame, and what is noted once that was so
+abbrev pub entry_fault : ℕ → Stage → Entry → Option AnswerFault
+entry_fault addr stage (Finished acked) = if acked then None else Some NotAcknowledged
+entry_fault addr stage (Got bytes) = bytes_fault addr (stage_message stage) bytes
+entry_fault addr stage (Accepted job) = None
+entry_fault addr stage Restarted = None
+
+abbrev pub fault_by : Option AnswerFault → Stage → Entry → Option AnswerFault → Option AnswerFault
+fault_by fault stage (Finished acked) wrong = wrong
+fault_by fault stage (Got bytes) wrong = answer_after fault stage wrong
+fault_by fault stage (Accepted job) wrong = fault
+fault_by fault stage Restarted wrong = fault
+
 abbrev pub fault_after : Option AnswerFault → ℕ → Stage → Entry → Option AnswerFault
-fault_after fault addr stage (Accepted job) = fault
-fault_after fault addr stage (Finished acked) = if acked then None else Some NotAcknowledged
-fault_after fault addr stage (Got bytes) = answer_after fault stage (bytes_fault addr (stage_message stage) bytes)
-fault_after fault addr stage Restarted = fault
+fault_after fault addr stage entry = fault_by fault stage entry (entry_fault addr stage entry)
 
 -- the byte of VOUT_MODE, by the payload of a good answer: the payload's, and 40h (DIRECT) where the coefficients were asked for
 abbrev pub named_in : Question → List ℕ → Option ℕ

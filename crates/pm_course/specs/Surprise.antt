@@ -5,7 +5,7 @@ use Rattle.pm_host.specs.declared.question.Question.{Question}
 use Rattle.pm_host.specs.declared.question.Question.TheVariants.{Word, Mode, Coefficients}
 use Rattle.pm_host.specs.declared.stage.Stage.{Stage}
 use Rattle.pm_host.specs.declared.stage.Stage.TheVariants.{Writes, Reads, Asks, Sends}
-use Rattle.pm_host.specs.Answers.{good_word}
+use Rattle.pm_host.specs.Answers.{good_word, word_in}
 use Rattle.pm_host.specs.Possible.{is_possible}
 use Rattle.pm_host.specs.Summary.{Summary, possible_at}
 use Rattle.pm_host.specs.Transcript.{Entry, Accepted, Finished, Got, Restarted}
@@ -21,6 +21,11 @@ cell_read (Writes cell word pass) = None
 cell_read (Reads cell word pass) = Some cell
 cell_read (Asks question tries) = cell_asked question
 cell_read (Sends command tries) = None
+
+-- the cell that is read couldn't hold the word of a payload
+abbrev pub is_new : Summary → Option Cell → List ℕ → Bool
+is_new s None payload = false
+is_new s (Some cell) payload = not (is_possible (word_in payload) (possible_at s cell))
 
 -- a good answer has a word that the cell couldn't hold
 abbrev pub is_surprise : Summary → Cell → Option ℕ → Bool

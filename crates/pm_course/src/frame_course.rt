@@ -138,30 +138,18 @@ impl FrameCourse {
         ensures after { let s = held None host.now in
             self.new ≡ (specs.saying_planned part limits.now s self.old (Ok words.now)).after }
     {
-        let mut course = self.planned(words);
+        let mut course = self.course;
+        plan_to(&mut course, words);
         match course.next_in(host, None, part, limits) {
             Next::Ended(end) => self.ends(self.end_of(end)),
             Next::Job(job) => match self.asked_for(host, job) {
                 Ok(asked) => {
-                    self.course = self.asking_for(&course, job, asked);
-                    self.end = None;
+                    self.ask_for(&course, job, asked);
                     CourseNext::Job(asked)
                 }
                 Err(refusal) => self.ends(CourseEnd::Refused(refusal)),
             },
         }
-    }
-
-    // The way to these words, if it is a way to wanted words.
-    fn planned(&self, words: &Wanted) -> Course
-        ensures { result ≡ with_plan self.now.course (planning self.now.course words.now) }
-    {
-        let mut course = self.course;
-        course.survey.plan = match course.survey.plan {
-            Some(_) => Some(*words),
-            None => None,
-        };
-        course
     }
 
     /// The host or its limits refuse the job that it said, by this number: it has ended.
@@ -294,19 +282,29 @@ impl FrameCourse {
         }
     }
 
-    // The way once a job was asked for, whether it named this job or another.
-    fn asking_for(&self, after: &Course, named: Job, job: Job) -> Course
-        ensures { result ≡ spec_asking_for self.now.course after.now named job }
+    // It goes on by the way once a job was asked for, where that named another or the same.
+    fn ask_for(&mut self, after: &Course, named: Job, job: Job)
+        ensures { self.new ≡ (specs.asks self.old (spec_asking_for self.old.course after.now named job) job).after }
     {
-        let mut course = *after;
-        course.survey.plan = self.course.survey.plan;
-        course.survey.asked = Some(job);
+        let plan = self.course.survey.plan;
         let was_ordered = match named {
             Job::Order(..) => self.course.ordered,
             _ => after.ordered,
         };
-        course.ordered = matches!(job, Job::Order(..)) || was_ordered;
-        course
+        self.course = *after;
+        self.course.survey.plan = plan;
+        self.course.survey.asked = Some(job);
+        self.course.ordered = matches!(job, Job::Order(..)) || was_ordered;
+        self.end = None;
+    }
+}
+
+// The way to these words, if it is a way to wanted words.
+fn plan_to(course: &mut Course, words: &Wanted)
+    ensures { course.new ≡ with_plan course.old (planning course.old words.now) }
+{
+    if course.survey.plan.is_some() {
+        course.survey.plan = Some(*words);
     }
 }
 

@@ -8,11 +8,12 @@ ghost use Rattle.pm_host.specs.Sound.{HasWord};
 ghost use Rattle.pm_host.specs.Summary.{stage_message};
 ghost use Rattle.pm_host.specs.Told.{entry_told, is_awaited};
 ghost use Rattle.pm_host.specs.Transcript.{Got};
-ghost use Rattle.pm_course.specs.Heard.{bytes_fault as spec_bytes_fault, ended_by as spec_ended_by, fault_after as spec_fault_after, heard_by, is_job_of as spec_is_job_of, mode_told as spec_mode_told, named_in as spec_named_in};
+ghost use Rattle.pm_course.specs.Heard.{bytes_fault as spec_bytes_fault, ended_by as spec_ended_by, entry_fault as spec_entry_fault, fault_by as spec_fault_by, heard_by, is_job_of as spec_is_job_of, mode_told as spec_mode_told, named_in as spec_named_in};
 
 use crate::answer_fault::AnswerFault;
 use crate::course_end::CourseEnd;
 use crate::frame_course::FrameCourse;
+use crate::surprise::Noticed;
 use pm_frame::read_answer;
 use pm_host::{Job, JobEnd, Question, Stage, Step, Told};
 use pm_table::Cell;
@@ -27,11 +28,23 @@ impl FrameCourse {
         requires awaited { is_awaited stage told ≡ true }
         ensures { self.new ≡ heard_by self.old address stage (entry_told told.entry) surprised step }
     {
+        let fault = entry_fault(address, stage, told);
+        self.heard_so(address, stage, told, Noticed { surprised, fault }, step);
+    }
+
+    /// Hears it by what [`notices`](crate::notices) found, so that an answer is read once.
+    pub fn heard_so(&mut self, address: u8, stage: Stage, told: Told<'_>, noticed: Noticed, step: Step)
+        requires address { IsAddress address }
+        requires word { HasWord stage }
+        requires awaited { is_awaited stage told ≡ true }
+        requires fault { noticed.fault ≡ spec_entry_fault address stage (entry_told told) }
+        ensures { self.new ≡ heard_by self.old address stage (entry_told told.entry) noticed.surprised step }
+    {
         if !self.is_job_of(stage) {
             return;
         }
-        self.fault = self.fault_after(address, stage, told);
-        if surprised {
+        self.fault = self.fault_by(stage, told, noticed.fault);
+        if noticed.surprised {
             self.course.survey.learned = false;
         }
         if let Step::Ended(end) = step {
@@ -87,24 +100,34 @@ impl FrameCourse {
         }
     }
 
-    // What was wrong with what became of a frame. A good answer that reads an order back leaves what was wrong with its write.
-    fn fault_after(&self, address: u8, stage: Stage, told: Told<'_>) -> Option<AnswerFault>
-        requires address { IsAddress address }
-        requires word { HasWord stage }
-        requires awaited { is_awaited stage told ≡ true }
-        ensures { result ≡ spec_fault_after self.now.fault address stage (entry_told told.entry) }
+    // What is noted once this was wrong with what became of a frame. A good answer that reads an order back leaves what was wrong with
+    // its write.
+    fn fault_by(
+        &self,
+        stage: Stage,
+        told: Told<'_>,
+        wrong: Option<AnswerFault>,
+    ) -> Option<AnswerFault>
+        ensures { result ≡ spec_fault_by self.now.fault stage (entry_told told.entry) wrong }
     {
-        match told {
-            Told::Finished { acked: true } => None,
-            Told::Finished { acked: false } => Some(AnswerFault::NotAcknowledged),
-            Told::Got(bytes) => match bytes_fault(address, stage, bytes) {
-                Some(fault) => Some(fault),
-                None => match stage {
-                    Stage::Reads { .. } => self.fault,
-                    _ => None,
-                },
-            },
+        match (told, wrong, stage) {
+            (Told::Got(_), None, Stage::Reads { .. }) => self.fault,
+            _ => wrong,
         }
+    }
+}
+
+// What was wrong with what became of a frame.
+fn entry_fault(address: u8, stage: Stage, told: Told<'_>) -> Option<AnswerFault>
+    requires address { IsAddress address }
+    requires word { HasWord stage }
+    requires awaited { is_awaited stage told ≡ true }
+    ensures { result ≡ spec_entry_fault address stage (entry_told told.entry) }
+{
+    match told {
+        Told::Finished { acked: true } => None,
+        Told::Finished { acked: false } => Some(AnswerFault::NotAcknowledged),
+        Told::Got(bytes) => bytes_fault(address, stage, bytes),
     }
 }
 

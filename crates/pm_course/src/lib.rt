@@ -30,6 +30,6 @@ pub use answer_fault::AnswerFault;
 pub use course_end::{CourseEnd, CourseNext, Refusal};
 pub use frame_course::FrameCourse;
 pub use frames::{Sending, sent_by};
-pub use surprise::surprises;
+pub use surprise::{Noticed, notices, surprises};
 pub use voltages::Voltages;
 pub use wish::{Wish, Wishes};

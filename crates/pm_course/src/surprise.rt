@@ -8,28 +8,87 @@ ghost use Rattle.pm_host.specs.Possible.{is_possible as spec_is_possible};
 ghost use Rattle.pm_host.specs.Sound.{IsSound};
 ghost use Rattle.pm_host.specs.Summary.{possible_at};
 ghost use Rattle.pm_host.specs.Told.{entry_told, is_awaited};
-ghost use Rattle.pm_course.specs.Surprise.{cell_read as spec_cell_read, surprises as spec_surprises};
+ghost use Rattle.pm_frame.specs.Layout.{is_read_message};
+ghost use Rattle.pm_host.specs.Summary.{stage_message};
+ghost use Rattle.pm_course.specs.Heard.{bytes_fault, entry_fault};
+ghost use Rattle.pm_course.specs.Surprise.{cell_read as spec_cell_read, is_new as is_new_in, surprises as spec_surprises, surprises_at};
 
+use crate::answer_fault::AnswerFault;
 use pm_frame::read_answer;
 use pm_host::{Question, Stage, State, Told};
 use pm_table::Cell;
 
 /// Whether what came back for the frame of a stage is a good answer with a word that its cell couldn't hold, by what the host
 /// knows before it hears the answer. The part then restarted or was exchanged since the cell was read.
-#[tactic(auto, unfolding(pm_host::specs::Answers::good_payload))]
 pub fn surprises(host: &State, stage: Stage, told: Told<'_>) -> bool
     requires sound { IsSound (held (Some stage) host.now) }
     requires awaited { is_awaited stage told ≡ true }
     ensures { result ≡ spec_surprises (held (Some stage) host.now) stage (entry_told told.entry) }
 {
-    match (cell_read(stage), told) {
-        (Some(cell), Told::Got(bytes)) => {
-            match read_answer(host.address, &stage.message(), bytes) {
-                Ok(payload) => !is_possible(host, cell, word_in(payload)),
-                Err(_) => false,
-            }
-        }
-        _ => false,
+    notices(host, stage, told).surprised
+}
+
+/// What a course notes of what became of a frame.
+#[derive(Clone, Copy, Debug, PartialEq, Eq)]
+pub struct Noticed {
+    /// Whether it [`surprises`].
+    pub surprised: bool,
+    /// What was wrong with it.
+    pub fault: Option<AnswerFault>,
+}
+
+/// What a course is to note of what became of the frame of a stage, by what the host knows before it hears that.
+pub fn notices(host: &State, stage: Stage, told: Told<'_>) -> Noticed
+    requires sound { IsSound (held (Some stage) host.now) }
+    requires awaited { is_awaited stage told ≡ true }
+    ensures surprised { result.surprised ≡ spec_surprises (held (Some stage) host.now) stage (entry_told told.entry) }
+    ensures fault { result.fault ≡ entry_fault host.now.address stage (entry_told told.entry) }
+{
+    match told {
+        Told::Finished { acked: true } => Noticed {
+            surprised: false,
+            fault: None,
+        },
+        Told::Finished { acked: false } => Noticed {
+            surprised: false,
+            fault: Some(AnswerFault::NotAcknowledged),
+        },
+        Told::Got(bytes) => noticed_in(host, stage, bytes),
+    }
+}
+
+// What is to be noted of what came back for the request of a stage.
+#[tactic(auto, unfolding(pm_host::specs::Answers::good_payload))]
+fn noticed_in(host: &State, stage: Stage, bytes: &[u8]) -> Noticed
+    requires sound { IsSound (held (Some stage) host.now) }
+    requires read { is_read_message (stage_message stage) ≡ true }
+    ensures surprised { result.surprised ≡ surprises_at (held (Some stage) host.now) (spec_cell_read stage) bytes.now }
+    ensures fault { result.fault ≡ bytes_fault host.now.address (stage_message stage) bytes.now }
+{
+    match read_answer(host.address, &stage.message(), bytes) {
+        Ok(payload) => Noticed {
+            surprised: is_new(host, stage, payload),
+            fault: None,
+        },
+        Err(_) if bytes.is_empty() => Noticed {
+            surprised: false,
+            fault: Some(AnswerFault::NoAnswer),
+        },
+        Err(fault) => Noticed {
+            surprised: false,
+            fault: AnswerFault::of_frame(fault),
+        },
+    }
+}
+
+// Whether the cell that a stage reads couldn't hold the word of a payload.
+fn is_new(host: &State, stage: Stage, payload: &[u8]) -> bool
+    requires sound { IsSound (held (Some stage) host.now) }
+    ensures { result ≡ is_new_in (held (Some stage) host.now) (spec_cell_read stage) payload.now }
+{
+    match cell_read(stage) {
+        Some(cell) => !is_possible(host, cell, word_in(payload)),
+        None => false,
     }
 }
 

@@ -109,8 +109,8 @@ impl FrameCourse {
     fn is_missing(&self, part: PartRegisters, words: &Wanted, register: Reg) -> bool
         ensures { result ≡ spec_is_missing part words.now self.now.voltages register }
     {
-        (words.word(register).is_some() || self.voltages.of(register).is_some())
-            && !part.has(register)
+        !part.has(register)
+            && (words.word(register).is_some() || self.voltages.of(register).is_some())
     }
 }
 

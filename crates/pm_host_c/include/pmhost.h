@@ -68,10 +68,11 @@ extern "C" {
 #define PM_STAIRS_STACK 12288
 #define PM_NAME_STACK 4096
 
-/* What a call answers: 0, or why it is refused. A refused call changes nothing, but for these: pm_host_frame, pm_course_frame and
- * pm_delivery_frame then write PM_NOTHING, and pm_delivery_judge that answers P8 says of which limit. pm_pec, pm_host_restart_seen
- * and pm_host_limits_state answer something else: each says what. Of these numbers the last answers PM_NO_LIMITS only. PM_ENDED
- * refuses nothing, and is none of them. pm_refusal_name gives the name of each, and of those of pmpart.h. */
+/* What a call answers: 0, or why it is refused. A refused call changes nothing, but for these: pm_host_frame, pm_course_frame,
+ * pm_course_after_write, pm_course_after_read and pm_delivery_frame then write PM_NOTHING, and pm_delivery_judge that answers P8 says
+ * of which limit. pm_pec, pm_host_restart_seen and pm_host_limits_state answer something else: each says what. Of these numbers the
+ * last answers PM_NO_LIMITS only. PM_ENDED refuses nothing, and is none of them. pm_refusal_name gives the name of each, and of those
+ * of pmpart.h. */
 enum {
     PM_OK = 0,
     PM_H1_OUTPUT_COUNT = 0x01,    /* a number of outputs other than 1 to 8 */
@@ -575,6 +576,12 @@ uint8_t pm_course_frame(pm_course *course, pm_host *host, pm_sending *sending);
 pm_step pm_course_write_ended(pm_course *course, pm_host *host, uint8_t acked);
 pm_step pm_course_read_ended(pm_course *course, pm_host *host, const uint8_t *bytes, uint64_t count);
 
+/* The same, and what is to be sent next, as pm_course_frame hands it out: one call is cheaper than two. It is PM_NOTHING once the course
+ * has ended, and, if `stops` isn't 0, before an order: that doesn't begin, and pm_course_frame begins it. */
+pm_step pm_course_after_write(pm_course *course, pm_host *host, uint8_t acked, uint8_t stops, pm_sending *sending);
+pm_step pm_course_after_read(pm_course *course, pm_host *host, const uint8_t *bytes, uint64_t count, uint8_t stops,
+                             pm_sending *sending);
+
 /* How it ended, or kind 0 if it goes on. PM_NO_COURSE; then nothing is written. */
 uint8_t pm_course_ended(const pm_course *course, pm_course_end *end);
 
@@ -926,20 +933,30 @@ static inline pm_step pm_carry_out(pm_host *host, pm_course *course, pm_delivery
     pm_step step = {PM_UNKNOWN, 0};
     pm_sending frame;
     uint8_t answer[8];
-    uint8_t number;
+    uint8_t number = PM_OK;
     int is_judged = !(course && delivery);
+    frame.kind = PM_NOTHING;
     for (;;) {
-        number = is_judged ? (uint8_t)PM_OK : pm_delivery_before_order(delivery, course, host, &is_judged, read, context);
-        if (number == PM_OK)
-            number = course ? pm_course_frame(course, host, &frame) : pm_host_frame(host, &frame);
-        if (number != PM_OK || frame.kind == PM_NOTHING)
-            break;
+        if (frame.kind == PM_NOTHING) {
+            number = is_judged ? (uint8_t)PM_OK : pm_delivery_before_order(delivery, course, host, &is_judged, read, context);
+            if (number == PM_OK)
+                number = course ? pm_course_frame(course, host, &frame) : pm_host_frame(host, &frame);
+            if (number != PM_OK || frame.kind == PM_NOTHING)
+                break;
+        }
         if (frame.kind == PM_WRITE) {
             uint8_t acked = pm_was_acked(&frame, write, context);
-            step = course ? pm_course_write_ended(course, host, acked) : pm_host_write_ended(host, acked);
+            step = course ? pm_course_after_write(course, host, acked, !is_judged, &frame) : pm_host_write_ended(host, acked);
         } else {
             uint64_t count = pm_answer(&frame, answer, read, context);
-            step = course ? pm_course_read_ended(course, host, answer, count) : pm_host_read_ended(host, answer, count);
+            step = course ? pm_course_after_read(course, host, answer, count, !is_judged, &frame)
+                          : pm_host_read_ended(host, answer, count);
+        }
+        if (!course)
+            frame.kind = PM_NOTHING;
+        else if (is_judged && frame.kind == PM_NOTHING) {
+            number = step.kind > PM_LEARNED ? (uint8_t)step.kind : (uint8_t)PM_ENDED;
+            break;
         }
     }
     if (number != PM_OK)

@@ -1,3 +1,5 @@
+mod HeldImage
+mod GoesOn
 mod Tells
 mod Named
 mod Ceils

@@ -1,5 +1,5 @@
 -- What the calls of a course answer and write, by the definitions of pm_course. This project's own choice.
-use Rattle.std.specs.Prelude.{◌≡◌, ◌≢◌, ℕ, Bool, true, false, nat_lt, if◌then◌else◌, Option, Some, None, is_some, option_map, option_and_then}
+use Rattle.std.specs.Prelude.{◌≡◌, ◌≢◌, ℕ, Bool, true, false, ◌&&◌, nat_lt, if◌then◌else◌, Option, Some, None, is_some, option_map, option_and_then}
 use Rattle.std.specs.Prelude.{Result, Ok, Err}
 use Rattle.std.specs.Option.{option_map_or}
 use Rattle.pm_table.specs.declared.reg.Reg.{Reg}
@@ -14,7 +14,7 @@ use Rattle.pm_host.specs.Image.{held, host_of}
 use Rattle.pm_host.specs.Summary.{Summary, next, step_of}
 use Rattle.pm_host.specs.Transcript.{Entry}
 use Rattle.pm_limits.specs.Guard.{Guarded, limits_at}
-use Rattle.pm_rail.specs.Course.{course_of}
+use Rattle.pm_rail.specs.Course.{course_of, is_order}
 use Rattle.pm_course.specs.declared.course_end.CourseEnd.{CourseEnd}
 use Rattle.pm_course.specs.declared.course_end.CourseEnd.TheVariants.{Refused}
 use Rattle.pm_course.specs.declared.course_end.CourseNext.{CourseNext}
@@ -142,27 +142,38 @@ pub record BeginsIn (old : GuardImage) (job : Asked) (new : GuardImage) : Type 0
   pub registers : new.registers ≡ old.registers
   pub written : IsMemory old → IsMemory new
 
--- a course whose job the host or its limits refuse has ended
-abbrev pub refused_in : CourseImage → ℕ → Asked → CourseImage
-refused_in was number job = option_map_or (λ c. course_image (refused_by c number job)) (course_in was) was
+-- the stage of a course's open job
+abbrev pub own_at : FrameCourse → Stage → Option Stage
+own_at c stage = rule (is_job_of c.course.survey.asked stage) stage
 
--- How a course hands out its next frame: that of its open job, or the first of the job that it says, which begins; or it has ended,
--- as it says or since the host or its limits refuse that job.
+abbrev pub own_stage : FrameCourse → Option Stage → Option Stage
+own_stage c stage = option_and_then (own_at c) stage
+
+-- How a course that is written so goes on: by the frame of its open job, or by the first of the job that it says, which begins; or it
+-- has ended, as it says or since the host or its limits refuse that job. With `stops` no order begins: the course waits before it.
+pub data GoesOn (stops : Bool) (old : GuardImage) (was : CourseImage) (g : Guarded) (c : FrameCourse) : ℕ → GuardImage → CourseImage → SendingImage
+    → Type 0 where
+  again : (sending : SendingImage) (stage : Stage) → own_stage c g.host.stage ≡ Some stage → IsSent (host_of old.host) sending
+      → GoesOn stops old was g c accepted old was sending
+  waits : (sending : SendingImage) (is : FrameCourse) (job : Asked) → own_stage c g.host.stage ≡ None → SaysIn g c (Job job) is
+      → stops && is_order job ≡ true → IsNothing sending → GoesOn stops old was g c accepted old was sending
+  begun : (sending : SendingImage) (is : FrameCourse) (job : Asked) (new : GuardImage) → own_stage c g.host.stage ≡ None
+      → SaysIn g c (Job job) is → stops && is_order job ≡ false → BeginsIn old job new → IsSent (host_of new.host) sending
+      → GoesOn stops old was g c accepted new (course_image is) sending
+  over : (sending : SendingImage) (is : FrameCourse) (last : CourseEnd) → own_stage c g.host.stage ≡ None → SaysIn g c (Ended last) is
+      → IsNothing sending → GoesOn stops old was g c ended old (course_image is) sending
+  refused : (sending : SendingImage) (is : FrameCourse) (job : Asked) → own_stage c g.host.stage ≡ None → SaysIn g c (Job job) is
+      → stops && is_order job ≡ false → job_number (guard_of old) (Some job) ≢ accepted → IsNothing sending
+      → GoesOn stops old was g c ended old (course_image (refused_by c (job_number (guard_of old) (Some job)) job)) sending
+
+-- how a course hands out its next frame
 pub data HandsOut (old : GuardImage) (was : CourseImage) : ℕ → GuardImage → CourseImage → SendingImage → Type 0 where
   no_host_there : (sending : SendingImage) → guard_of old ≡ None → IsNothing sending → HandsOut old was no_host old was sending
   no_course_there : (sending : SendingImage) (g : Guarded) → guard_of old ≡ Some g → course_in was ≡ None → IsNothing sending
       → HandsOut old was no_course old was sending
-  again : (sending : SendingImage) (g : Guarded) (c : FrameCourse) (stage : Stage) → guard_of old ≡ Some g → course_in was ≡ Some c
-      → g.host.stage ≡ Some stage → is_job_of c.course.survey.asked stage ≡ true → IsSent (host_of old.host) sending
-      → HandsOut old was accepted old was sending
-  begun : (sending : SendingImage) (g : Guarded) (c is : FrameCourse) (job : Asked) (new : GuardImage) → guard_of old ≡ Some g
-      → course_in was ≡ Some c → SaysIn g c (Job job) is → BeginsIn old job new → IsSent (host_of new.host) sending
-      → HandsOut old was accepted new (course_image is) sending
-  over : (sending : SendingImage) (g : Guarded) (c is : FrameCourse) (last : CourseEnd) → guard_of old ≡ Some g → course_in was ≡ Some c
-      → SaysIn g c (Ended last) is → IsNothing sending → HandsOut old was ended old (course_image is) sending
-  refused : (sending : SendingImage) (g : Guarded) (c is : FrameCourse) (job : Asked) → guard_of old ≡ Some g → course_in was ≡ Some c
-      → SaysIn g c (Job job) is → job_number (guard_of old) (Some job) ≢ accepted → IsNothing sending
-      → HandsOut old was ended old (course_image (refused_by c (job_number (guard_of old) (Some job)) job)) sending
+  goes_on : (number : ℕ) (new : GuardImage) (is : CourseImage) (sending : SendingImage) (g : Guarded) (c : FrameCourse)
+      → guard_of old ≡ Some g → course_in was ≡ Some c → GoesOn false old was g c number new is sending
+      → HandsOut old was number new is sending
 
 -- what a call answers that tells a host and a course what became of a frame
 abbrev pub course_answer : Option Summary → Option FrameCourse → Entry → HostStep
@@ -194,3 +205,17 @@ pub record TellsCourse (old : GuardImage) (was : CourseImage) (entry : Entry) (r
   pub written : IsMemory old → IsMemory new
   pub refused : is_heard (host_of old.host) (course_in was) entry ≡ false → new ≡ old
   pub refused_course : is_heard (host_of old.host) (course_in was) entry ≡ false → is ≡ was
+
+-- How what became of a frame is told and the next one is handed out, by the memory of both in between; what isn't heard changes nothing,
+-- and then nothing is handed out.
+pub data TellsAndSends (stops : Bool) (old : GuardImage) (was : CourseImage) (entry : Entry) :
+    HostStep → GuardImage → CourseImage → SendingImage → Type 0 where
+  nothing_told : (result : HostStep) (sending : SendingImage) → is_heard (host_of old.host) (course_in was) entry ≡ false
+      → result ≡ course_answer (host_of old.host) (course_in was) entry → IsNothing sending
+      → TellsAndSends stops old was entry result old was sending
+  told_on : (result : HostStep) (between new : GuardImage) (is : CourseImage) (sending : SendingImage) (s : Summary) (c : FrameCourse)
+      (g : Guarded) (number : ℕ) → host_of old.host ≡ Some s → course_in was ≡ Some c
+      → is_heard (Some s) (Some c) entry ≡ true → TellsCourse old was entry result between (heard_in was (Some s) (Some c) entry)
+      → guard_of between ≡ Some g
+      → GoesOn stops between (heard_in was (Some s) (Some c) entry) g (heard_at s c entry s.stage) number new is sending
+      → TellsAndSends stops old was entry result new is sending

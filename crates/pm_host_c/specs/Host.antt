@@ -1,19 +1,22 @@
 -- What the calls of a host answer and do, by the host's own model. Memory that holds no host, a code
 -- that is no cell's and a frame of the other kind are refused first; then the host decides.
 use Rattle.std.specs.Prelude.{◌≡◌, ◌≢◌, ◌≤◌, ℕ, Bool, true, false, if◌then◌else◌, ◌∷◌, take, Option, Some, None, option_map}
-use Rattle.std.specs.Prelude.{option_and_then, MatchOption}
+use Rattle.std.specs.Prelude.{option_and_then, MatchOption, Result, Ok, Err}
 use Rattle.std.specs.Option.{option_map_or}
 use Rattle.pm_table.specs.declared.cell.Cell.{Cell}
 use Rattle.pm_frame.specs.declared.message.Message.{Message}
 use Rattle.pm_frame.specs.Fault.{answer_fault, whole_answer}
 use Rattle.pm_frame.specs.FaultWords.{frame_fault_number}
 use Rattle.pm_frame.specs.Layout.{is_read_message}
+use Rattle.pm_limits.specs.declared.fault.LimitFault.{LimitFault}
+use Rattle.pm_limits.specs.FaultWords.{limit_fault_number}
 use Rattle.pm_limits.specs.Guard.{Guarded, guard_fault}
 use Rattle.pm_host_c.specs.declared.guard_image.GuardImage.{GuardImage}
 use Rattle.pm_host_c.specs.Guard.{guard_of}
 use Rattle.pm_host.specs.declared.job.Job.{Job}
 use Rattle.pm_host.specs.declared.job.JobEnd.TheVariants.{Done, Differs, Unknown, Learned}
 use Rattle.pm_host.specs.declared.host.Step.{Step}
+use Rattle.pm_host.specs.declared.stage.Stage.{Stage}
 use Rattle.pm_host.specs.declared.host.Step.TheVariants.{Next, Ended}
 use Rattle.pm_host.specs.declared.fault.HostFault.TheVariants.{UnknownOutput}
 use Rattle.pm_host.specs.declared.standing_image.StandingImage.{StandingImage}
@@ -55,6 +58,11 @@ pub record BeginsJob (old : GuardImage) (job : Option Job) (result : ℕ) (new :
   pub registers : new.registers ≡ old.registers
   pub written : IsMemory old → IsMemory new
   pub refused : result ≢ 0 → new ≡ old
+
+-- the number of a job that began and stands somewhere, or of why it is refused
+abbrev pub begun_answer : Result Stage LimitFault → ℕ
+begun_answer (Ok stage) = accepted
+begun_answer (Err fault) = limit_fault_number fault
 
 -- the memory holds a host
 abbrev pub memory_number : Option Summary → ℕ

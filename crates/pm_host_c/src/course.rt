@@ -1,10 +1,19 @@
 //! A course of an output: it is made, hands out frames, and is told what became of them.
 
-ghost use Rattle.std.specs.Prelude.{◌≡◌, ◌≢◌, ◌<◌, not, ◌==◌, nat_lt};
+ghost use Rattle.std.specs.Prelude.{◌≡◌, ◌≢◌, true, not, ◌&&◌, ◌==◌, nat_lt, Some, None, IfSome};
+ghost use Rattle.pm_host.specs.Image.{held, host_of, is_current};
+ghost use Rattle.pm_host.specs.Progress.{stage_after, step_after as step_told};
+ghost use Rattle.pm_host.specs.Sound.{IsSound};
+ghost use Rattle.pm_host.specs.Summary.{next, step_of};
 ghost use Rattle.pm_host.specs.Transcript.{Finished, Got};
-ghost use Rattle.pm_host.specs.Told.{entry_told};
-ghost use Rattle.pm_course.specs.FrameCourse.{to_byte, to_survey};
-ghost use Rattle.pm_host_c.specs.Course.{begun_number, guard_at, job_answer, kept_number, refused_in, voltage_begun, voltage_number, voltage_register, want_number, wanted_more, words_course, AcceptsIn, HandsOut, SaysIn, TellsCourse, WouldBegin};
+ghost use Rattle.pm_host.specs.Told.{entry_told, is_awaited};
+ghost use Rattle.pm_course.specs.Heard.{heard_by};
+ghost use Rattle.pm_course.specs.Surprise.{surprises as surprises_by};
+ghost use Rattle.pm_host_c.specs.Memory.{IsMemory};
+ghost use Rattle.pm_rail.specs.Course.{is_order};
+ghost use Rattle.pm_limits.specs.FaultWords.{limit_fault_number};
+ghost use Rattle.pm_course.specs.FrameCourse.{refused_by, to_byte, to_survey};
+ghost use Rattle.pm_host_c.specs.Course.{begun_number, guard_at, job_answer, kept_number, own_stage as spec_own_stage, voltage_begun, voltage_number, voltage_register, want_number, wanted_more, words_course, AcceptsIn, GoesOn, HandsOut, SaysIn, TellsAndSends, TellsCourse, WouldBegin};
 ghost use Rattle.pm_host_c.specs.CourseEnd.{end_answer};
 ghost use Rattle.pm_host_c.specs.Guard.{guard_of};
 ghost use Rattle.pm_host_c.specs.CourseImage.{course_image, course_in, course_version, job_image};
@@ -13,14 +22,15 @@ ghost use Rattle.pm_host_c.specs.Sizes.{course_size};
 use crate::course_end_image::CourseEndImage;
 use crate::course_image::{CourseImage, numbers_of};
 use crate::guard_image::GuardImage;
-use crate::host::begin;
+use crate::host::begin_at;
 use crate::host_step::{HostStep, no_step, step_after};
 use crate::numbers::{ACCEPTED, ENDED, NO_COURSE, NO_HOST, OTHER_FRAME};
 use crate::sending_image::SendingImage;
-use crate::told::pm_host_frame;
+use crate::told::send;
 use crate::wanted_image::WantedImage;
-use pm_course::{CourseEnd, CourseNext, FrameCourse, Refusal, Wishes, surprises};
-use pm_host::{HostFault, Job, Stage, Told};
+use pm_course::{CourseEnd, CourseNext, FrameCourse, Refusal, Wishes, notices};
+use pm_host::{HostFault, Job, Progress, Stage, Told};
+use pm_limits::LimitFault;
 use pm_table::{Cell, Code, Reg, cell_of};
 use std::mem::size_of;
 
@@ -236,7 +246,7 @@ pub extern "C" fn pm_course_next(
 
 // What a course says next. H4 ends it where the host has no such output.
 fn says(host: &GuardImage, stage: Option<Stage>, course: &mut FrameCourse) -> CourseNext
-    requires { course.old.course.survey.output < 8 }
+    requires { IsSound (held stage host.now.host.state) }
     ensures { SaysIn (guard_at host.now stage) course.old result course.new }
 {
     if host.host.state.outputs <= course.course.survey.output {
@@ -266,45 +276,90 @@ pub extern "C" fn pm_course_frame(
         sending.clear();
         return NO_HOST;
     };
-    let Some(mut asked) = course.course() else {
+    if !course.is_course() {
         sending.clear();
         return NO_COURSE;
-    };
-    if let Some(at) = stage {
-        if asked.is_job_of(at) {
-            pm_host_frame(host, sending);
-            return ACCEPTED;
-        }
     }
-    match says(host, stage, &mut asked) {
+    let asked = course.held();
+    match own_stage(&asked, stage) {
+        Some(at) => {
+            send(host, at, sending);
+            ACCEPTED
+        }
+        None => begin_next(course, host, stage, &asked, false, sending),
+    }
+}
+
+// The stage of a course's open job.
+fn own_stage(asked: &FrameCourse, stage: Option<Stage>) -> Option<Stage>
+    ensures own { result ≡ spec_own_stage asked.now stage }
+    ensures open { IfSome result (λ at. stage ≡ Some at) }
+{
+    match stage {
+        Some(at) if asked.is_job_of(at) => Some(at),
+        _ => None,
+    }
+}
+
+// The first frame of what a course says next, which begins; or none, where it has ended, or waits before an order.
+fn begin_next(
+    course: &mut CourseImage,
+    host: &mut GuardImage,
+    stage: Option<Stage>,
+    asked: &FrameCourse,
+    stops: bool,
+    sending: &mut SendingImage,
+) -> u8
+    requires there { host_of host.old.host ≡ Some (held stage host.old.host.state) }
+    requires current { is_current host.old.host ≡ true }
+    requires sound { IsSound (held stage host.old.host.state) }
+    requires other { spec_own_stage asked.now stage ≡ None }
+    ensures { GoesOn stops host.old (course_image asked.now) (guard_at host.old stage) asked.now result host.new course.new sending.new }
+{
+    let mut said = *asked;
+    match says(host, stage, &mut said) {
         CourseNext::Ended(_) => {
-            *course = CourseImage::of(&asked);
+            course.write(&said);
             sending.clear();
             ENDED
         }
         CourseNext::Job(job) => {
-            let number = begin(host, Some(job));
-            if number == ACCEPTED {
-                *course = CourseImage::of(&asked);
-                pm_host_frame(host, sending);
-                ACCEPTED
-            } else {
-                refuse(course, number, job);
+            if waits(stops, job) {
+                course.write(asked);
                 sending.clear();
-                ENDED
+                return ACCEPTED;
+            }
+            match begin_at(host, stage, job) {
+                Ok(at) => {
+                    course.write(&said);
+                    send(host, at, sending);
+                    ACCEPTED
+                }
+                Err(fault) => {
+                    refuse(course, asked, fault, job);
+                    sending.clear();
+                    ENDED
+                }
             }
         }
     }
 }
 
-// A course ends, since the host or its limits refuse the job that it said, by this number.
-fn refuse(course: &mut CourseImage, number: u8, job: Job)
-    ensures { course.new ≡ refused_in course.old number job }
+// Whether a course waits before a job: one that stops does before an order.
+fn waits(stops: bool, job: Job) -> bool
+    ensures { result ≡ (stops && is_order job) }
 {
-    if let Some(mut asked) = course.course() {
-        asked.refused(number, job);
-        *course = CourseImage::of(&asked);
-    }
+    stops && matches!(job, Job::Order(..))
+}
+
+// A course ends, since the host or its limits refuse the job that it said. That is seldom.
+#[inline(never)]
+fn refuse(course: &mut CourseImage, asked: &FrameCourse, fault: LimitFault, job: Job)
+    ensures { course.new ≡ course_image (refused_by asked.now (limit_fault_number fault) job) }
+{
+    let mut refused = *asked;
+    refused.refused(fault.number(), job);
+    course.write(&refused);
 }
 
 /// The job of a course that is under way, by what it asked for last: none once it was told the end of that. E9h.
@@ -352,20 +407,131 @@ fn tell(course: &mut CourseImage, host: &mut GuardImage, told: Told<'_>) -> Host
     let Ok(stage) = host.host.read_stage() else {
         return no_step(NO_HOST);
     };
-    let Some(mut asked) = course.course() else {
+    if !course.is_course() {
         return no_step(NO_COURSE);
-    };
+    }
+    let mut asked = course.held();
     match stage {
         Some(stage) if stage.awaits(&told) => {
-            let surprised = surprises(&host.host.state, stage, told);
-            let progress = host.host.state.told(stage, told);
             let address = host.host.state.address;
-            host.host.write_stage(progress.stage());
-            asked.heard(address, stage, told, surprised, progress.step());
-            *course = CourseImage::of(&asked);
+            let progress = hear(host, &mut asked, stage, told);
+            course.write(&asked);
             step_after(progress.step(), address, stage, told)
         }
         _ => no_step(OTHER_FRAME),
+    }
+}
+
+// Tells a host and a course what became of the frame of a stage: if the job still stands.
+fn hear(host: &mut GuardImage, asked: &mut FrameCourse, stage: Stage, told: Told<'_>) -> Progress
+    requires current { is_current host.old.host ≡ true }
+    requires sound { IsSound (held (Some stage) host.old.host.state) }
+    requires awaited { is_awaited stage told ≡ true }
+    ensures there { host_of host.new.host ≡ Some (held (stage_after result) host.new.host.state) }
+    ensures current { is_current host.new.host ≡ true }
+    ensures sound { IsSound (held (stage_after result) host.new.host.state) }
+    ensures after { held (stage_after result) host.new.host.state ≡ next (held (Some stage) host.old.host.state) (entry_told told.entry) }
+    ensures step { step_told result ≡ step_of (held (Some stage) host.old.host.state) (entry_told told.entry) }
+    ensures heard { let s = held (Some stage) host.old.host.state in
+        asked.new ≡ heard_by asked.old s.setup.addr stage (entry_told told.entry) (surprises_by s stage (entry_told told.entry)) (step_of s (entry_told told.entry)) }
+    ensures limits { host.new.limits ≡ host.old.limits }
+    ensures registers { host.new.registers ≡ host.old.registers }
+    ensures written { IsMemory host.old → IsMemory host.new }
+{
+    let address = host.host.state.address;
+    let noticed = notices(&host.host.state, stage, told);
+    let progress = host.host.state.told(stage, told);
+    host.host.write_stage(progress.stage());
+    asked.heard_so(address, stage, told, noticed, progress.step());
+    progress
+}
+
+/// A write was sent, and acknowledged or not (0); and what is to be sent next, as `pm_course_frame` hands it out. It is nothing once the
+/// course has ended, and, where `stops` isn't 0, where an order is next, which then doesn't begin. E0h, E9h, E2h where no write is
+/// being sent; then nothing changes, and it is nothing.
+#[unsafe(no_mangle)]
+pub extern "C" fn pm_course_after_write(
+    course: &mut CourseImage,
+    host: &mut GuardImage,
+    acked: u8,
+    stops: u8,
+    sending: &mut SendingImage,
+) -> HostStep
+    ensures { TellsAndSends (not (stops == 0)) host.old course.old (Finished (not (acked == 0))) result host.new course.new sending.new }
+{
+    let told = Told::Finished { acked: acked != 0 };
+    tell_and_send(course, host, told, stops != 0, sending)
+}
+
+/// A request was sent, and these bytes came back, the read address first; none where there was no answer. And what is to be sent next,
+/// as by `pm_course_after_write`. E0h, E9h, E2h where no request is being sent; then nothing changes, and it is nothing.
+#[unsafe(no_mangle)]
+pub extern "C" fn pm_course_after_read(
+    course: &mut CourseImage,
+    host: &mut GuardImage,
+    bytes: &[u8],
+    stops: u8,
+    sending: &mut SendingImage,
+) -> HostStep
+    ensures { TellsAndSends (not (stops == 0)) host.old course.old (Got bytes.now) result host.new course.new sending.new }
+{
+    tell_and_send(course, host, Told::Got(bytes), stops != 0, sending)
+}
+
+// Tells a host what became of its frame, and the course where it is of its job; and hands out what is to be sent next.
+fn tell_and_send(
+    course: &mut CourseImage,
+    host: &mut GuardImage,
+    told: Told<'_>,
+    stops: bool,
+    sending: &mut SendingImage,
+) -> HostStep
+    ensures { TellsAndSends stops host.old course.old (entry_told told.entry) result host.new course.new sending.new }
+{
+    let Ok(stage) = host.host.read_stage() else {
+        sending.clear();
+        return no_step(NO_HOST);
+    };
+    if !course.is_course() {
+        sending.clear();
+        return no_step(NO_COURSE);
+    }
+    let mut asked = course.held();
+    match stage {
+        Some(stage) if stage.awaits(&told) => {
+            let address = host.host.state.address;
+            let progress = hear(host, &mut asked, stage, told);
+            send_next(course, host, progress.stage(), &asked, stops, sending);
+            step_after(progress.step(), address, stage, told)
+        }
+        _ => {
+            sending.clear();
+            no_step(OTHER_FRAME)
+        }
+    }
+}
+
+// The frame of a course's open job, or else the first frame of what it says next.
+fn send_next(
+    course: &mut CourseImage,
+    host: &mut GuardImage,
+    stage: Option<Stage>,
+    asked: &FrameCourse,
+    stops: bool,
+    sending: &mut SendingImage,
+) -> u8
+    requires there { host_of host.old.host ≡ Some (held stage host.old.host.state) }
+    requires current { is_current host.old.host ≡ true }
+    requires sound { IsSound (held stage host.old.host.state) }
+    ensures { GoesOn stops host.old (course_image asked.now) (guard_at host.old stage) asked.now result host.new course.new sending.new }
+{
+    match own_stage(asked, stage) {
+        Some(at) => {
+            course.write(asked);
+            send(host, at, sending);
+            ACCEPTED
+        }
+        None => begin_next(course, host, stage, asked, stops, sending),
     }
 }
 

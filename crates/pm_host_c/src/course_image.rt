@@ -3,7 +3,7 @@
 ghost use Rattle.std.specs.Prelude.{◌≡◌};
 ghost use Rattle.pm_rail.specs.Survey.{wanted_in};
 ghost use Rattle.pm_host_c.specs.Numbers.{flag as spec_flag};
-ghost use Rattle.pm_host_c.specs.CourseImage.{course_image, course_in, differed_held, differed_image, end_in, has_image, job_code, job_held, job_kind, job_word, plan_held, read_held, read_image, twice_held, voltages_held, voltages_image, way_held};
+ghost use Rattle.pm_host_c.specs.CourseImage.{course_held, course_image, course_in, differed_held, differed_image, end_in, has_image, is_course as spec_is_course, job_code, job_held, job_kind, job_word, plan_held, read_held, read_image, twice_held, voltages_held, voltages_image, way_held};
 
 use crate::course_end_image::{EndNumbers, end_held, fault_held, number_of};
 use crate::wanted_image::WantedImage;
@@ -145,59 +145,134 @@ impl CourseImage {
     /// The number of the layout.
     pub const VERSION: u16 = 1;
 
+    /// Zeros, which are no course.
+    const BLANK: CourseImage = CourseImage {
+        mark: 0,
+        version: 0,
+        left: 0,
+        word: 0,
+        byte: 0,
+        end_word: 0,
+        wanted: WantedImage::NOTHING,
+        voltages: VoltagesImage {
+            command: 0,
+            max: 0,
+            margin_high: 0,
+            margin_low: 0,
+            min: 0,
+        },
+        output: 0,
+        planned: 0,
+        learned: 0,
+        asked: 0,
+        code: 0,
+        has_byte: 0,
+        ordered: 0,
+        done: 0,
+        read: ReadImage {
+            operation: 0,
+            command: 0,
+            max: 0,
+            margin_high: 0,
+            margin_low: 0,
+            min: 0,
+            protect: 0,
+        },
+        differed: DifferedImage {
+            operation: 0,
+            command: 0,
+            max: 0,
+            margin_high: 0,
+            margin_low: 0,
+            min: 0,
+        },
+        has: HasImage {
+            command: 0,
+            max: 0,
+            margin_high: 0,
+            margin_low: 0,
+            min: 0,
+        },
+        fault: 0,
+        end_kind: 0,
+        end_number: 0,
+        end_code: 0,
+        end_has: 0,
+        end_fault: 0,
+    };
+
     /// This course.
     pub(crate) fn of(course: &FrameCourse) -> CourseImage
         ensures { result ≡ course_image course.now }
     {
+        let mut image = CourseImage::BLANK;
+        image.write(course);
+        image
+    }
+
+    /// The memory holds this course now, whatever stood there.
+    pub(crate) fn write(&mut self, course: &FrameCourse)
+        ensures { self.new ≡ course_image course.now }
+    {
         let way = &course.course;
         let (asked, code, word) = numbers_of(way.survey.asked);
         let end = EndNumbers::of(course.end);
-        CourseImage {
-            mark: CourseImage::MARK,
-            version: CourseImage::VERSION,
-            left: way.survey.left,
-            word,
-            byte: way.byte.unwrap_or(0),
-            end_word: end.word,
-            wanted: WantedImage::of(&words_of(way.survey.plan)),
-            voltages: VoltagesImage::of(&course.voltages),
-            output: way.survey.output,
-            planned: flag(way.survey.plan.is_some()),
-            learned: flag(way.survey.learned),
-            asked,
-            code,
-            has_byte: flag(way.byte.is_some()),
-            ordered: flag(way.ordered),
-            done: flag(way.done),
-            read: ReadImage::of(&way.survey.read),
-            differed: DifferedImage::of(&way.differed),
-            has: HasImage::of(&course.voltages),
-            fault: number_of(course.fault),
-            end_kind: end.kind,
-            end_number: end.number,
-            end_code: end.code,
-            end_has: end.has_code,
-            end_fault: end.fault,
-        }
+        self.mark = CourseImage::MARK;
+        self.version = CourseImage::VERSION;
+        self.left = way.survey.left;
+        self.word = word;
+        self.byte = way.byte.unwrap_or(0);
+        self.end_word = end.word;
+        self.wanted = WantedImage::of(&words_of(way.survey.plan));
+        self.voltages = VoltagesImage::of(&course.voltages);
+        self.output = way.survey.output;
+        self.planned = flag(way.survey.plan.is_some());
+        self.learned = flag(way.survey.learned);
+        self.asked = asked;
+        self.code = code;
+        self.has_byte = flag(way.byte.is_some());
+        self.ordered = flag(way.ordered);
+        self.done = flag(way.done);
+        self.read = ReadImage::of(&way.survey.read);
+        self.differed = DifferedImage::of(&way.differed);
+        self.has = HasImage::of(&course.voltages);
+        self.fault = number_of(course.fault);
+        self.end_kind = end.kind;
+        self.end_number = end.number;
+        self.end_code = end.code;
+        self.end_has = end.has_code;
+        self.end_fault = end.fault;
     }
 
-    /// The course; `None` where the memory holds none.
+    /// The course; `None` if the memory holds none.
     pub(crate) fn course(&self) -> Option<FrameCourse>
         ensures { result ≡ course_in self.now }
     {
-        if self.mark != CourseImage::MARK
-            || self.version != CourseImage::VERSION
-            || 8 <= self.output
-        {
-            return None;
+        if self.is_course() {
+            Some(self.held())
+        } else {
+            None
         }
+    }
+
+    /// Whether the memory holds a course.
+    pub(crate) fn is_course(&self) -> bool
+        ensures { result ≡ spec_is_course self.now }
+    {
+        self.mark == CourseImage::MARK && self.version == CourseImage::VERSION && self.output < 8
+    }
+
+    /// What the numbers mean of memory that holds a course.
+    pub(crate) fn held(&self) -> FrameCourse
+        ensures { result ≡ course_held self.now }
+    {
         let end = self.end();
-        Some(FrameCourse {
+        FrameCourse {
             course: self.way(end),
             voltages: self.wanted_voltages(),
             fault: fault_held(self.fault),
             end,
-        })
+        }
     }
 
     // The way.

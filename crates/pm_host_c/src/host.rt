@@ -1,9 +1,9 @@
 //! A host's life: it is made, begins jobs, and starts again.
 
-ghost use Rattle.std.specs.Prelude.{◌≡◌, ◌≢◌, Some, option_map, IfOk, OnErr};
+ghost use Rattle.std.specs.Prelude.{◌≡◌, ◌≢◌, true, Some, option_map, IfOk, OnErr};
 ghost use Rattle.std.specs.Result.{result_err};
 ghost use Rattle.pm_table.specs.Cell.{cell_at};
-ghost use Rattle.pm_host.specs.Image.{held, host_of, image_version};
+ghost use Rattle.pm_host.specs.Image.{held, host_of, image_version, is_current};
 ghost use Rattle.pm_host.specs.Jobs.{begin_fault};
 ghost use Rattle.pm_host.specs.Memory.{IsState};
 ghost use Rattle.pm_host.specs.Sound.{IsSound};
@@ -14,7 +14,7 @@ ghost use Rattle.pm_limits.specs.Part.{all_registers};
 ghost use Rattle.pm_host_c.specs.Guard.{guard_of, registers_held, unknown_limits};
 ghost use Rattle.pm_host_c.specs.Memory.{IsMemory};
 ghost use Rattle.pm_host_c.specs.Sizes.{host_size, library_version};
-ghost use Rattle.pm_host_c.specs.Host.{new_number, memory_number, after, job_begun, BeginsJob};
+ghost use Rattle.pm_host_c.specs.Host.{begun_answer, new_number, memory_number, after, job_begun, BeginsJob};
 
 use crate::guard_image::{GuardImage, RegistersImage};
 use crate::numbers::{ACCEPTED, NO_ADDRESS, NO_CELL, NO_HOST};
@@ -119,14 +119,33 @@ pub(crate) fn begin(host: &mut GuardImage, job: Option<Job>) -> u8
     let Some(job) = job else {
         return NO_CELL;
     };
+    match begin_at(host, stage, job) {
+        Ok(_) => ACCEPTED,
+        Err(fault) => fault.number(),
+    }
+}
+
+/// Begins a job where the open one stands at this stage: where it stands then, or why it is refused.
+pub(crate) fn begin_at(
+    host: &mut GuardImage,
+    stage: Option<Stage>,
+    job: Job,
+) -> Result<Stage, LimitFault>
+    requires there { host_of host.old.host ≡ Some (held stage host.old.host.state) }
+    requires current { is_current host.old.host ≡ true }
+    requires sound { IsSound (held stage host.old.host.state) }
+    ensures begins { BeginsJob host.old (Some job) (begun_answer result) host.new }
+    ensures stage { IfOk result (λ at. host_of host.new.host ≡ Some (held (Some at) host.new.host.state)) }
+    ensures sound { IfOk result (λ at. IsSound (held (Some at) host.new.host.state)) }
+{
     let limits = host.limits_for(job);
     let registers = host.registers.registers();
     match begin_within(&mut host.host.state, stage, registers, &limits, job) {
         Ok(stage) => {
             host.host.write_stage(Some(stage));
-            ACCEPTED
+            Ok(stage)
         }
-        Err(fault) => fault.number(),
+        Err(fault) => Err(fault),
     }
 }
 

@@ -1,15 +1,16 @@
 //! What became of the frame that a host is sending.
-ghost use Rattle.std.specs.Prelude.{◌≡◌, not, ◌==◌};
+ghost use Rattle.std.specs.Prelude.{◌≡◌, not, ◌==◌, Some};
 ghost use Rattle.pm_host.specs.Told.{entry_told};
 ghost use Rattle.pm_host.specs.Transcript.{Finished, Got};
 ghost use Rattle.pm_host_c.specs.Host.{TellsHost, IsSent, memory_number};
-ghost use Rattle.pm_host.specs.Image.{host_of};
+ghost use Rattle.pm_host.specs.Image.{held, host_of};
+ghost use Rattle.pm_host.specs.Sound.{IsSound};
 
 use crate::guard_image::GuardImage;
 use crate::host_step::{HostStep, no_step, step_after};
 use crate::numbers::{ACCEPTED, NO_HOST, OTHER_FRAME};
 use crate::sending_image::SendingImage;
-use pm_host::Told;
+use pm_host::{Stage, Told};
 
 /// The frame that is to be sent now. E0h where the memory holds no host; then, and where no job is
 /// open, it is nothing.
@@ -23,10 +24,18 @@ pub extern "C" fn pm_host_frame(host: &GuardImage, sending: &mut SendingImage) -
         return NO_HOST;
     };
     match stage {
-        Some(stage) => sending.put(host.host.state.address, &stage.message()),
+        Some(stage) => send(host, stage, sending),
         None => sending.clear(),
     }
     ACCEPTED
+}
+
+/// The frame of a host's open job, which stands at this stage.
+pub(crate) fn send(host: &GuardImage, stage: Stage, sending: &mut SendingImage)
+    requires sound { IsSound (held (Some stage) host.now.host.state) }
+    ensures { IsSent (Some (held (Some stage) host.now.host.state)) sending.new }
+{
+    sending.put(host.host.state.address, &stage.message());
 }
 
 /// A write was sent, and acknowledged or not (0). E0h, E2h where no write is being sent.

@@ -51,6 +51,15 @@ impl WishImage {
 }
 
 impl WantedImage {
+    /// No word is wanted.
+    pub(crate) const NOTHING: WantedImage = WantedImage {
+        command: WishImage { has: 0, word: 0 },
+        max: WishImage { has: 0, word: 0 },
+        margin_high: WishImage { has: 0, word: 0 },
+        margin_low: WishImage { has: 0, word: 0 },
+        min: WishImage { has: 0, word: 0 },
+    };
+
     /// The image of these wanted words.
     pub(crate) fn of(wanted: &Wanted) -> WantedImage
         ensures { result ≡ wanted_image wanted.now }

@@ -30,6 +30,7 @@ pub(crate) fn known_at(host: &State, form: &OutputForm, cell: Cell) -> Option<u1
     ensures { result ≡ spec_known_at (cells_of form.now.registers (shape_of form.now.format) (held None host.now)) cell }
 {
     match cell {
+        Cell::Out(_, register) if form.registers.has(register) => known_in(host, cell),
         Cell::Out(_, register) => match form.registers.missing_word(&form.format, register) {
             Some(word) => accepted(cell, word),
             None => known_in(host, cell),

@@ -22,6 +22,20 @@ pub struct Registers {
 impl Registers {
     ghost use Rattle.pm_rail.specs.Registers.{held_by};
 
+    // The word of OPERATION, and 0 for each voltage.
+    pub(crate) fn of_operation(operation: u16) -> Registers
+        ensures { result.operation ≡ operation }
+    {
+        Registers {
+            operation,
+            command: 0,
+            max: 0,
+            margin_high: 0,
+            margin_low: 0,
+            min: 0,
+        }
+    }
+
     /// The word of a register.
     pub fn word(&self, register: Reg) -> u16
         ensures { result ≡ held_by self.now register }

@@ -2,11 +2,11 @@ ghost use Rattle.std.specs.Prelude.{◌≡◌, ◌<◌, None, Some, find};
 ghost use Rattle.pm_num.specs.AnyFormat.{shape_of};
 ghost use Rattle.pm_table.specs.Cell.{registers};
 ghost use Rattle.pm_host.specs.Image.{held};
-ghost use Rattle.pm_rail.specs.Known.{cells_of, known_of as spec_known_of};
+ghost use Rattle.pm_rail.specs.Known.{cells_of, known_or as spec_known_or};
 ghost use Rattle.pm_rail.specs.Registers.{held_by, wants_of};
 ghost use Rattle.pm_rail.specs.Survey.{and_read, asking, due_by as spec_due_by, due_in as spec_due_in, due_job, ended, has_read, is_stuck as spec_is_stuck, is_stuck_by as spec_is_stuck_by, is_surveyed, is_unread as spec_is_unread, next_job, nothing_read, survey_of, wanted_in};
 
-use crate::known::{OutputForm, known_at, known_of};
+use crate::known::{OutputForm, known_at, known_or};
 use crate::missing::{first_unsure, is_stuck_in};
 use crate::refusals::{Settings, is_needed};
 use crate::registers::Registers;
@@ -290,17 +290,18 @@ impl Survey {
         is_stuck_in(host, form, &self.settings(host, form))
     }
 
-    // The words of its output that are known, and the wanted words of its plan.
+    // The words that say which registers are needed: that of OPERATION as far as it is known, and those that its plan wants.
     fn settings(&self, host: &State, form: &OutputForm) -> Settings
         requires { self.now.output < 8 }
         ensures output { result.output ≡ self.now.output }
-        ensures held { held_by result.held
-            ≡ spec_known_of (cells_of form.now.registers (shape_of form.now.format) (held None host.now)) self.now.output }
+        ensures operation { result.held.operation
+            ≡ spec_known_or (cells_of form.now.registers (shape_of form.now.format) (held None host.now)) (Cell.Out self.now.output Reg.Operation) }
         ensures wanted { result.wanted ≡ wanted_in self.now.plan }
     {
+        let operation = known_or(host, form, Cell::Out(self.output, Reg::Operation));
         Settings {
             output: self.output,
-            held: known_of(host, form, self.output),
+            held: Registers::of_operation(operation),
             wanted: wanted_of(self.plan),
         }
     }

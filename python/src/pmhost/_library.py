@@ -227,6 +227,8 @@ CALLS = {
     "pm_course_job_now": (_u8, [_course, _at(CourseJobImage)]),
     "pm_course_write_ended": (StepImage, [_course, _host, _u8]),
     "pm_course_read_ended": (StepImage, [_course, _host, _bytes, _u64]),
+    "pm_course_after_write": (StepImage, [_course, _host, _u8, _u8, _at(SendingImage)]),
+    "pm_course_after_read": (StepImage, [_course, _host, _bytes, _u64, _u8, _at(SendingImage)]),
     "pm_course_ended": (_u8, [_course, _at(CourseEndImage)]),
     "pm_course_goal": (_u8, [_course, _host, _u8, _at(_u16)]),
     "pm_delivery_size": (_u64, []),

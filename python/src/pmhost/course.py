@@ -186,6 +186,22 @@ class Course:
         taken = frame_bytes(answer, 2**16, "answer")
         return host.step_of(library.pm_course_read_ended(REFERENCE(self._image), host.reference, taken, len(taken)))
 
+    def after_write(self, host: Host, acked: bool, stops: bool = False) -> tuple[Step, Optional[Sending]]:
+        """A write was sent, and acknowledged or not; and what to send next, by one call. That is None once the course has ended, and,
+        if it `stops`, before an order, which `frame` begins."""
+        if not isinstance(acked, bool):
+            raise TypeError(f"acked: True or False is wanted, and not {acked!r}")
+        found = at.SendingImage()
+        step = host.step_of(library.pm_course_after_write(REFERENCE(self._image), host.reference, acked, bool(stops), REFERENCE(found)))
+        return step, host.sending_of(found)
+
+    def after_read(self, host: Host, answer: bytes, stops: bool = False) -> tuple[Step, Optional[Sending]]:
+        """A request was sent, and these bytes came back, the read address first, none if there was no answer; and what to send next, as by
+        `after_write`."""
+        taken, found = frame_bytes(answer, 2**16, "answer"), at.SendingImage()
+        step = host.step_of(library.pm_course_after_read(REFERENCE(self._image), host.reference, taken, len(taken), bool(stops), REFERENCE(found)))
+        return step, host.sending_of(found)
+
     # ---- Its memory ----
 
     def save(self) -> bytes:

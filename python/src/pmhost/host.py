@@ -244,22 +244,30 @@ class Host:
         `before_order` hears of each order before its first frame: if it raises, the order hasn't begun, and the host is free.
         `after_order` hears how it ended. Whatever is raised meanwhile goes on to the caller, with the job that was under way ended as
         unknown; another call goes on from there. `transfers` has those of the last job."""
-        kept, order, is_open, has_hooks = Transfers() if transfers is None else transfers, None, False, before_order or after_order
+        kept, order, is_open, sending, has_hooks = Transfers() if transfers is None else transfers, None, False, None, before_order or after_order
         try:
             while True:
-                memory = (self.save(), course.save()) if before_order and not is_open else (b"", b"")
-                sending = course.frame(self)
                 if sending is None:
-                    return
+                    memory = (self.save(), course.save()) if before_order and not is_open else (b"", b"")
+                    sending = course.frame(self)
+                    if sending is None:
+                        return
                 if not is_open:
                     kept.begin()
                     order = None if sending.is_request or not has_hooks else course.job()
                     if order and before_order:
                         self._tell(before_order, order, course, *memory)
-                step = self._hear(sending, self.came(bus, sending, kept), course)
+                came = self.came(bus, sending, kept)
+                if order and after_order and sending.is_request:
+                    # Nothing begins before the hook has heard how the order ended: a read may be its last frame.
+                    step, sending = self._hear(sending, came, course), None
+                else:
+                    step, sending = self._hear_on(sending, came, course, bool(before_order))
                 is_open = not step.is_over
                 if step.is_over and order and after_order:
                     after_order(order, step)
+                if sending is None and not has_hooks:
+                    return
         except BaseException:
             if course.job() is not None:
                 self.give_up(course)
@@ -286,6 +294,12 @@ class Host:
         if isinstance(came, bool):
             return self.write_ended(came) if course is None else course.write_ended(self, came)
         return self.read_ended(came) if course is None else course.read_ended(self, came)
+
+    def _hear_on(self, sending: Sending, came: bytes | bool, course: Course, stops: bool) -> tuple[Step, Sending | None]:
+        """The same, and what to send next; None before an order if it `stops` there."""
+        if self.listener is not None:
+            self.listener.told(sending, came)
+        return course.after_write(self, came, stops) if isinstance(came, bool) else course.after_read(self, came, stops)
 
     def came(self, bus: Bus, sending: Sending, transfers: Transfers) -> bytes | bool:
         """What came of a frame: the answer to a request, or whether a write was acknowledged."""

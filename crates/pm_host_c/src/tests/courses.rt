@@ -3,13 +3,14 @@
 use super::calls::{NOTHING, host};
 use super::checks::equal;
 use crate::course::{
-    CourseJobImage, pm_course_accept, pm_course_ended, pm_course_frame, pm_course_job_now,
+    CourseJobImage, pm_course_accept, pm_course_after_read, pm_course_after_write, pm_course_ended, pm_course_frame, pm_course_job_now,
     pm_course_microvolts, pm_course_next, pm_course_power, pm_course_read_ended, pm_course_size,
     pm_course_survey, pm_course_version, pm_course_want, pm_course_words, pm_course_write_ended,
 };
 use crate::course_end_image::CourseEndImage;
 use crate::course_image::CourseImage;
 use crate::guard_image::GuardImage;
+use crate::sending_image::SendingImage;
 use pm_course::FrameCourse;
 
 // A course of no meaning.
@@ -23,16 +24,18 @@ fn blank() -> CourseImage {
 fn frame(course: &mut CourseImage, host: &mut GuardImage) -> (u8, u8, u8) {
     let mut sending = NOTHING;
     let number = pm_course_frame(course, host, &mut sending);
-    let code = if sending.kind == 0 {
+    (number, sending.kind, code_of(&sending))
+}
+
+// The command code of a frame, 0 of none.
+fn code_of(sending: &SendingImage) -> u8 {
+    if sending.kind == 0 {
         0
-    } else if sending.length == 2 {
-        sending.bytes[1]
     } else if sending.length < 5 {
         sending.bytes[1]
     } else {
         sending.bytes[4]
-    };
-    (number, sending.kind, code)
+    }
 }
 
 fn end(course: &CourseImage) -> (u8, u8, u8, u16, u16) {
@@ -229,4 +232,56 @@ fn a_job_of_another_is_no_last_end(rt: HostRuntime) {
     let _ = crate::host::pm_host_restart(&mut image);
     equal(&rt, &frame(&mut course, &mut image), &(0x95, 0, 0), &9);
     equal(&rt, &end(&course), &(2, 4, 0, 0, 0), &10);
+}
+
+// What a call that tells and hands out answers: the step, and the frame's kind and code.
+fn after_write(course: &mut CourseImage, host: &mut GuardImage, acked: u8) -> (u16, u16, u8, u8) {
+    let mut sending = NOTHING;
+    let step = pm_course_after_write(course, host, acked, 0, &mut sending);
+    (step.kind, step.word, sending.kind, code_of(&sending))
+}
+
+fn after_read(course: &mut CourseImage, host: &mut GuardImage, bytes: &[u8]) -> (u16, u16, u8, u8) {
+    let mut sending = NOTHING;
+    let step = pm_course_after_read(course, host, bytes, 0, &mut sending);
+    (step.kind, step.word, sending.kind, code_of(&sending))
+}
+
+#[test]
+fn a_course_is_told_and_hands_out_what_is_next(rt: HostRuntime) {
+    let mut image = host(1);
+    let mut course = blank();
+    equal(&rt, &after_write(&mut course, &mut image, 1), &(0xE9, 0, 0, 0), &1);
+    equal(&rt, &pm_course_power(&mut course, 0, 0x00, 3), &0, &2);
+    let mut none = GuardImage::blank();
+    equal(&rt, &after_read(&mut course, &mut none, &[]), &(0xE0, 0, 0, 0), &3);
+    equal(&rt, &after_read(&mut course, &mut image, &[]), &(0xE2, 0, 0, 0), &4);
+    equal(&rt, &frame(&mut course, &mut image), &(0, 1, 0x01), &5);
+    equal(&rt, &after_read(&mut course, &mut image, &[]), &(0xE2, 0, 0, 0), &6);
+    equal(&rt, &after_write(&mut course, &mut image, 1), &(0, 0, 2, 0x01), &7);
+    equal(&rt, &after_read(&mut course, &mut image, &[]), &(3, 0, 1, 0x01), &8);
+    equal(&rt, &after_write(&mut course, &mut image, 0), &(0, 0, 2, 0x01), &9);
+    let read = [0xB1, 0x01, 0x00, 0x00];
+    equal(&rt, &after_read(&mut course, &mut image, &read), &(3, 0x35, 1, 0x01), &10);
+}
+
+#[test]
+fn a_course_that_stops_waits_before_an_order(rt: HostRuntime) {
+    let mut image = host(1);
+    let mut course = blank();
+    let mut sending = NOTHING;
+    equal(&rt, &pm_course_power(&mut course, 0, 0x00, 3), &0, &1);
+    equal(&rt, &frame(&mut course, &mut image), &(0, 1, 0x01), &2);
+    let step = pm_course_after_write(&mut course, &mut image, 1, 1, &mut sending);
+    equal(&rt, &(step.kind, sending.kind, code_of(&sending)), &(0, 2, 0x01), &3);
+    let step = pm_course_after_read(&mut course, &mut image, &[], 1, &mut sending);
+    equal(&rt, &(step.kind, sending.kind), &(3, 0), &4);
+    equal(&rt, &job_now(&course), &(0, 0, 0, 0), &5);
+    equal(&rt, &next(&course, &image), &(0, 3, 0x01, 0), &6);
+    equal(&rt, &frame(&mut course, &mut image), &(0, 1, 0x01), &7);
+    let _ = pm_course_after_write(&mut course, &mut image, 1, 1, &mut sending);
+    let read = [0xB1, 0x01, 0x00, 0xFA];
+    let step = pm_course_after_read(&mut course, &mut image, &read, 1, &mut sending);
+    equal(&rt, &(step.kind, step.word, sending.kind), &(1, 0, 0), &8);
+    equal(&rt, &end(&course), &(1, 0, 0, 0, 0), &9);
 }

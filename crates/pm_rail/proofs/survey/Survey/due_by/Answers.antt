@@ -1,9 +1,10 @@
-use Rattle.std.proofs.Common.{◌∙◌, None, ap}
+use Rattle.std.proofs.Common.{◌∙◌, ℕ, None, ap}
 use Rattle.pm_num.specs.AnyFormat.{shape_of}
 use Rattle.pm_host.specs.Image.{held}
+use Rattle.pm_table.specs.declared.reg.Reg.{Reg}
 use Rattle.pm_rail.specs.declared.wanted.Wanted.{Wanted}
 use Rattle.pm_rail.specs.Known.{cells_of, known_of}
-use Rattle.pm_rail.specs.Registers.{Held, wants_of}
+use Rattle.pm_rail.specs.Registers.{wants_of}
 use Rattle.pm_rail.specs.Survey.{due_in}
 use Rattle.pm_rail.proofs.survey.Survey.due_by.Goals as goal
 
@@ -13,5 +14,5 @@ returns c =
     let cells = cells_of part (shape_of c.args.form.now.format) (held None c.args.host.now) in
     let v = c.args.self.now in
     c.due_in.ensures
-    ∙ ap (λ (h : Held). due_in part v cells h (wants_of c.settings.result.wanted)) c.settings.ensures.held
+    ∙ ap (λ (byte : ℕ). due_in part v cells (λ (r : Reg). byte) (wants_of c.settings.result.wanted)) c.settings.ensures.operation
     ∙ ap (λ (w : Wanted). due_in part v cells (known_of cells v.output) (wants_of w)) c.settings.ensures.wanted

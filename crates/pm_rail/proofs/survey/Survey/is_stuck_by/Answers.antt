@@ -1,9 +1,10 @@
 use Rattle.std.proofs.Common.{◌∙◌, ℕ, None, ap}
 use Rattle.pm_num.specs.AnyFormat.{shape_of}
 use Rattle.pm_host.specs.Image.{held}
+use Rattle.pm_table.specs.declared.reg.Reg.{Reg}
 use Rattle.pm_rail.specs.declared.wanted.Wanted.{Wanted}
 use Rattle.pm_rail.specs.Known.{cells_of, known_of}
-use Rattle.pm_rail.specs.Registers.{Held, held_by, wants_of}
+use Rattle.pm_rail.specs.Registers.{held_by, wants_of}
 use Rattle.pm_rail.specs.Survey.{is_stuck_in}
 use Rattle.pm_rail.proofs.survey.Survey.is_stuck_by.Goals as goal
 
@@ -15,5 +16,5 @@ returns c =
     let own = c.settings.result in
     c.is_stuck_in.ensures
     ∙ ap (λ (o : ℕ). is_stuck_in part o cells (held_by own.held) (wants_of own.wanted)) c.settings.ensures.output
-    ∙ ap (λ (h : Held). is_stuck_in part v.output cells h (wants_of own.wanted)) c.settings.ensures.held
+    ∙ ap (λ (byte : ℕ). is_stuck_in part v.output cells (λ (r : Reg). byte) (wants_of own.wanted)) c.settings.ensures.operation
     ∙ ap (λ (w : Wanted). is_stuck_in part v.output cells (known_of cells v.output) (wants_of w)) c.settings.ensures.wanted
