@@ -3,9 +3,9 @@ use Rattle.std.proofs.Common.{◌≡◌, ◌+◌, ◌≤◌, Bool, false, [], ap
 use Rattle.pm_trace.specs.Counts.{counts_of}
 use Rattle.pm_decode.specs.Capturing.{IsBounded, Kept}
 use Rattle.pm_decode.specs.Hearing.{HeardLines, heard_lines, unheard}
-use Rattle.pm_decode.specs.TimedLines.{timed_of}
-use Rattle.pm_decode.specs.declared.options.TellOptions.{TellOptions}
-use Rattle.pm_decode.specs.declared.timed_line.TimedLine.{TimedLine}
+use Rattle.pm_capture.specs.TimedLines.{timed_of}
+use Rattle.pm_capture.specs.declared.options.TellOptions.{TellOptions}
+use Rattle.pm_capture.specs.declared.timed_line.TimedLine.{TimedLine}
 
 -- a line without a byte isn't begun
 unbegun : (line : TimedLine) (times : Bool) → line ≡ timed_of times [] → line.is_begun ≡ false

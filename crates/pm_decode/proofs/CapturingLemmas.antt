@@ -17,12 +17,12 @@ use Rattle.pm_decode.specs.CaptureText.{capture_text, counts_text, line_text, li
 use Rattle.pm_decode.specs.Capturing.{Kept, entry_ended, heard_ended, kept_at_end, kept_of, kept_takes, line_ended, next, said, said_text}
 use Rattle.pm_decode.specs.Capturing.{text_ended, told, told_at_end}
 use Rattle.pm_decode.specs.Hearing.{heard_of, heard_with, known_from, unknown}
-use Rattle.pm_decode.specs.Readings.{Entry, entries_of, entry_of, is_heard, is_passed, said_of}
-use Rattle.pm_decode.specs.TimedLines.{PassesTimed, passes_timed, timed_of, timed_takes}
-use Rattle.pm_decode.specs.declared.options.TellOptions.{TellOptions}
-use Rattle.pm_decode.specs.declared.timed_line.TimedLine.{TimedLine}
+use Rattle.pm_capture.specs.Readings.{Entry, entries_of, entry_of, is_heard, is_passed, said_of}
+use Rattle.pm_capture.specs.TimedLines.{PassesTimed, passes_timed, timed_of, timed_takes}
+use Rattle.pm_capture.specs.declared.options.TellOptions.{TellOptions}
+use Rattle.pm_capture.specs.declared.timed_line.TimedLine.{TimedLine}
 use Rattle.pm_decode.proofs.HearingLemmas.{heard_of-snoc, lines_text-append}
-use Rattle.pm_decode.proofs.TimedLemmas.{timed_of-snoc, timed_passes, timed_says}
+use Rattle.pm_capture.specs.Lemmas.TimedLines.{timed_of-snoc, timed_passes, timed_says}
 
 -- ---- the lines
 

@@ -2,7 +2,7 @@
 use Rattle.std.proofs.Common.{◌≡◌, ℕ, ◌+◌, List, [], ◌++◌, refl, append_assoc, append-nil, add-one}
 use Rattle.std.proofs.lemmas.Result.{IfOk-equal}
 use Rattle.pm_decode.specs.CaptureText.{other_line, other_lines}
-use Rattle.pm_decode.specs.JsonText.{other_json, other_jsons}
+use Rattle.pm_decode.specs.JsonCounts.{other_json, other_jsons}
 
 -- no line is written of the codes below 0, since there are none
 pub no_lines : (others : List (ℕ × ℕ)) → other_lines others 0 ≡ []

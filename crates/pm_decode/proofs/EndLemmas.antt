@@ -15,7 +15,7 @@ use Rattle.pm_decode.specs.LongEngine.{IsWhole, LongEnds}
 use Rattle.pm_decode.specs.Outcome.{telling}
 use Rattle.pm_decode.specs.WrittenCaptures.{Gathered, Hears, StopsHearing}
 use Rattle.pm_decode.specs.declared.telling.TellEnd.{TellEnd}
-use Rattle.pm_decode.specs.declared.options.TellOptions.{TellOptions}
+use Rattle.pm_capture.specs.declared.options.TellOptions.{TellOptions}
 use Rattle.pm_decode.proofs.GatheredLemmas.{put_memory, put_too_long, put_unread}
 
 -- a telling over these streams

@@ -2,9 +2,9 @@
 use Rattle.std.proofs.Common.{◌≡◌, ◌∙◌, Bool, true, false, not, ◌||◌, ◌&&◌, cond, length, List, ℕ, Option, Some, None, refl, sym, ap, true≢false}
 use Rattle.std.specs.Prelude.{is_some, nat_lt}
 use Rattle.pm_trace.specs.Trace.{Judged, Accepted, Faulty, BadSyntax, BadHex, parts_judged}
-use Rattle.pm_values.specs.Otherwise.{IsCompleted, address_otherwise, completed_judged, is_accepted, is_nobody, is_short, judged_with, lacks_pec, last_part}
-use Rattle.pm_values.specs.declared.answers.Ones.{Ones}
-use Rattle.pm_decode.specs.Readings.{is_without_pec, judged_by, other_address}
+use Rattle.pm_packets.specs.Otherwise.{IsCompleted, address_otherwise, completed_judged, is_accepted, is_nobody, is_short, judged_with, lacks_pec, last_part}
+use Rattle.pm_packets.specs.declared.answers.Ones.{Ones}
+use Rattle.pm_capture.specs.Readings.{is_without_pec, judged_by, other_address}
 
 -- a choice that is made
 chosen : (b : Bool) (x y : Judged) → b ≡ true → cond b x y ≡ x

@@ -24,12 +24,12 @@ use Rattle.pm_trace.specs.declared.line_fault.LineFault.{LineFault}
 use Rattle.pm_trace.specs.declared.trace_line.TraceLine.{TraceLine}
 use Rattle.pm_values.specs.declared.formats.GivenFormats.{GivenFormats}
 use Rattle.pm_decode.specs.CaptureText.{capture_text, counts_text, line_text, lines_text, plain_counts, plain_line, told_line, totals_line}
-use Rattle.pm_values.specs.declared.answers.Ones.{Ones}
+use Rattle.pm_packets.specs.declared.answers.Ones.{Ones}
 use Rattle.pm_decode.specs.Hearing.{HeardLines, Known, heard_all, heard_of, known_by, ones_in, other_code, other_code_in, told_in, told_unless, unknown}
-use Rattle.pm_decode.specs.Laws.{plain_options}
-use Rattle.pm_decode.specs.Readings.{Told, entries_of, entry_of, judged_as}
+use Rattle.pm_capture.specs.Options.{plain_options}
+use Rattle.pm_capture.specs.Readings.{Told, entries_of, entry_of, judged_as}
 use Rattle.pm_decode.specs.declared.telling.TellEnd.{TellEnd}
-use Rattle.pm_decode.specs.declared.options.TellOptions.{TellOptions}
+use Rattle.pm_capture.specs.declared.options.TellOptions.{TellOptions}
 
 -- ---- how a telling ends, without what may be wrong
 

@@ -8,18 +8,19 @@ use Rattle.pm_trace.specs.Trace.{Judged, Accepted, Faulty, BadSyntax, BadHex, re
 use Rattle.pm_trace.specs.TraceText.{count_line, judged_text, message_text}
 use Rattle.pm_trace.specs.declared.line_fault.LineFault.{LineFault}
 use Rattle.pm_trace.specs.declared.trace_line.TraceLine.{TraceLine}
-use Rattle.pm_values.specs.Otherwise.{ones_text, other_text, spaced}
-use Rattle.pm_values.specs.declared.answers.Ones.{Ones}
-use Rattle.pm_values.specs.declared.otherwise.Otherwise.{Otherwise}
+use Rattle.pm_packets.specs.Otherwise.{ones_text, other_text, spaced}
+use Rattle.pm_packets.specs.declared.answers.Ones.{Ones}
+use Rattle.pm_packets.specs.declared.otherwise.Otherwise.{Otherwise}
 use Rattle.pm_values.specs.Taught.{Taught}
 use Rattle.pm_values.specs.ValueText.{known_text}
 use Rattle.pm_values.specs.Values.{packet_value}
 use Rattle.pm_decode.specs.Hearing.{HeardLines, Known, heard_lines, heard_of, known_by, ones_in, told_end, unknown}
-use Rattle.pm_decode.specs.JsonText.{count_json, judged_fields, lack_field, number_field_if, other_fields, other_jsons, text_field, totals_json, wrong_field}
-use Rattle.pm_decode.specs.PageSteps.{marks_in}
-use Rattle.pm_decode.specs.Readings.{Entry, Said, Told, Noted, entries_of, judged_by, other_address}
-use Rattle.pm_decode.specs.declared.options.TellOptions.{TellOptions}
-use Rattle.pm_decode.specs.declared.page_step.Marks.{Marks}
+use Rattle.pm_json.specs.JsonText.{judged_fields, lack_field, number_field_if, other_fields, text_field, wrong_field}
+use Rattle.pm_decode.specs.JsonCounts.{count_json, other_jsons, totals_json}
+use Rattle.pm_capture.specs.PageSteps.{marks_in}
+use Rattle.pm_capture.specs.Readings.{Entry, Said, Told, Noted, entries_of, judged_by, other_address}
+use Rattle.pm_capture.specs.declared.options.TellOptions.{TellOptions}
+use Rattle.pm_capture.specs.declared.page_steps.Marks.{Marks}
 use Rattle.pm_decode.specs.declared.telling.TellEnd.{TellEnd}
 
 -- ---- what stands behind a packet's text

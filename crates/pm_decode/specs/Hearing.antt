@@ -8,21 +8,21 @@ use Rattle.pm_trace.specs.Trace.{Judged, ToldLine, parts_judged}
 use Rattle.pm_trace.specs.TraceText.{end_of}
 use Rattle.pm_trace.specs.declared.line_fault.LineFault.{LineFault}
 use Rattle.pm_trace.specs.declared.trace_line.TraceLine.{TraceLine}
-use Rattle.pm_values.specs.Answers.{Answers, answers_by, none_heard, ones_of}
-use Rattle.pm_values.specs.Otherwise.{content_of, has_pec, is_accepted, is_doubtful}
-use Rattle.pm_values.specs.declared.answers.Ones.{Ones}
-use Rattle.pm_values.specs.declared.answers.Ones.TheVariants.{Answer}
+use Rattle.pm_packets.specs.Answers.{Answers, answers_by, none_heard, ones_of}
+use Rattle.pm_packets.specs.Otherwise.{content_of, is_accepted, is_doubtful}
+use Rattle.pm_packets.specs.declared.answers.Ones.{Ones}
+use Rattle.pm_packets.specs.declared.answers.Ones.TheVariants.{Answer}
 use Rattle.pm_values.specs.Taught.{Taught, changed_by, paged_at, paged_by, taught_by, untaught}
-use Rattle.pm_decode.specs.Hints.{beyond_by}
-use Rattle.pm_decode.specs.PageSteps.{change_by, judged_address, marks_in, pages_noted, pages_read}
-use Rattle.pm_decode.specs.Readings.{Entry, Said, Told, Noted, is_without_pec, judged_as, judged_by, other_address}
-use Rattle.pm_decode.specs.declared.comment.Remark.{Remark}
-use Rattle.pm_decode.specs.declared.comment.Remark.TheVariants.{Elsewhere, Unacknowledged, Failed, LossAt, Loss}
+use Rattle.pm_decode.specs.Hints.{beyond_by, lacking_by}
+use Rattle.pm_capture.specs.PageSteps.{change_by, judged_address, marks_in, pages_noted, pages_read}
+use Rattle.pm_capture.specs.Readings.{Entry, Said, Told, Noted, is_without_pec, judged_as, judged_by, other_address, is_checked, is_told}
+use Rattle.pm_capture.specs.declared.comment.Remark.{Remark}
+use Rattle.pm_capture.specs.declared.comment.Remark.TheVariants.{Elsewhere, Unacknowledged, Failed, LossAt, Loss}
 use Rattle.pm_decode.specs.declared.hints.Hint.{Hint}
-use Rattle.pm_decode.specs.declared.hints.Hint.TheVariants.{Beyond, NoTimes, NoGoodPacket}
-use Rattle.pm_decode.specs.declared.page_step.Marks.{Marks}
+use Rattle.pm_decode.specs.declared.hints.Hint.TheVariants.{Beyond, NoTimes, NoGoodPacket, NoPec}
+use Rattle.pm_capture.specs.declared.page_steps.Marks.{Marks}
 use Rattle.pm_decode.specs.declared.telling.TellEnd.{TellEnd}
-use Rattle.pm_decode.specs.declared.options.TellOptions.{TellOptions}
+use Rattle.pm_capture.specs.declared.options.TellOptions.{TellOptions}
 
 -- ---- what is known
 
@@ -33,9 +33,11 @@ pub record Known : Type 0 where
   pub pages : Pages
   pub beyond : Option ℕ
   pub answers : Answers
+  -- each packet that isn't good would be with its PEC
+  pub lacking : Bool
 
 abbrev pub unknown : Known
-unknown = record { taught = untaught; pages = no_pages; beyond = None; answers = none_heard }
+unknown = record { taught = untaught; pages = no_pages; beyond = None; answers = none_heard; lacking = true }
 
 -- what an answer of ones is taken for, where packets without PEC are told, and it isn't good with one
 abbrev pub ones_in : TellOptions → Known → Result TraceLine LineFault → Ones
@@ -57,15 +59,6 @@ taught_read options number marks (Ok parts) taught = if is_doubtful marks.ones
     else taught_by number marks.reached (taught_over options number marks parts taught) (judged_by options.all marks.ones parts)
 taught_read options number marks (Err fault) taught = taught
 
--- a packet is told as good, or by its code and bytes
-abbrev pub is_told : Option ℕ → Judged → Bool
-is_told other judged = is_some other || is_accepted judged
-
--- one that is has the right PEC
-abbrev pub is_checked : Option ℕ → Bool → TraceLine → Bool
-is_checked None lacks parts = not lacks
-is_checked (Some addr) lacks parts = has_pec parts.write parts.read
-
 abbrev pub answers_told : Bool → Ones → TraceLine → Answers → Answers
 answers_told all ones parts answers =
     if is_told (other_address all ones parts) (judged_by all ones parts)
@@ -76,6 +69,11 @@ abbrev pub answers_read : TellOptions → Ones → Result TraceLine LineFault �
 answers_read options ones (Ok parts) answers = if options.all then answers_told options.all ones parts answers else answers
 answers_read options ones (Err fault) answers = answers
 
+-- whether each packet that isn't good would be with its PEC
+abbrev pub lacking_read : Bool → Result TraceLine LineFault → Bool → Bool
+lacking_read all (Ok parts) lacking = lacking_by all parts lacking
+lacking_read all (Err fault) lacking = lacking
+
 -- behind a line that isn't skipped, whose answer of ones is taken so
 abbrev pub known_with : TellOptions → ℕ → Option ℕ → Ones → Result TraceLine LineFault → Known → Known
 known_with options number time ones parts known = record {
@@ -84,6 +82,7 @@ known_with options number time ones parts known = record {
   beyond = beyond_by options known.taught (marks_in options known.pages ones time parts).reached number
       (judged_as options.all ones parts) known.beyond;
   answers = answers_read options ones parts known.answers;
+  lacking = lacking_read options.all parts known.lacking;
 }
 
 abbrev pub known_read : TellOptions → ℕ → Option ℕ → Result TraceLine LineFault → Known → Known
@@ -209,13 +208,20 @@ abbrev pub lines_hint : Bool → ℕ → Option Hint
 lines_hint true faults = if faults == 0 then Some NoTimes else None
 lines_hint false faults = Some NoGoodPacket
 
-abbrev pub hint_from : Option ℕ → Option Hint → Option Hint
-hint_from (Some line) lines = Some (Beyond line)
-hint_from None lines = lines
+-- packets without PEC aren't told, and there are faults of packets that would all be good with it
+abbrev pub is_without_any_pec : Bool → HeardLines → Bool
+is_without_any_pec all heard =
+    not all && (heard.counts.accepted == 0 && (nat_lt 0 heard.counts.faults && heard.known.lacking))
+
+abbrev pub hint_from : Option ℕ → Option Hint → Bool → Option Hint
+hint_from (Some line) lines lacking = Some (Beyond line)
+hint_from None (Some hint) lacking = Some hint
+hint_from None None lacking = if lacking then Some NoPec else None
 
 abbrev pub hint_by : TellOptions → HeardLines → Option Hint
 hint_by options heard = hint_from heard.known.beyond
     (if is_none_told heard then lines_hint options.times heard.counts.faults else None)
+    (is_without_any_pec options.all heard)
 
 -- how a capture ends of which this was heard
 abbrev pub told_end : TellOptions → HeardLines → TellEnd

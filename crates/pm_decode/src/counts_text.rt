@@ -6,9 +6,9 @@ ghost use Rattle.pm_decode.specs.Hearing.{heard_lines};
 
 use crate::heard_lines::HeardLines;
 use crate::json_counts::push_json_counts;
-use crate::options::TellOptions;
-use crate::others::Others;
+use pm_capture::TellOptions;
 use pm_lines::{push_decimal, push_hex};
+use pm_packets::Others;
 use pm_trace::push_count;
 use std::alloc::AllocError;
 

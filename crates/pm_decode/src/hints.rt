@@ -1,13 +1,15 @@
 //! What is told besides of a capture that was told whole.
-ghost use Rattle.std.specs.Prelude.{◌≡◌, ◌<◌, ◌^◌};
+ghost use Rattle.std.specs.Prelude.{◌≡◌, ◌<◌, ◌^◌, None, if◌then◌else◌};
 ghost use Rattle.pm_trace.specs.ShownLines.{judged_in};
-ghost use Rattle.pm_decode.specs.Hearing.{heard_lines, hint_by};
-ghost use Rattle.pm_decode.specs.Hints.{beyond_by, first_if, has_entry as spec_has_entry, has_vout as spec_has_vout, is_beyond as spec_is_beyond, is_huge as spec_is_huge, is_huge_value as spec_is_huge_value};
+ghost use Rattle.pm_capture.specs.Readings.{judged_by};
+ghost use Rattle.pm_capture.specs.ShownReadings.{packet_in};
+ghost use Rattle.pm_decode.specs.Hearing.{heard_lines, hint_by, is_none_told, is_without_any_pec as spec_is_without_any_pec, lines_hint as spec_lines_hint};
+ghost use Rattle.pm_decode.specs.Hints.{beyond_by, first_if, has_entry as spec_has_entry, has_vout as spec_has_vout, is_beyond as spec_is_beyond, is_huge as spec_is_huge, is_huge_value as spec_is_huge_value, lacking_by};
 
 use crate::heard_lines::HeardLines;
-use crate::line_text::PacketLine;
-use crate::options::TellOptions;
+use pm_capture::{PacketLine, TellOptions};
 use pm_num::Frac;
+use pm_packets::{Ones, completed_part};
 use pm_trace::Shown;
 use pm_values::{
     GivenFormat, GivenFormats, GoodPacket, Lessons, Unit, Value, millionths, packet_value,
@@ -22,6 +24,8 @@ pub enum Hint {
     NoTimes,
     /// Without times no line was a good packet, and one was bad, as where lines begin with times.
     NoGoodPacket,
+    /// Packets without PEC weren't told, and no line was a good packet, but each packet would have been one with its PEC.
+    NoPec,
 }
 
 /// What may be wrong with a capture of these lines that is told so.
@@ -29,20 +33,51 @@ pub(crate) fn hint_of(options: &TellOptions, heard: &HeardLines) -> Option<Hint>
     requires { heard_lines heard.now < 2 ^ 64 }
     ensures { result ≡ hint_by options.now heard.now }
 {
-    if let Some(line) = heard.beyond() {
+    if let Some(line) = heard.known().beyond() {
         return Some(Hint::Beyond(line));
     }
+    match lines_hint(options.times, heard) {
+        None if is_without_any_pec(options.all, heard) => Some(Hint::NoPec),
+        hint => hint,
+    }
+}
+
+// What bad lines say where no packet was told as a good one or by its code.
+fn lines_hint(times: bool, heard: &HeardLines) -> Option<Hint>
+    requires { heard_lines heard.now < 2 ^ 64 }
+    ensures { result ≡ (if is_none_told heard.now then spec_lines_hint times heard.now.counts.faults else None) }
+{
     let (_, accepted, faults, bad) = heard.tally().lines();
     if accepted > 0 || heard.others().total() > 0 || bad == 0 {
         return None;
     }
-    if !options.times {
+    if !times {
         Some(Hint::NoGoodPacket)
     } else if faults == 0 {
         Some(Hint::NoTimes)
     } else {
         None
     }
+}
+
+// Whether there are faults, all of packets that would be good with their PEC, where such packets aren't told.
+fn is_without_any_pec(all: bool, heard: &HeardLines) -> bool
+    requires { heard_lines heard.now < 2 ^ 64 }
+    ensures { result ≡ spec_is_without_any_pec all heard.now }
+{
+    let (_, accepted, faults, _) = heard.tally().lines();
+    !all && accepted == 0 && faults > 0 && heard.known().is_lacking()
+}
+
+/// Whether each packet that isn't good would be with its PEC: those before this one, as `lacking` says, and this one.
+pub(crate) fn still_lacking(all: bool, line: &PacketLine<'_>, lacking: bool) -> bool
+    requires { judged_in line.now.shown.now ≡ judged_by all line.now.ones (packet_in line.now.packet) }
+    ensures { result ≡ lacking_by all (packet_in line.now.packet) lacking }
+{
+    if all || matches!(line.shown, Shown::Accepted { .. }) {
+        return lacking;
+    }
+    lacking && completed_part(&line.packet, line.shown, Ones::Answer).is_some()
 }
 
 /// The first line that orders a voltage beyond 1000 V by the format that was given, behind this one; before it was that

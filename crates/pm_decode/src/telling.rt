@@ -14,8 +14,8 @@ ghost use Rattle.pm_decode.specs.WrittenCaptures.{Hears, StopsBytes, StopsHearin
 
 use crate::capture::Capture;
 use crate::hints::Hint;
-use crate::options::TellOptions;
 use crate::told_text::ToldText;
+use pm_capture::TellOptions;
 use pm_lines::{Sink, Source, TextFault};
 use pm_trace::DecodeEnd;
 use std::alloc::{AllocError, Global};

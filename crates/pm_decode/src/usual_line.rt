@@ -12,9 +12,9 @@ use crate::usual_packet::{carried_read, carried_write};
 use itoa::Buffer;
 use pm_frame::{FrameView, Payload};
 use pm_lines::hex_digits;
+use pm_packets::Packet;
 use pm_table::Code;
 use pm_trace::{Shown, packet_shown};
-use pm_values::Packet;
 use std::alloc::AllocError;
 
 /// A good packet that carries at most two bytes and teaches nothing.

@@ -6,7 +6,7 @@ use Rattle.std.specs.Result.{result_map_both, result_ok}
 use Rattle.std.specs.Str.{bytes_eq}
 use Rattle.clap.specs.Words.{App, Row, Rule, Text, first_of, new_app, new_rule, one_of, with_rule}
 use Rattle.clap.specs.declared.builder.action.ArgAction.TheVariants.{SetTrue}
-use Rattle.pm_decode.specs.declared.options.TellOptions.{TellOptions}
+use Rattle.pm_capture.specs.declared.options.TellOptions.{TellOptions}
 use Rattle.pm_tool.specs.Options.{option_rule}
 use Rattle.pm_lines.specs.Digits.{natural_of}
 use Rattle.pm_tool.specs.Question.{text_at}

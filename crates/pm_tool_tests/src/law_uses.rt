@@ -4,7 +4,7 @@ ghost use Rattle.std.specs.Prelude.{◌≡◌, ◌<◌, ℕ, Bool};
 ghost use Rattle.pm_num.specs.Ratio.{IsMicroFloor};
 ghost use Rattle.pm_values.specs.declared.formats.GivenFormats.{GivenFormats};
 ghost use Rattle.pm_decode.specs.CaptureText.{capture_text};
-ghost use Rattle.pm_decode.specs.Laws.{plain_options};
+ghost use Rattle.pm_capture.specs.Options.{plain_options};
 ghost use Rattle.pm_trace.specs.TraceText.{trace_text};
 
 use pm_decode::plain_captures_are_traces;

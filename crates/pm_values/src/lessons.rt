@@ -2,6 +2,7 @@
 ghost use Rattle.std.specs.Prelude.{◌≡◌, Some, option_map, slice_index};
 ghost use Rattle.pm_num.specs.AnyFormat.{InUlinear16, shape_of};
 ghost use Rattle.pm_num.specs.Formats.{IsExponent};
+ghost use Rattle.pm_table.specs.Codes as command;
 ghost use Rattle.pm_values.specs.Taught.{format_given as spec_format_given, is_never_relative as spec_is_never_relative, is_reading as spec_is_reading, is_voltage as spec_is_voltage, relative_shape};
 ghost use Rattle.pm_values.specs.Modes.{key_of as spec_key_of};
 
@@ -142,14 +143,20 @@ impl Lessons {
         match packet.view.message() {
             Message::PagePlusRead { page, code } => {
                 self.learn_linear(addr, code, byte)?;
-                self.learn_mode(line, addr, Some(page), code, byte)
+                if Code(code) == Code::VOUT_MODE {
+                    self.learn_mode(line, addr, Some(page), byte)?;
+                }
+                Ok(())
             }
             Message::ReadCoefficients { code, side } => {
                 self.learn_coefficients(addr, code, side, answer)
             }
             Message::ReadCommand { code } => {
                 self.learn_linear(addr, code, byte)?;
-                self.learn_mode(line, addr, packet.reached, code, byte)
+                if Code(code) == Code::VOUT_MODE {
+                    self.learn_mode(line, addr, packet.reached, byte)?;
+                }
+                Ok(())
             }
             _ => Ok(()),
         }
@@ -171,14 +178,10 @@ impl Lessons {
         line: u64,
         addr: u8,
         page: Option<u8>,
-        code: u8,
         byte: u8,
     ) -> Result<(), AllocError>
-        ensures { OnOk result (self.new ≡ mode_taught line self.old addr page code byte) }
+        ensures { OnOk result (self.new ≡ mode_taught line self.old addr page command.vout_mode byte) }
     {
-        if Code(code) != Code::VOUT_MODE {
-            return Ok(());
-        }
         match page {
             Some(page) => self.modes.say(line, addr, page, Some(byte)),
             None => self.modes.say_plain(line, addr, byte),
