@@ -1,10 +1,10 @@
--- The options by which a capture is told. They are this project's own choice.
+-- The options by which a capture is shown. They are this project's own choice.
 use Rattle.std.specs.Prelude.{ℕ, Bool, false, not, ◌||◌, None, replicate}
 use Rattle.pm_values.specs.declared.formats.GivenFormats.{GivenFormats}
 use Rattle.pm_capture.specs.declared.options.TellOptions.{TellOptions}
 
--- no option that changes what is told; a format of voltages is told of none, a limit is none of the text's, and a pause ends
--- no page
+-- No option that changes what is shown. Without values a format changes nothing, and a pause doesn't without pages; `long` is only
+-- the limit of the input.
 abbrev pub plain_options : GivenFormats → Bool → ℕ → TellOptions
 plain_options formats long gap = record {
   values = false;
@@ -25,6 +25,6 @@ no_formats = record { vout = replicate 8 None; readings = replicate 8 None }
 abbrev pub no_options : TellOptions
 no_options = plain_options no_formats false 0
 
--- no option changes what is told
+-- no option changes what is shown
 abbrev pub is_plain : TellOptions → Bool
 is_plain options = not (options.values || (options.all || (options.times || (options.json || options.pages))))

@@ -24,14 +24,14 @@ use Rattle.pm_capture.specs.declared.page_steps.PageStep.{PageStep}
 
 -- ---- a packet as it comes
 
--- the address of a packet, where it has one
+-- the address of a packet, if it has one
 abbrev pub judged_address : Judged → Option ℕ
 judged_address (Accepted addr message answer) = Some addr
 judged_address (Faulty addr is_read fault) = addr
 judged_address BadSyntax = None
 judged_address BadHex = None
 
--- a read part has nothing behind its address
+-- a read part has nothing after its address
 abbrev pub is_empty_answer : Option (List ℕ) → Bool
 is_empty_answer None = false
 is_empty_answer (Some []) = true
@@ -42,8 +42,8 @@ is_empty_answer (Some (byte ∷ next ∷ bytes)) = false
 abbrev pub is_unanswered : Ones → TraceLine → Bool
 is_unanswered ones parts = is_nobody ones || is_empty_answer parts.read
 
--- nobody can say what a packet did that isn't good: it has a fault, or is told otherwise, where it has an address for that,
--- and nobody answered
+-- Nobody can say what a packet did that isn't good: it has a fault; or nobody answered, and it is shown otherwise, which needs an
+-- address.
 abbrev pub is_lost : Ones → TraceLine → Option ℕ → Bool
 is_lost ones parts None = true
 is_lost ones parts (Some addr) = is_unanswered ones parts
@@ -78,7 +78,7 @@ place_for (Failed writes) gap time pages addr = place_by gap time pages addr
 abbrev pub step_for : ℕ → Option ℕ → Pages → Option ℕ → PageUse → PageStep
 step_for gap time pages addr used = record { addr = addr; place = place_for used gap time pages addr; used = used }
 
--- what a packet says of its page; `other` is the address of one that is told otherwise
+-- what a packet says of its page; `other` is the address of one that is shown otherwise
 abbrev pub used_by : Ones → TraceLine → Judged → Option ℕ → PageUse
 used_by ones parts judged other =
     doubted_use ones (use_of parts.write (is_some parts.read) (is_lost ones parts other) judged)
@@ -94,7 +94,7 @@ step_of options pages ones time parts = if options.pages then Some (step_by opti
 
 -- ---- what it is marked with
 
--- the page of an address, where that is known, and each packet of PAGE since then was good
+-- the page of an address, if that is known and each packet of PAGE since then was good
 abbrev pub sure_page_by : Option PageLine → Option ℕ → Option ℕ
 sure_page_by None failed = None
 sure_page_by (Some said) None = Some said.page
@@ -112,7 +112,7 @@ is_turned Lost wrong = false
 is_turned OfOutput wrong = false
 is_turned Beside wrong = false
 
--- a packet whose answer of ones is taken so and that lacks its PEC or doesn't, with the output that it reaches where it names
+-- the marks of a packet: what its answer of ones is taken for, whether it lacks its PEC, the output that it reaches if it names
 -- none, and the line that it contradicts
 abbrev pub marks_by : Ones → Bool → Option PageStep → Marks
 marks_by ones lacks None = record { ones = ones; lacks = lacks; reached = None; wrong = None; page = None; is_turned = false }
@@ -125,7 +125,7 @@ marks_by ones lacks (Some step) = record {
   is_turned = is_turned step.used (contradicted step.place step.used);
 }
 
--- the modes that a packet with these marks may change: all of its address where that restarted
+-- the modes that a packet with these marks may change: all of its address if that restarted
 abbrev pub change_by : Marks → TraceLine → ModeChange
 change_by marks parts = if marks.is_turned then OfAll else change_of parts.write (is_some parts.read) marks.page
 
@@ -138,20 +138,20 @@ abbrev pub marks_in : TellOptions → Pages → Ones → Option ℕ → Result T
 marks_in options pages ones time (Ok parts) = marks_of options pages ones time parts
 marks_in options pages ones time (Err fault) = marks_by ones false None
 
--- ---- behind it
+-- ---- after it
 
--- behind the packet of a line
+-- what is known of pages after the packet of a line
 abbrev pub pages_at : ℕ → Option PageStep → Pages → Pages
 pages_at number None pages = pages
 pages_at number (Some step) pages = pages_by number step.addr step.place step.used pages
 
--- behind a line that isn't skipped
+-- what is known of pages after a line that isn't skipped
 abbrev pub pages_read : TellOptions → ℕ → Ones → Option ℕ → Result TraceLine LineFault → Pages → Pages
 pages_read options number ones time (Ok parts) pages = pages_at number (step_of options pages ones time parts) pages
 pages_read options number ones time (Err fault) pages = if options.pages then lost_in number pages else pages
 
--- behind a comment, which tells a loss but where it speaks of a device whose packets are no lines, of a packet that no
--- device heard or that failed, or of the next packet
+-- What is known of pages after a comment. It is one of a loss unless it speaks of a device whose packets are no lines, of a packet
+-- that no device heard or that failed, or of the next packet.
 abbrev pub pages_noted : ℕ → Remark → Pages → Pages
 pages_noted number Elsewhere pages = pages
 pages_noted number Unacknowledged pages = doubting pages

@@ -18,7 +18,7 @@ use Rattle.pm_capture.specs.declared.options.TellOptions.{TellOptions}
 
 -- ---- the word before a packet
 
--- what stands from the first byte on that has this mark: nothing, where none has it
+-- what stands from the first byte on that has this mark: nothing, if none has it
 abbrev pub from_first : (ℕ → Bool) → List ℕ → List ℕ
 from_first mark [] = []
 from_first mark (byte ∷ bytes) = if mark byte then byte ∷ bytes else from_first mark bytes
@@ -27,7 +27,7 @@ from_first mark (byte ∷ bytes) = if mark byte then byte ∷ bytes else from_fi
 abbrev pub past_spaces : List ℕ → List ℕ
 past_spaces line = from_first (λ byte. not (is_space byte)) line
 
--- the first word of a line: the bytes up to a space, behind the spaces that stand first
+-- the first word of a line: the bytes up to a space, after the spaces that stand first
 abbrev pub first_word : List ℕ → List ℕ
 first_word line = before is_space (past_spaces line)
 
@@ -47,12 +47,12 @@ time_in word = if nat_lt 18 (length word) || slice_index word 0 == 45 then None 
 
 -- ---- a line
 
--- the time, where lines have one, and the bytes of the packet's parts or why they can't be read
+-- the time, if lines have one, and the bytes of the packet's parts or why they can't be read
 pub record Reading : Type 0 where
   pub time : Option ℕ
   pub parts : Result TraceLine LineFault
 
--- a line without a time, where it ought to have one, is misshapen
+-- a line without a time is misshapen if lines have one
 abbrev pub timed : Option ℕ → Result TraceLine LineFault → Reading
 timed None parts = record { time = None; parts = Err fault.Syntax }
 timed (Some time) parts = record { time = Some time; parts = parts }
@@ -80,7 +80,7 @@ first_byte [] = None
 first_byte (high ∷ []) = None
 first_byte (high ∷ low ∷ rest) = pair_of high low
 
--- the bytes of a packet behind their colon: its address, its code, and whether a read part follows at once
+-- the bytes of a packet after their colon: its address, its code, and whether a read part follows at once
 abbrev pub address_shown : List ℕ → Option ℕ
 address_shown bytes = option_map (λ byte. byte / 2) (first_byte bytes)
 
@@ -115,13 +115,13 @@ remark_in text = if starts_with nat_eq text (codes "# another device") then Else
 abbrev pub remark_of : List ℕ → Remark
 remark_of line = remark_in (take 63 line)
 
--- comments are noted where PAGE is followed
+-- comments are noted if PAGE is followed
 abbrev pub is_noted : Bool → List ℕ → Bool
 is_noted pages line = pages && is_comment line
 
 -- ---- the lines
 
--- what a line is: one that is told, by what it reads as, or a comment that is noted
+-- what a line is: one that is shown, by what it reads as, or a comment that is noted
 pub data Said : Type 0 where
   Told : Reading → Said
   Noted : Remark → Said
@@ -149,7 +149,7 @@ entries_of options text = map (entry_of options) (filter (is_heard options.pages
 
 -- ---- what a packet says
 
--- what a packet says whose answer of ones is taken so; where `all` is told, its PEC may be missing
+-- what a packet says whose answer of ones is taken so; with `all` its PEC may be missing
 abbrev pub judged_by : Bool → Ones → TraceLine → Judged
 judged_by all ones parts = if all then judged_anyway ones parts.write parts.read else parts_judged parts.write parts.read
 
@@ -158,16 +158,16 @@ abbrev pub judged_as : Bool → Ones → Result TraceLine LineFault → Judged
 judged_as all ones (Ok parts) = judged_by all ones parts
 judged_as all ones (Err fault) = reading_judged (Err fault)
 
--- the address of a packet that is told otherwise, where that is wanted
+-- the address of a packet that is shown otherwise, if such packets are
 abbrev pub other_address : Bool → Ones → TraceLine → Option ℕ
 other_address all ones parts = if all
     then address_otherwise ones parts.write parts.read (judged_anyway ones parts.write parts.read) else None
 
--- whether a packet is told as good that lacks its PEC
+-- whether a packet is shown as good that lacks its PEC
 abbrev pub is_without_pec : Bool → Ones → TraceLine → Bool
 is_without_pec all ones parts = if all then lacks_pec ones parts.write parts.read else false
 
--- a packet is told as good, or by its code and bytes
+-- a packet is shown as good, or by its code and bytes
 abbrev pub is_told : Option ℕ → Judged → Bool
 is_told other judged = is_some other || is_accepted judged
 

@@ -9,7 +9,7 @@ use Rattle.pm_capture.specs.Readings.{Reading, Said, Told, Noted, behind_word, f
 use Rattle.pm_capture.specs.declared.comment.Remark.{Remark}
 use Rattle.pm_capture.specs.declared.timed_line.TimedLine.{TimedLine}
 
--- the bytes of a line that may be a packet's: of a comment the first byte alone, which says that it is one
+-- the bytes of a line that may be a packet's: of a comment only the first byte, which says that it is one
 abbrev pub own_bytes : List ℕ → List ℕ
 own_bytes line = if is_comment line then take 1 line else line
 
@@ -30,7 +30,7 @@ timed_of times line = record {
 abbrev pub is_of_packet : TimedLine → ℕ → Bool
 is_of_packet line byte = line.is_over || (is_space byte && has_bytes line.word.bytes)
 
--- there is a byte, and this one is the first where there was none. 35 is `#`.
+-- there is a byte, and this one is the first if there was none. 35 is `#`.
 abbrev pub begun_with : TimedLine → ℕ → TimedLine
 begun_with line byte = record line {
   has_mark = if line.is_begun then line.has_mark else byte == 35;
@@ -65,7 +65,7 @@ plain_takes line byte = record {
 unfoldable pub timed_takes : TimedLine → ℕ → TimedLine
 timed_takes line byte = if goes_on line then record line { head = head_takes line.head byte } else plain_takes line byte
 
--- ---- where the line ends here
+-- ---- if the line ends here
 
 -- the word, without the carriage return that is no part of the line
 abbrev pub word_ended : TimedLine → List ℕ

@@ -1,5 +1,5 @@
 //! A line of a capture as its bytes come: the time before its packet, the packet's bytes, what a comment says of lost or failed
-//! packets, and PAGE followed from packet to packet, with the options by which a capture is told.
+//! packets, and PAGE followed from packet to packet, with the options by which a capture is shown.
 //!
 //! What is written of a line is not here, nor what the capture teaches of formats. A line that begins with its time:
 //!

@@ -2,24 +2,24 @@ ghost use Rattle.std.specs.Prelude.{◌≡◌};
 
 use pm_values::GivenFormats;
 
-/// How a capture is told.
+/// How a capture is shown.
 #[derive(Clone, Copy, Debug)]
 pub struct TellOptions {
-    /// Behind each packet stands what its payload means, and behind one with a fault its bytes.
+    /// After each packet stands what its payload means, and after one with a fault its bytes.
     pub values: bool,
     /// The formats of words whose own format the capture doesn't teach.
     pub formats: GivenFormats,
-    /// Packets without PEC are told as good ones, and those that the command table doesn't have by their code and bytes.
+    /// Packets without PEC are shown as good ones, and those that the command table doesn't have by their code and bytes.
     pub all: bool,
     /// The capture may have more than 1 MiB.
     pub long: bool,
     /// Each line begins with the time of its packet, in microseconds.
     pub times: bool,
-    /// Each line is told as an object of JSON.
+    /// Each line is shown as an object of JSON.
     pub json: bool,
-    /// PAGE is followed: a packet that acts on an output and names none is told with the one that it reaches.
+    /// PAGE is followed: a packet that acts on an output and names none is shown with the one that it reaches.
     pub pages: bool,
-    /// With times and pages: behind a pause of an address of more than so many microseconds its page isn't known any more.
+    /// With times and pages: after a pause of an address of more than so many microseconds its page isn't known any more.
     pub gap: u64,
 }
 
@@ -27,7 +27,7 @@ impl TellOptions {
     ghost use Rattle.pm_capture.specs.Options.{no_options};
     ghost use Rattle.pm_capture.specs.Options.{is_plain};
 
-    /// No option: a capture is told as `decode` of `pm_decode` tells it.
+    /// No option: a capture is shown as `decode` of `pm_decode` shows it.
     pub fn none() -> TellOptions
         ensures { result ≡ no_options }
     {
@@ -46,7 +46,7 @@ impl TellOptions {
         }
     }
 
-    /// Whether no option changes what is told.
+    /// Whether no option changes what is shown.
     pub fn is_plain(&self) -> bool
         ensures { result ≡ is_plain self.now }
     {

@@ -25,11 +25,11 @@ pub struct Marks {
     pub ones: Ones,
     /// It lacks its PEC.
     pub lacks: bool,
-    /// The output that it reaches, where it names none and that is known.
+    /// The output that it reaches, if it names none and that is known.
     pub reached: Option<u8>,
     /// The line that it contradicts.
     pub wrong: Option<u64>,
-    /// The page of its address, where that is known, and each packet of PAGE since then was good.
+    /// The page of its address, if that is known and each packet of PAGE since then was good.
     pub page: Option<u8>,
     /// It reads another page than the one that was written last: the device restarted, or another host was there.
     pub is_turned: bool,
@@ -85,7 +85,7 @@ pub const NOWHERE: Place = Place {
     time: None,
 };
 
-/// The address of a packet, where it has one.
+/// The address of a packet, if it has one.
 pub fn address_in(shown: &Shown<'_>) -> Option<u8>
     ensures { result ≡ judged_address (judged_in shown.now) }
 {
@@ -113,7 +113,7 @@ fn is_lost(packet: &Packet<'_>, ones: Ones, other: Option<u8>) -> bool
     other.is_none() || is_unanswered(packet, ones)
 }
 
-// Whether nobody answered: there is nothing behind the address that was read from, or ones that are taken for nobody's.
+// Whether nobody answered: nothing follows the address that was read from, or only ones that are taken for nobody's.
 fn is_unanswered(packet: &Packet<'_>, ones: Ones) -> bool
     ensures { result ≡ spec_is_unanswered ones (packet_in packet.now) }
 {
@@ -130,7 +130,7 @@ fn doubted_use(ones: Ones, used: PageUse) -> PageUse
     }
 }
 
-// The page of an address, where that is known, and each packet of PAGE since then was good.
+// The page of an address, if that is known and each packet of PAGE since then was good.
 fn sure_page(place: &Place) -> Option<u8>
     ensures { result ≡ spec_sure_page place.now }
 {
@@ -148,7 +148,7 @@ fn is_turned(step: &PageStep) -> bool
 }
 
 impl Marks {
-    /// The marks of a packet whose answer of ones is taken so, and that lacks its PEC or doesn't, where PAGE isn't followed.
+    /// The marks of a packet if PAGE isn't followed: what its answer of ones is taken for, and whether it lacks its PEC.
     pub fn without_page(ones: Ones, lacks: bool) -> Marks
         ensures { result ≡ marks_by ones lacks None }
     {

@@ -7,7 +7,7 @@ use pm_lines::{read_i64, without_carriage_return};
 use pm_packets::Packet;
 use pm_trace::{LineFault, LinePart, OpenLine};
 
-/// What is kept of a line while its bytes come one after another: the word that is the packet's time, where lines
+/// What is kept of a line while its bytes come one after another: the word that is the packet's time, if lines
 /// have one, the packet, and the beginning of a comment.
 #[derive(Debug, Drop)]
 pub struct TimedLine {
@@ -21,13 +21,13 @@ pub struct TimedLine {
     is_over: bool,
     // What a comment begins with.
     head: CommentHead,
-    // The first word, where lines begin with a time.
+    // The first word, if lines begin with a time.
     word: LinePart,
     // The packet, with the space before it.
     packet: OpenLine,
 }
 
-/// What a line reads as: the time, where lines have one, and the packet's bytes.
+/// What a line reads as: the time, if lines have one, and the packet's bytes.
 #[derive(Clone, Copy)]
 pub struct LineReading<'a> {
     pub time: Option<u64>,
@@ -112,7 +112,7 @@ impl TimedLine {
         self.packet.take_line(bytes)
     }
 
-    // Takes at once what a comment has behind the first bytes, up to the first line feed, and gives what is left.
+    // Takes at once what a comment has after the first bytes, up to the first line feed, and gives what is left.
     #[tactic(auto, using(crate::specs::Lemmas::TimedLines::passes_none))]
     fn take_comment<'a>(&self, bytes: &'a [u8]) -> &'a [u8]
         ensures { PassesTimed self.now bytes.entry.now result.now self.now }
@@ -183,7 +183,7 @@ impl TimedLine {
         }
     }
 
-    // Notes that the line has a byte, of which this is the first one where it had none.
+    // Notes that the line has a byte, of which this is the first one if it had none.
     fn begin(&mut self, byte: u8)
         ensures { self.new ≡ begun_with self.old byte }
     {
@@ -205,7 +205,7 @@ impl TimedLine {
         self.head.remark()
     }
 
-    /// Whether the line is skipped, where it ends here.
+    /// Whether the line is skipped, if it ends here.
     pub fn is_skipped(&self) -> bool
         ensures { result ≡ skips_timed self.now }
     {
@@ -219,7 +219,7 @@ impl TimedLine {
         }
     }
 
-    // The word, where the line ends here: a carriage return at its end is no part of it.
+    // The word, if the line ends here: a carriage return at its end is no part of it.
     fn word_ended(&self) -> &[u8]
         ensures { result.now ≡ word_ended self.now }
     {
@@ -231,7 +231,7 @@ impl TimedLine {
         }
     }
 
-    /// What the line reads as, where it ends here.
+    /// What the line reads as, if it ends here.
     pub fn reading(&self) -> LineReading<'_>
         ensures { reading_in result ≡ timed_read self.now }
     {

@@ -1,4 +1,4 @@
-//! What a line's packet is told as.
+//! What a line's packet is shown as.
 ghost use Rattle.std.specs.Prelude.{◌≡◌, ◌||◌, Err, IfSome, is_some, not, option_map};
 ghost use Rattle.pm_trace.specs.ShownLines.{judged_in};
 ghost use Rattle.pm_trace.specs.Trace.{parts_judged, reading_judged};
@@ -19,7 +19,7 @@ use pm_values::{ModeChange, mode_change};
 pub struct PacketLine<'a> {
     /// The line's number.
     pub number: u64,
-    /// The time of the packet, where lines have one.
+    /// The time of the packet, if lines have one.
     pub time: Option<u64>,
     /// Its bytes.
     pub packet: Packet<'a>,
@@ -27,11 +27,11 @@ pub struct PacketLine<'a> {
     pub shown: &'a Shown<'a>,
     /// What an answer of ones is taken for.
     pub ones: Ones,
-    /// Its address, where it is told by its code and bytes.
+    /// Its address, if it is shown by its code and bytes.
     pub other: Option<u8>,
 }
 
-/// The modes that a packet with these marks may change: all of its address where that restarted.
+/// The modes that a packet with these marks may change: all of its address if that restarted.
 pub fn change_in(marks: &Marks, packet: &Packet<'_>) -> ModeChange
     ensures { result ≡ change_by marks.now (packet_in packet.now) }
 {
@@ -42,21 +42,21 @@ pub fn change_in(marks: &Marks, packet: &Packet<'_>) -> ModeChange
     }
 }
 
-/// Whether a packet is told as the command table has it, with its PEC: it is good, or no other is told otherwise.
+/// Whether a packet is shown as the command table has it, with its PEC: it is good, or no other is shown otherwise.
 pub fn is_plain(all: bool, shown: &Shown<'_>) -> bool
     ensures { result ≡ (not all || is_accepted (judged_in shown.now)) }
 {
     !all || matches!(shown, Shown::Accepted { .. })
 }
 
-/// Whether a packet is told as good, or by its code and bytes.
+/// Whether a packet is shown as good, or by its code and bytes.
 pub fn is_told(line: &PacketLine<'_>) -> bool
     ensures { result ≡ spec_is_told line.now.other (judged_in line.now.shown.now) }
 {
     line.other.is_some() || matches!(line.shown, Shown::Accepted { .. })
 }
 
-/// Whether a packet that is told so has the right PEC.
+/// Whether a packet that is shown so has the right PEC.
 pub fn is_checked(marks: &Marks, line: &PacketLine<'_>) -> bool
     ensures { result ≡ spec_is_checked line.now.other marks.now.lacks (packet_in line.now.packet) }
 {
@@ -66,7 +66,7 @@ pub fn is_checked(marks: &Marks, line: &PacketLine<'_>) -> bool
     }
 }
 
-/// The last part of a packet with its PEC, where it lacks nothing but that, and packets without PEC are told.
+/// The last part of a packet with its PEC, if it lacks only that and packets without PEC are shown.
 pub fn completed_if(all: bool, line: &PacketLine<'_>) -> Option<ArrayVec<u8, 16>>
     requires { judged_in line.now.shown.now
         ≡ parts_judged line.now.packet.write.now (option_map (λ bytes. bytes.now) line.now.packet.read) }
@@ -81,7 +81,7 @@ pub fn completed_if(all: bool, line: &PacketLine<'_>) -> Option<ArrayVec<u8, 16>
     }
 }
 
-/// The code by which a packet is told that the table doesn't have.
+/// The code by which a packet is shown that the table doesn't have.
 pub fn told_code(packet: &Packet<'_>) -> u8
     ensures { result ≡ (content_of packet.now.write.now (option_map (λ bytes. bytes.now) packet.now.read)).code }
 {

@@ -1,4 +1,4 @@
--- What is known, and what is written, behind one line more.
+-- What is known, and what is written, after one line more.
 use Rattle.std.proofs.Common.{◌≡◌, ℕ, ◌+◌, Bool, true, cond, List, [], ◌∷◌, ◌++◌, Option, Some, None, Result, Ok, Err, OnOk}
 use Rattle.std.proofs.Common.{refl, sym, ap, ◌∙◌, arith, append_assoc, append-nil}
 use Rattle.std.specs.List.{filter_map}
@@ -79,7 +79,7 @@ heard_of-snoc options entries entry = λ i. record {
         filter_map-append (other_code options.all) before (last ∷ []) ∙ rw is refl in
         ap counted same ∙ fold-append one_more [] codes_before (code ∷ [])
 
--- a line that is told is one more that is counted
+-- a line that is shown is one more that is counted
 pub heard_one : (options : TellOptions) (heard : HeardLines) (number : ℕ) (reading : Reading)
     → heard_lines (heard_with options heard (number, Told reading)) ≡ heard_lines heard + 1
 heard_one options heard number reading = by (other_code_in options.all ones reading.parts) (judged_as options.all ones reading.parts)
@@ -105,7 +105,7 @@ pub comment_heard : (options : TellOptions) (heard : HeardLines) (number : ℕ) 
     ≡ cond (passes_timed options.pages line) heard (heard_with options heard (number, timed_said options.pages line))
 comment_heard options heard number line pages mark = rw (pages, mark) refl
 
--- the text of two lists of lines is that of the first, and that of the second by what is known behind the first
+-- the text of two lists of lines is that of the first, and that of the second by what is known after the first
 pub lines_text-append : (options : TellOptions) (known : Known) (xs ys : List Entry)
     → lines_text options known (xs ++ ys) ≡ lines_text options known xs ++ lines_text options (known_from options known xs) ys
 lines_text-append options known [] ys = refl
@@ -114,7 +114,7 @@ lines_text-append options known (x ∷ xs) ys =
     ∙ sym (append_assoc (line_text options known x) (lines_text options (known_by options known x) xs)
     (lines_text options (known_from options (known_by options known x) xs) ys))
 
--- what is known behind a packet where PAGE is followed, by its place and its marks
+-- what is known after a packet if PAGE is followed, by its place and its marks
 module _ (options : TellOptions) (number : ℕ) (time : Option ℕ) (parts : TraceLine) (known : Known) where
   pub known_on_page : (ones : Ones) (lacks : Bool) (judged : Judged) (other : Option ℕ) (step : PageStep) (marks : Marks)
       → options.pages ≡ true
@@ -160,7 +160,7 @@ comment_noted (Ok done) options heard new number line remark pages mark is noted
     ∙ ap (λ r. heard_with options heard (number, Noted r)) is ∙ comment_heard options heard number line pages mark
 comment_noted (Err fault) options heard new number line remark pages mark is noted = tt
 
--- a packet was told on its page, and what it says of PAGE was learned: what is known then, and the text
+-- a packet was shown on its page, and what it says of PAGE was learned: what is known then, and the text
 module _ (options : TellOptions) (number : ℕ) (time : Option ℕ) (parts : TraceLine) (self : Known) (ones : Ones) (lacks : Bool)
     (judged : Judged) (other : Option ℕ) (step : PageStep) (marks : Marks) where
   pub page_learned : {E : Type 0} (result : Result (Unit {0}) E) (told : Known) (pages : Pages)

@@ -1,4 +1,4 @@
--- A usual packet is told, taught and counted as every packet is.
+-- A usual packet is shown, taught and counted as every packet is.
 use Rattle.std.proofs.Common.{◌≡◌, ◌≢◌, ◌∙◌, ℕ, Bool, true, false, not, ◌||◌, ◌&&◌, cond, eqb, List, [], ◌++◌, codes, Option, Some, None}
 use Rattle.std.proofs.Common.{Result, Ok, Err, OnOk, refl, sym, ap, arith, append_assoc, true≢false}
 use Rattle.std.specs.Prelude.{decimal}
@@ -91,7 +91,7 @@ module _ (addr : ℕ) (message : Message) (page : Option ℕ) (code : ℕ) (payl
     good = ap is_accepted is;
   }
 
--- ---- its line, where no option changes what is told
+-- ---- its line, if no option changes what is shown
 
 plain_parts : (values all times json pages : Bool) → not (values || (all || (times || (json || pages)))) ≡ true
     → (values ≡ false) × (all ≡ false) × (times ≡ false) × (json ≡ false) × (pages ≡ false)

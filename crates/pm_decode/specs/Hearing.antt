@@ -1,4 +1,4 @@
--- What is known behind the lines of a capture: what they teach and say of PAGE, and how many there were of each kind. This
+-- What is known after the lines of a capture: what they teach and say of PAGE, and how many there were of each kind. This
 -- project's own choice.
 use Rattle.std.specs.Prelude.{ℕ, ◌+◌, ◌==◌, ◌&&◌, ◌||◌, not, nat_lt, Bool, true, false, if◌then◌else◌, is_some, List, [], ◌∷◌, Option, Some, None, Result, Ok, Err}
 use Rattle.std.specs.List.{filter_map, fold}
@@ -39,13 +39,13 @@ pub record Known : Type 0 where
 abbrev pub unknown : Known
 unknown = record { taught = untaught; pages = no_pages; beyond = None; answers = none_heard; lacking = true }
 
--- what an answer of ones is taken for, where packets without PEC are told, and it isn't good with one
+-- what an answer of ones is taken for, if packets without PEC are shown and it isn't good with one
 abbrev pub ones_in : TellOptions → Known → Result TraceLine LineFault → Ones
 ones_in options known (Ok parts) = if options.all && not (is_accepted (parts_judged parts.write parts.read))
     then ones_of known.answers parts.write parts.read else Answer
 ones_in options known (Err fault) = Answer
 
--- what a packet teaches; where values are told, a mode that it may have changed isn't known any more, and a packet of PAGE says
+-- what a packet teaches; if values are shown, a mode that it may have changed isn't known any more, and a packet of PAGE says
 -- that its address has pages
 abbrev pub taught_over : TellOptions → ℕ → Marks → TraceLine → Taught → Taught
 taught_over options number marks parts taught = if options.values
@@ -74,7 +74,7 @@ abbrev pub lacking_read : Bool → Result TraceLine LineFault → Bool → Bool
 lacking_read all (Ok parts) lacking = lacking_by all parts lacking
 lacking_read all (Err fault) lacking = lacking
 
--- behind a line that isn't skipped, whose answer of ones is taken so
+-- what is known after a line that isn't skipped, whose answer of ones is taken so
 abbrev pub known_with : TellOptions → ℕ → Option ℕ → Ones → Result TraceLine LineFault → Known → Known
 known_with options number time ones parts known = record {
   taught = taught_read options number (marks_in options known.pages ones time parts) parts known.taught;
@@ -88,7 +88,7 @@ known_with options number time ones parts known = record {
 abbrev pub known_read : TellOptions → ℕ → Option ℕ → Result TraceLine LineFault → Known → Known
 known_read options number time parts known = known_with options number time (ones_in options known parts) parts known
 
--- behind a comment: one that shows a packet of PAGE says that its address has pages
+-- what is taught after a comment: one that shows a packet of PAGE says that its address has pages
 abbrev pub taught_noted : Remark → Taught → Taught
 taught_noted Elsewhere taught = taught
 taught_noted Unacknowledged taught = taught
@@ -106,13 +106,13 @@ known_said options number (Noted remark) known = record known {
 abbrev pub known_by : TellOptions → Known → Entry → Known
 known_by options known entry = known_said options entry.0 entry.1 known
 
--- behind several
+-- what is known after several
 abbrev pub known_from : TellOptions → Known → List Entry → Known
 known_from options known entries = fold (known_by options) known entries
 
 -- ---- how a line is counted
 
--- the code of a packet that is told otherwise
+-- the code of a packet that is shown otherwise
 abbrev pub code_if : Option ℕ → ℕ → Option ℕ
 code_if None code = None
 code_if (Some addr) code = Some code
@@ -132,7 +132,7 @@ Heard = Ones × Entry
 abbrev pub other_code : Bool → Heard → Option ℕ
 other_code all heard = other_code_of all heard.0 heard.1.1
 
--- a line that is told as the command table has it
+-- a line that is shown as the command table has it
 abbrev pub told_unless : Option ℕ → ToldLine → Option ToldLine
 told_unless None told = Some told
 told_unless (Some code) told = None
@@ -161,14 +161,14 @@ heard_all options known (entry ∷ entries) =
 
 -- ---- all that is heard
 
--- what is known, the counts of the lines that are told as the command table has them, and how often each other code was
+-- what is known, the counts of the lines that are shown as the command table has them, and how often each other code was
 -- carried
 pub record HeardLines : Type 0 where
   pub known : Known
   pub counts : Counts
   pub others : List (ℕ × ℕ)
 
--- behind these lines
+-- what is known after these lines
 unfoldable pub heard_of : TellOptions → List Entry → HeardLines
 heard_of options entries = record {
   known = known_from options unknown entries;
@@ -199,16 +199,16 @@ heard_with options heard entry = record {
 
 -- ---- what may be wrong
 
--- there are bad lines, and no packet was told as a good one or by its code
+-- there are bad lines, and no packet was shown as a good one or by its code
 abbrev pub is_none_told : HeardLines → Bool
 is_none_told heard = heard.counts.accepted == 0 && (total_of heard.others == 0 && nat_lt 0 heard.counts.bad)
 
--- then with times no line is a time and a packet, where no packet has a fault; without them no line is a good packet
+-- then with times no line is a time and a packet, if no packet has a fault; without them no line is a good packet
 abbrev pub lines_hint : Bool → ℕ → Option Hint
 lines_hint true faults = if faults == 0 then Some NoTimes else None
 lines_hint false faults = Some NoGoodPacket
 
--- packets without PEC aren't told, and there are faults of packets that would all be good with it
+-- packets without PEC aren't shown, and there are faults of packets that would all be good with it
 abbrev pub is_without_any_pec : Bool → HeardLines → Bool
 is_without_any_pec all heard =
     not all && (heard.counts.accepted == 0 && (nat_lt 0 heard.counts.faults && heard.known.lacking))

@@ -1,4 +1,4 @@
--- What is told besides of a capture that was told whole: a voltage that is ordered beyond 1000 V by the format that was given,
+-- What is said besides of a capture that was shown whole: a voltage that is ordered beyond 1000 V by the format that was given,
 -- lines of which none is what the options say that lines are, and packets that all lack their PEC. This project's own choice.
 use Rattle.std.specs.Prelude.{ℕ, Bool, false, ◌&&◌, ◌||◌, nat_lt, not, is_some, unsigned_abs, if◌then◌else◌, List, [], ◌∷◌, replicate, Option, Some, None}
 use Rattle.pm_frame.specs.declared.message.Message.{Message}
@@ -49,7 +49,7 @@ is_beyond given taught reached (Faulty addr is_read fault) = false
 is_beyond given taught reached BadSyntax = false
 is_beyond given taught reached BadHex = false
 
--- the first line of such an order, behind the one of this number
+-- the first line of such an order, after the one of this number
 abbrev pub first_if : Option ℕ → Bool → ℕ → Option ℕ
 first_if (Some line) is number = Some line
 first_if None is number = if is then Some number else None
@@ -68,8 +68,8 @@ beyond_by options taught reached number judged before =
 
 -- ---- packets without PEC
 
--- Whether each packet that isn't good would be with its PEC: those before this one, and this one. It doesn't matter where packets
--- without PEC are told.
+-- Whether each packet that isn't good would be with its PEC: those before this one, and this one. It doesn't matter if packets
+-- without PEC are shown.
 abbrev pub lacking_by : Bool → TraceLine → Bool → Bool
 lacking_by all parts lacking = if all || is_accepted (parts_judged parts.write parts.read) then lacking
     else lacking && lacks_pec Answer parts.write parts.read

@@ -5,7 +5,7 @@ use Rattle.pm_values.specs.declared.formats.GivenFormats.{GivenFormats}
 use Rattle.pm_capture.specs.Options.{plain_options}
 use Rattle.pm_decode.specs.CaptureText.{capture_text}
 
--- what is told without an option that changes it is what `pm_trace` tells of the same text
+-- what is shown without an option that changes it is what `pm_trace` shows of the same text
 abbrev pub PlainCapturesAreTraces : Type 0
 PlainCapturesAreTraces = (formats : GivenFormats) (long : Bool) (gap : ℕ) (text : List ℕ) →
     capture_text (plain_options formats long gap) text ≡ trace_text text

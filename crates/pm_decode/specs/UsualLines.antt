@@ -1,4 +1,4 @@
--- The line of a usual packet where no option changes what is told: a good one that carries at most two bytes, and teaches
+-- The line of a usual packet if no option changes what is shown: a good one that carries at most two bytes, and teaches
 -- nothing.
 use Rattle.std.specs.Prelude.{◌≡◌, ℕ, ◌+◌, Bool, true, false, not, ◌||◌, List, [], ◌++◌, codes, Some, None}
 use Rattle.pm_frame.specs.Layout.{payload_bytes}
@@ -17,7 +17,7 @@ abbrev pub carried_text : Bool → List ℕ → List ℕ
 carried_text true payload = payload_text [] (Some payload)
 carried_text false payload = payload_text payload None
 
--- what the line says behind its number
+-- what the line says after its number
 abbrev pub usual_text : Usual → List ℕ
 usual_text usual = hex_byte usual.addr ++ (codes " " ++ (page_text usual.page
     ++ (name_of usual.code ++ carried_text usual.is_read (payload_bytes usual.payload))))

@@ -77,7 +77,7 @@ impl Capture {
         }
     }
 
-    /// Takes the bytes, and gathers what the lines say that end with them. Where memory is refused, the lines before are
+    /// Takes the bytes, and gathers what the lines say that end with them. If memory is refused, the lines before are
     /// gathered.
     pub(crate) fn take(&mut self, bytes: &[u8], gathered: &mut ToldText) -> Result<(), AllocError>
         requires { self.old.taken + length bytes.now ≤ most_bytes self.old.options.long }
@@ -186,8 +186,8 @@ impl Capture {
     }
 }
 
-// Gathers what a line says that ends here, with its number, and has it heard, if it isn't skipped, or is a comment where PAGE
-// is followed.
+// Gathers what a line says that ends here, with its number, and has it heard, if it isn't skipped. A comment is noted if PAGE is
+// followed.
 #[tactic(auto, using(crate::proofs::HearingLemmas::heard_one))]
 fn hear_line(
     heard: &mut HeardLines,

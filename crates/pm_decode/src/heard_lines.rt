@@ -129,7 +129,7 @@ impl HeardLines {
         self.tally.count(line.shown)
     }
 
-    // Hears a line closely: packets without PEC are told, or PAGE is followed.
+    // Hears a line closely: packets without PEC are shown, or PAGE is followed.
     #[tactic(auto, using(crate::proofs::PecLemmas::completed_said, crate::proofs::PecLemmas::usual_said))]
     fn hear_closely(
         &mut self,
@@ -236,7 +236,7 @@ impl HeardLines {
         }
     }
 
-    /// Counts a good packet of this code that teaches nothing, where PAGE isn't followed. Takes memory for a code that is
+    /// Counts a good packet of this code that teaches nothing, if PAGE isn't followed. Takes memory for a code that is
     /// new.
     pub(crate) fn count_usual(&mut self, code: u8) -> Result<(), AllocError>
         requires { heard_lines self.old + 1 < 2 ^ 64 }
@@ -263,14 +263,14 @@ impl HeardLines {
         lines + self.others.total()
     }
 
-    /// What is known behind the lines.
+    /// What is known after the lines.
     pub(crate) fn known(&self) -> &Known
         ensures { result.now ≡ self.now.known }
     {
         &self.known
     }
 
-    /// The counts of the lines that are told as the command table has them.
+    /// The counts of the lines that are shown as the command table has them.
     pub(crate) fn tally(&self) -> &Tally
         ensures { result.now ≡ self.now.counts }
     {
@@ -285,7 +285,7 @@ impl HeardLines {
     }
 }
 
-// The address of a packet that is told by its code and bytes, where packets without PEC are told.
+// The address of a packet that is shown by its code and bytes, if packets without PEC are shown.
 fn other_if(all: bool, line: &PacketLine<'_>) -> Option<u8>
     requires { judged_in line.now.shown.now ≡ judged_by all line.now.ones (packet_in line.now.packet) }
     ensures { result ≡ other_address all line.now.ones (packet_in line.now.packet) }

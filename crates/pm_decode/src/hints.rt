@@ -1,4 +1,4 @@
-//! What is told besides of a capture that was told whole.
+//! What is said besides of a capture that was shown whole.
 ghost use Rattle.std.specs.Prelude.{◌≡◌, ◌<◌, ◌^◌, None, if◌then◌else◌};
 ghost use Rattle.pm_trace.specs.ShownLines.{judged_in};
 ghost use Rattle.pm_capture.specs.Readings.{judged_by};
@@ -15,20 +15,20 @@ use pm_values::{
     GivenFormat, GivenFormats, GoodPacket, Lessons, Unit, Value, millionths, packet_value,
 };
 
-/// What may be wrong where a capture was told whole.
+/// What may be wrong with a capture that was shown whole.
 #[derive(Clone, Copy, Debug, PartialEq, Eq)]
 pub enum Hint {
     /// The line of this number is the first one that orders a voltage beyond 1000 V by the format that was given.
     Beyond(u64),
-    /// With times no line was a time and a packet.
+    /// With times each line was bad: none was a time and a packet.
     NoTimes,
-    /// Without times no line was a good packet, and one was bad, as where lines begin with times.
+    /// Without times no line was a good packet, and one was bad, as if lines begin with times.
     NoGoodPacket,
-    /// Packets without PEC weren't told, and no line was a good packet, but each packet would have been one with its PEC.
+    /// Packets without PEC weren't shown, and no line was a good packet, but each packet would have been one with its PEC.
     NoPec,
 }
 
-/// What may be wrong with a capture of these lines that is told so.
+/// What may be wrong with a capture of these lines, shown by these options.
 pub(crate) fn hint_of(options: &TellOptions, heard: &HeardLines) -> Option<Hint>
     requires { heard_lines heard.now < 2 ^ 64 }
     ensures { result ≡ hint_by options.now heard.now }
@@ -42,7 +42,7 @@ pub(crate) fn hint_of(options: &TellOptions, heard: &HeardLines) -> Option<Hint>
     }
 }
 
-// What bad lines say where no packet was told as a good one or by its code.
+// What bad lines say if no packet was shown as a good one or by its code.
 fn lines_hint(times: bool, heard: &HeardLines) -> Option<Hint>
     requires { heard_lines heard.now < 2 ^ 64 }
     ensures { result ≡ (if is_none_told heard.now then spec_lines_hint times heard.now.counts.faults else None) }
@@ -60,7 +60,7 @@ fn lines_hint(times: bool, heard: &HeardLines) -> Option<Hint>
     }
 }
 
-// Whether there are faults, all of packets that would be good with their PEC, where such packets aren't told.
+// Whether there are faults, all of packets that would be good with their PEC, and such packets aren't shown.
 fn is_without_any_pec(all: bool, heard: &HeardLines) -> bool
     requires { heard_lines heard.now < 2 ^ 64 }
     ensures { result ≡ spec_is_without_any_pec all heard.now }
@@ -80,8 +80,8 @@ pub(crate) fn still_lacking(all: bool, line: &PacketLine<'_>, lacking: bool) -> 
     lacking && completed_part(&line.packet, line.shown, Ones::Answer).is_some()
 }
 
-/// The first line that orders a voltage beyond 1000 V by the format that was given, behind this one; before it was that
-/// one, if there was one. `reached` is the output that its packet reaches if it names none, where that is known.
+/// The first line that orders a voltage beyond 1000 V by the format that was given, after this one; `before` is the
+/// first one before it. `reached` is the output that its packet reaches if it names none and that is known.
 pub(crate) fn first_beyond(
     options: &TellOptions,
     lessons: &Lessons,
@@ -112,7 +112,7 @@ fn has_entry(entries: &[Option<GivenFormat>]) -> bool
     matches!(entries, [Some(_), ..])
 }
 
-// The hint of a packet whose values are told by a format that was given.
+// The first such line, if a format of voltages was given.
 fn first_of(
     given: &GivenFormats,
     lessons: &Lessons,

@@ -54,7 +54,7 @@ fn push_others(text: &mut String, others: &Others) -> Result<(), AllocError>
     Ok(())
 }
 
-// The object of another code, where it was carried.
+// The object of another code, if it was carried.
 #[tactic(auto, using(pm_lines::specs::Lemmas::Joins::joins))]
 fn push_other(text: &mut String, others: &Others, code: u8) -> Result<(), AllocError>
     ensures { OnOk result (string_bytes text.new ≡ string_bytes text.old ++ other_json others.now code) }

@@ -1,4 +1,4 @@
-//! What is known behind the lines of a capture.
+//! What is known after the lines of a capture.
 ghost use Rattle.std.specs.Prelude.{◌≡◌, None, not, option_map};
 ghost use Rattle.pm_trace.specs.ShownLines.{judged_in};
 ghost use Rattle.pm_packets.specs.Otherwise.{is_accepted};
@@ -72,7 +72,7 @@ impl Known {
         self.pages.lose(number);
     }
 
-    /// Appends a packet's line to a text where PAGE is followed, and learns what the packet teaches, orders and says of PAGE.
+    /// Appends a packet's line to a text if PAGE is followed, and learns what the packet teaches, orders and says of PAGE.
     pub(crate) fn tell_on_page(
         &mut self,
         options: &TellOptions,
@@ -98,7 +98,7 @@ impl Known {
         }
     }
 
-    // Does so for a packet that says nothing of PAGE and has no time.
+    // Appends the line of a packet that says nothing of PAGE and has no time, and learns from it.
     fn tell_beside(
         &mut self,
         options: &TellOptions,
@@ -125,7 +125,7 @@ impl Known {
             .learn(line.number, None, NOWHERE, PageUse::Beside)
     }
 
-    // Does so for any packet, by what is known of the page of its address.
+    // Appends the line of any packet, by what is known of the page of its address, and learns from it.
     fn tell_at_place(
         &mut self,
         options: &TellOptions,
@@ -178,7 +178,7 @@ impl Known {
         self.learn(options, marks, line)
     }
 
-    // Hears what a packet says of answers of ones, where packets without PEC are told.
+    // Hears what a packet says of answers of ones, if packets without PEC are shown.
     fn hear_answer(
         &mut self,
         options: &TellOptions,
@@ -222,7 +222,7 @@ impl Known {
         self.lessons.learn(line.number, marks.reached, line.shown)
     }
 
-    /// What the answer of a packet is taken for, where packets without PEC are told, and it isn't good with one.
+    /// What the answer of a packet is taken for, if packets without PEC are shown and it isn't good with one.
     pub(crate) fn ones(&self, all: bool, packet: &Packet<'_>, shown: &Shown<'_>) -> Ones
         ensures { result ≡ (if all && not (is_accepted (judged_in shown.now)) then ones_of self.now.answers packet.now.write.now
             (option_map (λ bytes. bytes.now) packet.now.read) else Answer) }

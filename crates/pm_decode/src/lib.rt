@@ -1,4 +1,4 @@
-//! Captures told to a person: what the lines of a trace say, as `pm_trace` has it, and behind it what
+//! Captures shown to a person: what the lines of a trace say, as `pm_trace` has it, and after it what
 //! the payloads mean, with times, packets of codes that the command table doesn't have, and without
 //! a limit, as text or as objects of JSON.
 //!

@@ -196,7 +196,7 @@ fn push_packet_text(
     }
 }
 
-// How a packet with these marks is told by its code and bytes.
+// How a packet with these marks is shown by its code and bytes.
 fn otherwise_by(options: &TellOptions, marks: &Marks, addr: u8) -> Otherwise
     ensures { result ≡ spec_otherwise_by options.now marks.now addr }
 {
@@ -208,7 +208,7 @@ fn otherwise_by(options: &TellOptions, marks: &Marks, addr: u8) -> Otherwise
     }
 }
 
-// What a packet says, with the output that it reaches where PAGE was followed.
+// What a packet says, with the output that it reaches if PAGE is followed.
 #[tactic(auto, using(pm_lines::specs::Lemmas::Joins::joins))]
 fn push_reached(
     text: &mut String,
@@ -231,7 +231,7 @@ fn push_reached(
     }
 }
 
-// What stands behind a packet for its marks: that it lacks its PEC, and the lines of which one contradicts the other.
+// What follows a packet for its marks: that it lacks its PEC, and the lines of which one contradicts the other.
 #[tactic(auto, using(pm_lines::specs::Lemmas::Joins::joins))]
 fn push_marks(text: &mut String, number: u64, marks: &Marks) -> Result<(), AllocError>
     ensures { OnOk result (string_bytes text.new
@@ -243,7 +243,7 @@ fn push_marks(text: &mut String, number: u64, marks: &Marks) -> Result<(), Alloc
     push_wrong_if(text, number, marks.wrong)
 }
 
-// What stands behind a packet in this line for the earlier one that it contradicts, if there is one.
+// What follows a packet in this line for the earlier one that it contradicts, if there is one.
 fn push_wrong_if(text: &mut String, number: u64, wrong: Option<u64>) -> Result<(), AllocError>
     ensures { OnOk result (string_bytes text.new ≡ string_bytes text.old ++ wrong_text number wrong) }
 {
@@ -253,7 +253,7 @@ fn push_wrong_if(text: &mut String, number: u64, wrong: Option<u64>) -> Result<(
     }
 }
 
-// What stands behind a packet in this line that contradicts an earlier one.
+// What follows a packet in this line that contradicts an earlier one.
 #[tactic(auto, using(pm_lines::specs::Lemmas::Joins::joins))]
 fn push_wrong(text: &mut String, number: u64, line: u64) -> Result<(), AllocError>
     ensures { OnOk result (string_bytes text.new ≡ string_bytes text.old ++ wrong_text number (Some line)) }
@@ -272,7 +272,7 @@ fn push_two_lines(text: &mut String, line: u64, number: u64) -> Result<(), Alloc
     push_decimal(text, number)
 }
 
-// The time of a packet, where it is known.
+// The time of a packet, if it is known.
 #[tactic(auto, using(pm_lines::specs::Lemmas::Joins::joins))]
 fn push_time(text: &mut String, time: Option<u64>) -> Result<(), AllocError>
     ensures { OnOk result (string_bytes text.new ≡ string_bytes text.old ++ time_text time) }
@@ -285,7 +285,7 @@ fn push_time(text: &mut String, time: Option<u64>) -> Result<(), AllocError>
     text.push_str(" us")
 }
 
-// What stands behind a packet's text: its value, or its bytes where it has a fault.
+// What follows a packet's text: its value, or its bytes if it has a fault.
 #[tactic(auto, using(pm_lines::specs::Lemmas::Joins::joins))]
 fn push_extra(
     text: &mut String,
@@ -304,7 +304,7 @@ fn push_extra(
     }
 }
 
-// Appends what the packet means, if values are told.
+// Appends what the packet means, if values are shown.
 #[tactic(auto, using(pm_lines::specs::Lemmas::Joins::joins))]
 fn push_meaning(
     text: &mut String,
@@ -331,7 +331,7 @@ fn push_meaning(
     }
 }
 
-// All bytes of a packet, where it has a byte, or a read part.
+// All bytes of a packet, if it has a byte or a read part.
 #[tactic(auto, using(pm_lines::specs::Lemmas::Joins::joins))]
 fn push_bytes(text: &mut String, packet: &Packet<'_>) -> Result<(), AllocError>
     ensures { OnOk result (string_bytes text.new ≡ string_bytes text.old ++ bytes_text (packet_in packet.now)) }

@@ -92,7 +92,7 @@ impl ToldText {
         self.hear_any(heard, options, number, line)
     }
 
-    // Hears a usual packet, where no option changes what is told.
+    // Hears a usual packet, if no option changes what is shown.
     #[tactic(auto, using(crate::proofs::UsualLemmas::fronts))]
     fn hear_usual(
         &mut self,

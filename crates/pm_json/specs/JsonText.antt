@@ -30,7 +30,7 @@ use Rattle.pm_values.specs.declared.value.Value.TheVariants.{Measured, Operates,
 
 -- ---- fields
 
--- a key behind other fields
+-- a key after other fields
 unfoldable pub key : List ℕ → List ℕ
 key name = codes ",\"" ++ (name ++ codes "\":")
 
@@ -118,7 +118,7 @@ code_fields code = text_field (codes "code") (hex_byte code) ++ text_field (code
 abbrev pub numbers_fields : Coefficients → List ℕ
 numbers_fields c = signed_field (codes "m") c.m ++ (signed_field (codes "b") c.b ++ signed_field (codes "r") c.r)
 
--- the output that a packet reaches where PAGE was followed, or the one that it names
+-- the output that a packet reaches if PAGE is followed, or the one that it names
 abbrev pub page_fields : Option ℕ → Option ℕ → List ℕ
 page_fields None named = number_field_if (codes "page") named
 page_fields (Some page) named = number_field (codes "page") page ++ codes ",\"followed\":true"
@@ -191,7 +191,7 @@ abbrev pub fault_fields : Bool → List ℕ → Option (List ℕ) → Bool → F
 fault_fields values write read is_read fault = text_field (codes "direction") (if is_read then codes "read" else codes "write")
     ++ (whole_field values write read ++ kind_fields fault)
 
--- ---- a packet that is told by its code and bytes
+-- ---- a packet that is shown by its code and bytes
 
 -- the name of a code that the standard has
 abbrev pub name_field : List ℕ → List ℕ
@@ -231,11 +231,11 @@ other_fields otherwise write read = address_field (Some otherwise.addr)
     ++ (content_fields otherwise.values otherwise.reached (content_of write read)
     ++ pec_fields (has_pec write read) otherwise.ones)
 
--- behind a packet of the table that lacks its PEC, whose answer of ones is taken so
+-- the field of a packet of the table that lacks its PEC, whose answer of ones is taken so
 abbrev pub lack_field : Ones → Bool → List ℕ
 lack_field ones lacks = if lacks then ones_fields ones else []
 
--- behind one that contradicts a line: the two lines
+-- the field of a packet that contradicts a line: the two lines
 unfoldable pub lines_field : ℕ → ℕ → List ℕ
 lines_field line number = key (codes "wrong") ++ (codes "[" ++ (decimal line ++ (codes "," ++ (decimal number ++ codes "]"))))
 

@@ -35,7 +35,7 @@ fn push_kind_fields(text: &mut String, fault: FrameFault) -> Result<(), AllocErr
     push_number_field_if(text, "place", place_of(fault))
 }
 
-// The place of a fault, where it has one.
+// The place of a fault, if it has one.
 fn place_of(fault: FrameFault) -> Option<u64>
     ensures { result ≡ frame_fault_place fault }
 {
@@ -52,7 +52,7 @@ fn direction(is_read: bool) -> &'static str
     if is_read { "read" } else { "write" }
 }
 
-// All bytes of a packet, where they are wanted.
+// All bytes of a packet, if they are asked for.
 #[tactic(auto, using(pm_lines::specs::Lemmas::Joins::joins), unfolding(crate::specs::JsonText::text_field))]
 fn push_whole_field(text: &mut String, values: bool, packet: &Packet<'_>) -> Result<(), AllocError>
     ensures { OnOk result (string_bytes text.new ≡ string_bytes text.old

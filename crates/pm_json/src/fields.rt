@@ -7,7 +7,7 @@ use pm_lines::{push_decimal, push_hex, push_signed};
 use pm_packets::push_spaced;
 use std::alloc::AllocError;
 
-/// Appends a key behind other fields to a text.
+/// Appends a key after other fields to a text.
 #[tactic(auto, using(pm_lines::specs::Lemmas::Joins::joins), unfolding(crate::specs::JsonText::key))]
 pub(crate) fn push_key(text: &mut String, name: &str) -> Result<(), AllocError>
     ensures { OnOk result (string_bytes text.new ≡ string_bytes text.old ++ key name.now) }
@@ -17,7 +17,7 @@ pub(crate) fn push_key(text: &mut String, name: &str) -> Result<(), AllocError>
     text.push_str("\":")
 }
 
-/// Appends a key behind other fields to a text, and the quote before the key's own text.
+/// Appends a key after other fields to a text, and the quote before the key's own text.
 #[tactic(auto, using(pm_lines::specs::Lemmas::Joins::joins), unfolding(crate::specs::JsonText::key))]
 pub(crate) fn push_text_key(text: &mut String, name: &str) -> Result<(), AllocError>
     ensures { OnOk result (string_bytes text.new ≡ string_bytes text.old ++ (key name.now ++ codes "\"")) }
@@ -69,7 +69,7 @@ pub(crate) fn push_signed_field(
     push_signed(text, number)
 }
 
-/// Appends a field with a number, where there is one.
+/// Appends a field with a number, if there is one.
 pub fn push_number_field_if(
     text: &mut String,
     name: &str,
@@ -95,7 +95,7 @@ fn push_hex_words(text: &mut String, bytes: &[u8]) -> Result<(), AllocError>
     push_spaced(text, rest)
 }
 
-/// Appends a field with bytes, where there are some.
+/// Appends a field with bytes, if there are any.
 #[tactic(auto, using(pm_lines::specs::Lemmas::Joins::joins), unfolding(crate::specs::JsonText::bytes_field, crate::specs::JsonText::text_field))]
 pub(crate) fn push_bytes_field(
     text: &mut String,
@@ -112,7 +112,7 @@ pub(crate) fn push_bytes_field(
     text.push_str("\"")
 }
 
-/// Appends the field of an address, where there is one.
+/// Appends the field of an address, if there is one.
 pub(crate) fn push_address_field(text: &mut String, addr: Option<u8>) -> Result<(), AllocError>
     ensures { OnOk result (string_bytes text.new ≡ string_bytes text.old ++ address_field addr) }
 {

@@ -91,7 +91,7 @@ fn push_plain_fields(
     Ok(())
 }
 
-/// The output that a packet reaches where PAGE was followed, or the one that it names.
+/// The output that a packet reaches if PAGE is followed, or the one that it names.
 #[tactic(auto, using(pm_lines::specs::Lemmas::Joins::joins))]
 pub(crate) fn push_page_fields(
     text: &mut String,

@@ -8,7 +8,7 @@ use pm_lines::push_decimal;
 use pm_packets::Ones;
 use std::alloc::AllocError;
 
-/// Appends the field of the two lines of which one contradicts the other, where there are two.
+/// Appends the field of the two lines of which one contradicts the other, if there are two.
 pub fn push_wrong_field(
     text: &mut String,
     number: u64,

@@ -1,4 +1,4 @@
-//! The fields of a packet that is told by its code and bytes.
+//! The fields of a packet that is shown by its code and bytes.
 ghost use Rattle.std.specs.Prelude.{◌≡◌, ◌++◌, option_map, OnOk, string_bytes};
 ghost use Rattle.pm_packets.specs.Contents.{content_in};
 ghost use Rattle.pm_json.specs.JsonText.{content_fields, meaning_fields, name_field, other_fields, other_payload_by};
@@ -11,7 +11,7 @@ use pm_packets::{Content, Otherwise, Packet, standard_name};
 use pm_values::other_value;
 use std::alloc::AllocError;
 
-/// Appends the fields of a packet that is told by its code and bytes.
+/// Appends the fields of a packet that is shown by its code and bytes.
 #[tactic(auto, using(pm_lines::specs::Lemmas::Joins::joins), unfolding(crate::specs::JsonText::other_fields))]
 pub fn push_other_fields(
     text: &mut String,
@@ -49,7 +49,7 @@ fn push_content_fields(
     push_meaning_fields(text, values, content)
 }
 
-// The name of a code, where it has one.
+// The name of a code, if it has one.
 fn push_name_field(text: &mut String, name: &str) -> Result<(), AllocError>
     ensures { OnOk result (string_bytes text.new ≡ string_bytes text.old ++ name_field name.now) }
 {
@@ -79,7 +79,7 @@ fn push_other_payload(
     }
 }
 
-// What the bytes say, where that is wanted.
+// What the bytes say, if that is asked for.
 fn push_meaning_fields(
     text: &mut String,
     values: bool,

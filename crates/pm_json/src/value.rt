@@ -12,7 +12,7 @@ use pm_values::{
 };
 use std::alloc::AllocError;
 
-/// Appends the fields of a value to a text, where there is one.
+/// Appends the fields of a value to a text, if there is one.
 pub(crate) fn push_value_fields(text: &mut String, value: Option<Value>) -> Result<(), AllocError>
     ensures { OnOk result (string_bytes text.new ≡ string_bytes text.old ++ value_fields_if value) }
 {

@@ -1,4 +1,4 @@
--- What an answer of nothing but FFh is taken for: an open bus reads as ones, and so does a register that holds them. What decides
+-- What an answer of nothing but FFh is taken for: an open bus reads as ones, as a register does that holds them. What decides
 -- is this project's own choice.
 use Rattle.std.specs.Prelude.{ℕ, ◌+◌, ◌-◌, ◌/◌, Bool, true, false, not, ◌&&◌, ◌||◌, ◌==◌, nat_eq, nat_le, nat_lt, if◌then◌else◌, is_some, List, [], ◌∷◌, drop, length, slice_index, unwrap_or, Option, Some, None}
 use Rattle.std.specs.Map.{lookup}
@@ -24,11 +24,11 @@ abbrev pub leading_ones : List ℕ → ℕ
 leading_ones [] = 0
 leading_ones (byte ∷ bytes) = if byte == 0xFF then leading_ones bytes + 1 else 0
 
--- what a write has behind the code
+-- what a write has after the code
 abbrev pub written_ones : List ℕ → WrittenOnes
 written_ones part = record { ones = leading_ones part; bytes = length part }
 
--- a write that doesn't begin with FFh counts where one did before
+-- a write that doesn't begin with FFh counts if one did before
 abbrev pub written_at : ℕ → ℕ → List ℕ → Answers → Answers
 written_at addr code write answers =
     if nat_lt 0 (leading_ones (drop 2 write)) || nat_lt 0 (length answers.written)
@@ -39,7 +39,7 @@ abbrev pub checked_at : ℕ → Bool → Answers → Answers
 checked_at addr checked answers = if checked && not (is_some (lookup (nat_eq addr) answers.checked))
     then record answers { checked = insert_entry nat_eq answers.checked addr true } else answers
 
--- behind a packet that isn't told as a fault
+-- what is known after a packet that isn't shown as a fault
 abbrev pub answers_by : List ℕ → Option (List ℕ) → Bool → Answers → Answers
 answers_by write None checked answers = written_at (slice_index write 0 / 2) (slice_index write 1) write answers
 answers_by write (Some read) checked answers = checked_at (slice_index write 0 / 2) checked answers

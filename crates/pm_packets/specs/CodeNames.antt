@@ -97,6 +97,6 @@ abbrev pub name_among : List Row → ℕ → List ℕ
 name_among [] code = []
 name_among (row ∷ rows) code = if row.0 == code then row.1 else name_among rows code
 
--- the name of a code, nothing where it has none
+-- the name of a code, nothing if it has none
 abbrev pub standard_name : ℕ → List ℕ
 standard_name code = if is_known code then name_of code else name_among (rows_near code) code

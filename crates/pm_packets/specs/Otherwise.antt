@@ -1,5 +1,5 @@
 -- Packets that the command table doesn't have with their bytes: those that are good but for a PEC which isn't there, and
--- those that are told by their code and bytes alone. Which packets these are, and how they are told, is this project's own
+-- those that are shown by their code and bytes. Which packets these are, and how they are shown, is this project's own
 -- choice.
 use Rattle.std.specs.Prelude.{◌≡◌, ℕ, ◌+◌, ◌-◌, Bool, true, false, not, ◌&&◌, ◌||◌, ◌==◌, nat_le, nat_lt, if◌then◌else◌, List, [], ◌∷◌, ◌++◌, length, take, drop, slice_index, flat_map, decimal, codes, unwrap_or, Option, Some, None}
 use Rattle.std.specs.List.{list_all}
@@ -47,7 +47,7 @@ has_code write read = nat_le 2 (length write) && is_read_from (slice_index write
 
 -- ---- the PEC
 
--- the last byte of the whole packet is the PEC of all bytes before it, and stands behind this many bytes of its part
+-- the last byte of the whole packet is the PEC of all bytes before it, and follows this many bytes of its part
 abbrev pub ends_in_pec : List ℕ → ℕ → List ℕ → Bool
 ends_in_pec before fewest part = nat_le (fewest + 1) (length part)
     && slice_index part (length part - 1) == pec_of (before ++ take (length part - 1) part)
@@ -66,7 +66,7 @@ fewest_written code = if is_of_word code then 2
 abbrev pub fewest_read : ℕ → ℕ
 fewest_read code = if is_of_word code then 2 else 1
 
--- behind the address and the code of a write, or behind the address of what was read, and behind the bytes that the code has
+-- the PEC follows the address and the code of a write, or the address of what was read, and the bytes that the code has
 abbrev pub has_pec : List ℕ → Option (List ℕ) → Bool
 has_pec write None = ends_in_pec [] (fewest_written (slice_index write 1) + 2) write
 has_pec write (Some read) = ends_in_pec write (fewest_read (slice_index write 1) + 1) read
@@ -77,7 +77,7 @@ has_pec write (Some read) = ends_in_pec write (fewest_read (slice_index write 1)
 abbrev pub are_ones : List ℕ → Bool
 are_ones bytes = not (length bytes == 0) && list_all (λ byte. byte == 0xFF) bytes
 
--- what was read behind the address is nothing but FFh, and no PEC of it is right
+-- what was read after the address is nothing but FFh, and no PEC of it is right
 abbrev pub is_all_ones : List ℕ → Option (List ℕ) → Bool
 is_all_ones write None = false
 is_all_ones write (Some read) = are_ones (drop 1 read) && not (has_pec write (Some read))
@@ -104,7 +104,7 @@ is_miscounted write None = slice_index write 1 == command.page_plus_write
     && (slice_index write 2 + 4 == length write && not (has_pec write None))
 is_miscounted write (Some read) = false
 
--- the address of a packet that is told by its code and bytes
+-- the address of a packet that is shown by its code and bytes
 abbrev pub address_otherwise : Ones → List ℕ → Option (List ℕ) → Judged → Option ℕ
 address_otherwise ones write read (Faulty (Some addr) is_read fault) =
     if has_code write read && ((is_of_code (slice_index write 1) read fault || not (is_answer ones)) && not (is_miscounted write read))
@@ -138,7 +138,7 @@ with_pec before part = part ++ pec_of (before ++ part) ∷ []
 abbrev pub judged_with : List ℕ → Bool → List ℕ → Judged
 judged_with write is_read part = if is_read then parts_judged write (Some part) else parts_judged part None
 
--- the packet with its PEC behind it
+-- the packet with its PEC after it
 abbrev pub completed_judged : List ℕ → Option (List ℕ) → Judged
 completed_judged write None = judged_with write false (with_pec [] write)
 completed_judged write (Some read) = judged_with write true (with_pec write read)
@@ -158,22 +158,22 @@ abbrev pub lacks_pec : Ones → List ℕ → Option (List ℕ) → Bool
 lacks_pec ones write read = is_short (parts_judged write read) && (nat_lt (length (last_part write read)) 16
     && (not (is_nobody ones) && is_accepted (completed_judged write read)))
 
--- what a packet says where its PEC may be missing
+-- what a packet says if its PEC may be missing
 abbrev pub judged_anyway : Ones → List ℕ → Option (List ℕ) → Judged
 judged_anyway ones write read = if lacks_pec ones write read then completed_judged write read else parts_judged write read
 
--- ---- how they are told
+-- ---- how they are shown
 
--- a part without its first bytes and without its PEC, where it has one
+-- a part without its first bytes and without its PEC, if it has one
 abbrev pub shown_of : ℕ → Bool → List ℕ → List ℕ
 shown_of fewest is_right part = drop fewest (if is_right then take (length part - 1) part else part)
 
--- what was written behind the code
+-- what was written after the code
 abbrev pub written_bytes : List ℕ → Option (List ℕ) → List ℕ
 written_bytes write None = shown_of 2 (has_pec write None) write
 written_bytes write (Some read) = drop 2 write
 
--- what was answered behind the address, where something was read
+-- what was answered after the address, if anything was read
 abbrev pub answer_bytes : List ℕ → Option (List ℕ) → Option (List ℕ)
 answer_bytes write None = None
 answer_bytes write (Some read) = Some (shown_of 1 (has_pec write (Some read)) read)
@@ -195,7 +195,7 @@ named code = named_by (standard_name code)
 
 -- ---- what they carry
 
--- the page, the code and the bytes of a packet; where nothing was read there is no answer
+-- the page, the code and the bytes of a packet; there is no answer if nothing was read
 pub record ContentBytes : Type 0 where
   pub page : Option ℕ
   pub code : ℕ
@@ -205,14 +205,14 @@ pub record ContentBytes : Type 0 where
 abbrev pub content : Option ℕ → ℕ → List ℕ → Option (List ℕ) → ContentBytes
 content page code written answer = record { page = page; code = code; written = written; answer = answer }
 
--- a write: PAGE_PLUS_WRITE carries another code's, where its count is that of the page, the code and the bytes
+-- a write: PAGE_PLUS_WRITE carries another code's, if its count is that of the page, the code and the bytes
 abbrev pub write_content : ℕ → List ℕ → ContentBytes
 write_content code (count ∷ page ∷ carried ∷ bytes) =
     if code == command.page_plus_write && count == length bytes + 2
     then content (Some page) carried bytes None else content None code (count ∷ page ∷ carried ∷ bytes) None
 write_content code written = content None code written None
 
--- a read: PAGE_PLUS_READ carries another code's, where its count is 2, and the count of the answer is that of the bytes
+-- a read: PAGE_PLUS_READ carries another code's, if its count is 2, and the count of the answer is that of the bytes
 abbrev pub read_content : ℕ → List ℕ → List ℕ → ContentBytes
 read_content code (count ∷ page ∷ carried ∷ []) (size ∷ bytes) =
     if code == command.page_plus_read && (count == 2 && size == length bytes)
@@ -250,7 +250,7 @@ unfilled block = if has_filler block then take (length block - 1) block else blo
 abbrev pub are_some_letters : List ℕ → Bool
 are_some_letters letters = not (length letters == 0) && list_all is_told_letter letters
 
--- the letters of a block behind its count
+-- the letters of a block after its count
 abbrev pub letters_in : List ℕ → Option (List ℕ)
 letters_in [] = None
 letters_in (count ∷ block) =
@@ -270,11 +270,11 @@ abbrev pub meaning_by : Option (List ℕ) → ContentBytes → List ℕ
 meaning_by None content = known_text (other_value content.code (said_bytes content))
 meaning_by (Some letters) content = letters_text letters
 
--- what the bytes say, where that is wanted
+-- what the bytes say, if that is asked for
 abbrev pub content_meaning : Bool → ContentBytes → List ℕ
 content_meaning values content = if values then meaning_by (content_letters content) content else []
 
--- what was written, where something was
+-- what was written, if anything was
 abbrev pub written_text : List ℕ → List ℕ
 written_text [] = []
 written_text (byte ∷ bytes) = codes " write" ++ spaced (byte ∷ bytes)
@@ -305,7 +305,7 @@ content_page (Some page) named = codes " page " ++ (decimal page ++ codes "?")
 content_page None None = []
 content_page None (Some page) = codes " page " ++ decimal page
 
--- `reached` is the output that PAGE selects, where that is followed
+-- `reached` is the output that PAGE selects, if that is followed
 unfoldable pub content_text : Bool → Option ℕ → ContentBytes → List ℕ
 content_text values reached content = content_page reached content.page ++ (codes " code " ++ (hex_byte content.code
     ++ (named content.code ++ (carried_by content.written content.answer ++ content_meaning values content))))

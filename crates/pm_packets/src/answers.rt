@@ -83,7 +83,7 @@ impl Answers {
         }
     }
 
-    /// Hears a packet that isn't told as a fault; `is_checked` is whether its PEC is right. Takes memory for an address and a
+    /// Hears a packet that isn't shown as a fault; `is_checked` is whether its PEC is right. Takes memory for an address and a
     /// code that is new.
     pub fn hear(&mut self, packet: &Packet<'_>, is_checked: bool) -> Result<(), AllocError>
         ensures { OnOk result (self.new ≡ answers_by packet.now.write.now (option_map (λ bytes. bytes.now) packet.now.read) is_checked self.old) }

@@ -166,7 +166,7 @@ static FROM_A0: [CodeRow; 36] = [
     (0xFF, "PMBUS_COMMAND_EXT"),
 ];
 
-/// The name of a code; no text where the standard has none, or none but its number.
+/// The name of a code; no text if the standard has none, or none but its number.
 pub fn standard_name(code: u8) -> &'static str
     ensures { result.now ≡ spec_standard_name code }
 {

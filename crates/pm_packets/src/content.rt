@@ -1,4 +1,4 @@
-//! What a packet carries that is told by its code and bytes.
+//! What a packet carries that is shown by its code and bytes.
 ghost use Rattle.std.specs.Prelude.{◌≡◌, Some, true, option_map};
 ghost use Rattle.std.specs.List.{list_all};
 ghost use Rattle.pm_packets.specs.Contents.{content_in};
@@ -8,16 +8,16 @@ use crate::packet::{Packet, shown_of, without_last};
 use pm_table::Code;
 
 /// The page, the code and the bytes of a packet, without its PEC: those of another code that PAGE_PLUS_WRITE or
-/// PAGE_PLUS_READ carries, where its counts are those of the bytes.
+/// PAGE_PLUS_READ carries, if its counts are those of the bytes.
 #[derive(Clone, Copy, Debug)]
 pub struct Content<'a> {
     /// The page of a carried code.
     pub page: Option<u8>,
-    /// The code, which is the carried one where there is a page.
+    /// The code, which is the carried one if there is a page.
     pub code: u8,
-    /// What was written behind the code.
+    /// What was written after the code.
     pub written: &'a [u8],
-    /// What was answered; `None` where nothing was read.
+    /// What was answered; `None` if nothing was read.
     pub answer: Option<&'a [u8]>,
 }
 
@@ -122,7 +122,7 @@ fn is_text_code(code: u8) -> bool
     (0x99 <= code && code <= 0x9E) || code == 0xAD || code == 0xAE
 }
 
-// The letters behind their count, without the byte that fills them up.
+// The letters after their count, without the byte that fills them up.
 fn letters_in<'a>(bytes: &'a [u8]) -> Option<&'a str>
     ensures { option_map (λ letters. letters.now) result ≡ spec_letters_in bytes.entry.now }
 {

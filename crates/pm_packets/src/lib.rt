@@ -1,7 +1,7 @@
 //! Packets of any code, whether the command table has them or not: their bytes, their PEC if they have one, the names of all
 //! codes, and what an answer of nothing but FFh is taken for.
 //!
-//! A packet that lacks its PEC is judged as one that has it. One that the table doesn't have is told by its code and bytes, as
+//! A packet that lacks its PEC is judged as one that has it. One that the table doesn't have is shown by its code and bytes, as
 //! `58 code FD write 01 02, no PEC`:
 //!
 //! ```

@@ -5,7 +5,7 @@ use pm_trace::count_code;
 use std::alloc::{AllocError, Global};
 use std::marker::Model;
 
-/// How often each code was carried by packets that are told by their code and bytes.
+/// How often each code was carried by packets that are shown by their code and bytes.
 #[derive(Debug, Drop)]
 pub struct Others {
     codes: IndexMap<u8, u64>,
@@ -38,7 +38,7 @@ impl Others {
         }
     }
 
-    /// Counts a code. Takes memory where it is new.
+    /// Counts a code. Takes memory if it is new.
     #[tactic(auto, using(pm_trace::specs::Lemmas::Counts::total_one_more))]
     pub fn count(&mut self, code: u8) -> Result<(), AllocError>
         requires { total_of self.old + 1 < 2 ^ 64 }
@@ -51,7 +51,7 @@ impl Others {
         Ok(())
     }
 
-    /// How often a code was carried, where it was.
+    /// How often a code was carried, if it was.
     pub fn of(&self, code: u8) -> Option<u64>
         ensures { result ≡ lookup (nat_eq code) self.now }
     {

@@ -1,5 +1,5 @@
-//! Packets that the command table doesn't have with their bytes: those that lack their PEC, and those that are told by
-//! their code and bytes alone.
+//! Packets that the command table doesn't have with their bytes: those that lack their PEC, and those that are shown by
+//! their code and bytes.
 ghost use Rattle.std.specs.Prelude.{◌≡◌, ◌++◌, ◌&&◌, ◌||◌, not, IfSome, is_some, option_map, slice_index, string_bytes, OnOk};
 ghost use Rattle.pm_trace.specs.ShownLines.{judged_in};
 ghost use Rattle.pm_trace.specs.Trace.{parts_judged};
@@ -18,20 +18,20 @@ use pm_trace::{Shown, packet_shown};
 use pm_values::{other_value, push_known};
 use std::alloc::AllocError;
 
-/// How a packet is told by its code and bytes.
+/// How a packet is shown by its code and bytes.
 #[derive(Clone, Copy, Debug)]
 pub struct Otherwise {
-    /// What the bytes say is told too.
+    /// What the bytes say is shown too.
     pub values: bool,
     /// The address.
     pub addr: u8,
-    /// The output that PAGE selects, where that is followed.
+    /// The output that PAGE selects, if that is followed.
     pub reached: Option<u8>,
     /// What an answer of ones is taken for.
     pub ones: Ones,
 }
 
-/// The last part of a packet with its PEC, where it has nothing but its PEC too few; `shown` is what it says without, and `ones`
+/// The last part of a packet with its PEC, if it lacks only its PEC; `shown` is what it says without, and `ones`
 /// what an answer of ones is taken for.
 pub fn completed_part(
     packet: &Packet<'_>,
@@ -86,9 +86,9 @@ fn is_good_with(write: &[u8], is_read: bool, part: &[u8]) -> bool
     matches!(shown_with(write, is_read, part), Shown::Accepted { .. })
 }
 
-/// The address of a packet that is told by its code and bytes: it has a fault of its code, its direction or its length, or
-/// maybe nobody answered, and it has an address and a code. A write of PAGE_PLUS isn't whose count says that its last byte is the PEC, which
-/// is wrong.
+/// The address of a packet that is shown by its code and bytes: it has a fault of its code, its direction or its length, or
+/// maybe nobody answered, and it has an address and a code. A write of PAGE_PLUS isn't shown so if its count says that its last
+/// byte is the PEC, which is wrong.
 pub fn address_otherwise(packet: &Packet<'_>, shown: &Shown<'_>, ones: Ones) -> Option<u8>
     ensures { result ≡ spec_address_otherwise ones packet.now.write.now (option_map (λ bytes. bytes.now) packet.now.read)
         (judged_in shown.now) }
@@ -253,7 +253,7 @@ fn push_page(text: &mut String, reached: Option<u8>, named: Option<u8>) -> Resul
     }
 }
 
-// The name of a code, where it has one.
+// The name of a code, if it has one.
 #[tactic(auto, using(pm_lines::specs::Lemmas::Joins::joins))]
 fn push_named(text: &mut String, name: &str) -> Result<(), AllocError>
     ensures { OnOk result (string_bytes text.new ≡ string_bytes text.old ++ named_by name.now) }
@@ -281,7 +281,7 @@ fn push_carried(text: &mut String, written: &[u8], answer: Option<&[u8]>) -> Res
     }
 }
 
-// What the bytes say, where that is wanted.
+// What the bytes say, if that is asked for.
 fn push_meaning(text: &mut String, values: bool, content: &Content<'_>) -> Result<(), AllocError>
     ensures { OnOk result (string_bytes text.new ≡ string_bytes text.old ++ content_meaning values (content_in content.now)) }
 {
@@ -314,7 +314,7 @@ fn push_sent(text: &mut String, bytes: &[u8]) -> Result<(), AllocError>
     push_written(text, bytes)
 }
 
-// What was written, where something was.
+// What was written, if anything was.
 #[tactic(auto, using(pm_lines::specs::Lemmas::Joins::joins))]
 fn push_written(text: &mut String, bytes: &[u8]) -> Result<(), AllocError>
     ensures { OnOk result (string_bytes text.new ≡ string_bytes text.old ++ written_text bytes.now) }

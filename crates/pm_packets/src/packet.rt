@@ -12,26 +12,26 @@ use pm_table::Code;
 pub struct Packet<'a> {
     /// The write part: the address byte, the code, what is written, and maybe the PEC.
     pub write: &'a [u8],
-    /// The read part, where there is one: the address byte, what was answered, and maybe the PEC.
+    /// The read part, if there is one: the address byte, what was answered, and maybe the PEC.
     pub read: Option<&'a [u8]>,
 }
 
 impl Packet<'_> {
-    /// The code, 0 where there is none.
+    /// The code, 0 if there is none.
     pub fn code(&self) -> u8
         ensures { result ≡ slice_index self.now.write.now 1 }
     {
         self.write.get(1).copied().unwrap_or(0)
     }
 
-    /// The address, by the first byte; 0 where there is none.
+    /// The address, by the first byte; 0 if there is none.
     pub(crate) fn address(&self) -> u8
         ensures { result ≡ slice_index self.now.write.now 0 / 2 }
     {
         self.write.first().copied().unwrap_or(0) / 2
     }
 
-    /// How many bytes were read behind the address.
+    /// How many bytes were read after the address.
     pub(crate) fn answer_len(&self) -> usize
         ensures { result ≡ length (drop 1 (unwrap_or (option_map (λ bytes. bytes.now) self.now.read) [])) }
     {
@@ -48,8 +48,8 @@ impl Packet<'_> {
         self.read.is_some()
     }
 
-    /// Whether the last byte is the PEC of all bytes before it, and stands behind the code of a write, or behind the
-    /// address of what was read, and behind the bytes that the code has at least.
+    /// Whether the last byte is the PEC of all bytes before it, and follows the code of a write, or the address of
+    /// what was read, and as many bytes as the code has at least.
     pub fn has_pec(&self) -> bool
         ensures { result ≡ spec_has_pec self.now.write.now (option_map (λ bytes. bytes.now) self.now.read) }
     {
@@ -59,7 +59,7 @@ impl Packet<'_> {
         }
     }
 
-    /// Whether what was read behind the address is nothing but FFh. It isn't where it ends in the right PEC.
+    /// Whether what was read after the address is nothing but FFh. An answer that ends in the right PEC isn't.
     pub fn is_all_ones(&self) -> bool
         ensures { result ≡ spec_is_all_ones self.now.write.now (option_map (λ bytes. bytes.now) self.now.read) }
     {
@@ -69,7 +69,7 @@ impl Packet<'_> {
         }
     }
 
-    /// The last part with the PEC that it would have, where it has fewer than 16 bytes.
+    /// The last part with the PEC that it would have, if it has fewer than 16 bytes.
     pub(crate) fn with_pec(&self) -> Option<ArrayVec<u8, 16>>
         ensures few { nat_lt (length (last_part self.now.write.now (option_map (λ bytes. bytes.now) self.now.read))) 16 ≡ is_some result }
         ensures part { IfSome result (λ part. IsCompleted self.now.write.now (option_map (λ bytes. bytes.now) self.now.read) part.items) }
@@ -81,7 +81,7 @@ impl Packet<'_> {
     }
 }
 
-// A part with the PEC of what was before it and of its bytes, where it has fewer than 16.
+// A part with the PEC of what was before it and of its bytes, if it has fewer than 16.
 fn part_with_pec(before: &[u8], part: &[u8]) -> Option<ArrayVec<u8, 16>>
     ensures few { nat_lt (length part.now) 16 ≡ is_some result }
     ensures part { IfSome result (λ made. made.items ≡ spec_with_pec before.now part.now) }
@@ -109,7 +109,7 @@ fn all_are_ones(bytes: &[u8]) -> bool
     bytes.iter().all(|byte| *byte == 0xFF)
 }
 
-// Whether the last byte of a part is the PEC of all bytes before it, and stands behind this many bytes of the part.
+// Whether the last byte of a part is the PEC of all bytes before it, and follows this many bytes of the part.
 fn ends_in_pec(before: &[u8], fewest: usize, part: &[u8]) -> bool
     requires { fewest ≤ 4 }
     ensures { result ≡ spec_ends_in_pec before.now fewest part.now }
@@ -151,7 +151,7 @@ fn is_of_word(code: u8) -> bool
     Code::READ_VIN.0 <= code && code <= 0x97
 }
 
-// A part without its first bytes, and without its PEC where it ends in it.
+// A part without its first bytes, and without its PEC if it ends in it.
 #[tactic(auto, using(std::proofs::lemmas::List::drop_all))]
 pub(crate) fn shown_of(fewest: usize, is_right: bool, part: &[u8]) -> &[u8]
     ensures { result.now ≡ spec_shown_of fewest is_right part.now }

@@ -51,7 +51,7 @@ pub record Wrote {W E : Type 0} (w : Writers W E) (wanted status : ℕ) (text : 
   pub done : IsDone w.err w.output' w.errors w.errors' wanted status
 
 module _ {W E : Type 0} (w : Writers W E) where
-  -- a text that was written is printed, or cut short where it wasn't handed on
+  -- a text that was written is printed, or cut short if it wasn't handed on
   pub ended : (wanted status : ℕ) (text : List ℕ) → Wrote w wanted status text
       → Ends w status (Printed wanted text) ⊎ Ends w status (CutShort text)
   ended wanted status text wrote = by wrote.done
@@ -88,7 +88,7 @@ module _ {W E : Type 0} (w : Writers W E) where
           | inr e ↦ (CutShort text, is, e)
         ]
 
-    -- what holds where `number` refuses
+    -- what holds if `number` refuses
     pub record NumberRefusal (fault : NumberFault) : Type 0 where
       pub line : (f : NumberFault) → IsCommandLineFault f → fault ≡ f → asked ≡ Err f
       pub num : (f : NumFault) → fault ≡ Num f → RefusesNumber asked f
@@ -106,7 +106,7 @@ module _ {W E : Type 0} (w : Writers W E) where
     refused_as fault is other why =
         (Refused (refusal_status fault) (refusal_words fault), (fault, refl, refl, why), refused _ _ (is.unwritten other) is.said)
 
-    -- each refusal of `number` is said; where the writer failed, the line was cut short
+    -- each refusal of `number` is said; the line was cut short if the writer failed
     pub number_refused : (fault : NumberFault) → NumberRefusal fault
         → (end : End) × NumberEnds asked end × Ends w (refusal_status fault) end
     number_refused OneOf is = refused_as OneOf is (λ e. cc) (is.line OneOf tt refl)
@@ -140,7 +140,7 @@ module _ {R W T : Type 0} (engine : Engine T) (status_in : T → ℕ) (remaining
   engine_wrote end status same (read, sound, text, made, written) =
       (sound, text, written, (read, end, same, made), (read_so_far _ _ new.failed engine.early text read, inr (end, made)))
 
-  -- what was told until then
+  -- what was shown until then
   broken : (fault : TextFault) → IsFalse output'.failed → IsTrue new.failed ↔ (fault ≡ Read) → (front : List ℕ)
       → Refuses engine (remaining old.inner) (remaining new.inner) fault front
       → (early : Option (List ℕ → List ℕ)) → engine.early ≡ early
@@ -151,7 +151,7 @@ module _ {R W T : Type 0} (engine : Engine T) (status_in : T → ℕ) (remaining
   broken fault sound failed front why (Some early) is (text, told, written) =
       (Broken text (text_refusal fault), (early, is, fault, refl, failed, front, why, told), refl, (sound, written), refl)
 
-  -- it refused, or its text was cut short where the writer failed
+  -- it refused, or its text was cut short since the writer failed
   pub engine_refused : (fault : TextFault) → EngineEnds engine (over remaining old new contents output output') (Err fault)
       → Refuses-as (EngineRuns engine status_in remaining old new) contents output output' (text_refusal fault)
   engine_refused Write (failed, text, read, under_way, (front, rest, split, some, appended)) =

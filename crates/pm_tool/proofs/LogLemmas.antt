@@ -18,7 +18,7 @@ module _ {R W : Type 0} (remaining : R → Option (List ℕ)) (old new : Held R)
   log_wrote end status same (read, sound, input, gave, is, written) =
       (sound, log_text input, written, (read, input, gave, same ∙ ap log_status is, refl), (read, input, gave, refl))
 
-  -- it refused, or its line was cut short where the writer failed
+  -- it refused, or its line was cut short since the writer failed
   pub log_refused : (fault : TextFault) → LogEnds (over remaining old new contents output output') (Err fault)
       → Refuses-as (CheckRuns remaining old new) contents output output' (text_refusal fault)
   log_refused Write (read, failed, input, gave, (front, rest, split, some, appended)) =

@@ -44,7 +44,7 @@ too_long_line program words again named is named_again =
 
 module _ {W E : Type 0} (w : Writers W E) (mid : Held W) (wanted status : ℕ) (text : List ℕ)
     (written : Appends (w.out w.output.inner) (w.out mid.inner) text) (kept : Keeps (w.out mid.inner) (w.out w.output'.inner)) where
-  -- a text that was written is told with what may be wrong, or cut short where it wasn't handed on
+  -- a text that was written is printed and what may be wrong is said, or it was cut short if it wasn't handed on
   told_whole : (hint : Option Hint) → IsToldDone w.err w.output' w.errors w.errors' wanted hint status
       → Ends w status (told_as wanted text hint) ⊎ Ends w status (CutShort text)
   told_whole None done = ended w wanted status text (record { mid = mid; written = written; kept = kept; done = done })
@@ -86,7 +86,7 @@ module _ {R W : Type 0} (options : TellOptions) (remaining : R → Option (List 
   runs_whole status text None is = is
   runs_whole status text (Some hint) is = is
 
-  -- a trace was told whole
+  -- a trace was shown whole
   pub tell_wrote : (told : TellEnd) (status : ℕ) → status ≡ decode_status told.end
       → LongEnds (most_bytes options.long) (capture_text options) (said_text options) (capture_end options)
       (over remaining old new contents output output') (Ok told)
@@ -101,7 +101,7 @@ module _ {R W : Type 0} (options : TellOptions) (remaining : R → Option (List 
         inr (read, input, gave, refl),
       )
 
-  -- it was told up to a refusal
+  -- it was shown up to a refusal
   told_until : (fault : TextFault) → IsFalse output'.failed → IsTrue new.failed ↔ (fault ≡ Read) → (front : List ℕ)
       → Breaks (most_bytes options.long) (capture_text options) (said_text options) (capture_end options)
       (reading remaining old new) fault front
@@ -121,7 +121,7 @@ module _ {R W : Type 0} (options : TellOptions) (remaining : R → Option (List 
   unwritten_write true = refl
   unwritten_write false = refl
 
-  -- it refused, or its text was cut short where the writer failed
+  -- it refused, or its text was cut short since the writer failed
   pub tell_refused : (fault : TextFault)
       → LongEnds (most_bytes options.long) (capture_text options) (said_text options) (capture_end options)
       (over remaining old new contents output output') (Err fault)

@@ -60,7 +60,7 @@ pub data End : Type 0 where
   CutShort : (text : List ℕ) → End
   -- standard output got nothing, and standard error says why
   Refused : (status : ℕ) (words : List ℕ) → End
-  -- standard output got the lines that were told so far, and standard error says why no more came
+  -- standard output got the lines that were shown until then, and standard error says why no more came
   Broken : (text : List ℕ) (words : List ℕ) → End
   -- standard output got nothing, and standard error gets the parser's own text
   Misused : (text : List ℕ) → End
@@ -91,7 +91,7 @@ abbrev pub AppendsSome : Option (List ℕ) → Option (List ℕ) → List ℕ �
 AppendsSome old new text =
     (front : List ℕ) × (rest : List ℕ) × (text ≡ front ++ rest) × Appends old new front
 
--- what standard output got; it failed exactly where its text was cut short
+-- what standard output got; it failed exactly if its text was cut short
 abbrev pub Prints : {W : Type 0} → (W → Option (List ℕ)) → Held W → Held W → End → Type 0
 Prints contents old new (Printed status text) =
     IsFalse new.failed × Appends (contents old.inner) (contents new.inner) text
@@ -104,7 +104,7 @@ Prints contents old new (Broken text words) =
     IsFalse new.failed × Appends (contents old.inner) (contents new.inner) text
 Prints contents old new (Misused text) = new ≡ old
 
--- what standard error got: nothing, or all that it was to get, or a strict front of it where it failed
+-- what standard error got: nothing, or all that it was to get, or a strict front of it if it failed
 abbrev pub SaysAny : {E : Type 0} → (E → Option (List ℕ)) → Held E → Held E → Option (List ℕ) → Type 0
 SaysAny contents old new None = new ≡ old
 SaysAny contents old new (Some line) = Says contents old new line
@@ -126,9 +126,9 @@ abbrev pub decode_status : DecodeEnd → ℕ
 decode_status Clean = 0
 decode_status BadLines = 1
 
--- How a run of an engine ends, whose ends have these statuses, by what its reader gave. Where it refuses, nothing
--- was printed if it writes nothing early, and otherwise what was told until then. The reader failed exactly
--- where X4 is said, or where standard output failed as well.
+-- How a run of an engine ends, whose ends have these statuses, by what its reader gave. After a refusal nothing
+-- was printed if it writes nothing early, and otherwise what was shown until then. The reader failed exactly
+-- if X4 is said, or if standard output failed as well.
 abbrev pub EngineRuns : {R T : Type 0} → Engine T → (T → ℕ) → (R → Option (List ℕ)) → Held R → Held R → End → Type 0
 EngineRuns {T = T} engine status_in remaining old new (Printed status text) = IsFalse new.failed
     × (end : T) × (status ≡ status_in end) × IsMade engine (remaining old.inner) (remaining new.inner) text end
@@ -148,7 +148,7 @@ EngineRuns engine status_in remaining old new (Misused text) = ⊥
 
 -- ---- `decode` with options
 
--- the run of a reader alone
+-- the run of only a reader
 abbrev pub reading : {R : Type 0} → (R → Option (List ℕ)) → Held R → Held R → Run R (Unit {0})
 reading remaining old new = over remaining old new (λ _. None) (record { inner = tt; failed = false })
     (record { inner = tt; failed = false })
@@ -165,7 +165,7 @@ abbrev pub told_as : ℕ → List ℕ → Option Hint → End
 told_as status text None = Printed status text
 told_as status text (Some hint) = Hinted status text (hint_words hint)
 
--- why a trace isn't told: one that is too long for these options is said so
+-- why a trace isn't shown: one that is too long for these options is said so
 abbrev pub untold : Bool → TextFault → Unwritten
 untold false TooLong = OverLong
 untold false (Syntax line) = RefusedBy (Syntax line)
@@ -241,7 +241,7 @@ TellEnds remaining old new given end = (asked : Result TellOptions TellFault) ×
 
 -- ---- `number`
 
--- why `number` refuses; memory is wanted only for a line to write
+-- why `number` refuses; memory is asked for only for a line to write
 abbrev pub NumberRefuses : Result Question NumberFault → NumberFault → Type 0
 NumberRefuses asked (Num fault) = RefusesNumber asked fault
 NumberRefuses asked (OfText Memory) = (text : List ℕ) × IsNumberText asked text
@@ -289,7 +289,7 @@ abbrev pub ParserEnds : {R : Type 0} → Held R → Held R → Kinds → End →
 ParserEnds old new faults end = ((new ≡ old) × (kind : ErrorKind) × IsAmong kind faults × UsageEnds kind end)
     ⊎ ((new ≡ old) × (end ≡ wants_memory))
 
--- how a run ends: where the parser finds no fault, as what it found to be chosen; otherwise as `ParserEnds` says
+-- how a run ends: if the parser finds no fault, as what it found to be chosen; otherwise as `ParserEnds` says
 abbrev pub WordsEnd : {R : Type 0} → (R → Option (List ℕ)) → Held R → Held R → List Text → End → Type 0
 WordsEnd remaining old new words end =
     ((fault_of pmb words ≡ []) × (chosen : Chosen)
@@ -297,7 +297,7 @@ WordsEnd remaining old new words end =
     × ChoiceEnds remaining old new chosen end)
     ⊎ ParserEnds old new (fault_of pmb words) end
 
--- how a run of `decode` with options ends, by the words from `decode` on: where the parser finds no fault, as the options that it found
+-- how a run of `decode` with options ends, by the words from `decode` on: if the parser finds no fault, as the options that it found
 -- say; otherwise as `ParserEnds` says
 abbrev pub OptionsEnd : {R : Type 0} → (R → Option (List ℕ)) → Held R → Held R → List Text → End → Type 0
 OptionsEnd remaining old new words end =
@@ -305,7 +305,7 @@ OptionsEnd remaining old new words end =
     × TellEnds remaining old new given end)
     ⊎ ParserEnds old new (fault_of tell_app words) end
 
--- how a run ends with these words, where those that are read for the options of `decode` stand apart
+-- how a run ends with these words, if those that are read for the options of `decode` stand apart
 abbrev pub LineEnds : {R : Type 0} → (R → Option (List ℕ)) → Held R → Held R → List Text → Option (List Text) → End → Type 0
 LineEnds remaining old new words None end = WordsEnd remaining old new words end
 LineEnds remaining old new words (Some options) end = OptionsEnd remaining old new options end
@@ -346,7 +346,7 @@ IsToldDone err output errors errors' wanted hint status =
     ⊎ ((IsTrue output.failed) × (status ≡ 1)
     × Says err errors errors' (refusal_line (fault_words Write)))
 
--- How a command ran that may end so: its text was written whole, to be printed or cut short where it isn't handed on; or why it
+-- How a command ran that may end so: its text was written whole, to be printed or cut short if it isn't handed on; or why it
 -- wasn't, and how the command then ends, of which standard error doesn't know yet.
 abbrev pub Runs : {W : Type 0} → (End → Type 0) → (W → Option (List ℕ)) → Held W → Held W → Result Written Unwritten → Type 0
 Runs ends contents old new (Ok written) = (IsFalse new.failed) × (text : List ℕ)

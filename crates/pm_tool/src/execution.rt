@@ -65,14 +65,14 @@ pub fn program<R: Read, W: Write, E: Write>(
 
 /// Runs the program: does what the words of the command line ask, over any reader and any two
 /// writers, and answers the exit status. The words are those of the arguments, the program's name
-/// first, or the error's kind where they couldn't be had as texts. None of the streams may have
+/// first, or the error's kind if they couldn't be had as texts. None of the streams may have
 /// failed before.
 ///
 /// Status 0: the text was written to the output, or help or the version that was asked for. Status 1:
 /// a stopped replay or a trace with a bad line. In both cases the third stream gets nothing but what may be
-/// wrong with a trace that was told with options, in one line. Status 1 too: a refused input, a
+/// wrong with a trace that was shown with options, in one line. Status 1 too: a refused input, a
 /// failed stream or want of memory, and 2: a faulty command line; each of these with one line on the
-/// third stream, where that can be written, but for the parser's own texts.
+/// third stream, if that can be written, but for the parser's own texts.
 ///
 /// Takes memory for what the parser makes of the words, and then as the command that they name.
 pub fn run<R: Read, W: Write, E: Write>(

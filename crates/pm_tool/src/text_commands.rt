@@ -17,13 +17,13 @@ use std::io::{Read, Write};
 pub(crate) enum TextCommand {
     /// `pmb hear`: status 0.
     Hear,
-    /// `pmb replay`: status 1 where it stopped.
+    /// `pmb replay`: status 1 if it stopped.
     Replay,
-    /// `pmb decode` without options: status 1 where a line is bad.
+    /// `pmb decode` without options: status 1 if a line is bad.
     Decode,
     /// `pmb decode` with these options: the same status, and what may be wrong.
     Tell(TellOptions),
-    /// `pmb check`: status 1 where a line of the log isn't accepted.
+    /// `pmb check`: status 1 if a line of the log isn't accepted.
     Check,
 }
 
@@ -126,7 +126,7 @@ fn run_decode<R: Read, W: Write>(
     }
 }
 
-// The trace of the reader is told as the options have it.
+// The trace of the reader is shown as the options have it.
 fn run_tell<R: Read, W: Write>(
     alloc: Global,
     reader: &mut Source<R>,
@@ -165,7 +165,7 @@ fn run_check<R: Read, W: Write>(
     }
 }
 
-// Why a trace wasn't told.
+// Why a trace wasn't shown.
 fn untold(long: bool, fault: TextFault) -> Unwritten
     ensures { result ≡ spec_untold long fault }
 {
@@ -185,7 +185,7 @@ fn status_of_replay(end: ReplayEnd) -> u8
     }
 }
 
-// The status of a trace that was told.
+// The status of a trace that was shown.
 fn status_of_trace(end: DecodeEnd) -> u8
     ensures { result ≡ decode_status end }
 {

@@ -1,4 +1,4 @@
-//! What captures are told as, written out by hand.
+//! What captures are shown as, written out by hand.
 
 use crate::checks::equal;
 use pm_decode::{TellEnd, TellOptions, tell};
@@ -7,7 +7,7 @@ use pm_values::GivenFormats;
 use std::alloc::Global;
 use std::process::Abort;
 
-// How a row is told: nothing beside the packets.
+// How a row is shown: nothing beside the packets.
 const PLAIN: TellOptions = TellOptions {
     values: false,
     formats: GivenFormats {
@@ -39,7 +39,7 @@ fn told(
     (end, writer.into_inner())
 }
 
-// Rows of captures and their texts, told with these options.
+// Rows of captures and their texts, shown with these options.
 fn are_told(rt: &(impl Abort + AllocGlobal), rows: &[(&str, &str)], options: &TellOptions) {
     for (row, (capture, text)) in rows.iter().enumerate() {
         let (_, written) = told(rt.alloc(), capture, options);

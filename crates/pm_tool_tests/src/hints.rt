@@ -1,4 +1,4 @@
-//! What `decode` with options says of a trace that was told whole, where something may be wrong.
+//! What `decode` with options says of a trace that was shown whole, if something may be wrong.
 
 use crate::checks::is_true;
 use crate::run::run_on;
@@ -44,7 +44,7 @@ static HINTS: [(&[&str], &str, u8, &str, &str); 17] = [
         "1 58 PAGE write 01\n2 58 page 1? VOUT_MODE read 00 ULINEAR16 0\n3 58 page 1? VOUT_COMMAND write 03E9 1001 V\n4 58 PAGE write 00\n5 58 page 0? VOUT_COMMAND write 03E9 1001 V\ncount PAGE 2\ncount VOUT_MODE 1\ncount VOUT_COMMAND 2\nlines 5 accepted 5 faults 0 bad 0\n",
         "pmb: line 5 orders a voltage beyond 1000 V by --vout: a minus may be missing\n",
     ),
-    // Times at one end alone. Where a packet was read, nothing is said.
+    // Times at one end only. If a packet was read, nothing is said.
     (
         &["pmb", "decode", "--times"],
         "B0 05 04 00 21 CD 34 5A\n",

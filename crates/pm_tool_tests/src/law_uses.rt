@@ -19,7 +19,7 @@ pub fn microvolts_of(voltage: Frac) -> i128
     millionths(voltage)
 }
 
-/// A capture that is told without options is told as a trace.
+/// A capture that is shown without options is shown as a trace.
 pub fn a_capture_without_options(text: &[u8])
     ensures { (formats : GivenFormats) (long : Bool) (gap : ℕ) →
         capture_text (plain_options formats long gap) text.now ≡ trace_text text.now }

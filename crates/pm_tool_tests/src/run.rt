@@ -188,7 +188,7 @@ fn run_into(alloc: Global, words: &[&str], output: Paper) -> Ran {
     )
 }
 
-// An output that fails at this call has a front of the text, and the failure is told.
+// An output that fails at this call has a front of the text, and the failure is said.
 fn ends_at_write(
     rt: &(impl Abort + AllocGlobal),
     words: &[&str],
@@ -311,7 +311,7 @@ fn what_is_printed_is_handed_on_once_whatever_the_status(rt: HostRuntime) {
     is_handed_on(&rt, "decode", TRACE, 1, (LINES, ""));
 }
 
-// What is printed is flushed once, and a flush that fails is told.
+// What is printed is flushed once, and a flush that fails is said.
 fn is_handed_on(
     rt: &(impl Abort + AllocGlobal),
     command: &str,

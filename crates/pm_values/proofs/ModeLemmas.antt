@@ -1,4 +1,4 @@
--- Nothing is found where nothing was said.
+-- Nothing is found if nothing was said.
 use Rattle.std.proofs.Common.{◌≡◌, ℕ, Bool, List, [], ◌∷◌, None, length, arith, refl}
 use Rattle.std.specs.Map.{lookup}
 

@@ -85,7 +85,7 @@ fn parts_of(size: i128) -> (u64, u64)
     ((size / 1_000_000) as u64, (size % 1_000_000) as u64)
 }
 
-// The point, and the digits behind it, where there are some.
+// The point and the digits after it, if there are any.
 #[tactic(auto, using(pm_lines::specs::Lemmas::Joins::joins))]
 fn push_point(text: &mut String, part: u64) -> Result<(), AllocError>
     requires { part < 1000000 }
@@ -98,7 +98,7 @@ fn push_point(text: &mut String, part: u64) -> Result<(), AllocError>
     push_places(text, 6, part)
 }
 
-// The digits behind the point, at most this many.
+// The digits after the point, at most this many.
 #[tactic(auto, using(pm_lines::specs::Lemmas::Joins::joins))]
 fn push_places(text: &mut String, most: u32, part: u64) -> Result<(), AllocError>
     requires { part < 1000000 }

@@ -1,4 +1,4 @@
-//! What the payload of a packet means, whatever the text that it is told in: its value, with the bits of the status registers by
+//! What the payload of a packet means, whatever text shows it: its value, with the bits of the status registers by
 //! name, and the formats of words that a capture teaches.
 //!
 //! The text of a value is appended to any text. Which lines a capture has, and what stands around a value, is not here. The bits

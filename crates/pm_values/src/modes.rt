@@ -10,7 +10,7 @@ use std::marker::Model;
 /// What a line said of an output's VOUT_MODE.
 #[derive(Clone, Copy, Debug)]
 pub(crate) struct ModeLine {
-    // Not known where it was written over.
+    // Not known if it was written over.
     byte: Option<u8>,
     line: u64,
 }
@@ -121,7 +121,7 @@ impl Modes {
         }
     }
 
-    /// What is known of the mode of a packet that reaches this page, where it is known: nothing was said of it, or the byte
+    /// What is known of the mode of a packet that reaches this page, if anything is: nothing was said of it, or the byte
     /// if that is still known. FFh is all pages.
     pub(crate) fn of_page(&self, addr: u8, page: Option<u8>) -> Option<Option<u8>>
         ensures { result ≡ page_mode self.now addr page }
@@ -135,7 +135,7 @@ impl Modes {
         }
     }
 
-    // What is known of an output's mode. Where nothing was said of any, it needs no look-up.
+    // What is known of an output's mode. If nothing was said of any, it needs no look-up.
     #[tactic(auto, using(crate::proofs::ModeLemmas::none_said))]
     fn of_output(&self, addr: u8, page: u8) -> Option<Option<u8>>
         ensures { result ≡ mode_known self.now addr page }
@@ -225,7 +225,7 @@ fn agree(agreed: Option<Option<u8>>, mode: Option<u8>) -> Option<Option<u8>>
     }
 }
 
-// Two modes, where they are known and the same.
+// Two modes, if they are known and the same.
 fn same_mode(one: Option<u8>, other: Option<u8>) -> Option<u8>
     ensures { result ≡ spec_same_mode one other }
 {

@@ -8,7 +8,7 @@ use std::alloc::AllocError;
 /// What stands around each of several names, and between two of them.
 #[derive(Clone, Copy, Debug)]
 pub struct NameMarks<'a> {
-    /// Before and behind each name.
+    /// Before and after each name.
     pub around: &'a str,
     /// Between two names.
     pub between: &'a str,

@@ -13,7 +13,7 @@ use pm_num::Frac;
 use pm_table::VoutMode;
 use std::alloc::AllocError;
 
-/// Appends a space and a value to a text, where there is a value, as ` 3.300048 V`.
+/// Appends a space and a value to a text, if there is a value, as ` 3.300048 V`.
 #[tactic(auto, using(pm_lines::specs::Lemmas::Joins::joins))]
 pub fn push_known(text: &mut String, value: Option<Value>) -> Result<(), AllocError>
     ensures { OnOk result (string_bytes text.new ≡ string_bytes text.old ++ known_text value) }
@@ -46,7 +46,7 @@ fn push_value(text: &mut String, value: Value) -> Result<(), AllocError>
 }
 
 impl Unit {
-    /// The unit as it is told: `V`, `A` or `C`.
+    /// The unit as it is shown: `V`, `A` or `C`.
     pub fn text(self) -> &'static str
         ensures { result.now ≡ unit_text self }
     {
@@ -120,7 +120,7 @@ fn push_measured(text: &mut String, ratio: Frac, unit: Unit) -> Result<(), Alloc
     text.push_str(unit.text())
 }
 
-/// As names are told to a person.
+/// As names are shown to a person.
 const PLAIN: NameMarks<'static> = NameMarks {
     around: "",
     between: ", ",
@@ -221,7 +221,7 @@ fn switch_words(byte: u8) -> &'static str
     }
 }
 
-// How CONTROL does, where it does.
+// How CONTROL turns the output on, if it does.
 #[tactic(auto, using(pm_lines::specs::Lemmas::Joins::joins))]
 fn push_control(text: &mut String, byte: u8) -> Result<(), AllocError>
     ensures { OnOk result (string_bytes text.new ≡ string_bytes text.old ++ control_text byte) }

@@ -1,4 +1,4 @@
--- What is kept of a line with one byte more at its end, and what it reads as where it ends.
+-- What is kept of a line with one byte more at its end, and what it reads as if it ends.
 use Rattle.std.proofs.Common.{◌≡◌, ℕ, ◌+◌, ◌-◌, ◌<◌, ◌≤◌, eqb, Bool, true, false, cond, not, ◌||◌, ◌&&◌, List, [], ◌∷◌, ◌++◌, length, take}
 use Rattle.std.proofs.Common.{drop, get_or, true≢false, None}
 use Rattle.std.proofs.Common.{refl, sym, ap, subst, ◌∙◌, arith, append_assoc, append-nil, inl, inr, length-append, ne_eqb}
@@ -39,7 +39,7 @@ some_there : (xs : List ℕ) (b : ℕ) → has_bytes (xs ++ b ∷ []) ≡ true
 some_there [] b = refl
 some_there (x ∷ xs) b = refl
 
--- a byte at the end joins what stands from the first mark on, and where there was no mark it may be the first
+-- a byte at the end joins what stands from the first mark on, and may be the first if there was no mark
 from_first-snoc : (mark : ℕ → Bool) (xs : List ℕ) (b : ℕ) → from_first mark (xs ++ b ∷ [])
     ≡ cond (has_bytes (from_first mark xs)) (from_first mark xs ++ b ∷ []) (from_first mark (b ∷ []))
 from_first-snoc mark [] b = refl
@@ -52,7 +52,7 @@ from_first-snoc mark (x ∷ xs) b = by (mark x) refl (from_first-snoc mark xs b)
     by true is rest = rw is refl
     by false is rest = rw is rest
 
--- a byte at the end joins what stands before the first mark where there was no mark and the byte is none
+-- a byte at the end joins what stands before the first mark if there was no mark and the byte is none
 before-snoc : (mark : ℕ → Bool) (xs : List ℕ) (b : ℕ) → before mark (xs ++ b ∷ [])
     ≡ cond (has_bytes (from_first mark xs)) (before mark xs) (before mark xs ++ before mark (b ∷ []))
 before-snoc mark [] b = refl
@@ -70,7 +70,7 @@ before-snoc mark (x ∷ xs) b = by (mark x) refl (before-snoc mark xs b)
     by false is rest = rw is (ap (λ l. x ∷ l) rest
         ∙ inside (has_bytes (from_first mark xs)) (before mark xs) (before mark xs ++ before mark (b ∷ [])))
 
--- there is a word where a byte is no space
+-- there is a word if a byte is no space
 has_word : (xs : List ℕ) → has_bytes (first_word xs) ≡ has_bytes (past_spaces xs)
 has_word [] = refl
 has_word (x ∷ xs) = by (is_space x) refl (has_word xs)
@@ -80,15 +80,15 @@ has_word (x ∷ xs) = by (is_space x) refl (has_word xs)
     by true is rest = rw is rest
     by false is rest = rw (is, is) refl
 
--- one byte that isn't behind the word goes to it, where it is no space
+-- one byte that isn't after the word goes to it, if it is no space
 abbrev word_takes : Bool → Bool → List ℕ → ℕ → List ℕ
 word_takes over space word b = cond over word (cond space word (word ++ b ∷ []))
 
--- one byte goes behind the word, where that is over or the byte is the space that ends it
+-- one byte goes after the word, if that is over or the byte is the space that ends it
 abbrev behind_takes : Bool → Bool → Bool → List ℕ → ℕ → List ℕ
 behind_takes over space some behind b = cond over (behind ++ b ∷ []) (cond (space && some) (b ∷ []) [])
 
--- a byte at the end of a line joins its first word where nothing stands behind that yet and the byte is no space
+-- a byte at the end of a line joins its first word if nothing follows that yet and the byte is no space
 first_word-snoc : (xs : List ℕ) (b : ℕ) → first_word (xs ++ b ∷ [])
     ≡ word_takes (has_bytes (behind_word xs)) (is_space b) (first_word xs) b
 first_word-snoc xs b = ap (before is_space) (from_first-snoc (λ x. not (is_space x)) xs b) ∙ by (has_bytes (past_spaces xs)) refl
@@ -118,7 +118,7 @@ first_word-snoc xs b = ap (before is_space) (from_first-snoc (λ x. not (is_spac
         ∙ ap (λ l. word_takes (has_bytes (from_first is_space l)) (is_space b) (before is_space l) b)
         (sym (none_there (past_spaces xs) none))
 
--- a byte at the end of a line goes behind its first word where that is over or the byte is the space that ends it
+-- a byte at the end of a line goes after its first word if that is over or the byte is the space that ends it
 behind_word-snoc : (xs : List ℕ) (b : ℕ) → behind_word (xs ++ b ∷ [])
     ≡ behind_takes (has_bytes (behind_word xs)) (is_space b) (has_bytes (first_word xs)) (behind_word xs) b
 behind_word-snoc xs b = ap (from_first is_space) (from_first-snoc (λ x. not (is_space x)) xs b) ∙ by (has_bytes (past_spaces xs)) refl
@@ -151,7 +151,7 @@ mark-snoc : (xs : List ℕ) (b : ℕ) → starts_with nat_eq (xs ++ b ∷ []) (c
 mark-snoc [] b = and-true (eqb 35 b) ∙ turned 35 b
 mark-snoc (x ∷ xs) b = refl
 
--- the first bytes take a byte where there is room for it
+-- the first bytes take a byte if there is room for it
 take-snoc : (xs : List ℕ) (b : ℕ) → take 64 (xs ++ b ∷ []) ≡ head_takes (take 64 xs) b
 take-snoc xs b =
     elim (cases_lt (length xs) 64) [
@@ -167,7 +167,7 @@ take-snoc xs b =
           rw (same, fits) refl
     ]
 
--- the beginning of a comment takes a byte where that makes or leaves the line one
+-- the beginning of a comment takes a byte if that makes or leaves the line one
 head-snoc : (xs : List ℕ) (b : ℕ) → cond (is_comment (xs ++ b ∷ [])) (take 64 (xs ++ b ∷ [])) []
     ≡ cond (cond (has_bytes xs) (is_comment xs) (eqb b 35)) (head_takes (cond (is_comment xs) (take 64 xs) []) b)
     (cond (is_comment xs) (take 64 xs) [])
@@ -179,7 +179,7 @@ head-snoc (x ∷ xs) b = by (is_comment (x ∷ xs)) (take 64 ((x ∷ xs) ++ b �
     by true more kept is = is
     by false more kept is = refl
 
--- a word has a byte where one is kept
+-- a word has a byte if one is kept
 has_kept : (word : List ℕ) → has_bytes (part_of word).bytes ≡ has_bytes word
 unfolding part_of
 has_kept [] = refl
@@ -200,7 +200,7 @@ word_took false true some word b = by some
     by false = refl
 word_took false false some word b = part_of-snoc word b
 
--- what is kept of the packet takes a byte exactly where the word is over once that byte came
+-- what is kept of the packet takes a byte exactly if the word is over once that byte came
 packet_took : (over space some : Bool) (behind : List ℕ) (b : ℕ) → has_bytes behind ≡ over
     → line_of (behind_takes over space some behind b) ≡ cond (is_over over space some) (line_takes (line_of behind) b) (line_of behind)
 packet_took true space some behind b is = line_of-snoc behind b
@@ -209,7 +209,7 @@ packet_took false true true behind b is =
 packet_took false true false behind b is = ap line_of (sym (none_there behind is))
 packet_took false false some behind b is = ap line_of (sym (none_there behind is))
 
--- something stands behind the word, once one more byte came, exactly where the word is over then
+-- something follows the word, once one more byte came, exactly if the word is over then
 over_took : (over space some : Bool) (behind : List ℕ) (b : ℕ) → has_bytes behind ≡ over
     → has_bytes (behind_takes over space some behind b) ≡ is_over over space some
 over_took true space some behind b is = some_there behind b
@@ -471,7 +471,7 @@ passes_more old bytes mid_rest rest mid new one two = record {
   line = two.line ∙ ap (λ l. fold timed_takes l two.front) one.line ∙ sym (fold-append timed_takes old one.front two.front);
 }
 
--- ---- where the line ends
+-- ---- as the line ends
 
 -- a list without a carriage return that comes last has at most one byte less
 shorter : (xs : List ℕ) → length xs ≤ length (without_return xs) + 1
@@ -485,13 +485,13 @@ shorter (x ∷ xs) =
     by true front b = omega (arith, length-append front (b ∷ []))
     by false front b = omega arith
 
--- the word and what is behind it, where the carriage return at the line's end is no part of the line
+-- the word and what follows it, if the carriage return at the line's end is no part of the line
 pub record WordEnds (line : List ℕ) : Type 0 where
   pub word : first_word (without_return line)
       ≡ cond (has_bytes (behind_word line)) (first_word line) (without_return (first_word line))
   pub behind : behind_word (without_return line) ≡ without_return (behind_word line)
 
--- a carriage return at the end of a line with a last byte is taken off what is behind the word, else off the word
+-- a carriage return at the end of a line with a last byte is taken off what follows the word, otherwise off the word
 word_ends-snoc : (xs : List ℕ) (b : ℕ) → WordEnds (xs ++ b ∷ [])
 word_ends-snoc xs b = record { word = word; behind = behind }
   where
@@ -543,7 +543,7 @@ word_ends-snoc xs b = record { word = word; behind = behind }
     behind = ap behind_word (without_return-snoc xs b) ∙ spread behind_word (eqb b 13) xs (xs ++ b ∷ [])
         ∙ rw (behind_word-snoc xs b) (behind_by (eqb b 13) over (is_space b) some (behind_word xs) refl no_space refl)
 
--- a carriage return at the end of any line is taken off what is behind its first word, else off that word
+-- a carriage return at the end of any line is taken off what follows its first word, otherwise off that word
 word_ends : (line : List ℕ) → WordEnds line
 word_ends [] = record { word = refl; behind = refl }
 word_ends (x ∷ xs) =
@@ -592,7 +592,7 @@ timed_reads true line =
     open_line_reads (behind_word line) ∙ ap line_read (sym ends.behind) in
     λ i. timed (time i) (parts i)
 
--- spaces alone have no word
+-- nothing but spaces has no word
 no_word : (xs : List ℕ) → list_all is_space xs ≡ not (has_bytes (first_word xs))
 no_word [] = refl
 no_word (x ∷ xs) = by (is_space x) refl (no_word xs)
@@ -624,7 +624,7 @@ mark_kept (x ∷ xs) =
     at_end [] b = ap (λ l. starts_with nat_eq l (codes "#")) (without_return-snoc [] b) ∙ by (eqb b 13) b refl
     at_end (y ∷ ys) b = ap (λ l. starts_with nat_eq l (codes "#")) (without_return-snoc (y ∷ ys) b) ∙ more (eqb b 13) y ys b
 
--- the word has a byte where what is kept of it has one
+-- the word has a byte if what is kept of it has one
 word_there : (over : Bool) (word : List ℕ)
     → has_bytes (cond over (part_of word).bytes (without_return (part_of word).bytes)) ≡ has_bytes (cond over word (without_return word))
 unfolding part_of
@@ -692,7 +692,7 @@ timed_passes options line =
 
 -- ---- a comment
 
--- a line begins with bytes of which none is a carriage return where it does so without the one at its end
+-- a line begins with bytes of which none is a carriage return if it begins with them without the one at its end
 start_returned : (line start : List ℕ) → list_any (λ c. eqb c 13) start ≡ false
     → starts_with nat_eq (without_return line) start ≡ starts_with nat_eq line start
 start_returned [] start plain = refl
