@@ -72,7 +72,8 @@ pub fn program<R: Read, W: Write, E: Write>(
 /// a stopped replay or a trace with a bad line. In both cases the third stream gets nothing but what may be
 /// wrong with a trace that was shown with options, in one line. Status 1 too: a refused input, a
 /// failed stream or want of memory, and 2: a faulty command line; each of these with one line on the
-/// third stream, if that can be written, but for the parser's own texts.
+/// third stream, if that can be written, but for the parser's own texts. X3 of `decode` with options
+/// has a second line, unless `--long` is given.
 ///
 /// Takes memory for what the parser makes of the words, and then as the command that they name.
 pub fn run<R: Read, W: Write, E: Write>(
