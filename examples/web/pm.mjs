@@ -5,7 +5,7 @@ export const CODE = {OPERATION: 0x01, WRITE_PROTECT: 0x10, VOUT_COMMAND: 0x21, V
                      VOUT_MARGIN_LOW: 0x26, VOUT_MIN: 0x2B};
 const END = ["next", "done", "differs", "unknown", "learned"];
 const HEARD = {0x81: "silent", 0x82: "taken", 0x83: "answered"};
-const LIMITS_STATES = {0x91: "within", 0x92: "outside", 0x93: "not known"};
+const LIMITS_STATES = {0x91: "within", 0x92: "outside", 0x93: "not known", 0xE6: "no limits"};
 const SIZES = {host: "pm_host_size", part: "pm_part_size"};
 const PAGE = 65536;
 
@@ -108,7 +108,7 @@ export class Host {
     // An output has no limits. Without this and without limits an order of its voltage is refused.
     noLimits(output) { this.library.ask("pm_host_no_limits", pointer(this.at), output); }
 
-    // Whether an output's voltage is known to lie within its limits: within, outside or not known.
+    // Whether an output's voltage is known to lie within its limits: within, outside, not known or no limits.
     limitsState(output) {
         const number = this.library.call("pm_host_limits_state", pointer(this.at), output) & 0xFF;
         if (!(number in LIMITS_STATES)) throw new Refused("pm_host_limits_state", number, this.library.nameOf(number));

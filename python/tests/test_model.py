@@ -13,7 +13,7 @@ from plain.host import ANY, Host as PlainHost  # noqa: E402
 
 ADDRESS, EVENTS = 0x58, int(os.environ.get("PMHOST_EVENTS", "10000"))
 WORDS = (0x00, 0x40, 0x80, 0x94, 0xA8, 0x20)
-STATES = {"yes": "within", "no": "outside", "unknown": "not known"}
+STATES = {"yes": "within", "no": "outside", "unknown": "not known", "none": "no limits"}
 
 
 class Life:
@@ -108,7 +108,7 @@ class Life:
         self.case.assertEqual(self.host.restart_seen, self.plain.restart_seen())
         found = plain_limits.band(self.plain, output)
         state = STATES[plain_limits.within(self.limits[output], found)]
-        self.case.assertEqual(self.host.limits_state(output), state if self.limits[output] is not None else "no limits")
+        self.case.assertEqual(self.host.limits_state(output), state)
         if found is not None:
             band = self.host.band(output)
             least, greatest = (it * 10**6 for it in found)

@@ -233,12 +233,14 @@ pub struct Band {
 #[derive(Clone, Copy, Debug, PartialEq, Eq)]
 #[must_use = "the output may be outside its limits"]
 pub enum LimitsState {
-    /// Its whole band does, or it was said that it has no limits.
+    /// Its whole band does.
     Yes,
     /// Its whole band lies below them, or above them.
     No,
-    /// What is known doesn't tell, or no limits are known.
+    /// What is known doesn't say.
     NotKnown,
+    /// It has no limits: it was given none, or it was said that it has none.
+    NoLimits,
 }
 
 /// A host for one device: it says what to send, and hears what came of it. It takes no memory beside its own, and may
@@ -486,6 +488,7 @@ pub(crate) fn within_of(number: u8) -> Result<LimitsState, Refusal> {
         0x91 => Ok(LimitsState::Yes),
         0x92 => Ok(LimitsState::No),
         0x93 => Ok(LimitsState::NotKnown),
+        0xE6 => Ok(LimitsState::NoLimits),
         number => Err(Refusal::of(number)),
     }
 }

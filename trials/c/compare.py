@@ -28,7 +28,7 @@ from plain.packets import answer_fault  # noqa: E402
 ADDRESS = 0x58
 KINDS = {"next": 0, "done": 1, "differs": 2, "unknown": 3, "learned": 4}
 NUMBERS = {"H": 0, "N": 0x10, "L": 0x20, "F": 0x30}
-WITHIN = {"yes": 0x91, "no": 0x92, "unknown": 0x93}
+WITHIN = {"yes": 0x91, "no": 0x92, "unknown": 0x93, "none": 0xE6}
 PLACES = 49
 
 

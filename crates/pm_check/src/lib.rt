@@ -1,5 +1,5 @@
-//! A log that proves itself: what a host was asked for and told, and what is claimed of it. [`check`] replays
-//! it through a new [`Host`](pm_host::Host), and accepts it only where that host knows each claim by these acts alone.
+//! A log that proves itself: what a host was asked for and heard, and what is claimed of it. [`check`] replays it
+//! through a new [`Host`](pm_host::Host), and accepts it only if that host knows each claim by nothing but these acts.
 //!
 //! What it accepts is true of every device that could have given these answers: `accepted_claims_are_held` says so over
 //! lives. Nothing is trusted but that the answers came; who wrote the log doesn't matter. It takes no memory.

@@ -1,4 +1,4 @@
-//! The laws, over the definitions alone.
+//! The laws, over nothing but definitions.
 
 ghost use Rattle.pm_check_laws.specs.Checked.{AcceptedClaimsAreHeld, AcceptedClaimsStay, AcceptedVoltagesStay, UnknownClaimsAreOpen, UnknownVoltagesAreOpen};
 
@@ -11,9 +11,9 @@ use pm_world::{
     settings_move_by_the_open_job,
 };
 
-/// Each claim of a log that is accepted is true of each life whose host was told the log: the converter held the word when
-/// the host had its last good answer for the cell (`read`), and holds it unless it restarted since (`held`). What an
-/// output commands lies between the claimed microvolts, unless the converter restarted since the answers that say so (`commands`).
+/// Each claim of a log that is accepted is true of each life whose host heard the log: the converter held the word when the host
+/// had its last good answer for the cell (`read`), and holds it unless it restarted since (`held`). What an output commands lies
+/// between the claimed microvolts, unless the converter restarted since the answers that say so (`commands`).
 pub fn accepted_claims_are_held()
     ensures { AcceptedClaimsAreHeld }
 {
@@ -27,9 +27,9 @@ pub fn accepted_claims_are_held()
     bands_are_held();
 }
 
-/// Nothing less would do. Let the converter of a life that tells a log not have restarted since the host did, and the log
-/// order and read no other word of WRITE_PROTECT than 00h, and no restore. Then a claim of an output's register that isn't
-/// known by the log is false of some life that tells the same log.
+/// Nothing less would do. Let the converter of a life not have restarted since the host did, and the life's log order and
+/// read no other word of WRITE_PROTECT than 00h, and no restore. A claim of an output's register that isn't known by the
+/// log is then false of some life with the same log.
 pub fn unknown_claims_are_open()
     ensures { UnknownClaimsAreOpen }
 {
@@ -43,8 +43,8 @@ pub fn unknown_claims_are_open()
     possible_words_are_exact();
 }
 
-/// Microvolts between which an output isn't known to lie by the log are left by some life that tells the same log, where the
-/// host has a band for the output after it.
+/// Microvolts between which an output isn't known to lie by the log are left by some life with the same log, if the host has
+/// a band for the output after it.
 pub fn unknown_voltages_are_open()
     ensures { UnknownVoltagesAreOpen }
 {
@@ -57,8 +57,8 @@ pub fn unknown_voltages_are_open()
     bands_are_exact();
 }
 
-/// After an accepted log the word that it claims stays, while the converter doesn't restart and neither an order of the cell
-/// nor a restore is open.
+/// The word that an accepted log claims stays, while the converter doesn't restart and neither an order of the cell nor a
+/// restore is open.
 pub fn accepted_claims_stay()
     ensures { AcceptedClaimsStay }
 {
@@ -71,9 +71,9 @@ pub fn accepted_claims_stay()
     settings_move_by_the_open_job();
 }
 
-/// After an accepted log what an output commands stays between the microvolts that it claims, while the converter doesn't restart
-/// and neither a restore is open nor an order of one of the four registers by which the output commands: OPERATION, the one that
-/// it selects, VOUT_MAX and VOUT_MIN.
+/// What an output commands stays between the microvolts that an accepted log claims, while the converter doesn't restart and no
+/// restore is open, nor an order of a register by which the output commands. Four registers are such: OPERATION, the one that it
+/// selects, VOUT_MAX and VOUT_MIN.
 pub fn accepted_voltages_stay()
     ensures { AcceptedVoltagesStay }
 {

@@ -34,9 +34,9 @@ impl FrameCourse {
     /// register is the one of which an order differed, or else the first of which something is wanted. What was wanted as a voltage
     /// stays one, of whole microvolts that mean just this word.
     ///
-    /// The course stays as it was with H3 while a job is open, P9 if nothing is wanted, P1 if the format isn't known, P4 if
-    /// the word isn't; P9 if its value isn't within the tolerance of what was wanted, in microvolts, and both ends count; L3 or L4 by the
-    /// limits; and P9 if no whole microvolts mean it.
+    /// The course stays as it was with a refusal. The first of these is answered: H3 if a job is open, P9 if nothing is wanted, P1 if the
+    /// format isn't known, and P4 if the word isn't. Next come P9 if its value isn't within the tolerance of what was wanted, in
+    /// microvolts, both ends included; L3 or L4 by the limits; and P9 if no whole microvolts mean it.
     pub fn accept(&mut self, guard: &Guard, tolerance: u32) -> Result<(), Refusal>
         requires { self.old.course.survey.output < guard.now.host.setup.outputs }
         ensures { Accepts (limits_at guard.now self.old.course.survey.output) guard.now.host self.old tolerance result self.new }
@@ -66,7 +66,7 @@ impl FrameCourse {
         }
     }
 
-    // The course that wants the held word, or why it isn't taken.
+    // The course whose wanted word is the held one, or why that isn't taken.
     fn accepted(
         &self,
         host: &State,
@@ -149,7 +149,7 @@ impl FrameCourse {
         }
     }
 
-    // The course that wants the word of a register, as a word or as a voltage that means it.
+    // The course whose wish is the word of a register, as a word or as a voltage that means it.
     fn taking(
         &self,
         words: &Wanted,
@@ -180,7 +180,7 @@ impl FrameCourse {
     }
 }
 
-// P9 where nothing is wanted.
+// P9, for a course with no wish.
 fn nothing_near() -> Refusal
     ensures { result ≡ record { number = spec_not_near; register = None } }
 {

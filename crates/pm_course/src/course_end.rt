@@ -19,7 +19,7 @@ pub struct Refusal {
 #[derive(Clone, Copy, Debug, PartialEq, Eq)]
 pub enum CourseEnd {
     /// What is wanted is held, by answers that all came after the last order, unless the converter restarted since the course
-    /// began; of a survey: all that it asks for is known.
+    /// began. `Reached` says of a survey that all that it asks for is known.
     Reached,
     /// H3 if a job is open that isn't the course's: it goes on once that job has ended. Otherwise nothing more is ordered: L2,
     /// L3, L4, L5 or L7 by the limits and the part, N3, N4 or N5 of a voltage that has no word, P4, P5, P6 or P7 of the plan, H5

@@ -51,9 +51,9 @@ impl FrameCourse {
         begun(Course::survey(output, tries), Voltages::nothing())
     }
 
-    /// The way to a byte of OPERATION. One that turns the output off is ordered at once; before one that leaves it on
-    /// WRITE_PROTECT is read too, and P7 refuses it if that doesn't allow it; and the register that it selects, by which limits
-    /// judge it.
+    /// The way to a byte of OPERATION. A byte that turns the output off is ordered at once. WRITE_PROTECT is read before a byte
+    /// that leaves it on is ordered, and P7 refuses the byte if that doesn't allow it. The register that the byte selects is
+    /// read, too, by which limits judge it.
     pub fn power(output: u8, byte: u16, tries: u16) -> FrameCourse
         ensures { result ≡ to_byte output byte tries }
     {
@@ -124,7 +124,7 @@ impl FrameCourse {
         }
     }
 
-    // What to do next to come to these words, where no job is open.
+    // What to do next to come to these words, if no job is open.
     fn next_to(
         &mut self,
         host: &State,
@@ -152,7 +152,7 @@ impl FrameCourse {
         }
     }
 
-    // The way to these words, where it is one to wanted words.
+    // The way to these words, if it is a way to wanted words.
     fn planned(&self, words: &Wanted) -> Course
         ensures { result ≡ with_plan self.now.course (planning self.now.course words.now) }
     {
@@ -190,7 +190,7 @@ impl FrameCourse {
         }
     }
 
-    // The end of the way, as it is told.
+    // The end of the way, as the course shows it.
     fn end_of(&self, end: ApplyEnd) -> CourseEnd
         ensures { result ≡ spec_end_of self.now.fault end }
     {
@@ -218,7 +218,7 @@ impl FrameCourse {
         }
     }
 
-    // Such a byte, where OPERATION was read since the survey began.
+    // Such a byte, if OPERATION was read since the survey began.
     fn source_in(&self, host: &State) -> Option<u16>
         requires { self.now.course.survey.output < 8 }
         ensures { result ≡ spec_source_in (held None host.now) self.now.course }
@@ -281,7 +281,7 @@ impl FrameCourse {
         }
     }
 
-    // The word of WRITE_PROTECT, where it was read since the survey began and is known.
+    // The word of WRITE_PROTECT, if it was read since the survey began and is known.
     fn protect(&self, host: &State) -> Option<u16>
         ensures { result ≡ spec_protect_in (held None host.now) self.now.course }
     {
@@ -294,7 +294,7 @@ impl FrameCourse {
         }
     }
 
-    // The way once a job was asked for, where it named another or the same.
+    // The way once a job was asked for, whether it named this job or another.
     fn asking_for(&self, after: &Course, named: Job, job: Job) -> Course
         ensures { result ≡ spec_asking_for self.now.course after.now named job }
     {

@@ -41,7 +41,7 @@ impl FrameCourse {
         }
     }
 
-    // The course has ended where VOUT_MODE named no format, or where an order differed a second time.
+    // The course has ended if VOUT_MODE named no format or an order differed a second time.
     fn ended_by(&mut self, mode: Option<u8>)
         ensures { self.new ≡ spec_ended_by self.old mode self.old.course.twice }
     {
@@ -143,7 +143,7 @@ fn mode_told(address: u8, stage: Stage, told: Told<'_>, end: JobEnd) -> Option<u
     }
 }
 
-// VOUT_MODE by the payload of a good answer: its byte, and 40h where the coefficients were asked for.
+// VOUT_MODE by the payload of a good answer: its byte, or 40h if the coefficients were asked for.
 fn named_in(question: Question, payload: &[u8]) -> Option<u8>
     ensures { result ≡ spec_named_in question payload.now }
 {

@@ -1,12 +1,12 @@
 //! One way to a voltage, frame after frame: the machine that users have of a course.
 //!
-//! A [`FrameCourse`] brings an output to what is wanted of it, to words or voltages in microvolts, to a byte of OPERATION, or
-//! to nothing, which is a survey. [`FrameCourse::frame`] hands out what is to be sent now, [`FrameCourse::write_ended`] and
-//! [`FrameCourse::read_ended`] hear what became of it; once it hands out nothing, [`FrameCourse::end`] says how the course ended. It asks a [`pm_rail::Course`] for
-//! each job, and orders nothing that this doesn't name but a byte of OPERATION over one that the cell doesn't take. What it adds: words of voltages by the format that the host knows
-//! at that moment, an end at once if VOUT_MODE names no format or if OPERATION holds a byte that its cell doesn't
-//! take, WRITE_PROTECT before an output is turned on, what was wrong with the last answer, and a new learn of the format after an
-//! answer that shows that the part restarted or was exchanged.
+//! A [`FrameCourse`] brings an output to what is wanted of it, to words or voltages in microvolts, to a byte of OPERATION, or to nothing,
+//! which is a survey. [`FrameCourse::frame`] hands out what is to be sent now, [`FrameCourse::write_ended`] and [`FrameCourse::read_ended`]
+//! hear what became of it; once it hands out nothing, [`FrameCourse::end`] says how the course ended. It asks a [`pm_rail::Course`] for
+//! each job, and orders nothing that this doesn't name but a byte of OPERATION over one that the cell doesn't take. It adds words of
+//! voltages by the format that the host knows at that moment, and what was wrong with the last answer. It ends at once if VOUT_MODE names
+//! no format or OPERATION holds a byte that its cell doesn't take. It reads WRITE_PROTECT before an output is turned on. It learns the
+//! format anew after an answer that shows that the part restarted or was exchanged.
 //!
 //! It sends nothing, waits for nothing and takes no memory.
 //!

@@ -15,7 +15,7 @@ use pm_host::{Question, Stage, State, Told};
 use pm_table::Cell;
 
 /// Whether what came back for the frame of a stage is a good answer with a word that its cell couldn't hold, by what the host
-/// knows before it hears the answer: the part restarted or was exchanged since it was read.
+/// knows before it hears the answer. The part then restarted or was exchanged since the cell was read.
 #[tactic(auto, unfolding(pm_host::specs::Answers::good_payload))]
 pub fn surprises(host: &State, stage: Stage, told: Told<'_>) -> bool
     requires sound { IsSound (held (Some stage) host.now) }

@@ -11,8 +11,8 @@ pub enum Wish {
     Stay,
     /// This word.
     Word(u16),
-    /// A voltage of this many microvolts: the nearest word of VOUT_COMMAND and of a margin, the word of the greatest value that
-    /// isn't above it of VOUT_MAX, and of the least value that isn't below it of VOUT_MIN.
+    /// A voltage of this many microvolts. VOUT_COMMAND and a margin get the nearest word, VOUT_MAX that of the greatest value
+    /// that isn't above it, and VOUT_MIN that of the least value that isn't below it.
     Microvolts(i64),
 }
 

@@ -69,7 +69,7 @@ impl Delivery {
         self.reached(register, format.is_above(word, self.heard(register).word))
     }
 
-    // A limit that gave a good answer, where a word isn't inside it.
+    // A limit that gave a good answer, if a word isn't inside it.
     fn reached(&self, register: Question, is_inside: bool) -> Option<Limit>
         ensures { result ≡ spec_reaches self.now register is_inside }
     {

@@ -228,8 +228,8 @@ impl Delivery {
         self.status_word.is_good() && has_bit(self.status_word.word, place)
     }
 
-    /// Whether this bit of STATUS_WORD is 1 and wasn't known to be before the first order. If nothing was asked before, since
-    /// nothing is ordered, no bit is new.
+    /// Whether this bit of STATUS_WORD is 1 and wasn't known to be before the first order. No bit is new if nothing was asked
+    /// before, since nothing is ordered.
     pub fn is_new(&self, place: u8) -> bool
         ensures { result ≡ spec_is_new self.now place }
     {
@@ -306,7 +306,7 @@ impl Delivery {
     }
 }
 
-// A fault of a register, where there is one.
+// A fault of a register, if there is one.
 fn fault_in(register: Question, place: Option<u8>) -> Option<FaultBit>
     ensures { result ≡ option_map (fault_bit register) place }
 {

@@ -36,7 +36,7 @@ impl Delivery {
         }
     }
 
-    // A question that is to be asked, where no good answer came and it was asked fewer times than this.
+    // A question that is to be asked, if no good answer came and it was asked fewer times than this.
     fn ask(&self, question: Question, passes: u8) -> Option<Question>
         ensures { result ≡ asks self.now passes question }
     {
@@ -126,7 +126,7 @@ impl Delivery {
         }
     }
 
-    // A further round where one is left; otherwise what is asked last.
+    // A further round if one is left; otherwise what is asked last.
     fn again_or(&self, last: Option<Question>) -> Due
         ensures { result ≡ again_or self.now last }
     {
@@ -144,7 +144,7 @@ impl Delivery {
         self.round < self.rounds && 1 < self.rounds - self.round
     }
 
-    // What is asked in each round: STATUS_WORD, each status register whose summary is new, and READ_VOUT where it can decide.
+    // What is asked in each round: STATUS_WORD, each status register whose summary is new, and READ_VOUT if it can decide.
     fn due_in_round(&self, passes: u8) -> Option<Question>
         ensures { result ≡ spec_due_in_round self.now passes }
     {
@@ -160,7 +160,7 @@ impl Delivery {
         )
     }
 
-    // A status register that is asked where its summary in STATUS_WORD is new.
+    // A status register, which is asked if its summary in STATUS_WORD is new.
     fn ask_of(&self, register: Question, summary: u8, passes: u8) -> Option<Question>
         ensures { result ≡ asks_of self.now passes register summary }
     {
@@ -171,7 +171,7 @@ impl Delivery {
         }
     }
 
-    // READ_VOUT, where it can decide.
+    // READ_VOUT, if it can decide.
     fn ask_vout(&self, passes: u8) -> Option<Question>
         ensures { result ≡ asks_vout self.now passes }
     {
@@ -193,7 +193,7 @@ impl Delivery {
     }
 }
 
-// A question that is asked, where there is one.
+// A question that is asked, if there is one.
 fn asked(question: Option<Question>) -> Due
     ensures { result ≡ spec_asked question }
 {
@@ -203,7 +203,7 @@ fn asked(question: Option<Question>) -> Due
     }
 }
 
-// A question that is asked first, where there is one.
+// A question that is asked first, if there is one.
 fn due_or(question: Option<Question>, due: Due) -> Due
     ensures { result ≡ spec_due_or question due }
 {

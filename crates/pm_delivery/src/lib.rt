@@ -3,7 +3,7 @@
 //!
 //! A [`Delivery`] is a machine without I/O, of plain numbers. It reads by PAGE_PLUS only, beside the host's jobs: no job hears of
 //! its answers. Before the first order it asks for STATUS_WORD and the fault limits, and [`Delivery::judge`] says which of these a
-//! word is at or beyond. After a good end it asks for STATUS_WORD and READ_VOUT, and [`Delivery::verdict`] says what the rail does.
+//! word is at or beyond. It asks for STATUS_WORD and READ_VOUT after a good end, and [`Delivery::verdict`] says what the rail does.
 //!
 //! Tests: crates/pm_host_tests
 #![tactic(auto)]

@@ -120,7 +120,7 @@ impl Delivery {
         }
     }
 
-    // What a rail does by its reading and power good, where nothing else speaks against it.
+    // What a rail does by its reading and power good, if nothing else speaks against it.
     fn verdict_by(&self, reading: Reading) -> Verdict
         ensures value { result ≡ spec_verdict_by self.now reading }
         ensures good { result ≡ Verdict.Delivers → spec_lacks_power_good self.now ≡ false }
@@ -178,7 +178,7 @@ impl Delivery {
         )
     }
 
-    // Such a register, where this is one.
+    // This register, if it is such a one.
     fn unanswered_of(&self, register: Question, summary: u8) -> Option<Question>
         ensures { result ≡ rule (spec_is_unanswered self.now register summary) register }
     {
@@ -204,7 +204,7 @@ fn verdict_at(power: Power, due: Due, verdict: Verdict) -> Verdict
     }
 }
 
-// A verdict, where nothing is due.
+// This verdict if nothing is due, otherwise `NotYet`.
 fn ended(due: Due, verdict: Verdict) -> Verdict
     ensures value { result ≡ once_over due verdict }
     ensures delivers { result ≡ Verdict.Delivers → verdict ≡ Verdict.Delivers }

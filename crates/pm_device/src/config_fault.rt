@@ -29,8 +29,8 @@ impl ConfigFault {
     ghost use Rattle.std.specs.Option.{option_map};
     ghost use Rattle.pm_device.specs.FaultWords.{config_fault_number, config_fault_words, config_fault_output, config_fault_detail};
 
-    /// The letter and the name of the fault, as programs print them: `V2 BadStart`. After them stand
-    /// its output and its detail, if it has them.
+    /// The letter and the name of the fault, as programs print them: `V2 BadStart`. Its output and its detail
+    /// follow them, if it has them.
     pub fn words(self) -> &'static str
         ensures { result.now ≡ config_fault_words self }
     {
@@ -83,7 +83,7 @@ impl ConfigFault {
     }
 }
 
-// An output as it stands behind the words of a fault, where the fault has one.
+// An output as it follows the words of a fault, if the fault has one.
 #[derive(Clone, Copy)]
 struct Place(Option<u8>);
 

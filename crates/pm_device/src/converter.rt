@@ -150,11 +150,11 @@ impl Converter {
         self.readings.set(self.config.count, output, code, word)
     }
 
-    /// Hears the bytes of one frame, of any number, and answers: [`Heard::Silent`] if the frame is
-    /// for another device, [`Heard::Taken`] for a write, [`Heard::Answer`] for a read, otherwise
-    /// [`Heard::Refused`] with the first of K1, K2, K6, K7, K4, K5 and K3 that applies; of a request of a code
-    /// only K2 and K7 come before the K1 of bytes after it. A refusal
-    /// changes no setting, no word in the store and no PAGE, and sets one bit of STATUS_CML.
+    /// Hears the bytes of one frame, of any number. It answers [`Heard::Silent`] if the frame is for another
+    /// device, [`Heard::Taken`] for a write and [`Heard::Answer`] for a read. Otherwise it answers
+    /// [`Heard::Refused`] with the first of K1, K2, K6, K7, K4, K5 and K3 that applies. Only K2 and K7 of a
+    /// request of a code come before the K1 of bytes after it. A refusal changes no setting, no word in the
+    /// store and no PAGE, and sets one bit of STATUS_CML.
     #[tactic(auto, unfolding(crate::specs::Reply::reply_of, crate::specs::History::next, crate::specs::History::after))]
     pub fn hear(&mut self, bytes: &[u8], ending: Ending) -> Heard
         ensures reply { result ≡ reply_of self.old bytes.now ending }
@@ -211,9 +211,9 @@ impl Converter {
         self.config.count
     }
 
-    /// The voltage that an output which is there commands, in volts, on or off: the value of the
-    /// word that OPERATION selects, cut to those of VOUT_MIN and VOUT_MAX; if VOUT_MIN is above
-    /// VOUT_MAX, what is cut is VOUT_MAX.
+    /// The voltage that an output which is there commands, in volts, on or off: the value of the word that
+    /// OPERATION selects, cut to those of VOUT_MIN and VOUT_MAX. What is cut is VOUT_MAX if VOUT_MIN is above
+    /// VOUT_MAX.
     pub fn commanded(&self, output: u8) -> Frac
         requires { output < self.now.config.count }
         ensures value { result ≡ commanded (value_for self.now.config output) self.now.words output }

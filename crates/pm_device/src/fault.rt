@@ -27,8 +27,8 @@ pub enum DeviceFault {
 impl DeviceFault {
     ghost use Rattle.pm_device.specs.FaultWords.{device_fault_number, device_fault_words};
 
-    /// The letter and the name of the fault, as programs print them: `K1 Frame`. After K1 stands the
-    /// frame's own fault.
+    /// The letter and the name of the fault, as programs print them: `K1 Frame`. The frame's own fault
+    /// follows K1.
     pub fn words(self) -> &'static str
         ensures { result.now ≡ device_fault_words self }
     {

@@ -21,7 +21,7 @@ pub(crate) fn formats_of(config: &Config) -> Formats
     }
 }
 
-// The format of an output's voltages; LINEAR11 where it is none.
+// The format of an output's voltages; LINEAR11 if VOUT_MODE and the coefficients name none.
 #[tactic(auto, unfolding(crate::specs::Held::shape_for))]
 fn format_at(config: &Config, output: usize) -> AnyFormat
     requires { output < 8 }

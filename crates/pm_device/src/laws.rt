@@ -8,10 +8,10 @@ use pm_frame::{requests_are_exact, writes_are_exact};
 use pm_model::{outputs_stand_alone, settings_are_a_map};
 use pm_table::{cells_are_told_apart, payloads_are_short, registers_are_in_the_table};
 
-/// What a converter with 1 to 8 outputs holds after any list of hearings, restarts and readings is
-/// what one event after another makes of its start. So the status bits that are latched are those
-/// that are found by looking back, PAGE always names an output that exists, and there is always a word
-/// for each cell, in the store too.
+/// What a converter with 1 to 8 outputs holds after any list of hearings, restarts and readings is what one
+/// event after another makes of its start. The status bits that are latched are those that are found by
+/// looking back. PAGE always names an output that exists, and there is always a word for each cell, in the
+/// store too.
 pub fn pasts_are_followed()
     ensures { PastsAreFollowed }
 {
@@ -26,11 +26,11 @@ pub fn sound_configurations_have_no_fault()
     ensures { SoundConfigurationsHaveNoFault }
 {}
 
-/// Over any list of hearings, restarts and readings, each cell's word is the one that it last got from
-/// the store, at a restart or by RESTORE_USER_ALL, or at the start, or one that a frame which was taken
-/// since carried for that very cell. Its word in the store is the one that it had at the last
-/// STORE_USER_ALL, or its start word. So both are the cell's start word or one that a frame which was
-/// taken carried for that very cell, and both are words that the cell accepts.
+/// Each cell's word after any list of hearings, restarts and readings is the one that it last got from the
+/// store, at a restart or by RESTORE_USER_ALL, or at the start, or one that a frame which was taken since
+/// carried for that very cell. Its word in the store is the one that it had at the last STORE_USER_ALL, or
+/// its start word. Both are the cell's start word or one that a frame which was taken carried for that very
+/// cell, and both are words that the cell accepts.
 pub fn words_have_an_origin()
     ensures { WordsHaveAnOrigin }
 {
@@ -47,7 +47,7 @@ pub fn refusals_set_one_bit()
 {}
 
 /// What is measured stays over every hearing and every restart. What is latched stays over a write that is
-/// taken, but for what CLEAR_FAULTS and writes of STATUS_VOUT and STATUS_CML clear: so an output that is
+/// taken, but for what CLEAR_FAULTS and writes of STATUS_VOUT and STATUS_CML clear. An output that is
 /// switched off and on, a limit or a margin that is written, and WRITE_PROTECT clear nothing.
 pub fn latches_stay()
     ensures { LatchesStay }
@@ -56,11 +56,11 @@ pub fn latches_stay()
     writes_are_exact();
 }
 
-/// What the words of the cells, the store and PAGE are after one frame: a write of a cell's code, plain
-/// or carried, reaches that cell if its page is there, WRITE_PROTECT allows the code and the cell
-/// accepts the word; a write of PAGE selects an output; STORE_USER_ALL copies the outputs' words to the
-/// store and RESTORE_USER_ALL brings them back, each if its page is there and WRITE_PROTECT allows it;
-/// everything else leaves all of them.
+/// What the words of the cells, the store and PAGE are after one frame. A write of a cell's code, plain or
+/// carried, reaches that cell if its page is there, WRITE_PROTECT allows the code and the cell accepts the
+/// word. A write of PAGE selects an output. STORE_USER_ALL copies the outputs' words to the store and
+/// RESTORE_USER_ALL brings them back, each if its page is there and WRITE_PROTECT allows it. Everything else
+/// leaves all of them.
 pub fn writes_reach_one_cell()
     ensures { WritesReachOneCell }
 {
@@ -99,9 +99,9 @@ pub fn unknown_codes_are_refused()
     requests_are_exact();
 }
 
-/// A code of the device, as STATUS_CML, acts and answers alike on every page that exists, and
-/// whatever PAGE is: two frames that differ in such a page only are answered alike, requests with one payload, and the converter
-/// holds the same after the one as after the other.
+/// A code of the device, as STATUS_CML, acts and answers alike on every page that exists, and whatever PAGE is. Two frames that
+/// differ in such a page only are answered alike, requests with one payload. The converter holds the same after the one as after
+/// the other.
 pub fn device_codes_ignore_pages()
     ensures { DeviceCodesIgnorePages }
 {
@@ -112,7 +112,7 @@ pub fn device_codes_ignore_pages()
 }
 
 /// A hearing that a repeated start ended, as the request of a read of any code is, changes no setting, no store, no PAGE,
-/// no reading and no latch of STATUS_VOUT: at most it latches a bit of STATUS_CML. So what is held after any past is, but
+/// no reading and no latch of STATUS_VOUT. It latches a bit of STATUS_CML at most. What is held after any past is, but
 /// for those bits, what is held after the past without such hearings.
 pub fn requests_latch_at_most()
     ensures { RequestsLatchAtMost }
@@ -122,7 +122,7 @@ pub fn requests_latch_at_most()
 }
 
 /// Whatever is heard for another device is met with silence and changes nothing that is held, and nothing else is met with
-/// silence: bytes for this device begin with its address and the write bit. So what is held after any past is what is held
+/// silence: bytes for this device begin with its address and the write bit. What is held after any past is what is held
 /// after the past without the bytes for others.
 pub fn frames_for_others_are_silent()
     ensures { FramesForOthersAreSilent }

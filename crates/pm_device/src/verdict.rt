@@ -108,8 +108,8 @@ impl Verdict {
         Verdict::Takes(act)
     }
 
-    // A request without a fault: K4 where there is no such output, K3 where there are no coefficients
-    // to answer.
+    // What a request without a fault of its frame comes to: K4 for an output that isn't there, K3 for
+    // coefficients that the part doesn't answer, otherwise an answer.
     fn of_request(config: &Config, view: &FrameView<'_>) -> Verdict
         requires few { config.now.count ≤ 8 }
         requires reads { is_read_message view.now ≡ true }

@@ -12,7 +12,7 @@ use crate::numbers::{ACCEPTED, NO_CELL, NO_OUTPUT, NO_PART};
 use pm_device::{Converter, PartImage};
 use pm_table::{Cell, Code, cell_of};
 
-/// The word of a cell: a register of an output, or WRITE_PROTECT (10h), whatever the output. E5h, E1h, 4 where the
+/// The word of a cell: a register of an output, or WRITE_PROTECT (10h), whatever the output. E5h, E1h, 4 if the
 /// output isn't there.
 #[unsafe(no_mangle)]
 pub extern "C" fn pm_part_word(part: &PartImage, output: u8, code: u8, word: &mut u16) -> u8
@@ -33,7 +33,7 @@ pub extern "C" fn pm_part_word(part: &PartImage, output: u8, code: u8, word: &mu
     ACCEPTED
 }
 
-/// The word that a register of an output has in the store. E5h, E1h also for WRITE_PROTECT, which isn't stored, 4 where
+/// The word that a register of an output has in the store. E5h, E1h also for WRITE_PROTECT, which isn't stored, 4 if
 /// the output isn't there.
 #[unsafe(no_mangle)]
 pub extern "C" fn pm_part_stored_word(part: &PartImage, output: u8, code: u8, word: &mut u16) -> u8
@@ -69,8 +69,8 @@ pub extern "C" fn pm_part_page(part: &PartImage, page: &mut u8) -> u8
     ACCEPTED
 }
 
-/// The whole microvolts that an output commands, on or off, rounded down. E5h, 4 where the output isn't there, N5 as
-/// 15h exactly where what it commands is beyond 10^15 microvolts in size.
+/// The voltage that an output commands, on or off, in microvolts, rounded down. E5h, 4 if the output isn't there, N5
+/// as 15h exactly if what it commands is beyond 10^15 microvolts in size.
 #[unsafe(no_mangle)]
 pub extern "C" fn pm_part_commanded_microvolts(
     part: &PartImage,
@@ -97,7 +97,7 @@ pub extern "C" fn pm_part_commanded_microvolts(
     }
 }
 
-/// 1 where OPERATION has an output on, otherwise 0. E5h, 4 where the output isn't there.
+/// 1 if OPERATION has an output on, otherwise 0. E5h, 4 if the output isn't there.
 #[unsafe(no_mangle)]
 pub extern "C" fn pm_part_on_state(part: &PartImage, output: u8, on: &mut u8) -> u8
     ensures number { result ≡ output_number (device_of part.now) output }

@@ -43,10 +43,10 @@ pub extern "C" fn pm_part_new(part: &mut PartImage, config: &ConfigImage) -> u8
     }
 }
 
-/// The part hears the bytes of one frame, which a repeated start ends where `is_request` isn't 0, otherwise a stop. 81h
-/// where it is silent, 82h where it took a write, 83h where it answers a read, K1 to K7 as 41h to 47h, which change no
-/// setting, no word in the store and no PAGE, and set one bit of STATUS_CML; the reply has bytes after 83h alone, and a
-/// fault of the frame after 41h alone. E5h where the memory holds no part, and then nothing changes.
+/// The part hears the bytes of one frame, which a repeated start ends if `is_request` isn't 0, otherwise a stop. 81h if
+/// it is silent, 82h if it took a write, 83h if it answers a read, K1 to K7 as 41h to 47h. K1 to K7 change no setting,
+/// no word in the store and no PAGE, and set one bit of STATUS_CML. The reply has bytes only after 83h, and a fault of
+/// the frame only after 41h. E5h if the memory holds no part; nothing changes then.
 #[unsafe(no_mangle)]
 pub extern "C" fn pm_part_hear(
     part: &mut PartImage,
@@ -107,7 +107,7 @@ pub extern "C" fn pm_part_restart(part: &mut PartImage) -> u8
 }
 
 /// Gives a reading another word: a READ code of an output, or one of the device, for which the output isn't looked at.
-/// E5h, E8h, 4 where the output isn't there.
+/// E5h, E8h, 4 if the output isn't there.
 #[unsafe(no_mangle)]
 pub extern "C" fn pm_part_set_reading(part: &mut PartImage, output: u8, code: u8, word: u16) -> u8
     ensures number { result ≡ reading_number (device_of part.old) output code }

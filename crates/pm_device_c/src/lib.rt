@@ -1,11 +1,11 @@
 //! The model converter for callers in C: a static library, whose header is `include/pmpart.h`. It is a part of a
 //! power supply as firmware and scripts meet it: PAGE, the store, latched status and readings are all there.
 //!
-//! A part lives in the caller's memory, as plain numbers. No call wants anything of what is in that memory: each asks
-//! first whether a part is there, and refuses where none is. The library takes no memory, keeps nothing between calls
+//! A part lives in the caller's memory, as plain numbers. No call needs anything of what is in that memory: each asks
+//! first whether a part is there, and refuses if none is. The library takes no memory, keeps nothing between calls
 //! and calls nothing. Firmware that links a host needs nothing of it.
 //!
-//! A write and a request, by the exported calls. In C each reference is a pointer, and bytes are a pointer and their
+//! A write and a request, by the exported calls. Each reference is a pointer in C, and bytes are a pointer and their
 //! number:
 //!
 //! ```

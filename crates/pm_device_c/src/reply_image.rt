@@ -10,16 +10,16 @@ use pm_frame::Frame;
 #[repr(C)]
 #[derive(Clone, Copy, Debug)]
 pub struct ReplyImage {
-    /// How many bytes it has, the read address first; 0 where there is no answer.
+    /// How many bytes it has, the read address first; 0 if there is no answer.
     pub length: u8,
-    /// The fault of the frame after K1: 32h to 35h, F2 to F5. 0 where the frame isn't refused by K1.
+    /// The fault of the frame after K1: 32h to 35h, F2 to F5. 0 if the frame isn't refused by K1.
     pub frame_fault: u8,
     /// The bytes; after them what stood there before.
     pub bytes: [u8; 16],
 }
 
 impl ReplyImage {
-    /// Takes what a part made of a frame: its bytes, where it has any, and the fault of a frame that is refused by K1. Answers
+    /// Takes what a part made of a frame: its bytes, if it has any, and the fault of a frame that is refused by K1. Answers
     /// its number.
     pub(crate) fn give(&mut self, heard: Heard) -> u8
         ensures number { result ≡ heard_number heard }

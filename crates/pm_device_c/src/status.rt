@@ -8,7 +8,7 @@ ghost use Rattle.pm_device_c.specs.Numbers.{output_number, there_number};
 use crate::numbers::{ACCEPTED, NO_OUTPUT, NO_PART};
 use pm_device::{Converter, PartImage};
 
-/// STATUS_BYTE of an output. E5h, 4 where the output isn't there.
+/// STATUS_BYTE of an output. E5h, 4 if the output isn't there.
 #[unsafe(no_mangle)]
 pub extern "C" fn pm_part_status_byte(part: &PartImage, output: u8, status: &mut u8) -> u8
     ensures number { result ≡ output_number (device_of part.now) output }
@@ -25,7 +25,7 @@ pub extern "C" fn pm_part_status_byte(part: &PartImage, output: u8, status: &mut
     ACCEPTED
 }
 
-/// STATUS_WORD of an output. E5h, 4 where the output isn't there.
+/// STATUS_WORD of an output. E5h, 4 if the output isn't there.
 #[unsafe(no_mangle)]
 pub extern "C" fn pm_part_status_word(part: &PartImage, output: u8, status: &mut u16) -> u8
     ensures number { result ≡ output_number (device_of part.now) output }
@@ -42,7 +42,7 @@ pub extern "C" fn pm_part_status_word(part: &PartImage, output: u8, status: &mut
     ACCEPTED
 }
 
-/// STATUS_VOUT of an output. E5h, 4 where the output isn't there.
+/// STATUS_VOUT of an output. E5h, 4 if the output isn't there.
 #[unsafe(no_mangle)]
 pub extern "C" fn pm_part_status_vout(part: &PartImage, output: u8, status: &mut u8) -> u8
     ensures number { result ≡ output_number (device_of part.now) output }

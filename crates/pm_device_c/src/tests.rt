@@ -63,7 +63,7 @@ fn a_request_is_answered(rt: HostRuntime) {
     equal(&rt, &hear(&mut part, REQUEST, 0).0, &0x41, &6);
 }
 
-// After K1 the reply says which fault the frame has: it is cut, too long, wrongly counted, or has a wrong PEC. It says none
+// The reply says after K1 which fault the frame has: it is cut, too long, wrongly counted, or has a wrong PEC. It says none
 // of a frame that is taken, answered, for another device, or refused for another reason.
 #[test]
 fn a_faulty_frame_is_told_with_its_fault(rt: HostRuntime) {

@@ -113,7 +113,7 @@ fn is_no_write(rt: &impl Abort, bytes: &[u8]) -> Result<(), ConfigFault> {
     Ok(())
 }
 
-// A write is none where it is cut at this place, or the byte there is changed in one bit.
+// A write is none if it is cut at this place, or the byte there is changed in one bit.
 fn is_betrayed_write(rt: &impl Abort, whole: &Frame, place: usize) -> Result<(), ConfigFault> {
     is_true(rt, place < whole.as_slice().len(), &1);
     is_no_write(rt, &whole.as_slice()[..place])?;
@@ -186,7 +186,7 @@ fn a_damaged_request_gets_no_good_answer(rt: HostRuntime) -> Result<(), Fail> {
     Ok(())
 }
 
-// An answer is none where it is cut at this place, or the byte there is changed in one bit.
+// An answer is none if it is cut at this place, or the byte there is changed in one bit.
 fn is_betrayed_answer(rt: &impl Abort, sent: &Message, whole: &Frame, place: usize) {
     is_true(rt, place < whole.as_slice().len(), &1);
     let cut = &whole.as_slice()[..place];

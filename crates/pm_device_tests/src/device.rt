@@ -112,7 +112,7 @@ fn status(rt: &impl Abort, converter: &Converter, output: u8) -> (u16, u8) {
     (whole, converter.status_vout(output))
 }
 
-// The numerator and the denominator of what an output commands; zeros where there is no such output.
+// The numerator and the denominator of what an output commands; zeros if there is no such output.
 fn commanded(converter: &Converter, output: u8) -> (i128, i128) {
     if output >= converter.count() {
         return (0, 0);
@@ -168,7 +168,7 @@ fn writes_act_on_the_output_that_they_name(rt: HostRuntime) -> Result<(), Fail> 
     Ok(())
 }
 
-// A cut write is refused where it ends; no bytes at all aren't heard.
+// A cut write is refused at the place at which it ends; no bytes at all aren't heard.
 fn is_short(rt: &impl Abort, cut: &[u8]) -> Result<(), ConfigFault> {
     let mut converter = base()?;
     let short = DeviceFault::Frame(FrameFault::Short(cut.len()));
@@ -215,13 +215,13 @@ fn write_protect_is_always_written(rt: HostRuntime) -> Result<(), Fail> {
     Ok(())
 }
 
-// What both outputs show where the second starts with this OPERATION.
+// What both outputs show if the second starts with this OPERATION.
 fn shows(rt: &impl Abort, operation: u16) -> Result<[(u16, u8); 2], ConfigFault> {
     let converter = with_operation(operation)?;
     Ok([status(rt, &converter, 0), status(rt, &converter, 1)])
 }
 
-// An output that is off isn't power good, and its OPERATION alone says so.
+// An output that is off isn't power good, and only its OPERATION decides that.
 #[test]
 fn an_output_that_is_off_shows_it(rt: HostRuntime) -> Result<(), Fail> {
     for operation in [0x80, 0xA8, 0x94] {
@@ -243,7 +243,7 @@ fn an_output_that_is_off_shows_it(rt: HostRuntime) -> Result<(), Fail> {
     Ok(())
 }
 
-// DIRECT with a slope of -1, where the greater word is the lower value.
+// DIRECT with a slope of -1: the greater word is the lower value.
 fn falling() -> Result<Converter, ConfigFault> {
     let start = OutputStart {
         mode: 0x40,

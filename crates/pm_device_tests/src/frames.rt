@@ -38,8 +38,8 @@ pub(crate) fn hear(converter: &mut Converter, bytes: &[u8], ending: Ending) -> H
     converter.hear(bytes, ending)
 }
 
-/// The word of an output's cell in the store; 0 where there is no such cell, and for WRITE_PROTECT, which
-/// isn't stored.
+/// The word of an output's cell in the store; 0 if there is no such cell, and for WRITE_PROTECT, which isn't
+/// stored.
 pub(crate) fn stored(converter: &Converter, cell: Cell) -> u16 {
     match cell {
         Cell::Out(output, _) if output < converter.count() => converter.stored(cell),
@@ -47,7 +47,7 @@ pub(crate) fn stored(converter: &Converter, cell: Cell) -> u16 {
     }
 }
 
-/// The word of a cell; 0 where there is no such cell.
+/// The word of a cell; 0 if there is no such cell.
 pub(crate) fn word(converter: &Converter, cell: Cell) -> u16 {
     match cell {
         Cell::Out(output, _) if output >= converter.count() => 0,

@@ -24,18 +24,18 @@ pub enum ReadEnd {
     Came(usize),
 }
 
-/// A bus that knows more than whether a frame was acknowledged: where the converter heard nothing of a frame, it says so,
-/// and the frame may be sent again. A [`Bus`](crate::Bus) stands over it, which decides how often.
+/// A bus that knows more than whether a frame was acknowledged: it says of which frames the converter heard nothing, and
+/// these may be sent again. A [`Bus`](crate::Bus) stands over it, which decides how often.
 ///
 /// `Unheard` is for a write whose address nobody acknowledged, and for a read of which the adapter knows that its first
 /// address is the one that nobody acknowledged. An adapter that has one error for either address of a read answers
 /// `Failed`, since the converter may have heard the request.
 ///
-/// How long it waits is the adapter's own, and no clause speaks of time. Where a converter is busy after a write, the
-/// wait stands at the end of [`send`](Adapter::send): the adapter asks for CAPABILITY by a plain read, again and again,
-/// until the converter acknowledges and answers something else than FFh, or its count of such reads is spent. So a read
-/// finds a converter that is ready. Those requests are hearings that a repeated start ends, which the clause of a write
-/// allows.
+/// How long it waits is the adapter's own, and no clause speaks of time. The wait for a converter that is busy after a
+/// write stands at the end of [`send`](Adapter::send). There the adapter reads CAPABILITY by a plain read, again and
+/// again, until the converter acknowledges and answers something else than FFh. It stops once its count of such reads
+/// is spent. A read then finds a ready converter if the count sufficed. Those requests are hearings that a repeated
+/// start ends, which the clause of a write allows.
 pub trait Adapter {
     /// What the converter holds.
     ghost held: { Self → Held };

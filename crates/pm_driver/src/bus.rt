@@ -13,7 +13,7 @@ pub trait Bus {
     ghost restarts: { Self → ℕ };
 
     /// From this bus a call, with what it answers, leads to that one. An implementor says what it likes of its calls, and
-    /// remembers none. The loop is proved for each bus, so it can have this of two buses by a call alone: it makes each
+    /// remembers none. The loop is proved for each bus, so it can have this of two buses only by a call: it makes each
     /// call that its contract names, once, and no other.
     ghost gives: { Self → Call → Self → Type 0 };
 

@@ -14,17 +14,16 @@ impl<B: Bus> Driver<B> {
     /// Carries a plan out: brings an output's registers from the words that they hold to those that are wanted, with this
     /// many jobs at most. No limits, or the output's own, refuse what it orders.
     ///
-    /// It reads what the plan needs, and is refused before anything is written, unless the converter restarts in between. Then it gives the plan's orders, one after
-    /// another; an order that ended unknown is checked before the next, and one that differs is given once more. Where
-    /// something was ordered it reads all once more. Where each register has its wanted word, nothing is written.
+    /// It reads what the plan needs, and is refused before anything is written, unless the converter restarts in between. Then it gives the
+    /// plan's orders, one after another; an order that ended unknown is checked before the next, and one that differs is given once more.
+    /// It reads all once more if something was ordered. Nothing is written if each register has its wanted word.
     ///
     /// At each moment the output commands what it commanded before or what is wanted, unless the converter restarted:
     /// [`applied_plans_keep_rails`](crate::applied_plans_keep_rails). `Reached`: unless it restarted, the converter holds each
-    /// wanted word, by [`applied_plans_come_true`](crate::applied_plans_come_true). Of a part that is said to lack registers
-    /// both hold where no VOUT_MIN or VOUT_MAX that it lacks cuts its outputs, and the host had no good answer for any that it
-    /// lacks. `Stopped` says why, and [`known`](Driver::known)
-    /// what each register is known to hold. Where a job is open it is refused with H3, and changes nothing. The output is
-    /// there.
+    /// wanted word, by [`applied_plans_come_true`](crate::applied_plans_come_true). Both hold of a part that is said to lack
+    /// registers, too, if no missing VOUT_MIN or VOUT_MAX cuts its outputs and the host had no good answer for a missing one.
+    /// `Stopped` says why, and [`known`](Driver::known) what each register is known to hold. H3 if a job is open; nothing
+    /// changes then. The output is there.
     pub fn apply(&mut self, output: u8, wanted: &Wanted, tries: u16) -> ApplyEnd
         requires { output < self.old.guard.host.setup.outputs }
         ensures finishes { Finishes B.gives B.held B.restarts output wanted.now tries self.old result self.new }
@@ -45,8 +44,7 @@ impl<B: Bus> Driver<B> {
     }
 
     /// Carries out what a course names, job after job, until it has ended, or until the guard refuses an order of OPERATION:
-    /// then the order wasn't begun. Where a job is open the course has ended with H3, and nothing changes. The output is
-    /// there.
+    /// then the order wasn't begun. The course ends with H3 if a job is open, and nothing changes then. The output is there.
     ///
     /// What is carried out is a course of each life that led to the driver, by
     /// [`courses_are_lived`](crate::courses_are_lived): so what

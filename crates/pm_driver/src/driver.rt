@@ -62,14 +62,16 @@ impl<B: Bus> Driver<B> {
         Driver::guarded(Guard::over(host), bus)
     }
 
-    /// A driver of a new host with its limits, made for the address and the outputs of a part as it is
-    /// (`MayBegin`): any words that its cells accept, held and stored, any PAGE, readings and latched status bits, whatever was
-    /// there before. A converter as it was made is one ([`new_converters_may_begin`](crate::new_converters_may_begin)), and so is
-    /// what any life left ([`lives_lead_on`](crate::lives_lead_on)).
+    /// A driver of a new host with its limits, made for the address and the outputs of a part as it is (`MayBegin`). The part
+    /// may hold and have stored any words that its cells accept, and have any PAGE, readings and latched status bits, whatever
+    /// was there before. A converter as it was made is such a part
+    /// ([`new_converters_may_begin`](crate::new_converters_may_begin)), and any life leaves one
+    /// ([`lives_lead_on`](crate::lives_lead_on)).
     ///
-    /// Where an output's limits allow the words that the part holds and has stored, all its words lie within them
-    /// here (`begun`) and after each call, and the output commands a voltage within them: [`laws`](Driver::laws), `limited`.
-    /// So they do where they did with an earlier host, with the same passes (`within`) or others (`earlier`). The part didn't restart since any cell was read (`since`).
+    /// An output's words lie within its limits here (`begun`) and after each call if the limits allow the words that the part holds and has
+    /// stored. The output then commands a voltage within them: [`laws`](Driver::laws), `limited`. Its words lie within them here, too, if
+    /// they did with an earlier host, with the same passes (`within`) or others (`earlier`). The part didn't restart since any cell was
+    /// read (`since`).
     pub fn guarded(guard: Guard, bus: B) -> Driver<B>
         requires { MayBegin guard.host (B.held bus) }
         ensures guard { result.guard ≡ guard }
@@ -153,15 +155,15 @@ impl<B: Bus> Driver<B> {
         self.run(Job::Send(Command::RestoreUserAll))
     }
 
-    /// Reads what no job asks for, as a status or a measured value: one [`Bus::read`] of this request, of which the host isn't
-    /// told. How many bytes came, the read address with them; [`read_plain`](pm_frame::read_plain) and
-    /// [`read_block`](pm_frame::read_block) judge them. Refused with H3 where a job is open, which changes nothing. There is
-    /// room for a byte at least. Give just the room of a whole answer: of fewer bytes a bus promises nothing, so that of a block
-    /// shorter than its room the packet error code is all that speaks.
+    /// Reads what no job asks for, as a status or a measured value: one [`Bus::read`] of this request, of which the host hears
+    /// nothing. How many bytes came, the read address with them; [`read_plain`](pm_frame::read_plain) and
+    /// [`read_block`](pm_frame::read_block) judge them. H3 if a job is open; nothing changes then. There is room for a byte at
+    /// least. Give just the room of a whole answer: a bus promises nothing of an answer with fewer bytes. A block that is
+    /// shorter than its room is judged by its packet error code only.
     ///
-    /// No beginning of the request is a write to the converter, since the bus may cut it off there by a stop: that of
-    /// [`code_request`](pm_frame::code_request) never is one, nor bytes whose code isn't written, as PAGE_PLUS_READ, nor the
-    /// request of a message that reads ([`requests_are_no_writes`](crate::requests_are_no_writes)).
+    /// No beginning of the request is a write to the converter, since the bus may cut it off there by a stop. Three requests
+    /// have none: that of [`code_request`](pm_frame::code_request), bytes whose code isn't written, as PAGE_PLUS_READ, and
+    /// the request of a message that reads ([`requests_are_no_writes`](crate::requests_are_no_writes)).
     ///
     /// The converter latches bits of STATUS_CML at most. Settings, store and PAGE stay, unless it restarts, which the bus
     /// counts; what the host calls confirmed holds on as between two jobs.
@@ -175,7 +177,7 @@ impl<B: Bus> Driver<B> {
     ///     // law: no beginning of the request is a write
     ///     requests_are_no_writes();
     ///     let count = driver.read(&code_request(0x58, code), &mut room).ok()?; // H3: a job is open
-    ///     let payload = read_plain(0x58, code, 2, &room[..count]).ok()?; // F5 where a bit changed
+    ///     let payload = read_plain(0x58, code, 2, &room[..count]).ok()?; // F5 if a bit changed
     ///     Some(u16::from_le_bytes([payload[0], payload[1]]))
     /// }
     /// ```

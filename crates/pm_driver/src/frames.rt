@@ -12,10 +12,11 @@ use crate::laws::{frames_lead, leads_compose};
 use pm_host::{JobEnd, Step, Told, Turn};
 use pm_limits::Guard;
 
-/// Carries the open job of a host with its limits out. How it ended; `None` exactly where no job was open (`some`).
+/// Carries the open job of a host with its limits out. It answers how the job ended; `None` exactly if no job was open
+/// (`some`).
 ///
-/// Each frame is sent by one call of the bus, and what that answered is what the host is told (`leads`). No frame
-/// is left then (`over`), the limits stay, and the host stays that of its converter (`kept`).
+/// Each frame is sent by one call of the bus, and the host hears what that call answered (`leads`). No frame is
+/// left then (`over`), the limits stay, and the host stays that of its converter (`kept`).
 pub fn carry_out<B: Bus>(guard: &mut Guard, bus: &mut B) -> Option<JobEnd>
     ensures leads { Leads B.gives B.held B.restarts [] result
         (record { host = guard.old.host; bus = bus.old }) (record { host = guard.new.host; bus = bus.new }) }
@@ -35,7 +36,7 @@ pub fn carry_out<B: Bus>(guard: &mut Guard, bus: &mut B) -> Option<JobEnd>
     }
 }
 
-// Sends one frame, and tells the host what came of it; `None` where no job is open.
+// Sends one frame, and lets the host hear what came of it; `None` if no job is open.
 fn send<B: Bus>(guard: &mut Guard, bus: &mut B) -> Option<Step>
     ensures leads { Leads B.gives B.held B.restarts [] (end_in result)
         (record { host = guard.old.host; bus = bus.old }) (record { host = guard.new.host; bus = bus.new }) }

@@ -43,7 +43,8 @@ pub(crate) fn laws_of_lives()
     lists_say_enough();
 }
 
-/// What leads on from where something led is one that leads from its beginning: calls compose.
+/// Calls compose: if one way leads to a point and another leads on from there, both together lead from the first one's
+/// beginning.
 pub fn leads_compose<B: Bus>()
     ensures { LeadsCompose B.gives B.held B.restarts }
 {}
@@ -53,8 +54,8 @@ pub fn restarts_are_counted<B: Bus>()
     ensures { RestartsAreCounted B.gives B.held B.restarts }
 {}
 
-/// In every life whose newest event is one that the host was told of, the end of the last job says what it is worth:
-/// an order that is done is confirmed and held, one that differs stands with the word that was read, a check that is
+/// The end of the last job says what it is worth, in every life whose newest event is one that the host heard of. An
+/// order that is done is confirmed and held; one that differs stands with the word that was read. A check that is
 /// done stands with some word, and a learned format is the converter's.
 pub fn ends_are_true()
     ensures { EndsAreTrue }
@@ -64,8 +65,8 @@ pub fn ends_are_true()
     laws_of_lives();
 }
 
-/// Between two answers of a life that surprise the host, the converter restarted. So without a restart of it since the first
-/// good answer behind a moment, one answer at most surprises behind that moment, whatever else happened.
+/// Between two answers of a life that surprise the host, the converter restarted. At most one answer after a moment
+/// surprises, whatever else happened, if the converter didn't restart since the first good answer after that moment.
 pub fn one_surprise_at_most()
     ensures { OneSurpriseAtMost }
 {
@@ -107,9 +108,9 @@ pub fn lives_lead_on()
     laws_of_lives();
 }
 
-/// Whatever a driver was asked for since it began beside a part as it is, and whatever its bus lost, cut, damaged, repeated or
-/// restarted: each output commands a value of words that the part held or had stored as the driver began, or that were
-/// ordered since for that same output; and each of its registers holds such a word, and has one stored.
+/// Each output commands a value of words that the part held or had stored as the driver began, or that were ordered since for
+/// that same output. Each of its registers holds such a word, and has one stored. This holds whatever the driver was asked for
+/// since it began beside a part as it is, and whatever its bus lost, cut, damaged, repeated or restarted.
 pub fn parts_command_their_own<B: Bus>()
     ensures { PartsCommandTheirOwn B.gives B.held B.restarts }
 {
@@ -121,14 +122,14 @@ pub fn whole_frames_are_legal()
     ensures { WholeFramesAreLegal }
 {}
 
-/// Over a bus whose calls nothing disturbs, an order that WRITE_PROTECT allows is done, and the converter holds its word.
+/// An order that WRITE_PROTECT allows is done over a bus whose calls nothing disturbs, and the converter holds its word.
 pub fn undisturbed_orders_are_done<B: Bus>()
     ensures { UndisturbedOrdersAreDone B.gives B.held B.restarts }
 {
     undisturbed_jobs::<B>();
 }
 
-/// Over a bus whose calls restart nothing, what the host confirms of a cell that was read is held: no job ends that.
+/// What the host confirms of a cell that was read is held over a bus whose calls restart nothing: no job ends that.
 pub fn jobs_restart_nothing<B: Bus>()
     ensures { JobsRestartNothing B.gives B.held B.restarts }
 {}
@@ -146,7 +147,7 @@ pub(crate) fn calls_go()
     laws_of_lives();
 }
 
-/// A call of the frame that the host was sending, whose answer the host is told, leads on.
+/// A call of the frame that the host was sending leads on, once the host has heard its answer.
 pub(crate) fn frames_lead<B: Bus>()
     ensures { FramesLead B.gives B.held B.restarts }
 {

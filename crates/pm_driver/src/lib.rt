@@ -2,11 +2,11 @@
 //! answers is proved to the calls of the bus.
 //!
 //! A [`Bus`] has two calls, `write` and `read`, and its contract says what a bus may do to the converter at its
-//! other end: lose, cut, repeat and damage frames, acknowledge falsely and restart the converter, but no damage that
-//! the packet error code doesn't betray. [`carry_out`] sends each frame of the host's open job by one such call and
-//! tells the host what it answered. Its contract (`Leads`) says just that, and that every life which led to the host
-//! and the converter before leads to those after; so what holds of lives holds of a caller's own loop, with no list
-//! of events.
+//! other end. It may lose, cut, repeat and damage frames, acknowledge falsely and restart the converter, but do no
+//! damage that the packet error code doesn't betray. [`carry_out`] sends each frame of the host's open job by one
+//! such call, and the host hears what the call answered. Its contract (`Leads`) says just that, and that every life
+//! which led to the host and the converter before leads to those after. What holds of lives thus holds of a caller's
+//! own loop, with no list of events.
 //!
 //! An [`Adapter`] is what lies below a bus that knows more than whether a frame was acknowledged: it says which frames the
 //! converter heard nothing of, so that a bus over it may send these again.
@@ -14,18 +14,17 @@
 //! The bus counts the converter's restarts, and each call of a driver hands out how many there were: while there are
 //! none, what the host calls confirmed is held ([`restarts_are_counted`], [`Driver::laws`]).
 //!
-//! [`Driver::survey`] reads what decides what an output commands, [`Driver::complete`] carries a course out, and
-//! [`Driver::apply`] one to wanted words: while the bus
-//! counts no restart, the output commands at each moment what it commanded before or what is wanted
-//! ([`applied_plans_keep_rails`]), and what is wanted once all is reached ([`applied_plans_come_true`],
-//! [`reached_plans_are_commanded`]); what it commands is in the band that a survey ends with by its own rule, which has one value
+//! [`Driver::survey`] reads what decides what an output commands, [`Driver::complete`] carries a course out, and [`Driver::apply`]
+//! carries one out to wanted words. The output commands at each moment what it commanded before or what is wanted, while the bus
+//! counts no restart ([`applied_plans_keep_rails`]). It commands what is wanted once all is reached ([`applied_plans_come_true`],
+//! [`reached_plans_are_commanded`]). What it commands is in the band that a survey ends with by its own rule, which has one value
 //! then ([`surveys_are_true`]). A survey whose checks are all answered takes at most one check less than two for each cell that it
 //! reads ([`surveys_take_few_checks`]), since two answers that surprise show a restart between them ([`one_surprise_at_most`]).
 //!
 //! It has no clock and no memory: a bus decides how long it waits, and whether it tries a write again. There is one host
-//! and one converter; a second master on the bus is no part of it. Of its own buses a
-//! [`SimulatedBus`] has the model converter at its other end and a plan of faults, to try a firmware's own code over, and a
-//! [`Patient`] one stands over any [`Adapter`].
+//! and one converter; a second master on the bus is no part of it. It has two buses of its own: a [`SimulatedBus`] has the
+//! model converter at its other end and a plan of faults, to try a firmware's own code over, and a [`Patient`] one stands
+//! over any [`Adapter`].
 //!
 //! An order, over a bus of the caller's:
 //!

@@ -40,9 +40,9 @@ pub fn courses_are_lived<B: Bus>()
 {}
 
 /// The output commands, at each moment since a plan began to be carried out, what it commanded before or what is
-/// wanted, and changes once at most, if the bus counted no restart since: however the plan's jobs ended and wherever
-/// it stopped. If the part is said to lack registers, this law and the next two ask that no VOUT_MIN or VOUT_MAX that
-/// it lacks cuts its outputs, and that the host had no good answer for any that it lacks.
+/// wanted, and changes once at most, if the bus counted no restart since. This holds however the plan's jobs ended
+/// and wherever it stopped. This law and the next two ask of a part that is said to lack registers that no missing
+/// VOUT_MIN or VOUT_MAX cuts its outputs, and that the host had no good answer for a missing one.
 pub fn applied_plans_keep_rails<B: Bus>()
     ensures { AppliedPlansKeepRails B.gives B.held B.restarts }
 {
@@ -66,8 +66,8 @@ pub fn reached_plans_are_commanded<B: Bus>()
 }
 
 /// The output commanded at each moment of a survey what it commands at its end, and that lies in the output's band,
-/// if the bus counted no restart since the survey began. If the survey has ended by its own rule, the band has one
-/// value. If it has no tries left, the band rests on answers of before it too, and the converter must not have
+/// if the bus counted no restart since the survey began. The band has one value if the survey has ended by its own
+/// rule. It rests on earlier answers, too, if the survey has no tries left, and the converter must not have
 /// restarted since those. A survey that has read nothing begins so in any life, and goes on in the life that it led
 /// to. It asks the same of a part that is said to lack registers as the laws of plans.
 pub fn surveys_are_true<B: Bus>()
@@ -76,8 +76,8 @@ pub fn surveys_are_true<B: Bus>()
     laws_of_rails();
 }
 
-/// A survey that began with nothing read, and each of whose checks is done, takes at most one check less than two for each cell
-/// that it reads, where the converter didn't restart since the first of its reads: an answer that surprises shows a restart.
+/// A survey that began with nothing read, and each of whose checks is done, takes at most one check less than two for each
+/// cell, if the converter didn't restart since its first read. An answer that surprises shows a restart.
 pub fn surveys_take_few_checks<B: Bus>()
     ensures { SurveysTakeFewChecks B.gives B.held B.restarts }
 {
@@ -89,14 +89,14 @@ pub fn surveys_take_few_checks<B: Bus>()
     one_surprise_at_most();
 }
 
-/// A survey is one way from first to last, asked for its jobs and nothing else, and so is a course that is carried out: by the
+/// A survey, or a course that is carried out, is one way from first to last, asked for its jobs and nothing else: by the
 /// events that the laws on their worth speak of.
 pub fn rails_lead<B: Bus>()
     ensures { RailsLead B.gives B.held B.restarts }
 {}
 
-/// What an output commands lies in its band, and within its limits where the guard says so, where the converter didn't restart
-/// since the host's last good answer for any of the registers that the band rests on.
+/// What an output commands lies in its band, if the converter didn't restart since the host's last good answer for any of the
+/// registers that the band rests on. It lies within its limits, too, if the guard says so.
 pub fn bands_stand()
     ensures { BandsStand }
 {

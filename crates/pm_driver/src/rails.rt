@@ -16,12 +16,13 @@ use pm_rail::Survey;
 use pm_table::Cell;
 
 impl<B: Bus> Driver<B> {
-    /// Carries out what a survey asks for, until it has ended by its own rule or has no tries left. Whether it has ended by
-    /// its rule: then all that decides what the output commands is known, of the registers that the part has by good answers
-    /// that came since it began. Otherwise it has no tries left, and more of them or a new survey go on; or it stands at a
-    /// margin that OPERATION selects, or that a plan wants, and that the part lacks, where more tries don't help.
+    /// Carries out what a survey asks for, until it has ended by its own rule or has no tries left. It answers whether the
+    /// survey has ended by its rule. All that decides what the output commands is known then, of the registers that the part
+    /// has by good answers that came since it began. Otherwise it has no tries left, or it stands at a margin that the part
+    /// lacks and that OPERATION selects or a plan is to change. More tries or a new survey go on from the first, and don't
+    /// help with the second.
     ///
-    /// Refused with H3 where a job is open, which changes nothing. The output is there.
+    /// H3 if a job is open; nothing changes then. The output is there.
     pub fn survey(&mut self, survey: &mut Survey) -> Result<bool, HostFault>
         requires { survey.old.output < self.old.guard.host.setup.outputs }
         ensures surveys { SurveysTo B.gives B.held B.restarts survey.old self.old result survey.new self.new }
@@ -47,8 +48,8 @@ impl<B: Bus> Driver<B> {
         }
     }
 
-    /// The word that a cell is known to hold: the only one that is possible for it, where the cell takes it; `None` where it
-    /// isn't known. Check it then. The cell is there.
+    /// The word that a cell is known to hold: the only possible one, which the cell takes. `None` if no word is known; check
+    /// the cell then. The cell is there.
     pub fn known(&self, cell: Cell) -> Option<u16>
         requires { IsCell self.now.guard.host.setup.outputs cell }
         ensures { result ≡ known_word cell (possible_at self.now.guard.host cell) }

@@ -17,9 +17,9 @@ use pm_world::{
     whole_frames_are_undisturbed,
 };
 
-/// Over a bus whose calls nothing disturbs a check ends with the word that is held, a learn ends with the converter's format,
-/// and an order that WRITE_PROTECT allows is done: what the host knows then is just what the answers tell, and each other word
-/// stays.
+/// A check over a bus whose calls nothing disturbs ends with the word that is held. A learn ends with the converter's format
+/// there, and an order that WRITE_PROTECT allows is done. What the host knows then is just what the answers say, and each
+/// other word stays.
 pub fn undisturbed_jobs<B: Bus>()
     ensures { UndisturbedJobs B.gives B.held B.restarts }
 {
@@ -44,9 +44,9 @@ pub fn undisturbed_surveys_end<B: Bus>()
     surveys_end_known();
 }
 
-/// Over such a bus the end of a course to wanted words is decided by what the part holds, whatever the host knew: with 27 tries
-/// it ends `Reached`, and the output commands what is wanted, unless these words refuse it; then it ends with that very refusal,
-/// and no word moved.
+/// What the part holds decides the end of a course to wanted words over such a bus, whatever the host knew. The course ends
+/// `Reached` with 27 tries, and the output commands what is wanted, unless these words refuse it. It then ends with that very
+/// refusal, and no word moved.
 pub fn undisturbed_courses_end<B: Bus>()
     ensures { UndisturbedCoursesEnd B.gives B.held B.restarts }
 {
@@ -72,9 +72,9 @@ pub fn courses_end_once_undisturbed<B: Bus>()
     surveys_end_known();
 }
 
-/// Over such a bus a course to a byte of OPERATION ends with that byte in OPERATION and each other word kept, whatever the host
-/// knew: with 16 tries where it leaves the output on, and with one where it turns it off. It is refused by the output's limits
-/// alone, and then no word moved. The part has the register that the byte selects, and WRITE_PROTECT allows OPERATION.
+/// A course to a byte of OPERATION over such a bus ends with that byte in OPERATION and each other word kept, whatever the host
+/// knew. It needs 16 tries to a byte that leaves the output on, and one to a byte that turns it off. Only the output's limits
+/// refuse it, and then no word moved. The part has the register that the byte selects, and WRITE_PROTECT allows OPERATION.
 pub fn undisturbed_power_ends<B: Bus>()
     ensures { UndisturbedPowerEnds B.gives B.held B.restarts }
 {
@@ -90,7 +90,7 @@ pub fn whole_parts_fit()
     ensures { WholePartsFit }
 {}
 
-/// A bus that tries a write again is undisturbed where the bus below is.
+/// A bus that tries a write again is undisturbed if the bus below it is.
 pub fn retrying_is_undisturbed<B: Bus>()
     ensures { RetryingIsUndisturbed B.gives B.held }
 {}

@@ -39,8 +39,8 @@ pub enum FrameFault {
 impl FrameFault {
     ghost use Rattle.pm_frame.specs.FaultWords.{frame_fault_number, frame_fault_words, frame_fault_place};
 
-    /// The letter and the name of the fault, as programs print them: `F5 WrongPec`. Behind them
-    /// stands its place, where it has one.
+    /// The letter and the name of the fault, as programs print them: `F5 WrongPec`. The fault's place follows
+    /// them if it has one.
     pub fn words(self) -> &'static str
         ensures { result.now ≡ frame_fault_words self }
     {

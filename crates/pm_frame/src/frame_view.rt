@@ -48,8 +48,8 @@ impl FrameView<'_> {
         }
     }
 
-    /// The code that is meant: the one that PAGE_PLUS carries, otherwise the packet's own. It is
-    /// 30h where coefficients are read; the code that they are asked of is in the message.
+    /// The code that is meant: the one that PAGE_PLUS carries, otherwise the packet's own. It is 30h if
+    /// coefficients are read; the code whose coefficients they are is in the message.
     #[tactic(auto, unfolding(crate::specs::View::message_in))]
     pub fn code(&self) -> u8
         ensures { result ≡ message_code self.now }
@@ -60,8 +60,8 @@ impl FrameView<'_> {
         }
     }
 
-    /// The payload of a write, 0 to 2 bytes, a word low byte first; no byte for a request, but the
-    /// code and the side where coefficients are read.
+    /// The payload of a write, 0 to 2 bytes, a word low byte first; no byte for a request, but the code and
+    /// the side if coefficients are read.
     #[tactic(auto, unfolding(crate::specs::View::message_in))]
     pub fn payload(&self) -> &[u8]
         ensures { result.now ≡ message_payload self.now }

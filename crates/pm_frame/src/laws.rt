@@ -1,5 +1,5 @@
-//! The laws between the layouts, the faults and the PEC, over the definitions alone: each is the contract of
-//! a function that does nothing, or calls a law below. What each says stands in the definitions, under its
+//! The laws between the layouts, the faults and the PEC, over nothing but definitions: each is the contract
+//! of a function that does nothing, or calls a law below. What each says stands in the definitions, under its
 //! name.
 
 ghost use Rattle.pm_frame.specs.Laws.{WritesAreExact, RequestsAreExact, AnswersAreExact, DamageIsRefused, BetrayalIsRefused};
@@ -9,31 +9,32 @@ ghost use Rattle.pm_frame.specs.Laws.{BurstsAreBetrayed, FewChangesAreBetrayed, 
 
 use pm_table::payloads_are_short;
 
-/// Bytes have no fault as a write exactly where they have the layout of some message that writes,
-/// which is the one read by their places; they are then no other message, and no strict prefix of
-/// them is a write to the same address.
+/// Bytes have no fault as a write exactly if they have the layout of some message that writes, which is the
+/// one read by their places. They are then no other message, and no strict prefix of them is a write to the
+/// same address.
 pub fn writes_are_exact()
     ensures { WritesAreExact }
 {
     payloads_are_short();
 }
 
-/// Bytes have no fault as a request exactly where they have the layout of some message that reads,
-/// which is the one read by their places; they are then no other message, and no strict prefix of
-/// them is a request to the same address.
+/// Bytes have no fault as a request exactly if they have the layout of some message that reads, which is the
+/// one read by their places. They are then no other message, and no strict prefix of them is a request to the
+/// same address.
 pub fn requests_are_exact()
     ensures { RequestsAreExact }
 {}
 
-/// What came back for a read that fits has no fault exactly where it has the layout of an answer
-/// with some payload, which stands at its place; it then has no other payload, and no strict prefix
-/// of it is an answer to that request.
+/// What came back for a read that fits has no fault exactly if it has the layout of an answer with some
+/// payload, which stands at its place. It then has no other payload, and no strict prefix of it is an answer
+/// to that request.
 pub fn answers_are_exact()
     ensures { AnswersAreExact }
 {}
 
-/// What is cut short has a fault, and so has what its last byte betrays, alone or after the bytes
-/// of a request; so a write that has none ends in its PEC, and so does a request with an answer that has none.
+/// What is cut short has a fault, and what its last byte betrays has one, by itself or after the bytes of a
+/// request. A write without a fault ends in its PEC, and the answer to a request ends in its PEC if it has no
+/// fault.
 pub fn damage_is_refused()
     ensures { DamageIsRefused }
 {}
@@ -52,8 +53,8 @@ pub fn bursts_are_betrayed()
 {}
 
 /// A change of one, two or three bits anywhere in a message of at most 15 bytes, its PEC included, is
-/// betrayed, and so is a change of an odd number of bits in a message of any length. Two bits that
-/// are 127 apart, as the first and the last of 16 bytes, are not.
+/// betrayed. A change of an odd number of bits is betrayed in a message of any length. Two bits that are 127
+/// apart, as the first and the last of 16 bytes, are not.
 pub fn few_changes_are_betrayed()
     ensures { FewChangesAreBetrayed }
 {}
@@ -64,14 +65,14 @@ pub fn damage_is_betrayed()
     ensures { DamageIsBetrayed }
 {}
 
-/// When an answer to one request passes for an answer to another, as one that comes late may: only where the two requests
-/// have one PEC up to the read address; and where their answers have one form too, what comes back is judged alike for both.
+/// An answer to one request passes for an answer to another, as one that comes late may, only if the two requests have one
+/// PEC up to the read address. What comes back is judged alike for both if their answers have one form too.
 pub fn late_answers_pass()
     ensures { LateAnswersPass }
 {}
 
-/// Which messages share their PEC: two of one length do exactly where what changed between them has the PEC 0. So it is
-/// said of two reads of outputs' registers, of two plain reads, and of two writes of outputs' registers.
+/// Two messages of one length share their PEC exactly if what changed between them has the PEC 0. The law says it of
+/// two reads of outputs' registers, of two plain reads, and of two writes of outputs' registers.
 pub fn codes_are_shared()
     ensures { CodesAreShared }
 {}

@@ -9,8 +9,8 @@
 //! `read_block`, `read_plain` and `read_paged` judge what comes back for reads that are no `Message`: a block, a plain read, and a
 //! read by PAGE_PLUS, each of up to 32 bytes of any code.
 //!
-//! The PEC betrays damage where the last byte of what was heard isn't the PEC of what stands before
-//! it: `is_betrayed` says so of bytes, and the laws say which damage it always betrays.
+//! The PEC betrays damage if the last byte of what was heard isn't the PEC of what stands before it:
+//! `is_betrayed` says so of bytes, and the laws say which damage it always betrays.
 //!
 //! It keeps no state, knows no setting and takes no memory. What a write does is the converter's
 //! affair.
@@ -25,7 +25,7 @@
 //!         payload: Payload::Word(0x34CD),
 //!     };
 //!     let bytes = write_part(0x58, &written); // B0 05 04 00 21 CD 34 5A
-//!     let view = read_write(0x58, bytes.as_slice())?; // F5 where one of its bits changed
+//!     let view = read_write(0x58, bytes.as_slice())?; // F5 if one of its bits changed
 //!     Ok(view.message()) // what was written
 //! }
 //! ```

@@ -41,7 +41,7 @@ impl Payload {
 /// `byte`, `word` and `payload` are what is written.
 #[derive(Clone, Copy, Debug, PartialEq, Eq)]
 pub enum Message {
-    /// SMBus send byte: a code alone.
+    /// SMBus send byte: a code without data.
     ///
     /// | aw | code | PEC |
     /// |----|------|-----|
@@ -154,8 +154,8 @@ impl Message {
         }
     }
 
-    /// How many bytes its whole answer has: the address, a count where there is one, the payload and
-    /// the PEC. 2 to 8; 2 for a write, which has no answer.
+    /// How many bytes its whole answer has: the address, a count if there is one, the payload and the PEC. 2
+    /// to 8; 2 for a write, which has no answer.
     pub fn whole_answer(&self) -> usize
         ensures length { result ≡ whole_answer self.now }
         ensures short { result ≤ 8 }

@@ -3,9 +3,9 @@ ghost use Rattle.std.specs.Prelude.{◌≡◌, ℕ, List, [], ◌∷◌, ◌++�
 ghost use Rattle.pm_frame.specs.Pec.{pec_of};
 ghost use Rattle.pm_frame.specs.Betrayal.{is_betrayed as spec_is_betrayed};
 
-/// Whether the last of these bytes isn't the PEC of those before it, and of `before`, which is what
-/// stood before them in the same packet: nothing for a write, the request's bytes for an answer. No
-/// bytes are never betrayed, and with nothing before it the byte 00h alone isn't, since the PEC of no bytes is 00h.
+/// Whether the last of these bytes isn't the PEC of those before it, and of `before`, which is what stood before
+/// them in the same packet: nothing for a write, the request's bytes for an answer. No bytes are never betrayed.
+/// The single byte 00h with nothing before it isn't betrayed, since the PEC of no bytes is 00h.
 #[tactic(auto, unfolding(crate::specs::Betrayal::is_betrayed))]
 pub fn is_betrayed(before: &[u8], bytes: &[u8]) -> bool
     ensures { result ≡ spec_is_betrayed before.now bytes.now }
@@ -45,8 +45,8 @@ pub fn pec(bytes: &[u8]) -> u8
     pec_after(0, bytes)
 }
 
-/// The PEC of what came before, carried on over further bytes of the same message, as that of a
-/// request is over the bytes of its answer: byte by byte, as no packet of a `Message` has more than twelve before its PEC.
+/// The PEC of what came before, carried on over further bytes of the same message, as that of a request is over the bytes
+/// of its answer. It goes byte by byte, as no packet of a `Message` has more than twelve before its PEC.
 pub fn pec_after(so_far: u8, bytes: &[u8]) -> u8
     ensures { (front : List ℕ) → so_far ≡ pec_of front → result ≡ pec_of (front ++ bytes.now) }
 {

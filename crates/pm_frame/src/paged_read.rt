@@ -38,8 +38,8 @@ pub fn paged_request(addr: u8, page: u8, code: u8) -> [u8; 5]
 }
 
 /// Reads what came back after the repeated start of [`paged_request`]: the address, a count from 0 to [`MOST_READ`], so many
-/// bytes, and the PEC, so count + 3 bytes. Of a byte the `size` is 1, of a word 2; `None` takes a block of any count. `Ok` is the
-/// payload. Takes exactly this layout, for bytes of any number; `Err` is the first fault:
+/// bytes, and the PEC, so count + 3 bytes. The `size` of a byte is 1, that of a word 2; `None` takes a block of any count. `Ok`
+/// is the payload. Takes exactly this layout, for bytes of any number; `Err` is the first fault:
 ///
 /// 1. F1: no byte, or the first one isn't the address with the read bit. F2: no count.
 /// 2. F4: the count is above [`MOST_READ`], or isn't the `size`, however many bytes follow.

@@ -23,8 +23,8 @@ pub fn code_request(addr: u8, code: u8) -> [u8; 2]
     [write_address(addr), code]
 }
 
-/// Reads what came back after the repeated start of [`code_request`], where `size` bytes of payload were asked for, at most
-/// [`MOST_READ`]. `Ok` is the payload. Takes exactly this layout, for bytes of any number; `Err` is the first fault:
+/// Reads what came back after the repeated start of [`code_request`] for `size` bytes of payload, at most [`MOST_READ`].
+/// `Ok` is the payload. Takes exactly this layout, for bytes of any number; `Err` is the first fault:
 ///
 /// 1. F1: no byte, or the first one isn't the address with the read bit.
 /// 2. F2, F3: fewer or more bytes than the address, the payload and the PEC are.

@@ -24,8 +24,8 @@ use pm_table::{Code, payloads_are_short};
 ///
 /// 1. F1: no byte, or the first one isn't the address with the write bit. F2: no other byte.
 /// 2. F2, F3: fewer or more bytes than a plain code that is written asks for, or than the count of
-///    PAGE_PLUS_WRITE says, with F4 where that count is below 2 or isn't the one that its carried
-///    code, written and carried, asks for. F2 for two bytes.
+///    PAGE_PLUS_WRITE says. F4: a count below 2, or another one than its carried code, written and
+///    carried, asks for. F2 for two bytes.
 /// 3. F5: the last byte isn't the PEC of those before it.
 /// 4. F8: a carried code that PAGE_PLUS doesn't carry. F6: a code that isn't in the table. F7: one
 ///    that isn't written.
@@ -65,11 +65,10 @@ fn written(addr: u8, bytes: &[u8]) -> Result<(), FrameFault>
 /// fault:
 ///
 /// 1. F1: no byte, or the first one isn't the address with the write bit. F2: no other byte.
-/// 2. For PAGE_PLUS_READ and COEFFICIENTS F2 and F3 where there aren't five bytes, F4 where the
-///    count isn't 2, and for a carried code F8 where PAGE_PLUS doesn't carry it, F6 where it isn't
-///    in the table, F7 where it isn't read.
-/// 3. For every other code F6 where it isn't in the table, F7 where it isn't read, F3 where a byte
-///    follows it.
+/// 2. PAGE_PLUS_READ and COEFFICIENTS: F2 or F3 unless there are five bytes, F4 if the count isn't 2.
+///    A carried code: F8 if PAGE_PLUS doesn't carry it, F6 if it isn't in the table, F7 if it isn't
+///    read.
+/// 3. Every other code: F6 if it isn't in the table, F7 if it isn't read, F3 if a byte follows it.
 pub fn read_request(addr: u8, bytes: &[u8]) -> Result<FrameView<'_>, FrameFault>
     requires { IsAddress addr }
     ensures message { IfOk result (λ message. IsRequest addr message bytes.now) }

@@ -62,8 +62,8 @@ pub(crate) fn length(wanted: usize, bytes: &[u8]) -> Result<(), FrameFault>
     Ok(())
 }
 
-/// F2 and F3 of a plain write: it has as many bytes as its code asks for, where that is written, and
-/// more than two.
+/// F2 and F3 of a plain write: it has more than two bytes, and as many as its code asks for if that code is
+/// written.
 #[tactic(auto, unfolding(crate::specs::Fault::size_fault))]
 pub(crate) fn plain_size(row: Row, bytes: &[u8]) -> Result<(), FrameFault>
     requires code { row.code.0 ≡ slice_index bytes.now 1 }
@@ -81,9 +81,8 @@ pub(crate) fn plain_size(row: Row, bytes: &[u8]) -> Result<(), FrameFault>
     Ok(())
 }
 
-/// F2, F3 and F4 of a PAGE_PLUS_WRITE: it has as many bytes as its count says, and the count is at
-/// least 2 and the one that the carried code asks for, where that is written. The answer is the row
-/// of that code.
+/// F2, F3 and F4 of a PAGE_PLUS_WRITE: it has as many bytes as its count says, and the count is at least 2
+/// and, if the carried code is written, the one that this code asks for. The answer is the row of that code.
 #[tactic(auto, unfolding(crate::specs::Fault::size_fault, crate::specs::Fault::carried_count_fault))]
 pub(crate) fn carried_size(bytes: &[u8]) -> Result<Row, FrameFault>
     requires code { slice_index bytes.now 1 ≡ command.page_plus_write }

@@ -105,7 +105,7 @@ fn answered(addr: u8, request: &Message, payload: &[u8]) -> Frame
     frame
 }
 
-/// The first byte where the host writes to this address.
+/// The first byte of a packet in which the host writes to this address.
 pub(crate) fn write_address(addr: u8) -> u8
     requires { IsAddress addr }
     ensures { result ≡ spec_write_address addr }
@@ -113,7 +113,7 @@ pub(crate) fn write_address(addr: u8) -> u8
     addr * 2
 }
 
-/// The first byte where the host reads from this address.
+/// The first byte after the repeated start, with which the host reads from this address.
 pub(crate) fn read_address(addr: u8) -> u8
     requires { IsAddress addr }
     ensures { result ≡ spec_read_address addr }

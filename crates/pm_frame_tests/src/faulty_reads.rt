@@ -1,7 +1,6 @@
-//! What is wrong with a request or an answer: each row has the bytes after the address byte and the
-//! first fault of them. Where two faults can stand in the same bytes, a row has both. Each row is
-//! tried at the addresses 08h, 58h and 77h, and with another first byte, which is then the first
-//! fault.
+//! What is wrong with a request or an answer: each row has the bytes after the address byte and the first
+//! fault of them. A row has both faults if two can stand in the same bytes. Each row is tried at the
+//! addresses 08h, 58h and 77h, and with another first byte, which is then the first fault.
 
 ghost use Rattle.std.specs.Prelude.{◌≡◌, true};
 ghost use Rattle.pm_table.specs.Address.{IsAddress};
@@ -114,7 +113,7 @@ const SLOPES: Message = Message::ReadCoefficients {
     side: 0,
 };
 
-// A request, what came back behind its first byte, what ends that, and the fault.
+// A request, what came back after its first byte, what ends that, and the fault.
 type Answer = (Message, &'static [u8], Ends, FrameFault);
 
 static FAULTY_ANSWERS: [Answer; 19] = [
@@ -255,7 +254,7 @@ fn a_faulty_answer_has_its_first_fault(rt: HostRuntime) {
     }
 }
 
-// The PEC over the answer's own bytes alone, and over the request for another page.
+// The PEC over nothing but the answer's own bytes, and over the request for another page.
 static OTHER_PECS: [&[u8]; 2] = [
     &[0xB1, 0x02, 0xCD, 0x34, 0xD0],
     &[0xB1, 0x02, 0xCD, 0x34, 0x90],

@@ -1,6 +1,6 @@
-//! What is wrong with a write: each row has the bytes after the address byte and the first fault of
-//! them. Where two faults can stand in the same bytes, a row has both. Each row is tried at the
-//! addresses 08h, 58h and 77h, and with another first byte, which is then the first fault.
+//! What is wrong with a write: each row has the bytes after the address byte and the first fault of them. A
+//! row has both faults if two can stand in the same bytes. Each row is tried at the addresses 08h, 58h and
+//! 77h, and with another first byte, which is then the first fault.
 
 ghost use Rattle.pm_table.specs.Address.{IsAddress};
 
@@ -139,7 +139,7 @@ static FAULTY_WRITES: [(&[u8], Ends, FrameFault); 64] = [
     (&[0x11], Ends::Pec, FrameFault::UnknownCode(1)),
     (&[0x17], Ends::Pec, FrameFault::UnknownCode(1)),
     (&[0x99, 0x00, 0x00], Ends::Pec, FrameFault::UnknownCode(1)),
-    // the carried code, whatever the count where it is not carried, known or written
+    // the carried code, whatever the count, if it is not carried, known or written
     (
         &[0x05, 0x02, 0x00, 0x78],
         Ends::Pec,

@@ -51,7 +51,7 @@ pub(crate) fn slow_pec(before: u8, bytes: &[u8]) -> u8 {
     register
 }
 
-/// Fails where the fault of a row isn't the one that is wanted.
+/// Fails if the fault of a row isn't the one that is wanted.
 pub(crate) fn fails(rt: &impl Abort, row: usize, found: Option<FrameFault>, wanted: FrameFault) {
     agrees(rt, row, &found, &Some(wanted));
 }

@@ -1,7 +1,7 @@
 use crate::checks::agrees;
 use pm_frame::{Message, Payload, fits};
 
-// The layouts by their codes alone: these fit, whatever byte, word, page and side they have.
+// The layouts by nothing but their codes: these fit, whatever byte, word, page and side they have.
 static FITTING: [Message; 27] = [
     Message::SendByte { code: 0x03 },
     Message::SendByte { code: 0x15 },

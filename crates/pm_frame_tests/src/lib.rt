@@ -35,12 +35,12 @@ mod checks {
     use std::fmt::{Debug, Display};
     use std::process::Abort;
 
-    /// Fails where what was found in this row of a table is not what is wanted there.
+    /// Fails if what was found in this row of a table is not what is wanted there.
     pub(crate) fn agrees<T: PartialEq + Debug>(rt: &impl Abort, row: usize, found: &T, wanted: &T) {
         assert_eq!(rt; found, wanted, "row {row}");
     }
 
-    /// Fails where what is in this row of a table isn't printed so.
+    /// Fails if what is in this row of a table isn't printed so.
     pub(crate) fn prints(
         rt: &(impl Abort + AllocGlobal),
         row: usize,

@@ -92,7 +92,7 @@ static BLOCKS: [(u8, &[u8], Payload); 19] = [
         &[0xB1, 0xFF, 0xFF, 0xFF, 0xFF, 0xFF],
         Err(FrameFault::WrongCount(1)),
     ),
-    // another PEC, that of the answer alone, that from the code on, that of another code's, and changed bytes
+    // another PEC, that of nothing but the answer, that from the code on, that of another code's, and changed bytes
     (
         0x99,
         &[0xB1, 0x03, 0x4C, 0x54, 0x43, 0x9E],

@@ -1,4 +1,4 @@
-//! Packets that are put on the wire and read again, and what is left of them where they are cut.
+//! Packets that are put on the wire and read again, and what is left of them if they are cut.
 
 use crate::calls::{
     answer_carries, answered, betrayed, request_carries, request_shown, whole_answer,
@@ -103,7 +103,7 @@ fn taken() -> Result<Message, FrameFault> {
         payload: Payload::Word(0x34CD),
     };
     let bytes = write_part(0x58, &written); // B0 05 04 00 21 CD 34 5A
-    let view = read_write(0x58, bytes.as_slice())?; // F5 where one of its bits changed
+    let view = read_write(0x58, bytes.as_slice())?; // F5 if one of its bits changed
     Ok(view.message()) // what was written
 }
 

@@ -71,15 +71,14 @@ pub enum Told<'a> {
 /// error code covers too.
 ///
 /// At most one job is open. `begin` begins one, and is refused (H3) until it has ended; `order`, `check` and
-/// the like are `begin` for one kind of job. Until then `turn` shows what to send now, and each frame that
-/// was sent is followed by one call of `told`, which has to be of the kind that `turn` showed: ask `turn`
-/// before each `told`. A job has ended once `told` answers `Step::Ended`, after at most twice `passes`
-/// frames. `restart`, `standing`, `possible` and `restart_seen` may come at any time. A refused call
-/// changes nothing. No call takes memory.
+/// the like are `begin` for one kind of job. `turn` shows until then what to send now. One call of `told`
+/// follows each frame that was sent, of the kind that `turn` showed: ask `turn` before each `told`. A job has
+/// ended once `told` answers `Step::Ended`, after at most twice `passes` frames. `restart`, `standing`,
+/// `possible` and `restart_seen` may come at any time. A refused call changes nothing. No call takes memory.
 #[derive(Debug, Drop)]
 pub struct Host {
     state: State,
-    // What the open job is sending; nothing where no job is open.
+    // What the open job is sending; `None` if no job is open.
     sending: Option<Sending>,
 }
 
@@ -123,11 +122,15 @@ impl Host {
 
     /// Begins a job, whose first frame `turn` then shows.
     ///
-    /// The first that applies refuses: H3 if a job is open, H4 if its output isn't there. An order
-    /// is then refused with H5 if the cell doesn't accept the word, and H6 if the cell may hold any
-    /// of 16 words and this is another. An order in microvolts is refused, in this order, with H5 if the
-    /// cell isn't a voltage, H7 if the format isn't known, N5 if the number is beyond 10^15 in size,
-    /// N3 or N4 if it lies outside the format's range, and H6 as for an order.
+    /// It is refused with the first of these that applies:
+    ///
+    /// - H3: a job is open.
+    /// - H4: its output isn't there.
+    /// - An order: H5 if the cell doesn't accept the word, H6 if the cell may hold any of 16 words and
+    ///   this is another.
+    /// - An order in microvolts: H5 if the cell isn't a voltage, H7 if the format isn't known, N5 if the
+    ///   number is beyond 10^15 in size, N3 or N4 if it lies outside the format's range, and H6 as for
+    ///   an order.
     ///
     /// Once it is accepted it is the open job (`begun`), and the word of an order is one that its cell may hold, of
     /// which none is confirmed (`uncertain`).
@@ -242,16 +245,16 @@ impl Host {
     }
 
     /// What became of the frame that `turn` showed: `Finished` for a write, `Got` for a request, with
-    /// whatever came back. Ask `turn` first, or `sending` and `sending_reads`: it may be called only
-    /// if a frame of that kind is being sent. `Step::Next` asks to send what `turn` shows now;
-    /// `Step::Ended` says how the job ended, and that nothing is being sent. With each call the job
-    /// has fewer frames left to send, so that a loop of these two calls ends.
+    /// whatever came back. Ask `turn` first, or `sending` and `sending_reads`: it may be called only if a
+    /// frame of that kind is being sent. `Step::Next` asks to send what `turn` shows now; `Step::Ended` says
+    /// how the job ended, and that nothing is being sent. Each call leaves the job fewer frames to send, so
+    /// that a loop of these two calls ends.
     ///
-    /// What an end says (`says`): an order that is `Done` has its cell confirmed with its word, and possible is that
-    /// word only; one that `Differs` the same with the word that was read, which is another; one that is `Unknown` has
-    /// its word among the possible ones, and none confirmed. A check that is `Done` has its cell confirmed with the word
-    /// that came, one that is `Unknown` changes nothing of what is known. A learn that has `Learned` has left a format,
-    /// any other end keeps the formats. `Step::Next` keeps the job.
+    /// What an end says (`says`): an order that is `Done` has its cell confirmed with its word, and only that word is
+    /// possible. An order that `Differs` has its cell confirmed with the word that was read, which is another. An order
+    /// that is `Unknown` has its word among the possible ones, and none confirmed. A check that is `Done` has its cell
+    /// confirmed with the word that came, one that is `Unknown` changes nothing of what is known. A learn that has
+    /// `Learned` has left a format, any other end keeps the formats. `Step::Next` keeps the job.
     pub fn told(&mut self, told: Told<'_>) -> Step
         requires { may_come self.old (entry_told told) ≡ true }
         ensures after { self.new ≡ next self.old (entry_told told.entry) }
@@ -265,7 +268,7 @@ impl Host {
         cells_have_places();
         self.state.known.has_places();
         let Some(sending) = &self.sending else {
-            // What is told is of a frame that is being sent.
+            // A report always speaks of a frame that is being sent.
             unreachable!()
         };
         let progress = self.state.told(sending.stage, told);

@@ -4,8 +4,8 @@ use pm_table::Cell;
 /// How a job ended.
 #[derive(Clone, Copy, Debug, PartialEq, Eq)]
 pub enum JobEnd {
-    /// An order's word was read back, a check read its cell, or a command that was sent was
-    /// acknowledged. Of a command it says no more than this: not that a store or a restore took place.
+    /// An order's word was read back, a check read its cell, or a command that was sent was acknowledged. It
+    /// doesn't say that a store or a restore took place.
     Done,
     /// The last pass of an order read this word, which isn't the ordered one.
     Differs(u16),
@@ -23,8 +23,8 @@ pub enum Job {
     /// the acknowledgement, reads the cell once. From its beginning on the word is one that the cell may
     /// hold, and no word of the cell is confirmed.
     ///
-    /// A good answer with the ordered word ends it as `Done`. After the last pass the end is
-    /// `Differs(word)` if that pass's answer was good, otherwise `Unknown`.
+    /// A good answer with the ordered word ends it as `Done`. The end after the last pass is `Differs(word)`
+    /// if that pass's answer was good, otherwise `Unknown`.
     Order(Cell, u16),
     /// An order for the word that is nearest to a number of microvolts, in the format that the last learn
     /// of the cell's output found.

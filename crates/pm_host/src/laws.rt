@@ -6,23 +6,22 @@ ghost use Rattle.pm_host.specs.Memory.{ImagesAreMeanings};
 
 use pm_table::cells_have_places;
 
-/// What a host holds after its transcript, which the definitions find by looking back over the whole
-/// of it, is what one entry after another makes of its start; so what the host answers is what they
-/// find.
+/// What a host holds after its transcript, which the definitions find by looking back over the whole of it,
+/// is what one entry after another makes of its start. What the host answers is what the definitions find.
 pub fn transcripts_are_followed()
     ensures { TranscriptsAreFollowed }
 {
-    // Each cell has a place of its own, where what is known of it stands.
+    // law: each cell has a place of its own, for what is known of it
     cells_have_places();
 }
 
-/// What the end of a job says of what a host then knows, over its whole transcript: the open job is the one that its
-/// stage says (`job`), and each entry that says what came of a frame leaves it open, or ends it with what
+/// What the end of a job says of what a host then knows, over its whole transcript. The open job is the one that its
+/// stage says (`job`). Each entry that says what came of a frame leaves it open, or ends it with what
 /// [`Host::told`](crate::Host::told) says then (`says`).
 pub fn ends_are_told()
     ensures { EndsAreTold }
 {
-    // Each cell has a place of its own, where what is known of it stands.
+    // law: each cell has a place of its own, for what is known of it
     cells_have_places();
     transcripts_are_followed();
 }
@@ -31,7 +30,7 @@ pub fn ends_are_told()
 pub fn jobs_are_bounded()
     ensures { JobsAreBounded }
 {
-    // Each cell has a place of its own, where what is known of it stands.
+    // law: each cell has a place of its own, for what is known of it
     cells_have_places();
 }
 

@@ -1,14 +1,14 @@
 //! The host core of PMBus 1.3 Part II, for one power converter with one to eight outputs: what
 //! firmware links that sets supply voltages.
 //!
-//! A [`Host`] says which frame to send next and hears what came of it. An order writes a word and
-//! reads it back, a check reads one, a learn reads the format of an output's voltages, a clear clears
-//! its latched faults, a store copies the outputs' settings to the device's user store, a restore brings
-//! them back. It trusts no acknowledgement: a setting is confirmed by a good answer only, and until
-//! then the host keeps the list of words that the setting may hold. The list is exact if, since the
-//! host started, the device didn't restart, WRITE_PROTECT was neither ordered nor read as other than
-//! 00h, and no restore was begun. Once the host begins to send a restore, an output's setting may hold
-//! any word, until it is read again.
+//! A [`Host`] says which frame to send next and hears what came of it. An order writes a word and reads it
+//! back, a check reads one, and a learn reads the format of an output's voltages. A clear clears an output's
+//! latched faults, a store copies the outputs' settings to the device's user store, and a restore brings them
+//! back. It trusts no acknowledgement: a setting is confirmed by a good answer only, and until then the host
+//! keeps the list of words that the setting may hold. The list is exact if, since the host started, the
+//! device didn't restart, WRITE_PROTECT was neither ordered nor read as other than 00h, and no restore was
+//! begun. Once the host begins to send a restore, an output's setting may hold any word, until it is read
+//! again.
 //!
 //! What a host is asked for is a [`Job`], which [`Host::begin`] begins; a call for each kind of job does
 //! the same.

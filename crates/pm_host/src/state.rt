@@ -32,8 +32,8 @@ use pm_table::Cell;
 pub(crate) const OUTPUTS: usize = 8;
 
 /// What a host holds beside its open job, in the caller's memory, and its calls. They are those of `Host`,
-/// which says what each does. If the open job stands is given to each call that asks for it, and is
-/// answered by each that changes it.
+/// which says what each does. The stage of the open job is given to each call that asks for it, and is
+/// answered by each call that changes it.
 #[repr(C)]
 #[derive(Debug, Drop)]
 pub struct State {
@@ -118,13 +118,13 @@ impl State {
             (Stage::Asks { question, tries }, Told::Got(bytes)) => {
                 self.answered(question, tries, bytes)
             }
-            // What is told is of the kind of the frame that is being sent.
+            // A report is of the kind of the frame that is being sent.
             _ => unreachable!(),
         }
     }
 
-    /// Forgets all that is known, as `Host::restart`. Of what it held the setup only has to be sound. No
-    /// job is open.
+    /// Forgets all that is known, as `Host::restart`. Only the setup of what it held has to be sound. No job
+    /// is open.
     #[tactic(auto, unfolding(crate::specs::Summary::next, crate::specs::Image::formats_held, crate::specs::Summary::no_formats))]
     pub fn restart(&mut self)
         requires { IsSetup (held None self.old).setup }

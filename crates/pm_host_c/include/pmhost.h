@@ -65,8 +65,8 @@ extern "C" {
 
 /* What a call answers: 0, or why it is refused. A refused call changes nothing, but for these: pm_host_frame, pm_course_frame and
  * pm_delivery_frame then write PM_NOTHING, and pm_delivery_judge that answers P8 says of which limit. pm_pec, pm_host_restart_seen
- * and pm_host_limits_state answer something else: each says what, and what the last answers is no number of these; nor is PM_ENDED,
- * which refuses nothing. pm_refusal_name gives the name of each, and of those of pmpart.h. */
+ * and pm_host_limits_state answer something else: each says what. Of these numbers the last answers PM_NO_LIMITS only. PM_ENDED
+ * refuses nothing, and is none of them. pm_refusal_name gives the name of each, and of those of pmpart.h. */
 enum {
     PM_OK = 0,
     PM_H1_OUTPUT_COUNT = 0x01,    /* a number of outputs other than 1 to 8 */
@@ -101,7 +101,7 @@ enum {
     PM_OTHER_FRAME = 0xE2,        /* no frame of this kind is being sent */
     PM_NO_ADDRESS = 0xE3,         /* no address from 08h to 77h: 58h, say, and not the byte B0h that begins a write */
     PM_NO_PACKET = 0xE4,          /* no packet has these numbers */
-    PM_NO_LIMITS = 0xE6,          /* the output was given no limits */
+    PM_NO_LIMITS = 0xE6,          /* the output has no limits */
     PM_NO_NAME = 0xE7,            /* the number has no name */
     PM_NO_COURSE = 0xE9,          /* the memory holds no course of this version, or none to which a voltage can be added */
     PM_NO_BAND = 0xEB,            /* OPERATION may be a byte that hands the output's voltage to AVSBus */
@@ -193,7 +193,7 @@ enum { PM_POWER_ANY = 0, PM_POWER_ON = 1, PM_POWER_OFF = 2 };
 enum { PM_SELECTED_ANY = 0, PM_SELECTED_AVSBUS = 0xFF };
 typedef struct {
     uint8_t power;     /* PM_POWER_ON or PM_POWER_OFF if each byte that OPERATION may hold has it so, or PM_POWER_ANY */
-    uint8_t within;    /* PM_WITHIN, PM_OUTSIDE or PM_NOT_KNOWN, as pm_host_limits_state answers */
+    uint8_t within;    /* PM_WITHIN, PM_OUTSIDE, PM_NOT_KNOWN or PM_NO_LIMITS, as pm_host_limits_state answers */
     uint8_t band;      /* 0 if the band stands in `ends`; otherwise why it isn't: H7, PM_NO_BAND, N5 */
     uint8_t selected;  /* which register has its voltage: PM_VOUT_COMMAND or a margin if each byte that OPERATION may hold selects
                         * it, PM_SELECTED_AVSBUS if each hands it to AVSBus, or PM_SELECTED_ANY; VOUT_COMMAND of one that is off */
@@ -373,8 +373,8 @@ uint8_t pm_host_no_limits(pm_host *host, uint8_t output);
 uint8_t pm_host_limits(const pm_host *host, uint8_t output, pm_limits *limits);
 
 /* Whether an output's voltage lies within its limits, by the words that its registers may hold: PM_WITHIN if its
- * whole band does or it was said that it has none, PM_OUTSIDE if the whole band lies below them or above them, otherwise
- * PM_NOT_KNOWN, as if no limits are known. PM_NO_HOST, H4. */
+ * whole band does, PM_OUTSIDE if the whole band lies below them or above them, otherwise PM_NOT_KNOWN. PM_NO_LIMITS if it
+ * has none: it was given none, or it was said that it has none. PM_NO_HOST, H4. */
 enum { PM_WITHIN = 0x91, PM_OUTSIDE = 0x92, PM_NOT_KNOWN = 0x93 };
 uint8_t pm_host_limits_state(const pm_host *host, uint8_t output);
 

@@ -6,7 +6,7 @@ use Rattle.pm_host.specs.declared.fault.HostFault.TheVariants.{FormatUnknown, Un
 use Rattle.pm_host.specs.Summary.{format_at}
 use Rattle.pm_limits.specs.declared.band.Band.{Band}
 use Rattle.pm_limits.specs.declared.guard.Within.{Within}
-use Rattle.pm_limits.specs.declared.guard.Within.TheVariants.{Yes, No, NotKnown}
+use Rattle.pm_limits.specs.declared.guard.Within.TheVariants.{Yes, No, NotKnown, NoLimits}
 use Rattle.pm_limits.specs.Band.{band_at, within_of}
 use Rattle.pm_limits.specs.Guard.{Guarded, limits_at, narrow_fault, unlimited_fault}
 use Rattle.pm_limits.specs.OutputLimits.{is_limited}
@@ -40,6 +40,7 @@ abbrev pub within_word : Within → ℕ
 within_word Yes = within_yes
 within_word No = within_no
 within_word NotKnown = within_not_known
+within_word NoLimits = no_limits_there
 
 abbrev pub within_number : Option Guarded → ℕ → ℕ
 within_number None output = no_host

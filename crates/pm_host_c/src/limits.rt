@@ -105,8 +105,8 @@ pub extern "C" fn pm_host_limits(host: &GuardImage, output: u8, limits: &mut Lim
     }
 }
 
-/// Whether an output's voltage lies within its limits, by the words that its registers may hold: 91h where it does or
-/// the output is said to have none, 92h where its whole band lies below them or above them, otherwise 93h. E0h, H4.
+/// Whether an output's voltage lies within its limits, by the words that its registers may hold: 91h if its whole band does,
+/// 92h if the whole band lies below them or above them, otherwise 93h; E6h if it has no limits. E0h, H4.
 #[unsafe(no_mangle)]
 pub extern "C" fn pm_host_limits_state(host: &GuardImage, output: u8) -> u8
     ensures { result ≡ within_number (guard_of host.now) output }
@@ -137,6 +137,7 @@ pub(crate) fn of_within(within: Within) -> u8
         Within::Yes => WITHIN_YES,
         Within::No => WITHIN_NO,
         Within::NotKnown => WITHIN_NOT_KNOWN,
+        Within::NoLimits => NO_LIMITS,
     }
 }
 

@@ -19,7 +19,7 @@ use pm_rail::{Power, Selected, power_in, selected_in};
 pub struct RailImage {
     /// 1 where it is on, 2 where it is off, 0 where that isn't known.
     pub power: u8,
-    /// 91h where its band lies within its limits or it is said to have none, 92h where it lies below or above them, otherwise 93h.
+    /// 91h if its band lies within its limits, 92h if it lies below or above them, 93h if neither is known, E6h if it has none.
     pub within: u8,
     /// 0 where its band is told; otherwise why it isn't, H7, EBh or N5.
     pub band: u8,

@@ -175,7 +175,7 @@ static ONCE: [Ordered; 11] = [
         held: 0x34CD,
         next: 2,
     },
-    // It restarts where it hears nothing, too.
+    // It restarts with a frame that it doesn't hear, too.
     Ordered {
         plan: &[Whole, RestartedUnheard, Lost, Whole],
         tries: 1,
@@ -186,7 +186,7 @@ static ONCE: [Ordered; 11] = [
     },
 ];
 
-// Orders over a patient bus alone.
+// Orders over nothing but a patient bus.
 static PATIENT: [Ordered; 6] = [
     Ordered {
         plan: &[Unheard, Unheard, Whole, Unheard, Unheard],
@@ -251,7 +251,7 @@ static CLEARED: [(&'static [Wrong], JobEnd); 5] = [
     (&[Unheard, Unheard], JobEnd::Unknown),
 ];
 
-// How a job ends over a bus, with this many passes; none where it is refused.
+// How a job ends over a bus, with this many passes; none if it is refused.
 fn carried_out<B: Bus>(bus: &mut B, passes: u8, job: Job) -> Option<JobEnd> {
     let mut guard = match Host::new(BASE.addr, BASE.count, passes) {
         Ok(host) => Guard::over(host),

@@ -405,7 +405,8 @@ fn an_order_that_differs_twice_ends(rt: HostRuntime) {
     equal(&rt, &run.writes, &4, &2);
 }
 
-// What is wanted of an output that holds 1000h, 1 V, and how near is near enough; 0 where the held word is taken, or why it isn't.
+// What is wanted of an output that holds 1000h, 1 V, and how near is near enough; 0 if the held word is taken, otherwise why it
+// isn't.
 static HELD: [(i64, u32, u8); 6] = [
     (1_003_000, 3000, 0),
     (1_003_000, 2999, 0x69),
@@ -415,7 +416,7 @@ static HELD: [(i64, u32, u8); 6] = [
     (2_000_000_000_000_000, 4_294_967_295, 0x69),
 ];
 
-// The number of why a held word isn't taken, 0 where it is; FFh where the guard's host doesn't have the output.
+// The number of why a held word isn't taken, 0 if it is; FFh if the guard's host doesn't have the output.
 fn taken(course: &mut FrameCourse, guard: &Guard, tolerance: u32) -> u8 {
     if guard.host().outputs() <= course.course.survey.output {
         return 0xFF;
@@ -478,7 +479,7 @@ fn a_missing_register_is_refused_at_once(rt: HostRuntime) {
 
 #[test]
 fn nothing_but_off_is_ordered_where_no_limits_are_known(rt: HostRuntime) {
-    // A course, the register and the number by which it is refused, 0 where it has reached its end, and its writes.
+    // A course, the register and the number by which it is refused, 0 if it has reached its end, and its writes.
     let rows = [
         (volts(Reg::VoutCommand, 1_200_000), 0x21, 0x28, 0),
         (volts(Reg::VoutMin, 500_000), 0x2B, 0x28, 0),

@@ -45,7 +45,7 @@ fn after_order() -> Delivery {
     delivery
 }
 
-// What it says with this STATUS_WORD, where READ_VOUT is right.
+// What it says with this STATUS_WORD, if READ_VOUT is right.
 fn said(status: u16) -> Verdict {
     let mut delivery = after_order();
     delivery.hear(Question::StatusWord, Ok(status));
@@ -55,7 +55,7 @@ fn said(status: u16) -> Verdict {
     delivery.verdict(1, Power::On, Reading::Right)
 }
 
-// Each bit of STATUS_WORD alone, and what the rail does then; a summary's register isn't known yet.
+// Each bit of STATUS_WORD by itself, and what the rail does then; a summary's register isn't known yet.
 static WORDS: [(u16, Verdict); 17] = [
     (0x0000, Verdict::Delivers),
     (0x0001, Verdict::Delivers), // NONE OF THE ABOVE

@@ -78,7 +78,7 @@ fn ordered(plan: &[Fault]) -> Option<(Result<JobEnd, LimitFault>, Standing, u16)
     Some((end, said(driver.host()), held(&driver.bus().device)))
 }
 
-// How an order of 34CDh ends over a bus, with this many passes; none where it is refused.
+// How an order of 34CDh ends over a bus, with this many passes; none if it is refused.
 fn carried_out<B: Bus>(bus: &mut B, passes: u8) -> Option<(Option<JobEnd>, Standing)> {
     let mut guard = match Host::new(BASE.addr, BASE.count, passes) {
         Ok(host) => Guard::over(host),

@@ -1,4 +1,4 @@
-//! The host by itself, told what came of each frame.
+//! The host by itself, which hears what came of each frame.
 
 mod refusals;
 
@@ -44,7 +44,7 @@ enum Call<'a> {
 
 use Call::{Answered, Check, Finish, Got, Learn, Order, OrderMicro};
 
-// What a call answers: nothing where it begins a job, and where no such frame is being sent.
+// What a call answers: nothing if it begins a job or no such frame is being sent.
 type Answer = Result<Option<Step>, HostFault>;
 
 const BEGUN: Answer = Ok(None);
@@ -91,7 +91,7 @@ fn got(host: &mut Host, bytes: &[u8]) -> Option<Step> {
     Some(host.told(Told::Got(bytes)))
 }
 
-// The answer of the device at 58h to a request with this payload; no bytes where that is none.
+// The answer of the device at 58h to a request with this payload; no bytes if that is none.
 fn answer_to(request: &Message, payload: &[u8]) -> Frame {
     if !request.is_read() || !fits(request) || request.answer_length() != payload.len() {
         return Frame::new();
@@ -118,7 +118,7 @@ fn goes(rt: &impl Abort, host: &mut Host, rows: &[(Call<'_>, Answer)]) {
     }
 }
 
-// The bytes of a request or of a write are being sent: none where no frame is.
+// The bytes of a request or of a write are being sent: none if no frame is.
 fn sends(rt: &impl Abort, host: &Host, bytes: &[u8], is_read: bool) {
     let same = match host.sending() {
         Some(frame) => frame.as_slice() == bytes,
@@ -142,7 +142,7 @@ fn possible(host: &Host, cell: Cell) -> Possible {
     }
 }
 
-// A cell may hold exactly these words, in this order, any word where none is given; a restart was seen or not.
+// A cell may hold exactly these words, in this order, any word if none is given; a restart was seen or not.
 fn knows(rt: &impl Abort, host: &Host, cell: Cell, words: &[u16], seen: bool) {
     let same = match possible(host, cell) {
         Possible::Any => words.is_empty(),

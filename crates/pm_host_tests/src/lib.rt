@@ -1,5 +1,6 @@
-//! Tests over the public calls of the host, what it sends and says, told what came of it; of its limits, a guard, a band
-//! and a rail, by rows written by hand; and of the driver and the buses beside it. There is nothing here to use.
+//! Tests over the public calls of the host, what it sends, and what it says once it hears what came of that; of its
+//! limits, a guard, a band and a rail, by rows written by hand; and of the driver and the buses beside it. There is
+//! nothing here to use.
 #![tactic(auto)]
 
 ghost use Rattle.std.specs.Prelude.{IsTrue};
@@ -23,7 +24,7 @@ mod checks {
     use std::fmt::Debug;
     use std::process::Abort;
 
-    /// Fails where what is found isn't what is wanted, and says both and where that was.
+    /// Fails if what is found isn't what is wanted, and says both and where that was.
     pub(crate) fn equal<T: PartialEq + Debug>(
         rt: &impl Abort,
         found: &T,
@@ -33,7 +34,7 @@ mod checks {
         is_true(rt, found == wanted, &(found, wanted, at));
     }
 
-    /// Fails where this doesn't hold, and says where that was.
+    /// Fails if this doesn't hold, and says where that was.
     pub(crate) fn is_true(rt: &impl Abort, holds: bool, at: &impl Debug)
         ensures { IsTrue holds }
     {

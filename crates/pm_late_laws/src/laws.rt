@@ -1,4 +1,4 @@
-//! The laws, over the definitions alone.
+//! The laws, over nothing but definitions.
 
 ghost use Rattle.pm_late_laws.specs.Below.{Below};
 ghost use Rattle.pm_late_laws.specs.Laws.{LateConfirmationsAreHeld, LateWordsAreOwn, LateWordsWerePossible};

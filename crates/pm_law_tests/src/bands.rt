@@ -1,4 +1,4 @@
-//! The band that the host gives for an output is exact where the possible words are.
+//! The band that the host gives for an output is exact if the possible words are.
 
 ghost use Rattle.std.specs.Prelude.{◌≡◌, ◌<◌, ℕ, Some, false, IfOk, OnSome, reverse};
 ghost use Rattle.std.specs.List.{list_any};
@@ -19,8 +19,8 @@ use crate::laws::laws_by_name;
 use pm_device::Config;
 use pm_world::{Event, SetupFault, World, lists_say_enough, run_open};
 
-/// Each output commands an end of its band in a life that is named and tells the host just the same. Of events that a run
-/// takes, and that leave WRITE_PROTECT open as it says, it asks that the converter doesn't restart.
+/// Each output commands an end of its band in a named life whose host hears just what this one heard. The events are
+/// taken by a run and leave WRITE_PROTECT open, as it says; the call asks that the converter doesn't restart in them.
 pub fn a_band_of_an_open_list(
     c: Config,
     passes: u8,
@@ -40,8 +40,8 @@ pub fn a_band_of_an_open_list(
     }
 }
 
-/// A life that is named tells the host just the same, and each output that has a band commands its end on the chosen
-/// side, as that very fraction: what `IsReached` says, opened.
+/// The host of a named life hears just what this one heard, and each output that has a band commands its end on the
+/// chosen side, as that very fraction: what `IsReached` says, opened.
 #[tactic(auto, unfolding(crate::specs::ByName::IsReached))]
 pub fn a_band_that_is_reached(
     c: Config,

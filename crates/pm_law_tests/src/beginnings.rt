@@ -29,7 +29,7 @@ pub fn a_beginning_within_limits<B: Bus>(guard: Guard, bus: B, output: u8) -> Dr
     Driver::guarded(guard, bus)
 }
 
-/// After a survey and a plan an output whose words lie within limits commands a voltage within them, whatever the bus did.
+/// An output whose words lie within limits commands a voltage within them after a survey and a plan, whatever the bus did.
 pub fn a_rail_within_its_limits<B: Bus>(
     driver: &mut Driver<B>,
     survey: &mut Survey,
@@ -51,8 +51,8 @@ pub fn a_rail_within_its_limits<B: Bus>(
     end
 }
 
-/// After a first order each output commands a value of words that the part held or had stored before, or of the ordered word,
-/// whatever the bus did.
+/// Each output commands, after a first order, a value of words that the part held or had stored before, or of the ordered
+/// word, whatever the bus did.
 pub fn a_first_order_since<B: Bus>(
     driver: &mut Driver<B>,
     cell: Cell,

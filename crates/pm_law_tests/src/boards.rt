@@ -10,8 +10,8 @@ ghost use Rattle.pm_world.specs.Neighbours.{Board, Happening, IsLivedOn, on_boar
 use pm_device::Config;
 use pm_world::{SetupFault, World, a_pair_on_a_board};
 
-/// A pair on a board that lived through some events holds the settings that its own events leave, which the open job of its
-/// own host moves alone, and what that host calls confirmed is held.
+/// A pair on a board that lived through some events holds the settings that its own events leave, which only the open job
+/// of its own host moves. What that host calls confirmed is held.
 pub fn a_pair_beside_others(c: Config, passes: u8) -> Result<World, SetupFault>
     ensures kept { (board : Board) (events : List Happening) (pair : ℕ) → IsLivedOn board events → pair < board.count →
         kept_in (on_board board pair events).device

@@ -26,7 +26,7 @@ use pm_world::{
     is_legal_hearing, is_legal_return, own_requests_are_answered,
 };
 
-/// After a run of fewer than a million events, a damaged write is taken, which the converter then ignores.
+/// A damaged write is taken after a run of fewer than a million events, and the converter then ignores it.
 pub fn a_damaged_write(c: Config, passes: u8, events: &[Event]) -> Result<Option<World>, SetupFault>
     ensures { IfOk result (λ found. OnSome found ((message : Message) (bytes : List ℕ) (ending : Ending) →
         sending_in (now c passes (reverse events.now)).host ≡ Some message → is_read_message message ≡ false →
@@ -81,7 +81,7 @@ pub fn answers_in_bytes(device: &Converter, bytes: &[u8])
     let _ = answer_in(&device.reply(bytes, End::Restart));
 }
 
-/// A write that is damaged so is a legal hearing, however it ends.
+/// A write with such damage is a legal hearing, however it ends.
 pub fn a_damaged_hearing(frame: &[u8], bytes: &[u8], ending: End) -> bool
     ensures { (addr : ℕ) (message : Message) → IsWrite addr message frame.now →
         IsBetrayedDamage frame.now bytes.now → result ≡ true }
@@ -90,7 +90,7 @@ pub fn a_damaged_hearing(frame: &[u8], bytes: &[u8], ending: End) -> bool
     is_legal_hearing(frame, bytes, ending)
 }
 
-/// An answer to the host's own request that is damaged so is a legal return.
+/// An answer to the host's own request with such damage is a legal return.
 pub fn a_damaged_return(
     request: &[u8],
     needed: usize,

@@ -1,6 +1,6 @@
-//! A driver over a simulated bus: while a plan restarts nothing, what the host confirms is held, also where a status is read
-//! between two orders; over an empty plan an order is done. The same of a patient bus, whose adapter is a simulated one.
-//! Over any bus a reading stays one while that counts no restart.
+//! A driver over a simulated bus: what the host confirms is held while a plan restarts nothing, also if a status is read
+//! between two orders, and an order over an empty plan is done. Both hold over a patient bus, too, whose adapter is a
+//! simulated bus. A reading over any bus stays one while that counts no restart.
 
 ghost use Rattle.std.specs.Prelude.{◌≡◌, ℕ, true, IfSome, OnOk};
 ghost use Rattle.pm_table.specs.declared.cell.Cell.{Cell as Place};
@@ -30,7 +30,7 @@ use pm_limits::{Guard, LimitFault};
 use pm_table::{Cell, Code, Reg};
 use pm_world::SetupFault;
 
-/// What the host confirms is held, where the plan has no restart.
+/// What the host confirms is held if the plan has no restart.
 pub fn confirmed_is_held<'a>(driver: &Driver<SimulatedBus<'a>>)
     requires { NeverRestarts driver.now }
     ensures { (cell : Place) (word : ℕ) → IsCell driver.now.guard.host.setup.outputs cell →
@@ -71,8 +71,8 @@ pub fn orders_around_a_read<'a>(
     Some(driver)
 }
 
-/// The first order over an empty plan is done, where WRITE_PROTECT allows it and nothing refuses it, and the converter holds
-/// its word then.
+/// The first order over an empty plan is done, and the converter holds its word, if WRITE_PROTECT allows it and nothing
+/// refuses it.
 pub fn first_order<'a>(
     c: Config,
     passes: u8,
@@ -109,8 +109,8 @@ pub fn patient_checks<'a>(driver: &mut Driver<Patient<SimulatedBus<'a>>>)
     let _ = run_patiently_without_restart(driver, Job::Check(Cell::Out(1, Reg::VoutCommand)));
 }
 
-/// Over any bus, where an open job is carried out and the bus counts no restart meanwhile, a cell since whose reading the
-/// converter hadn't restarted stays one.
+/// A cell since whose reading the converter hadn't restarted stays such a cell while an open job is carried out, over any
+/// bus, if the bus counts no restart meanwhile.
 pub fn a_reading_that_stays<B: Bus>(guard: &mut Guard, bus: &mut B) -> Option<JobEnd>
     ensures { (cell : Place) → B.restarts bus.new ≡ B.restarts bus.old →
         HasNoRestartSince cell guard.old.host (B.held bus.old) → HasNoRestartSince cell guard.new.host (B.held bus.new) }

@@ -24,7 +24,7 @@ pub fn an_order_that_begins(host: &mut Host, cell: Cell, word: u16) -> Result<()
     host.order(cell, word)
 }
 
-/// An order that is done leaves its cell confirmed with its word, and possible is that word alone (`done`). One that
+/// An order that is done leaves its cell confirmed with its word, and only that word is possible (`done`). One that
 /// differs leaves the cell so with the word that was read, which is another (`differs`). One that ends unknown leaves
 /// its word possible and no word of the cell confirmed (`unknown`). While it is open it is the open job (`next`).
 pub fn an_order_that_ends(host: &mut Host, cell: Cell, word: u16, told: Told<'_>) -> Step
@@ -38,7 +38,7 @@ pub fn an_order_that_ends(host: &mut Host, cell: Cell, word: u16, told: Told<'_>
     host.told(told)
 }
 
-/// An order that differs never took, where the converter didn't restart since it was accepted: its cell had the word
+/// An order that differs never took, if the converter didn't restart since it was accepted: its cell had the word
 /// that was read at each moment since then, and that isn't the ordered one.
 pub fn an_order_that_differs_after_a_step(
     c: Config,
@@ -52,7 +52,7 @@ pub fn an_order_that_differs_after_a_step(
     run_and_step(c, passes, events, more)
 }
 
-/// Nothing but ones behind the first byte is no good answer for a register of an output, however many came.
+/// Nothing but ones after the first byte is no good answer for a register of an output, however many came.
 pub fn ones_for_an_output(addr: u8, opening: u8, count: u32, output: u8, register: Reg)
     ensures { good_word addr (Out output register) (ones_behind opening count) ≡ None }
 {

@@ -24,8 +24,8 @@ use pm_world::{
     lives_are_followed, open_lists_are_followed, possible_words_are_exact, run_open,
 };
 
-/// Let the converter not restart in these events, and WRITE_PROTECT be ordered and read as 00h alone. Then words that
-/// are all possible are left together by a life that is named, which tells the host just the same.
+/// Let the converter not restart in these events, and WRITE_PROTECT be ordered and read only as 00h. Words that are
+/// all possible are then left together by a named life, whose host hears just what this one heard.
 pub fn words_that_are_possible(
     c: Config,
     passes: u8,
@@ -65,7 +65,7 @@ pub fn a_world_that_can_be_made(
     words_that_are_possible(c, passes, events, more)
 }
 
-/// Words that any life leaves which tells the host just the same are possible.
+/// Words are possible if any life leaves them whose host hears just what this one heard.
 pub fn words_that_a_life_leaves(
     c: Config,
     passes: u8,
@@ -172,7 +172,7 @@ pub fn words_of_an_open_list(
     }
 }
 
-/// A list that is open stays so with a check, where no other word than 00h is possible for WRITE_PROTECT.
+/// A list that is open stays open with a check, if no other word than 00h is possible for WRITE_PROTECT.
 pub fn a_list_that_stays_open(
     c: Config,
     passes: u8,

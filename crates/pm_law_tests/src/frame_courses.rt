@@ -8,7 +8,7 @@ use pm_course_laws::frame_courses_hold_in_lives;
 use pm_device::Config;
 use pm_world::{Event, SetupFault, World};
 
-/// After a run each course to wishes kept its rail, and came true where it has ended so.
+/// Each course to wishes kept its rail after a run, and came true if its end says so.
 pub fn a_course_to_wishes(
     c: Config,
     passes: u8,
@@ -20,7 +20,7 @@ pub fn a_course_to_wishes(
     run_all(c, passes, events)
 }
 
-/// After a run each course to wishes of which one has no word in the format, and each survey, has ordered nothing.
+/// Each course of a run to wishes of which one has no word in the format, and each survey, has ordered nothing.
 pub fn a_course_that_orders_nothing(
     c: Config,
     passes: u8,
@@ -33,7 +33,7 @@ pub fn a_course_that_orders_nothing(
     run_all(c, passes, events)
 }
 
-/// After a run each course that turns an output off left each register as it was, or OPERATION with its byte.
+/// Each course of a run that turns an output off left each register as it was, or OPERATION with its byte.
 pub fn a_course_that_turns_off(
     c: Config,
     passes: u8,
@@ -45,8 +45,8 @@ pub fn a_course_that_turns_off(
     run_all(c, passes, events)
 }
 
-/// After a run each course that turns an output of a part with every register on, or changes what it is on with, ordered nothing but its
-/// byte, where WRITE_PROTECT allowed it, and left each other register as it was.
+/// Each course of a run that turns an output of a part with every register on, or changes what it is on with, ordered nothing but its
+/// byte. It gave that order only if WRITE_PROTECT allowed it, and left each other register as it was.
 pub fn a_course_that_turns_on(
     c: Config,
     passes: u8,

@@ -37,7 +37,7 @@ use pm_world::{
     possible_words_are_held, settings_move_by_the_open_job, words_are_short,
 };
 
-/// Runs the events; `None` where one of them isn't taken.
+/// Runs the events; `None` if one of them isn't taken.
 pub fn run_all(c: Config, passes: u8, events: &[Event]) -> Result<Option<World>, SetupFault>
     ensures now { IfOk result (λ found. IfSome found (λ world. world ≡ now c passes (reverse events.now))) }
     ensures all { IfOk result (λ found. OnSome found (AreTaken c passes (reverse events.now))) }
@@ -53,7 +53,7 @@ pub fn run_all(c: Config, passes: u8, events: &[Event]) -> Result<Option<World>,
     }
 }
 
-/// Runs the events, and lets one more happen; `None` where one of them isn't taken.
+/// Runs the events, and lets one more happen; `None` if one of them isn't taken.
 pub fn run_and_step(
     c: Config,
     passes: u8,
@@ -95,7 +95,7 @@ pub fn go_on(world: &mut World, c: Config, passes: u8, more: &Event) -> bool
     world.step(more).is_ok()
 }
 
-/// The settings and the store after a run and a step are those of the order machine, and move by the open job alone.
+/// The settings and the store after a run and a step are those of the order machine, and only the open job moves them.
 pub fn orders_after_a_step(
     c: Config,
     passes: u8,
@@ -118,8 +118,8 @@ pub fn orders_after_a_step(
     run_and_step(c, passes, events, more)
 }
 
-/// Jobs send few frames after a run and a step, undisturbed orders go through, and so does each job on a bus that is
-/// good again.
+/// Jobs send few frames after a run and a step. Undisturbed orders go through, and each job goes through on a bus
+/// that is good again.
 pub fn orders_go_through_after_a_step(
     c: Config,
     passes: u8,

@@ -10,8 +10,8 @@ use pm_host::{Host, Standing};
 use pm_late_laws::{late_confirmations_are_held, late_words_are_own, late_words_were_possible};
 use pm_table::Cell as Place;
 
-/// The word that a host calls confirmed, where so many frames ended without a write of the register before its last good answer and
-/// none came since: the part holds it, if it didn't restart since that answer.
+/// The word that a host calls confirmed, after so many frames without a write of the register before its last good answer and no
+/// write since. The part holds it if it didn't restart since that answer.
 pub fn a_settled_word(host: &Host, cell: Place) -> Option<u16>
     ghost life: { LateLife }
     requires lived { Lived life host.now cell }

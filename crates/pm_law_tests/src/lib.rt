@@ -16,7 +16,7 @@
 //! - `ends`: what the host says when a job begins and ends, and what an order that differs says of the converter.
 //! - `damage`: damage that the packet error code betrays is legal, and stops no run.
 //! - `exact`: what the host calls possible is exact, and the words that show it can be had in a world.
-//! - `bands`: a band is exact where the possible words are.
+//! - `bands`: a band is exact if the possible words are.
 //! - `logs`: what an accepted log is worth, and that nothing less would do.
 //! - `limits`: limits that allow the start words of a usual part, by computing with them.
 //! - `orders`: an order that nothing disturbs goes through, and a run says which one it was.
@@ -24,7 +24,7 @@
 //! - `whole`: a job that is open after a run ends by frames that come whole.
 //! - `moves`: what moves a setting or the store.
 //! - `plans`: what plans and surveys of rails are worth, and that between two answers that surprise the converter restarted.
-//! - `boards`: hosts and converters in pairs on one bus, each as if it were alone.
+//! - `boards`: hosts and converters in pairs on one bus, each as if it had no neighbours.
 //! - `own_loop`: events that a caller's own loop lets happen.
 //! - `frame_courses`: what a course that hands out frames is worth.
 //! - `rails`: what a survey and a plan over any bus are worth.

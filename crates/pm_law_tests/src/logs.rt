@@ -33,8 +33,8 @@ use pm_check_laws::{
 use pm_device::Config;
 use pm_world::{Event, SetupFault, World};
 
-/// If a log that a run told its host is accepted, the converter held each claimed word at the host's last good answer for
-/// its cell, and holds it unless it restarted since.
+/// The converter held each claimed word at the host's last good answer for its cell, and holds it unless it restarted
+/// since, if the log of what the host heard in a run is accepted.
 pub fn a_log_that_is_accepted(
     c: Config,
     passes: u8,
@@ -91,7 +91,7 @@ pub fn a_voltage_that_stays(c: Config, passes: u8, acts: &[Act<'_>], claims: &[C
     }
 }
 
-/// A word of an output's register that the log of a life doesn't make known isn't held in some life that tells the same log.
+/// A word of an output's register that the log of a life doesn't make known isn't held in some life with the same log.
 pub fn a_word_that_is_open(
     c: Config,
     passes: u8,
@@ -109,7 +109,7 @@ pub fn a_word_that_is_open(
     run_all(c, passes, events)
 }
 
-/// Microvolts between which the log of a life doesn't say that an output lies are left in some life that tells the same log.
+/// Microvolts between which the log of a life doesn't say that an output lies are left in some life with the same log.
 pub fn a_voltage_that_is_open(
     c: Config,
     passes: u8,

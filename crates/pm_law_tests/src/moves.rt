@@ -10,7 +10,7 @@ use crate::further::run_and_step;
 use pm_device::Config;
 use pm_world::{Event, SetupFault, World, newest_events_are_parts, settings_move_by_the_open_job};
 
-/// After one more step a cell has the word that it had, or the step moved it: a restart of the converter, or a delivery
+/// A cell has the word that it had after one more step, or the step moved it: a restart of the converter, or a delivery
 /// by which the open job took. The store has what it had, or an open store took.
 pub fn what_a_step_moves(
     c: Config,

@@ -1,5 +1,5 @@
 //! What holds of events that a caller's own loop lets happen, as many as there may be: a world of this configuration lived
-//! through them where nothing is against any of them.
+//! through them if nothing is against any of them.
 
 ghost use Rattle.std.specs.Prelude.{◌≡◌, ◌<◌, ◌++◌, [], ◌∷◌, List, None, IfOk, OnSome, OnOk, IsOk, reverse};
 ghost use Rattle.pm_device.specs.Start.{IsSound};

@@ -27,7 +27,8 @@ pub fn have_one_code(sent: &[u8], heard: &[u8]) -> bool
     pec(sent) == pec(heard)
 }
 
-/// An answer to one request is taken for an answer to another only where both have one PEC up to the read address.
+/// An answer to one request is taken for an answer to another only if both requests have one PEC up to the read
+/// address.
 pub fn passes_for_another(addr: u8, other: &Message, late: &[u8]) -> bool
     requires address { IsAddress addr }
     requires read { is_read_message other.now ≡ true }

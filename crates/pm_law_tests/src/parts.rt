@@ -17,7 +17,8 @@ use pm_device::{
     registers_say_what_calls_say, unknown_codes_are_refused,
 };
 
-/// A write that is taken leaves each reading, and STATUS_CML too where its code is neither CLEAR_FAULTS nor STATUS_CML.
+/// A write that is taken leaves each reading. It leaves STATUS_CML, too, if its code is neither CLEAR_FAULTS nor
+/// STATUS_CML.
 pub fn a_write_keeps_latches(device: &mut Converter, bytes: &[u8]) -> Heard
     ensures readings { device.new.readings ≡ device.old.readings }
     ensures cml { (message : Message) → IsWrite device.old.config.addr message bytes.now → result ≡ Taken →
@@ -49,7 +50,7 @@ pub fn has_an_unknown_code(device: &Converter, bytes: &[u8]) -> bool
     }
 }
 
-/// Two writes of one code of the device that differ in their page alone are answered alike.
+/// Two writes of one code of the device that differ only in their page are answered alike.
 pub fn writes_on_two_pages(device: &Converter, bytes: &[u8], others: &[u8]) -> (Heard, Heard)
     ensures { AreWritesAlike device.now bytes.now others.now → result.0 ≡ result.1 }
 {

@@ -14,7 +14,7 @@ use pm_world::{
     Event, SetupFault, World, plans_hold_in_lives, restarts_keep_between, surveys_hold_in_lives,
 };
 
-/// After a run and a step each plan that its orders followed has kept its rail.
+/// Each plan that the orders followed has kept its rail after a run and a step.
 pub fn plans_after_a_step(
     c: Config,
     passes: u8,
@@ -27,7 +27,7 @@ pub fn plans_after_a_step(
     run_and_step(c, passes, events, more)
 }
 
-/// After a run and a step a survey's reads are those that it was told of, and what it found holds.
+/// A survey's reads after a run and a step are those that it heard of, and what it found holds.
 pub fn surveys_after_a_step(
     c: Config,
     passes: u8,
@@ -41,7 +41,7 @@ pub fn surveys_after_a_step(
     run_and_step(c, passes, events, more)
 }
 
-/// After a run and a step, between any two answers that surprised, the converter restarted.
+/// The converter restarted between any two answers that surprised, after a run and a step.
 pub fn surprises_after_a_step(
     c: Config,
     passes: u8,
@@ -54,8 +54,8 @@ pub fn surprises_after_a_step(
     run_and_step(c, passes, events, more)
 }
 
-/// After a run and a step each output to which nothing but wanted words was written commands a value between what it starts with and
-/// what is wanted, where the converter restarted and neither is cut.
+/// Each output to which nothing but wanted words was written commands a value between what it starts with and what is wanted, after
+/// a run and a step, if the converter restarted and neither is cut.
 pub fn restarts_after_a_step(
     c: Config,
     passes: u8,

@@ -1,4 +1,4 @@
-//! What a survey and a plan over any bus are worth, where the bus counted no restart meanwhile and the part has every register.
+//! What a survey and a plan over any bus are worth, if the bus counted no restart meanwhile and the part has every register.
 
 ghost use Rattle.std.specs.Prelude.{◌≡◌, ◌<◌, IfSome};
 ghost use Rattle.pm_limits.specs.Part.{all_registers};
@@ -12,7 +12,7 @@ use pm_limits::whole_parts_miss_nothing;
 use pm_rail::{ApplyEnd, Survey, Wanted};
 use pm_world::{plans_hold_in_lives, surveys_hold_in_lives};
 
-/// Surveys a rail. Where the survey has ended by its own rule, the band has one value, which is what the output commands.
+/// Surveys a rail. The band has one value, which is what the output commands, if the survey has ended by its own rule.
 pub fn surveyed_rail<B: Bus>(driver: &mut Driver<B>, output: u8, tries: u16) -> Option<bool>
     requires there { output < driver.old.guard.host.setup.outputs }
     requires whole { driver.old.guard.registers ≡ all_registers }
@@ -30,7 +30,7 @@ pub fn surveyed_rail<B: Bus>(driver: &mut Driver<B>, output: u8, tries: u16) -> 
     }
 }
 
-/// Carries a plan out. Where all is reached, the output commands what is wanted.
+/// Carries a plan out. The output commands what is wanted if all is reached.
 pub fn applied_rail<B: Bus>(
     driver: &mut Driver<B>,
     output: u8,
@@ -66,7 +66,7 @@ pub fn kept_rail<B: Bus>(
     driver.apply(output, wanted, tries)
 }
 
-/// Carries a plan out. Where all is reached, the converter holds each wanted word.
+/// Carries a plan out. The converter holds each wanted word if all is reached.
 pub fn held_words<B: Bus>(
     driver: &mut Driver<B>,
     output: u8,

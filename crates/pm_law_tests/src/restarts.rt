@@ -9,8 +9,8 @@ use pm_device::Config;
 use pm_restart_laws::courses_keep_between;
 use pm_world::{Event, SetupFault, World};
 
-/// Runs the events: at each moment after a restart, since a course to wanted words began, its output commands a value between its
-/// start value and what is wanted, where neither is cut and nothing else was ordered of it or stored; `None` where an event isn't taken.
+/// Runs the events; `None` if one isn't taken. The output of a course to wanted words commands a value between its start value and what
+/// is wanted, at each moment after a restart since the course began, if neither is cut and nothing else was ordered of it or stored.
 pub fn a_course_through_restarts(
     c: Config,
     passes: u8,
@@ -22,8 +22,8 @@ pub fn a_course_through_restarts(
     run_all(c, passes, events)
 }
 
-/// Runs the events: a course to wishes that hands out frames wrote nothing to its output but wanted words, however often the part
-/// restarted; `None` where an event isn't taken.
+/// Runs the events; `None` if one isn't taken. A course to wishes that hands out frames wrote nothing to its output but wanted
+/// words, however often the part restarted.
 pub fn a_frame_course_through_restarts(
     c: Config,
     passes: u8,

@@ -16,7 +16,7 @@ use pm_stairs_laws::{
 };
 use pm_world::{Event, SetupFault, World};
 
-/// After a run each cell has taken what was ordered for it, and nothing else.
+/// Each cell has taken what was ordered for it in a run, and nothing else.
 pub fn a_cell_that_takes_orders(
     c: Config,
     passes: u8,
@@ -28,7 +28,7 @@ pub fn a_cell_that_takes_orders(
     run_all(c, passes, events)
 }
 
-/// After a run the outputs stand at the stair of the steps that have begun, or at the one before.
+/// The outputs stand after a run at the stair of the steps that have begun, or at the one before.
 pub fn steps_that_went_up(
     c: Config,
     passes: u8,
@@ -40,7 +40,7 @@ pub fn steps_that_went_up(
     run_all(c, passes, events)
 }
 
-/// After a run that stopped anywhere there is a way back, and after one that went it each register has its word of before.
+/// There is a way back after a run that stopped anywhere. Each register has its word of before after a run that went it.
 pub fn steps_that_went_back(
     c: Config,
     passes: u8,
@@ -76,7 +76,7 @@ pub fn stairs_by_their_frames()
     stairs_are_handed();
 }
 
-/// After a run that stopped anywhere and went back by the stairs, each register has its word of before.
+/// Each register has its word of before after a run that stopped anywhere and went back by the stairs.
 pub fn stairs_that_went_back(
     c: Config,
     passes: u8,

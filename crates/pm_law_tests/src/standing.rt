@@ -18,7 +18,7 @@ use pm_limits::Within;
 use pm_rail::Survey;
 use pm_world::plans_hold_in_lives;
 
-/// Whether an output's voltage lies within its limits, where its band stands.
+/// Whether an output's voltage lies within its limits, if its band stands.
 pub fn a_voltage_within<B: Bus>(driver: &Driver<B>, output: u8) -> bool
     ghost bounds: { Bounds }
     requires there { output < driver.now.guard.host.setup.outputs }
@@ -26,7 +26,7 @@ pub fn a_voltage_within<B: Bus>(driver: &Driver<B>, output: u8) -> bool
     requires limits { limits_at driver.now.guard output ≡ Between bounds }
     ensures { result ≡ true → IsWithin bounds (commanded_in (B.held driver.now.bus).config (B.held driver.now.bus) output) }
 {
-    // law: what an output commands lies within limits where the guard says so
+    // law: what an output commands lies within limits if the guard says so
     bands_stand();
     match driver.guard().within(output) {
         Within::Yes => true,
@@ -34,7 +34,7 @@ pub fn a_voltage_within<B: Bus>(driver: &Driver<B>, output: u8) -> bool
     }
 }
 
-/// A new survey of an output, after which its band stands, where the bus counted no restart meanwhile and the survey ended by its rule.
+/// A new survey of an output. Its band stands after it, if the bus counted no restart meanwhile and the survey ended by its rule.
 pub fn a_surveyed_band<B: Bus>(driver: &mut Driver<B>, survey: &mut Survey) -> bool
     requires there { survey.old.output < driver.old.guard.host.setup.outputs }
     requires fresh { survey.old.read ≡ nothing_read }
@@ -50,8 +50,8 @@ pub fn a_surveyed_band<B: Bus>(driver: &mut Driver<B>, survey: &mut Survey) -> b
     }
 }
 
-/// Reads what decides an output's voltage, and says whether that lies within the output's limits: then the output commands a
-/// voltage within them, where the bus counted no restart meanwhile.
+/// Reads what decides an output's voltage, and says whether that lies within the output's limits. The output then commands a
+/// voltage within them, if the bus counted no restart meanwhile.
 pub fn a_rail_is_within<B: Bus>(driver: &mut Driver<B>, output: u8) -> bool
     ghost bounds: { Bounds }
     requires there { output < driver.old.guard.host.setup.outputs }
@@ -62,7 +62,7 @@ pub fn a_rail_is_within<B: Bus>(driver: &mut Driver<B>, output: u8) -> bool
 {
     // law: how registers come to be ones since whose reading the converter didn't restart
     bands_are_kept::<B>();
-    // law: what an output commands lies within limits where the guard says so
+    // law: what an output commands lies within limits if the guard says so
     bands_stand();
     // law: of a part with every register nothing is missing
     plans_hold_in_lives();

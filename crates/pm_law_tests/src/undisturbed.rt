@@ -133,7 +133,7 @@ pub fn an_output_is_switched<B: Bus>(
     driver.complete(&mut course)
 }
 
-/// Over a bus that tries a write again, the same holds of a plan where the bus below disturbs nothing.
+/// A plan comes to its end over a bus that tries a write again, too, if the bus below disturbs nothing.
 pub fn a_plan_that_retries<B: Bus>(
     driver: &mut Driver<Retrying<B>>,
     output: u8,
@@ -154,7 +154,7 @@ pub fn a_plan_that_retries<B: Bus>(
     driver.apply(output, wanted, 27)
 }
 
-/// Over a plan of faults at its end, as an empty one is, a plan ends as the words say that the converter holds.
+/// A plan ends as the words say that the converter holds, over a plan of faults at its end, as an empty one is.
 pub fn a_simulated_plan<'a>(
     driver: &mut Driver<SimulatedBus<'a>>,
     output: u8,

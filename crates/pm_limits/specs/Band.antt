@@ -19,7 +19,7 @@ use Rattle.pm_limits.specs.declared.part_registers.PartRegisters.{PartRegisters}
 use Rattle.pm_limits.specs.declared.ends.Side.{Side}
 use Rattle.pm_limits.specs.declared.ends.Side.TheVariants.{Lowest, Highest}
 use Rattle.pm_limits.specs.declared.guard.Within.{Within}
-use Rattle.pm_limits.specs.declared.guard.Within.TheVariants.{Yes, No, NotKnown}
+use Rattle.pm_limits.specs.declared.guard.Within.TheVariants.{Yes, No, NotKnown, NoLimits}
 use Rattle.pm_limits.specs.declared.output_limits.OutputLimits.{OutputLimits}
 use Rattle.pm_limits.specs.declared.output_limits.OutputLimits.TheVariants.{Unknown, Unlimited, Between}
 use Rattle.pm_limits.specs.Bounds.{Bounds}
@@ -119,10 +119,10 @@ band_within bounds band =
     else (if is_above (micros bounds.least) band.greatest || is_above band.least (micros bounds.most) then No
     else NotKnown)
 
--- everything is within no limits, and of unknown limits and of an unknown band nothing is known
+-- whether a band that may be unknown lies within limits, if there are any
 abbrev pub within_of : OutputLimits → Option Band → Within
-within_of Unknown band = NotKnown
-within_of Unlimited band = Yes
+within_of Unknown band = NoLimits
+within_of Unlimited band = NoLimits
 within_of (Between bounds) None = NotKnown
 within_of (Between bounds) (Some band) = band_within bounds band
 
@@ -133,6 +133,12 @@ is_yes _ = false
 abbrev pub is_no : Within → Bool
 is_no No = true
 is_no _ = false
+
+-- limits let an output be on with a band that lies within them, and with any band if it is said to have none
+abbrev pub lets_on : OutputLimits → Option Band → Bool
+lets_on Unknown band = false
+lets_on Unlimited band = true
+lets_on (Between bounds) band = is_yes (within_of (Between bounds) band)
 
 -- the registers that a band rests on: OPERATION, both limits, and those that a byte of OPERATION may select
 abbrev pub is_selected : List ℕ → Reg → Bool

@@ -26,7 +26,7 @@ use Rattle.pm_limits.specs.declared.fault.LimitFault.TheVariants.{Host, FormatUn
 use Rattle.pm_limits.specs.declared.output_limits.OutputLimits.{OutputLimits}
 use Rattle.pm_limits.specs.declared.output_limits.OutputLimits.TheVariants.{Unknown, Unlimited, Between}
 use Rattle.pm_limits.specs.declared.part_registers.PartRegisters.{PartRegisters}
-use Rattle.pm_limits.specs.Band.{band_on, is_yes, within_of}
+use Rattle.pm_limits.specs.Band.{band_on, lets_on}
 use Rattle.pm_limits.specs.Bounds.{Bounds, bounds_fault, outside_fault}
 use Rattle.pm_limits.specs.OutputLimits.{are_wider, is_limited}
 use Rattle.pm_limits.specs.Part.{has_register}
@@ -58,10 +58,10 @@ unsure_fault Unknown shape = NoLimits
 unsure_fault limits None = FormatUnknown
 unsure_fault limits (Some shape) = NotKnownWithin
 
--- L8, L2 or L5 for a byte that leaves the output on, unless the band with this byte lies within the limits
+-- L8, L2 or L5 for a byte that leaves the output on, unless the limits let it be on with the band of this byte
 abbrev pub operation_limit : PartRegisters → OutputLimits → Summary → ℕ → ℕ → Option LimitFault
 operation_limit registers limits s output byte =
-    rule (has_on byte && not (is_yes (within_of limits (band_on registers s output byte)))) (unsure_fault limits (format_at s output))
+    rule (has_on byte && not (lets_on limits (band_on registers s output byte))) (unsure_fault limits (format_at s output))
 
 -- what the limits of a cell's output say of a word for it
 abbrev pub judged : PartRegisters → OutputLimits → Summary → Cell → ℕ → Option LimitFault

@@ -16,11 +16,10 @@ use Rattle.pm_host.specs.Jobs.{accepted_job, begin_fault}
 use Rattle.pm_host.specs.Possible.{is_possible}
 use Rattle.pm_host.specs.Summary.{Summary, format_at, possible_at}
 use Rattle.pm_host.specs.Transcript.{Order}
-use Rattle.pm_limits.specs.declared.guard.Within.TheVariants.{Yes}
 use Rattle.pm_limits.specs.declared.output_limits.OutputLimits.TheVariants.{Unlimited, Between}
 use Rattle.pm_limits.specs.declared.ends.Side.{Side}
 use Rattle.pm_limits.specs.declared.ends.Side.TheVariants.{Lowest, Highest}
-use Rattle.pm_limits.specs.Band.{HasDens, Known, band_on, decides, end_choice, end_with, known_of, operations, within_of}
+use Rattle.pm_limits.specs.Band.{HasDens, Known, band_on, decides, end_choice, end_with, known_of, lets_on, operations}
 use Rattle.pm_limits.specs.Bounds.{Bounds, IsWithin}
 use Rattle.pm_limits.specs.Ends.{Reaches, format_end}
 use Rattle.pm_limits.specs.Guard.{Guarded, guard_fault, limits_at, missing_cell, missing_ordered, of_host}
@@ -29,7 +28,7 @@ use Rattle.pm_limits.specs.Part.{all_registers}
 
 -- What a guard lets through: as a word or in microvolts, a voltage of an output with limits within them, in the
 -- format that the host learned (`voltage`), and none of an output of which no limits are known (`known`); and a byte of
--- OPERATION that leaves it on only where the band with that byte lies within (`on`). A byte that turns an output off is
+-- OPERATION that leaves it on only where the limits let it be on with the band of that byte (`on`). A byte that turns an output off is
 -- refused for the host's reasons alone (`off`), and so is any order for an output that is said to have no limits, where the
 -- part has the register (`free`). An order of a register that the
 -- part doesn't have isn't let through, nor one of OPERATION whose byte selects such a register (`missing`), nor a
@@ -44,7 +43,7 @@ pub record GuardedOrdersAreWithin : Type 0 where
       is_voltage register ≡ true → are_known (limits_at g output) ≡ true
   pub on : (g : Guarded) (output byte : ℕ) →
       guard_fault g (job.Order (Out output Operation) byte) ≡ None → has_on byte ≡ true →
-      within_of (limits_at g output) (band_on g.registers g.host output byte) ≡ Yes
+      lets_on (limits_at g output) (band_on g.registers g.host output byte) ≡ true
   pub off : (g : Guarded) (output byte : ℕ) → has_on byte ≡ false →
       guard_fault g (job.Order (Out output Operation) byte)
       ≡ of_host (begin_fault g.host (job.Order (Out output Operation) byte))

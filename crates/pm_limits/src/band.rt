@@ -14,8 +14,7 @@ use pm_host::{Host, State};
 use pm_num::{AnyFormat, Frac};
 use pm_table::{Cell, Reg};
 
-// What stands for the bytes that OPERATION may be where it may be any: on, on with margin high, and on with
-// margin low.
+// What stands for the bytes of an OPERATION that may be any: on, on with margin high, and on with margin low.
 static EACH_SELECTION: [u16; 3] = [0x80, 0xA8, 0x94];
 
 /// The least and the greatest voltage that an output may command, in volts, by what is known.
@@ -27,9 +26,9 @@ pub struct Band {
     pub greatest: Frac,
 }
 
-/// Between which voltages an output may be, by what a host knows: the least and the greatest that it commands
-/// with the words that its registers may hold; if a register may hold any, the ends of its format stand, and if
-/// the part doesn't have VOUT_MIN or VOUT_MAX, neither cuts. OPERATION may be any if it may be a byte that its cell
+/// Between which voltages an output may be, by what a host knows: the least and the greatest that it commands with
+/// the words that its registers may hold. The ends of its format stand for a register that may hold any. A VOUT_MIN
+/// or VOUT_MAX that the part doesn't have doesn't cut. OPERATION may be any if it may be a byte that its cell
 /// doesn't take, as A0h. `None` exactly if the format isn't known, or if such a byte hands the voltage to AVSBus:
 /// its bits 5 and 4 are 11, as of B0h. The output is there.
 ///
@@ -114,7 +113,7 @@ fn may_select_avsbus(host: &State, output: u8) -> bool
     }
 }
 
-// The bytes that an output's OPERATION may be, where it may not be any.
+// The bytes that an output's OPERATION may be; `None` if it may be any.
 fn listed(host: &State, output: u8) -> Option<&[u16]>
     requires { output < 8 }
     ensures { MatchOption result (possible_at (held None host.now) (Out output Operation) ≡ Any)

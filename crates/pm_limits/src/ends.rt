@@ -132,7 +132,7 @@ impl OutputEnds {
         side.is_farther(format, self.word(side, byte), self.word(side, other))
     }
 
-    // The byte of several whose selected register has the farthest end; 0 where there is none.
+    // The byte of several whose selected register has the farthest end; 0 if there is none.
     fn farthest(&self, side: Side, format: &AnyFormat, bytes: &[u16]) -> u16
         ensures { result
             ≡ spec_farthest_of side (selected_value side (any_value format.now) self.now) bytes.now }
@@ -219,7 +219,7 @@ fn format_ends(format: &AnyFormat) -> &'static [u16]
     }
 }
 
-// The value of a word cut to those of two others, where the greater limit wins.
+// The value of a word, cut to the values of two others. The upper limit wins if the lower one is above it.
 fn limited(format: &AnyFormat, selected: u16, least: u16, greatest: u16) -> Frac
     ensures { let value = any_value format.now in
         result ≡ spec_limited (value selected) (value least) (value greatest) }
@@ -246,7 +246,7 @@ fn candidates<'a>(format: &AnyFormat, host: &'a State, cell: Cell) -> &'a [u16]
     }
 }
 
-// The word of several whose value lies farthest out; 0 where there is none.
+// The word of several whose value lies farthest out; 0 if there is none.
 fn farthest(side: Side, format: &AnyFormat, words: &[u16]) -> u16
     ensures { result ≡ spec_farthest_of side (any_value format.now) words.now }
 {

@@ -3,13 +3,14 @@ mod calls;
 /// Whether an output's voltage lies within its limits, by what is known.
 #[derive(Clone, Copy, Debug, PartialEq, Eq)]
 pub enum Within {
-    /// The whole band lies within the limits, or the output is said to have none.
+    /// The whole band lies within the limits.
     Yes,
     /// The whole band lies below the limits, or above them.
     No,
-    /// The band lies partly within, or there is none: the format isn't known, or a byte of AVSBus is possible for OPERATION. Or no
-    /// limits are known.
+    /// The band lies partly within, or there is none: the format isn't known, or a byte of AVSBus is possible for OPERATION.
     NotKnown,
+    /// The output has no limits: none were given, or it was said that it has none.
+    NoLimits,
 }
 
 ghost use Rattle.std.specs.Prelude.{◌≡◌, ◌<◌, IfOk, OnOk, OnErr, [], ◌∷◌, replicate, slice_set};
@@ -43,12 +44,12 @@ const OUTPUTS: usize = 8;
 
 /// A host that refuses orders beyond the limits of their output.
 ///
-/// It has the host's calls, which do what they do there. For an output with limits it also refuses an order
-/// of a voltage, VOUT_COMMAND, VOUT_MAX, VOUT_MIN or a margin, whose word stands for a value outside them, in
-/// the exact fraction of the word that would be sent; and an order of OPERATION that leaves the output on,
-/// unless the band with that byte lies within the limits. It refuses both for an output of which no limits are known: neither
-/// were any given, nor was it said that there are none. Turning an output off is never refused by a limit, and an output that
-/// is said to have none is as at a host.
+/// It has the host's calls, which do what they do there. It also refuses, for an output with limits, an order of
+/// VOUT_COMMAND, VOUT_MAX, VOUT_MIN or a margin whose word stands for a value outside them, in the exact fraction of the word
+/// that would be sent. It refuses an order of OPERATION that leaves such an output on, unless the band with that byte lies
+/// within the limits. It refuses both for an output of which no limits are known: neither were any given, nor was it said
+/// that there are none. Turning an output off is never refused by a limit, and an output that is said to have none is as at a
+/// host.
 ///
 /// It learns once which registers the part has. It refuses a job on another, and an order of OPERATION that selects
 /// a missing margin.
@@ -135,11 +136,13 @@ impl Guard {
 
     /// Begins a job, as [`Host::begin`], or refuses it. A refusal changes nothing.
     ///
-    /// An order of a word is refused, in this order, with H3, H4, L7 if the part doesn't have the register or the
-    /// margin that a byte of OPERATION selects, then by the limits, L8 if none are known, L2 if the format isn't known, L3
-    /// below them and L4 above them, then H5, L8, L2 or L5 for a byte of OPERATION that leaves the output on, and H6. An order in
-    /// microvolts with H3, H4, L7, H5, H7, N5, N3, N4, then L8, L3 and L4, by the value of the nearest word, and H6. A check with
-    /// H3, H4 and L7. Every other job is refused as the host refuses it.
+    /// - An order of a word is refused with the first of these: H3; H4; L7 if the part doesn't have the register or the
+    ///   margin that a byte of OPERATION selects; L8 if no limits are known; L2 if the format isn't known; L3 below the
+    ///   limits; L4 above them; H5; L8, L2 or L5 for a byte of OPERATION that leaves the output on; H6.
+    /// - An order in microvolts is refused with the first of H3, H4, L7, H5, H7, N5, N3, N4, then L8, L3 and L4 by the
+    ///   value of the nearest word, and H6.
+    /// - A check is refused with the first of H3, H4 and L7.
+    /// - Every other job is refused as the host refuses it.
     pub fn begin(&mut self, job: Job) -> Result<(), LimitFault>
         ensures { LetsBegin self.old job result self.new }
     {
@@ -221,10 +224,14 @@ impl Guard {
         self.limits.get(usize::from(output))
     }
 
-    /// Gives an output narrower limits of these microvolts; an output without any takes these. H4 if the output
-    /// isn't there, N5 if a limit is beyond 10^15 in size, L1 if the least is above the most, L6 if the
-    /// output has limits and these let through what those don't, H3 if an order of the output is open that these
-    /// refuse, since its frame may be sent again; then nothing changes.
+    /// Gives an output narrower limits of these microvolts; an output without any takes these. A refusal changes
+    /// nothing. It is the first of these that applies:
+    ///
+    /// - H4: the output isn't there.
+    /// - N5: a limit is beyond 10^15 in size.
+    /// - L1: the least is above the most.
+    /// - L6: the output has limits, and these let through what those don't.
+    /// - H3: an order of the output is open that these refuse, since its frame may be sent again.
     ///
     /// A word that was ordered before stays possible, and one that the device holds stays there: ask
     /// [`Guard::within`].
@@ -287,8 +294,8 @@ impl Guard {
     }
 
     /// Whether an output's voltage lies within its limits, by the words that its registers may hold: `Yes` if its
-    /// whole band does or it is said to have no limits, `No` if the whole band lies below the limits or above them,
-    /// otherwise `NotKnown`. The output is there.
+    /// whole band does, `No` if the whole band lies below the limits or above them, otherwise `NotKnown`. It is `NoLimits`
+    /// if the output has none. The output is there.
     ///
     /// The limits hold for good if each word lies within them that the registers of the output, and the device's user
     /// store, had before the guard, or that was ordered before these limits were given. Check the registers, and see that this answers `Yes`. What the store

@@ -10,7 +10,7 @@ ghost use Rattle.pm_host.specs.Refusals.{cell_fault, micro_word as spec_micro_wo
 ghost use Rattle.pm_host.specs.Sound.{IsSound};
 ghost use Rattle.pm_host.specs.Summary.{format_at};
 ghost use Rattle.pm_host.specs.Transcript as accepted;
-ghost use Rattle.pm_limits.specs.Band.{within_of};
+ghost use Rattle.pm_limits.specs.Band.{lets_on as spec_lets_on, within_of};
 ghost use Rattle.pm_limits.specs.declared.fault.LimitFault.TheVariants.{Host};
 ghost use Rattle.pm_limits.specs.declared.output_limits.OutputLimits.TheVariants.{Between};
 ghost use Rattle.pm_host.specs.declared.fault.HostFault.TheVariants.{Busy};
@@ -54,12 +54,12 @@ pub struct NewLimits {
     pub most: i64,
 }
 
-/// What a host is to be asked for in place of this job, whose output has these limits, and whose part these registers:
-/// the same, and of an order in microvolts the order of the nearest word. Or why it isn't asked at all, as
-/// [`crate::Guard::begin`] says. A guard asks its host so; who keeps limits otherwise asks as well, and then begins what
-/// is answered.
-// Of an order of a word for an output that is said to have no limits it is asked alone whether the register is there: the host refuses
-// it for all else that a guard does.
+/// What a host is to be asked for in place of this job, by the limits of its output and the registers of its part. It is
+/// the job itself, or the order of the nearest word for an order in microvolts. A refusal says why the host isn't asked
+/// at all, as [`crate::Guard::begin`] does. A guard calls this; a caller who keeps limits otherwise calls it as well,
+/// and then begins what it answers.
+// An order of a word for an output without limits is judged only by whether the register is there: the host refuses it for all else
+// that a guard does.
 #[inline(always)]
 #[tactic(auto, using(crate::proofs::Unlimited::unlimited))]
 pub fn judge(
@@ -200,14 +200,25 @@ pub(crate) fn output_of(cell: Cell) -> u8
     }
 }
 
-/// Whether a band lies within limits; any does if there are none, and of unknown ones nothing is known.
+/// Whether a band lies within limits, if there are any.
 pub fn within_limits(limits: &OutputLimits, band: Option<Band>) -> Within
     ensures { result ≡ within_of limits.now band }
 {
     match (limits, band) {
-        (OutputLimits::Unlimited, _) => Within::Yes,
         (OutputLimits::Between(limits), Some(band)) => limits.within(&band),
-        _ => Within::NotKnown,
+        (OutputLimits::Between(_), None) => Within::NotKnown,
+        (OutputLimits::Unknown | OutputLimits::Unlimited, _) => Within::NoLimits,
+    }
+}
+
+// Whether limits let an output be on with this band: it lies within them, or the output is said to have none.
+fn lets_on(limits: &OutputLimits, band: Option<Band>) -> bool
+    ensures { result ≡ spec_lets_on limits.now band }
+{
+    match limits {
+        OutputLimits::Unknown => false,
+        OutputLimits::Unlimited => true,
+        OutputLimits::Between(_) => within_limits(limits, band) == Within::Yes,
     }
 }
 
@@ -251,7 +262,7 @@ fn micro_word(state: &State, stage: Option<Stage>, cell: Cell, x: i64) -> Result
 }
 
 /// Refuses what the limits of the cell's output don't let through.
-// It is inlined, and so is the next: an answer that goes through memory would weigh on each order.
+// This function and the next are inlined: an answer that goes through memory would weigh on each order.
 #[inline(always)]
 pub(crate) fn judge_word(
     state: &State,
@@ -319,7 +330,7 @@ fn place_in<F: NumFormat>(format: &F, limits: &Limits, word: u16) -> Ordering
     limits.place(&format.value_of(word))
 }
 
-// Refuses a byte that leaves the output on where that isn't known to be within its limits.
+// Refuses a byte that leaves the output on, unless that is known to be within its limits.
 #[inline(always)]
 fn judge_operation(
     state: &State,
@@ -350,7 +361,7 @@ fn unsure(state: &State, limits: &OutputLimits, output: u8) -> LimitFault
     }
 }
 
-// Whether a byte leaves the output on where that isn't known to be within its limits. It isn't inlined: it would weigh
+// Whether a byte leaves the output on and isn't known to keep it within its limits. It isn't inlined: it would weigh
 // on each order of a voltage.
 #[inline(never)]
 fn may_command_beyond(
@@ -364,8 +375,7 @@ fn may_command_beyond(
     ensures { let s = held None state.now in
         rule result (unsure_fault limits.now (format_at s output)) ≡ operation_limit registers limits.now s output byte }
 {
-    Operation::has_on(byte)
-        && within_limits(limits, band_on(state, registers, output, byte)) != Within::Yes
+    Operation::has_on(byte) && !lets_on(limits, band_on(state, registers, output, byte))
 }
 
 /// Limits of these microvolts in the place of those that an output has, or of none, as [`crate::Guard::narrow`] says: N5,
@@ -387,7 +397,7 @@ pub fn narrower_limits(
     Ok(limits)
 }
 
-// Refuses limits where an order of the output is open that they refuse.
+// Refuses limits that an open order of the output doesn't keep.
 fn refuse_open(
     state: &State,
     stage: Option<Stage>,

@@ -3,11 +3,11 @@
 
 ghost use Rattle.pm_limits.specs.Laws.{BandsAreEnds, GuardedOrdersAreWithin, MissingLimitsCutNothing, WholePartsMissNothing};
 
-/// What a guard lets through: as a word or in microvolts, a voltage of an output with limits within them
-/// (`voltage`), and none of an output of which no limits are known (`known`); and a byte of OPERATION that leaves it on only
-/// if the band with that byte lies within (`on`). A byte that turns an output off (`off`), and any order for an output that
-/// is said to have no limits whose register the part has (`free`), is refused for the host's reasons only. No order of a register that the part doesn't have is let through
-/// (`missing`), and no check of one (`unread`).
+/// A guard lets a voltage of an output with limits through, as a word or in microvolts, only if it lies within them (`voltage`). It lets
+/// none through of an output of which no limits are known (`known`). It lets a byte of OPERATION through that leaves the output on only if
+/// the band with that byte lies within (`on`). A byte that turns an output off (`off`), and any order for an output that is said to have no
+/// limits whose register the part has (`free`), is refused for the host's reasons only. No order of a register that the part doesn't have
+/// is let through (`missing`), and no check of one (`unread`).
 pub fn guarded_orders_are_within()
     ensures { GuardedOrdersAreWithin }
 {}

@@ -1,10 +1,10 @@
 //! Limits of each output's voltage, and the band of voltage that is known.
 //!
-//! A [`Guard`] is a host that refuses orders beyond an output's [`Limits`]: a voltage whose word stands for
-//! a value outside them, and a byte of OPERATION that leaves the output on while what it would command isn't
-//! known to lie within. An output of which no limits are known is ordered no voltage: say that it has none by
-//! [`Guard::no_limits`]. [`band_of`] says between which voltages an output may be by what a host knows, as
-//! exact fractions; no narrower band is true if the possible words are exact
+//! A [`Guard`] is a host that refuses orders beyond an output's [`Limits`]: a voltage whose word stands for a
+//! value outside them. It refuses a byte of OPERATION that leaves the output on, unless what that would
+//! command is known to lie within. An output of which no limits are known is ordered no voltage: say that it
+//! has none by [`Guard::no_limits`]. [`band_of`] says between which voltages an output may be by what a host
+//! knows, as exact fractions; no narrower band is true if the possible words are exact
 //! (`possible_words_are_exact` of `pm_world`).
 //!
 //! A guard knows what was ordered through it and what was read. What a device or its user store held before

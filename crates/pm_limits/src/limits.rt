@@ -160,7 +160,7 @@ fn cross(p: &Frac, q: &Frac) -> i128
     product(p.num() as i64, q.den() as i64)
 }
 
-// The product of two numbers: one instruction, where that of two numbers of 128 bits takes many.
+// The product of two numbers: one instruction. A product of two numbers of 128 bits takes many.
 #[inline(always)]
 fn product(a: i64, b: i64) -> i128
     ensures { result ≡ a *ℤ b }

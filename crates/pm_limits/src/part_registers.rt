@@ -10,13 +10,13 @@ use pm_table::Reg;
 /// says it: a part that has PAGE_PLUS and no VOUT_MIN is common.
 #[derive(Clone, Copy, Debug, PartialEq, Eq)]
 pub struct PartRegisters {
-    /// VOUT_MAX. If it is missing, it stands at the greatest value of the output's format.
+    /// VOUT_MAX. It stands at the greatest value of the output's format if it is missing.
     pub vout_max: bool,
-    /// VOUT_MARGIN_HIGH. If it is missing, the output isn't turned on with margin high.
+    /// VOUT_MARGIN_HIGH. The output isn't turned on with margin high if it is missing.
     pub vout_margin_high: bool,
-    /// VOUT_MARGIN_LOW. If it is missing, the output isn't turned on with margin low.
+    /// VOUT_MARGIN_LOW. The output isn't turned on with margin low if it is missing.
     pub vout_margin_low: bool,
-    /// VOUT_MIN. If it is missing, it stands at the least value of the output's format.
+    /// VOUT_MIN. It stands at the least value of the output's format if it is missing.
     pub vout_min: bool,
 }
 

@@ -11,8 +11,8 @@ use crate::lines::Line;
 use memchr::memchr;
 use std::alloc::AllocError;
 
-/// What stands before the first byte that is the mark, and what follows it: all bytes and none,
-/// where there is no mark.
+/// What stands before the first byte that is the mark, and what follows it: all bytes and none, if there is
+/// no mark.
 pub fn cut_at(bytes: &[u8], mark: u8) -> (&[u8], &[u8])
     ensures before { result.0.now ≡ before_first (λ byte. byte == mark) bytes.now }
     ensures after { result.1.now ≡ after_first (λ byte. byte == mark) bytes.now }
@@ -33,8 +33,8 @@ fn first_place(bytes: &[u8], mark: u8) -> Option<usize>
 /// Appends the bytes that a line's words write in hexadecimal. Each word is an even number of digits,
 /// of either case.
 ///
-/// X2 with the line's number where a word isn't, and X6 where memory was refused. Then the bytes are
-/// as they were. Takes memory as the bytes grow.
+/// X2 with the line's number if a word isn't, and X6 if memory was refused. The bytes are then as they were.
+/// Takes memory as the bytes grow.
 pub fn push_bytes(line: Line<'_>, bytes: &mut Vec<u8>) -> Result<(), TextFault>
     ensures all { OnOk result (option_map (λ more. bytes.old.items ++ more)
         (bytes_of (words_of line.entry.text.now)) ≡ Some bytes.new.items) }
@@ -59,8 +59,8 @@ pub fn push_bytes(line: Line<'_>, bytes: &mut Vec<u8>) -> Result<(), TextFault>
     }
 }
 
-// Appends the bytes that the pairs of digits at the beginning write, and gives what follows them.
-// Where memory was refused, some of the bytes may be there.
+// Appends the bytes that the pairs of digits at the beginning write, and gives what follows them. Some of the
+// bytes may be there if memory was refused.
 #[tactic(auto, using(crate::specs::Lemmas::Joins::joins))]
 fn push_pairs<'a>(digits: &'a [u8], bytes: &mut Vec<u8>) -> Result<&'a [u8], AllocError>
     ensures all { OnOk result (bytes.new.items ≡ bytes.old.items ++ paired_bytes digits.entry.now) }

@@ -4,7 +4,7 @@ ghost use Rattle.pm_lines.specs.Digits.{decimal_of, hex_of, natural_of, signed_o
 
 use crate::hex_digit::pair_of;
 
-/// The decimal number of a text, where it is 0 to 255 and has no sign.
+/// The decimal number of a text, if it is 0 to 255 and has no sign.
 pub fn read_u8(text: &[u8]) -> Option<u8>
     ensures { result ≡ small_of text.now }
 {
@@ -15,21 +15,21 @@ pub fn read_u8(text: &[u8]) -> Option<u8>
     plain_text(text)?.parse().ok()
 }
 
-/// The decimal number of a text, where it is an `i8`.
+/// The decimal number of a text, if it is an `i8`.
 pub fn read_i8(text: &[u8]) -> Option<i8>
     ensures { result ≡ signed_of 8 text.now }
 {
     plain_text(text)?.parse().ok()
 }
 
-/// The decimal number of a text, where it is an `i16`.
+/// The decimal number of a text, if it is an `i16`.
 pub fn read_i16(text: &[u8]) -> Option<i16>
     ensures { result ≡ signed_of 16 text.now }
 {
     plain_text(text)?.parse().ok()
 }
 
-/// The decimal number of a text, where it is an `i64`.
+/// The decimal number of a text, if it is an `i64`.
 pub fn read_i64(text: &[u8]) -> Option<i64>
     ensures { result ≡ signed_of 64 text.now }
 {
@@ -60,7 +60,7 @@ pub fn read_word(text: &[u8]) -> Option<u16>
     }
 }
 
-// The bytes as a text without a leading `+`. Where they are none, they write no number.
+// The bytes as a text. `None` if they begin with `+` or are no text; they write no number then.
 fn plain_text(bytes: &[u8]) -> Option<&str>
     ensures text { IfSome result (λ text. text.now ≡ bytes.now) }
     ensures plain { IfSome result (λ text. slice_index text.now 0 ≢ 43) }

@@ -39,8 +39,8 @@ impl TextFault {
         "X6 Memory"
     }
 
-    /// The letters and the name of the fault, as a program prints them: `X1 Syntax`, `X3 TooLong`.
-    /// The line follows them, where the fault has one, or why no world is made.
+    /// The letters and the name of the fault, as a program prints them: `X1 Syntax`, `X3 TooLong`. The line
+    /// follows them, if the fault has one, or why no world is made.
     pub fn words(&self) -> &'static str
         ensures { result.now ≡ fault_words self.now }
     {

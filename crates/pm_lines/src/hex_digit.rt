@@ -24,7 +24,7 @@ const DIGIT_VALUES: [u16; 256] = [
     0x100, 0x100, 0x100, 0x100, 0x100, 0x100, 0x100, 0x100, 0x100, 0x100, 0x100, 0x100, 0x100, 0x100, 0x100, 0x100,
 ];
 
-/// The byte that two digits write, where both are digits.
+/// The byte that two digits write, if both are digits.
 pub fn pair_of(high: u8, low: u8) -> Option<u8>
     ensures { result ≡ spec_pair_of high low }
 {
@@ -32,7 +32,7 @@ pub fn pair_of(high: u8, low: u8) -> Option<u8>
     if pair < 256 { Some(pair as u8) } else { None }
 }
 
-// The byte that two digits write, and 256 or more where one of them is no digit.
+// The byte that two digits write, and 256 or more if one of them is no digit.
 #[tactic(auto, using(crate::proofs::FourPairs::pair_value_is))]
 fn pair_value(high: u8, low: u8) -> u16
     ensures { spec_pair_of high low ≡ (if nat_lt result 256 then Some result else None) }
@@ -40,9 +40,9 @@ fn pair_value(high: u8, low: u8) -> u16
     value_or_none(high) * 16 + value_or_none(low)
 }
 
-/// The byte of the two digits that stand first, and what follows the space after them; only where
-/// these stand first. A caller reads on digit by digit after None: that costs time and no more, and
-/// the clauses leave open where it comes.
+/// The byte of the two digits that stand first, and what follows the space after them; only if these stand
+/// first. A caller reads on digit by digit after None: that costs time and no more, and the clauses leave
+/// open when it comes.
 pub fn spaced_pair(digits: &[u8]) -> Option<(u8, &[u8])>
     ensures byte { IfSome result (λ pair. paired_bytes digits.now ≡ pair.0 ∷ paired_bytes pair.1.now) }
     ensures rest { IfSome result (λ pair. behind_pairs digits.now ≡ behind_pairs pair.1.now) }
@@ -54,9 +54,8 @@ pub fn spaced_pair(digits: &[u8]) -> Option<(u8, &[u8])>
     }
 }
 
-/// The bytes of the four pairs of digits that stand first, with a space between each, and what
-/// follows them; only where four such pairs stand first. The clauses leave open where None comes, as
-/// those of `spaced_pair` do.
+/// The bytes of the four pairs of digits that stand first, with a space between each, and what follows them;
+/// only if four such pairs stand first. The clauses leave open when None comes, as those of `spaced_pair` do.
 pub fn four_pairs(digits: &[u8]) -> Option<(u8, u8, u8, u8, &[u8])>
     ensures bytes { IfSome result (λ four. paired_bytes digits.now
         ≡ four.0 ∷ four.1 ∷ four.2 ∷ four.3 ∷ paired_bytes four.4.now) }

@@ -1,8 +1,8 @@
-//! What every text of this project stands on, over any reader and any writer: a reader and a writer
-//! that are used until they fail, a whole text of at most 1 MiB, its lines that are not skipped, the
-//! words of a line, the numbers that words write and the bytes that they write in hexadecimal,
-//! numbers after a text, the faults of a text with the words in which they are told, and what every engine
-//! promises that reads a text and writes one (`specs/Engine.antt`).
+//! What every text of this project stands on, over any reader and any writer. A reader and a writer are used
+//! until they fail. A whole text has at most 1 MiB; its lines that are not skipped have words, which write
+//! numbers, or bytes in hexadecimal. Numbers are put after a text. The faults of a text have the words in
+//! which they are printed. `specs/Engine.antt` has what every engine promises that reads a text and writes
+//! one.
 //!
 //! What a text means is not here. A line or a word borrows the text that it stands in, and nothing
 //! takes memory for a word. The word of four hexadecimal digits that a text begins with:

@@ -15,9 +15,9 @@ pub struct Line<'a> {
     pub text: &'a [u8],
 }
 
-/// The lines of a text that are not skipped, one after another. A line ends at a line feed or at the
-/// text's end, and a carriage return before either is no part of it. Lines that are empty, have
-/// spaces alone or begin with `#` are skipped, and numbered like any other.
+/// The lines of a text that are not skipped, one after another. A line ends at a line feed or at the text's
+/// end, and a carriage return before either is no part of it. Lines that are empty, have nothing but spaces
+/// or begin with `#` are skipped, and numbered like any other.
 #[derive(Debug, Drop)]
 pub struct Lines<'a> {
     rest: &'a [u8],
@@ -62,7 +62,7 @@ impl<'a> Lines<'a> {
         Iterator::count(memchr_iter(b'\n', self.rest)) + 1
     }
 
-    /// The next line that is not skipped. After None every line of the text was passed.
+    /// The next line that is not skipped. Every line of the text was passed after None.
     pub fn next_line(&mut self) -> Option<Line<'a>>
         ensures unskipped { MatchOption result (self.old.unskipped ≡ [])
             (λ line. self.old.unskipped ≡ (line.number, line.text.now) ∷ self.new.unskipped) }
@@ -94,7 +94,7 @@ impl<'a> Lines<'a> {
     }
 }
 
-/// The line without one carriage return at its end, where it has one.
+/// The line without one carriage return at its end, if it has one.
 pub fn without_carriage_return(line: &[u8]) -> &[u8]
     ensures { result.now ≡ without_return line.now }
 {

@@ -31,8 +31,7 @@ pub fn push_decimal(text: &mut String, number: u64) -> Result<(), AllocError>
     text.push_str(digits.format(number))
 }
 
-/// Appends a number in decimal, with `-` before it where it is negative. Takes memory as the text
-/// grows.
+/// Appends a number in decimal, with `-` before it if it is negative. Takes memory as the text grows.
 pub fn push_signed(text: &mut String, number: i128) -> Result<(), AllocError>
     ensures { OnOk result (string_bytes text.new ≡ string_bytes text.old ++ signed_decimal number) }
 {

@@ -51,9 +51,8 @@ impl<W> Sink<W> {
 }
 
 impl<W: Write> Sink<W> {
-    /// Writes all of the bytes. X5 where a call of the writer failed, or took none of the bytes
-    /// that it was offered; then only a prefix of the bytes, and not all, was written, and nothing
-    /// more may be written.
+    /// Writes all of the bytes. X5 if a call of the writer failed, or took none of the bytes that it was
+    /// offered; then only a prefix of the bytes, and not all, was written, and nothing more may be written.
     pub fn put(&mut self, bytes: &[u8]) -> Result<(), TextFault>
         requires { IsFalse self.old.failed }
         ensures all { OnOk result
@@ -92,8 +91,8 @@ impl<W: Write> Sink<W> {
         Ok(())
     }
 
-    /// Asks the writer to hand on whatever it still keeps to itself. X5 where it failed; then
-    /// nothing more may be written.
+    /// Asks the writer to hand on whatever it still keeps to itself. X5 if that failed; then nothing more may
+    /// be written.
     pub fn flush(&mut self) -> Result<(), TextFault>
         requires { IsFalse self.old.failed }
         ensures kept { Keeps (W.contents self.old.inner) (W.contents self.new.inner) }

@@ -51,9 +51,9 @@ impl<R> Source<R> {
 }
 
 impl<R: Read> Source<R> {
-    /// Reads bytes into the buffer by one call of the reader, and says how many: at most the
-    /// buffer's length, and 0 only at the end of what there is to read, or where the buffer is
-    /// empty. X4 where the reader failed; then no byte is lost, and nothing more may be read.
+    /// Reads bytes into the buffer by one call of the reader, and says how many: at most the buffer's length,
+    /// and 0 only at the end of what there is to read, or if the buffer is empty. X4 if the reader failed;
+    /// then no byte is lost, and nothing more may be read.
     pub fn read(&mut self, buf: &mut [u8]) -> Result<usize, TextFault>
         requires { IsFalse self.old.failed }
         ensures bound { ReadsAtMost result buf.new }

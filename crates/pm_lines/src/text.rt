@@ -7,7 +7,7 @@ use crate::source::Source;
 use std::alloc::{AllocError, Global};
 use std::io::Read;
 
-/// A text with a line feed at its end: the same one where it has that, otherwise with one more byte.
+/// A text with a line feed at its end: unchanged if it has one, otherwise with one more byte.
 pub fn with_line_end(text: String) -> Result<String, AllocError>
     ensures ends { IfOk result (λ whole. EndsLine (string_bytes whole)) }
     ensures same { IfOk result (λ whole. (string_bytes whole ≡ string_bytes text)
@@ -27,9 +27,9 @@ pub const MAX_TEXT: usize = 1_048_576;
 /// The bytes that are asked for at a time.
 const CHUNK: usize = 4096;
 
-/// The whole text, to the source's end. X3 as soon as it has too many bytes, which ends a source
-/// that never ends; X4 where the source failed; X6 only where memory for the bytes was refused. Takes memory
-/// for the text, as it grows.
+/// The whole text, to the source's end. X3 as soon as it has too many bytes, which ends a source that never
+/// ends; X4 if the source failed; X6 only if memory for the bytes was refused. Takes memory for the text, as
+/// it grows.
 pub fn read_text<R: Read>(alloc: Global, source: &mut Source<R>) -> Result<Vec<u8>, TextFault>
     requires { IsFalse source.old.failed }
     ensures reads { MatchResult result

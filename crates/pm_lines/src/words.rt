@@ -43,7 +43,7 @@ impl<'a> Words<'a> {
         self.line
     }
 
-    /// The next word. After None no word is left.
+    /// The next word. No word is left after None.
     pub fn next_word(&mut self) -> Option<&'a [u8]>
         ensures words { MatchOption result (self.old.words ≡ [])
             (λ word. self.old.words ≡ word.now ∷ self.new.words) }
@@ -58,8 +58,8 @@ impl<'a> Words<'a> {
         Some(word)
     }
 
-    /// Takes the next word where it is this one, and says whether it was. Any other stays. What is
-    /// asked for is a word: it isn't empty, and has no space.
+    /// Takes the next word if it is this one, and says whether it was. Any other stays. What is asked for is
+    /// a word: it isn't empty, and has no space.
     pub fn take_word(&mut self, word: &[u8]) -> bool
         requires { is_one_word word.now ≡ true }
         ensures words { MatchBool result (self.old.words ≡ word.now ∷ self.new.words)
@@ -77,7 +77,7 @@ impl<'a> Words<'a> {
     }
 }
 
-// What stands behind this word at the front of a text that begins with no space.
+// What follows this word at the front of a text that begins with no space.
 fn behind_word<'a>(text: &'a [u8], word: &[u8]) -> Option<&'a [u8]>
     requires word { is_one_word word.now ≡ true }
     requires text { has_space_first text.now ≡ false }
@@ -90,7 +90,7 @@ fn behind_word<'a>(text: &'a [u8], word: &[u8]) -> Option<&'a [u8]>
     }
 }
 
-// What stands behind the space that a text begins with, or the end of the text.
+// What follows the space that a text begins with, or the end of the text.
 fn behind_space(text: &[u8]) -> Option<&[u8]>
     ensures { MatchOption result (before_first is_space text.now ≢ [])
         (λ rest. (before_first is_space text.now ≡ []) × (rest.now ≡ after_first is_space text.now)) }

@@ -1,5 +1,5 @@
-//! The laws of the map of cells and of the order machine, over the definitions alone: each is the
-//! contract of a function that does nothing, or calls other laws.
+//! The laws of the map of cells and of the order machine, over nothing but definitions: each is the contract
+//! of a function that does nothing, or calls other laws.
 
 ghost use Rattle.pm_model.specs.Laws.{CommandsAreLimited, OrdersStayInTheirCells, OutputsStandAlone, SettingsAreAMap};
 
@@ -20,8 +20,8 @@ pub fn settings_are_a_map()
     cells_are_told_apart();
 }
 
-/// What an output commands, and whether it is cut, depends on three words alone, those that OPERATION
-/// selects, of VOUT_MAX and of VOUT_MIN (`commanded`, `cut`), and these are the output's own (`own`).
+/// What an output commands, and whether it is cut, depends on only three words: the one that OPERATION
+/// selects, that of VOUT_MAX and that of VOUT_MIN (`commanded`, `cut`). They are the output's own (`own`).
 #[tactic(auto, unfolding(crate::specs::Commanded::commanded, crate::specs::Commanded::is_cut, crate::specs::Commanded::selected))]
 pub fn outputs_stand_alone()
     ensures { OutputsStandAlone }
@@ -34,9 +34,9 @@ pub fn commands_are_limited()
     ensures { CommandsAreLimited }
 {}
 
-/// In each run of the order machine, which starts with a word for each cell of at most eight outputs,
-/// each cell that there is has its start word or one that was accepted for that very cell (`own`), and so
-/// has the store (`stored`), where WRITE_PROTECT keeps its start word (`protection`); a pending job is one
+/// Each cell that there is has its start word or one that was accepted for that very cell (`own`), in each
+/// run of the order machine, which starts with a word for each cell of at most eight outputs. The store has
+/// such words, too (`stored`), and keeps the start word of WRITE_PROTECT (`protection`). A pending job is one
 /// that was accepted (`pending`), and the start stays what it was (`start`).
 pub fn orders_stay_in_their_cells()
     ensures { OrdersStayInTheirCells }

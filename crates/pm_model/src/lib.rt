@@ -2,9 +2,8 @@
 //! command by it.
 //!
 //! [`Plain`] is the map of a converter with one to eight outputs, [`OrderMachine`] is such a map and its
-//! store under jobs alone, and [`Formats`] says what the words of each output's voltages stand for.
-//! [`Plain::commanded`] is the voltage that an output asks for, cut to its VOUT_MIN and
-//! VOUT_MAX.
+//! store under nothing but jobs, and [`Formats`] says what the words of each output's voltages stand for.
+//! [`Plain::commanded`] is the voltage that an output asks for, cut to its VOUT_MIN and VOUT_MAX.
 //!
 //! It hears no frame and keeps no page, no reading and no status: `pm_device` does. It takes no
 //! memory.

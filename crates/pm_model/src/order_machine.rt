@@ -24,10 +24,10 @@ pub enum PendingJob {
     Restore,
 }
 
-/// The settings of a converter and its store under jobs alone: one job at a time is pending, takes any
-/// number of times, and ends. A job is an order of a word for a cell, a store of the outputs' words, or
-/// their restore. A slow copy of both ends of the bus, for tests: it has no bytes, pages, packet error
-/// codes or passes.
+/// The settings of a converter and its store under nothing but jobs: one job at a time is pending, takes any
+/// number of times, and ends. A job is an order of a word for a cell, a store of the outputs' words, or their
+/// restore. A slow copy of both ends of the bus, for tests: it has no bytes, pages, packet error codes or
+/// passes.
 #[derive(Clone, Debug, Drop)]
 pub struct OrderMachine {
     start: Plain,
@@ -79,7 +79,7 @@ impl OrderMachine {
     }
 
     /// The pending job takes: an order gives its cell its word, a store copies the outputs' words to the
-    /// store, a restore brings them back. Nothing happens where none is pending.
+    /// store, a restore brings them back. Nothing happens if none is pending.
     pub fn take(&mut self)
         ensures { self.new ≡ stepped self.old Take }
     {

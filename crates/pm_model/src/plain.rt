@@ -63,7 +63,7 @@ fn are_accepted(count: u8, words: &[u16; Cell::PLACES]) -> bool
     (0..Cell::PLACES).all(|place| is_accepted_at(count, words, place))
 }
 
-// Whether the word at a place is one that its cell accepts, where there is the cell.
+// Whether the word at a place is one that its cell accepts; true if there is no such cell.
 fn is_accepted_at(count: u8, words: &[u16; Cell::PLACES], place: usize) -> bool
     requires { place < places }
     ensures { result ≡ spec_is_accepted_at count words.now place }
@@ -99,8 +99,8 @@ impl Plain {
         }
     }
 
-    /// The settings with these words, each at the place of its cell. None where a converter can't have them: of a
-    /// count that isn't 1 to 8, and where a cell that there is doesn't accept its word.
+    /// The settings with these words, each at the place of its cell. None if a converter can't have them: the
+    /// count isn't 1 to 8, or a cell that there is doesn't accept its word.
     #[tactic(auto, using(crate::proofs::Accepted::accepted_settings))]
     pub fn of(count: u8, words: [u16; Cell::PLACES]) -> Option<Plain>
         ensures { result ≡ settings_in count words }
@@ -140,7 +140,7 @@ impl Plain {
         self.count
     }
 
-    /// Whether there is such a cell: an output's only where the output is there.
+    /// Whether there is such a cell: WRITE_PROTECT, or a cell of an output that is there.
     pub fn has(&self, cell: Cell) -> bool
         ensures { IsTrue result ↔ IsCell self.now.count cell }
     {
@@ -204,9 +204,9 @@ impl Plain {
         self.put(Cell::Protect, protect);
     }
 
-    /// The voltage that an output which is there commands: the value of the word that OPERATION
-    /// selects, VOUT_COMMAND or a margin, cut to those of VOUT_MIN and VOUT_MAX; where VOUT_MIN is
-    /// above VOUT_MAX, what is cut is VOUT_MAX. Volts; an output that is off keeps it.
+    /// The voltage that an output which is there commands: the value of the word that OPERATION selects,
+    /// VOUT_COMMAND or a margin, cut to those of VOUT_MIN and VOUT_MAX. What is cut is VOUT_MAX if VOUT_MIN
+    /// is above VOUT_MAX. Volts; an output that is off keeps it.
     #[tactic(auto, unfolding(crate::specs::Commanded::commanded, crate::specs::Commanded::is_cut))]
     pub fn commanded(&self, formats: &Formats, output: u8) -> Frac
         requires { output < self.now.count }

@@ -25,8 +25,8 @@ const SMALLEST: u16 = 0x8000;
 // The word of the greatest number in two's complement.
 const LARGEST: u16 = 0x7FFF;
 
-/// DIRECT of PMBus 1.3 Part II: a word `Y`, in two's complement, stands for `(Y * 10^-R - b) / m`,
-/// where the coefficients `m`, `b` and `R` come from COEFFICIENTS.
+/// DIRECT of PMBus 1.3 Part II: a word `Y`, in two's complement, stands for `(Y * 10^-R - b) / m`. The
+/// coefficients `m`, `b` and `R` come from COEFFICIENTS.
 ///
 /// `m` is not 0 and `R` is from -12 to 12, which is this project's own choice.
 #[derive(Clone, Copy, Debug, PartialEq, Eq, Hash)]
@@ -44,8 +44,8 @@ pub struct Direct {
 impl Direct {
     ghost use Rattle.pm_num.specs.Parameters.{HasCoefficients};
 
-    /// The format with coefficients `m`, `b` and `r`. N1 [`NumFault::ZeroSlope`] exactly where `m`
-    /// is 0; otherwise N2 [`NumFault::ExponentRange`] exactly where `r` is not from -12 to 12.
+    /// The format with coefficients `m`, `b` and `r`. N1 [`NumFault::ZeroSlope`] exactly if `m` is 0;
+    /// otherwise N2 [`NumFault::ExponentRange`] exactly if `r` is not from -12 to 12.
     pub fn new(m: i16, b: i16, r: i8) -> Result<Direct, NumFault>
         ensures zero_slope { (result ≡ Err ZeroSlope) ↔ (m ≡ pos 0) }
         ensures accepted { IsOk result ↔ ((m ≢ pos 0) × IsDecimal r) }

@@ -31,7 +31,7 @@ pub fn canonical<F: NumFormat>(format: &F, word: u16) -> u16
     }
 }
 
-/// Refuses `x` where it lies outside `least` and `greatest`.
+/// Refuses `x` if it lies outside `least` and `greatest`.
 pub(crate) fn in_range(x: &Frac, least: &Frac, greatest: &Frac) -> Result<(), NumFault>
     ensures inside { IsOk result ↔ IsBetween least.now greatest.now x.now }
     ensures refused { IfErr result (IsOutside least.now greatest.now x.now) }
@@ -42,7 +42,7 @@ pub(crate) fn in_range(x: &Frac, least: &Frac, greatest: &Frac) -> Result<(), Nu
     }
 }
 
-/// `x`, or `greatest` where `x` lies above it. N3 where it lies below `least`.
+/// `x`, or `greatest` if `x` lies above it. N3 if `x` lies below `least`.
 pub(crate) fn capped(x: Frac, least: &Frac, greatest: &Frac) -> Result<Frac, NumFault>
     requires { AtMost least.now greatest.now }
     ensures fault { result_err result ≡ below_fault least.now x }
@@ -57,7 +57,7 @@ pub(crate) fn capped(x: Frac, least: &Frac, greatest: &Frac) -> Result<Frac, Num
     }
 }
 
-/// `x`, or `least` where `x` lies below it. N4 where it lies above `greatest`.
+/// `x`, or `least` if `x` lies below it. N4 if `x` lies above `greatest`.
 pub(crate) fn raised(x: Frac, least: &Frac, greatest: &Frac) -> Result<Frac, NumFault>
     requires { AtMost least.now greatest.now }
     ensures fault { result_err result ≡ above_fault greatest.now x }
@@ -72,7 +72,7 @@ pub(crate) fn raised(x: Frac, least: &Frac, greatest: &Frac) -> Result<Frac, Num
     }
 }
 
-// N3 [`NumFault::BelowLeast`] where `x` lies below `least`.
+// N3 [`NumFault::BelowLeast`] if `x` lies below `least`.
 fn not_below(x: &Frac, least: &Frac) -> Result<(), NumFault>
     ensures fault { result_err result ≡ below_fault least.now x.now }
     ensures inside { OnOk result (AtMost least.now x.now) }
@@ -84,7 +84,7 @@ fn not_below(x: &Frac, least: &Frac) -> Result<(), NumFault>
     Ok(())
 }
 
-// N4 [`NumFault::AboveGreatest`] where `x` lies above `greatest`.
+// N4 [`NumFault::AboveGreatest`] if `x` lies above `greatest`.
 fn not_above(x: &Frac, greatest: &Frac) -> Result<(), NumFault>
     ensures fault { result_err result ≡ above_fault greatest.now x.now }
     ensures inside { OnOk result (AtMost x.now greatest.now) }

@@ -19,7 +19,7 @@ const LIMIT: i128 = 1 << 55;
 // Millionths in one.
 const MILLION: i128 = 1_000_000;
 
-// The greatest number of whole millionths that a value is told as, in size.
+// The greatest number of whole millionths of a value that is given in microvolts, in size.
 const FAR: i128 = 1_000_000_000_000_000;
 
 // The greatest number of millionths that [`micro`] takes, in size.
@@ -53,8 +53,8 @@ impl Model for Frac {
 }
 
 impl Frac {
-    /// The fraction `num / den`. None exactly where `den` is not from 1 to 2^55, or `num` not from
-    /// -2^55 to 2^55.
+    /// The fraction `num / den`. None exactly if `den` is not from 1 to 2^55, or `num` not from -2^55 to
+    /// 2^55.
     pub fn new(num: i128, den: i128) -> Option<Frac>
         ensures { SomeIff result (InBounds num den) (record { num = num; den = unsigned_abs den }) }
     {
@@ -121,8 +121,8 @@ impl Frac {
         floor(self.num() * MILLION, self.den())
     }
 
-    /// The whole microvolts of a value in volts, rounded down. N5 [`NumFault::TooLarge`] exactly where the value
-    /// is beyond 10^15 microvolts in size.
+    /// A value in volts as microvolts, rounded down. N5 [`NumFault::TooLarge`] exactly if the value is beyond
+    /// 10^15 microvolts in size.
     pub fn floor_microvolts(&self) -> Result<i64, NumFault>
         ensures fault { result_err result ≡ far_fault self.now }
         ensures floor { IfOk result (λ microvolts. IsMicroFloor self.now microvolts) }
@@ -144,7 +144,7 @@ impl Frac {
     }
 }
 
-/// `x` millionths. N5 [`NumFault::TooLarge`] exactly where `x` is beyond 10^15 in size.
+/// `x` millionths. N5 [`NumFault::TooLarge`] exactly if `x` is beyond 10^15 in size.
 pub fn micro(x: i64) -> Result<Frac, NumFault>
     ensures size { IsOk result ↔ (unsigned_abs x ≤ 10 ^ 15) }
     ensures value { IfOk result (λ f. f ≡ micros x) }

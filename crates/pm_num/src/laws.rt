@@ -1,5 +1,5 @@
-//! Laws over the definitions alone: each is the contract of a function with an empty body, and what
-//! it says stands in the definitions, under its name.
+//! Laws over nothing but definitions: each is the contract of a function with an empty body, and what it says
+//! stands in the definitions, under its name.
 
 ghost use Rattle.pm_num.specs.Laws.{BoundsHold, RefusalsTellTheSide, ParametersAreTheShape, FoundWordsAreNearest, NearestWordsHold};
 
@@ -16,22 +16,22 @@ pub fn parameters_are_the_shape()
     ensures { ParametersAreTheShape }
 {}
 
-/// The word that is sought among all words for a fraction is its nearest word, whatever the words
-/// stand for. Where there is one such word, a format finds it: `nearest_words_hold` says so.
+/// The word that is sought among all words for a fraction is its nearest word, whatever the words stand for.
+/// A format finds it if there is one such word: `nearest_words_hold` says so.
 pub fn found_words_are_nearest()
     ensures { FoundWordsAreNearest }
 {}
 
-/// What the nearest words of every format are: the word for a word's value has that same value; no
-/// word is nearer than the one for a fraction, and of two that are equally near it has the lower
-/// value; and it is the one that is found among all words.
+/// What the nearest words of every format are. The word for a word's value has that value. No word is nearer
+/// than the one for a fraction, which has the lower value of two that are equally near. It is the word that
+/// is found among all words.
 pub fn nearest_words_hold<F: NumFormat>(format: &F)
     ensures { NearestWordsHold (F.value format.now) (F.rank format.now) }
 {}
 
-/// What the words of bounds are in every format: there is one word at most for a number rounded down,
-/// and one for it rounded up; each is the word that is sent for its own value; at and beyond an end of
-/// the range its value is that end, and it is the number's own value where a word has that.
+/// What the words of bounds are in every format. There is one word at most for a number rounded down, and one
+/// for it rounded up; each is the word that is sent for its own value. Its value is the end of the range at
+/// and beyond that end, and the number's own value if a word has that.
 pub fn bounds_hold<F: NumFormat>(format: &F)
     ensures { BoundsHold (F.value format.now) (F.rank format.now) (F.lowest format.now) (F.highest format.now) }
 {}

@@ -36,9 +36,8 @@ pub trait NumFormat {
     fn value_of(&self, word: u16) -> Frac
         ensures { result ≡ value self.now word };
 
-    /// The word for `x`. N3 [`NumFault::BelowLeast`] exactly where `x` lies strictly below the
-    /// least value, N4 [`NumFault::AboveGreatest`] exactly where it lies strictly above the
-    /// greatest.
+    /// The word for `x`. N3 [`NumFault::BelowLeast`] exactly if `x` lies strictly below the least value, N4
+    /// [`NumFault::AboveGreatest`] exactly if it lies strictly above the greatest.
     fn nearest(&self, x: Frac) -> Result<u16, NumFault>
         ensures word { IfOk result (IsNearest (value self.now) (rank self.now) x) }
         ensures inside { IsOk result ↔ IsBetween (lowest self.now) (highest self.now) x }

@@ -18,8 +18,8 @@ use crate::num_format::NumFormat;
 use crate::power::{lower_of_two, upper_of_two};
 use crate::whole::product;
 
-/// ULINEAR16 of PMBus 1.3 Part II: a word `V`, unsigned, stands for `V * 2^N`, where the exponent
-/// `N` comes from VOUT_MODE.
+/// ULINEAR16 of PMBus 1.3 Part II: a word `V`, unsigned, stands for `V * 2^N`. The exponent `N` comes from
+/// VOUT_MODE.
 #[derive(Clone, Copy, Debug, PartialEq, Eq, Hash)]
 pub struct Ulinear16 {
     /// The exponent.
@@ -30,7 +30,7 @@ pub struct Ulinear16 {
 impl Ulinear16 {
     ghost use Rattle.pm_num.specs.Parameters.{HasExponent};
 
-    /// The format with exponent `n`; None exactly where `n` is not from -16 to 15.
+    /// The format with exponent `n`; None exactly if `n` is not from -16 to 15.
     pub fn new(n: i8) -> Option<Ulinear16>
         ensures range { IsSome result ↔ IsExponent n }
         ensures exponent { IfSome result (λ f. HasExponent f n) }

@@ -145,8 +145,8 @@ impl Course {
         }
     }
 
-    /// How the job ended that `next` named. If nothing says so, nothing that the job read counts, and `next` goes on from
-    /// what the host knows.
+    /// How the job ended that `next` named. Nothing that the job read counts until this call; `next` without it goes
+    /// on from what the host knows.
     pub fn told(&mut self, end: JobEnd)
         ensures { self.new ≡ told_of self.old end }
     {
@@ -213,7 +213,7 @@ impl Course {
         }
     }
 
-    // The next order of a course to a byte of OPERATION, where no job is open.
+    // The next order of a course to a byte of OPERATION, if no job is open.
     fn power_next(
         &self,
         host: &State,
@@ -303,7 +303,7 @@ impl Course {
         }
     }
 
-    // This job, where a try is left.
+    // This job, if a try is left.
     fn taking(&self, job: Job) -> Next
         ensures { result ≡ taking self.now job }
     {

@@ -5,8 +5,8 @@ use pm_limits::LimitFault;
 use pm_table::{Cell, Code, Reg};
 use thiserror::Error;
 
-/// Why no order of a plan is given. Of several the first in this order; of several registers the first in the order
-/// of `Reg`, and WRITE_PROTECT last.
+/// Why no order of a plan is given. The first in this order stands for several reasons, and the first in the order
+/// of `Reg` for several registers, with WRITE_PROTECT last.
 #[derive(Clone, Copy, Debug, PartialEq, Eq, Error)]
 #[error("{words}", words = self.words())]
 pub enum PlanFault {

@@ -38,7 +38,7 @@ pub(crate) fn known_at(host: &State, form: &OutputForm, cell: Cell) -> Option<u1
     }
 }
 
-// The only word that a cell may hold by what the host knows alone, where it is one that the cell takes.
+// The only word that a cell may hold by what the host knows; `None` unless the cell takes it.
 fn known_in(host: &State, cell: Cell) -> Option<u16>
     requires { IsCell 8 cell }
     ensures { result ≡ known_word cell (possible_at (held None host.now) cell) }
@@ -49,7 +49,7 @@ fn known_in(host: &State, cell: Cell) -> Option<u16>
     }
 }
 
-// A word where it is one that the cell takes.
+// The word, if the cell takes it.
 fn accepted(cell: Cell, word: u16) -> Option<u16>
     ensures { result ≡ rule (cell_accepts cell word) word }
 {

@@ -5,9 +5,9 @@ ghost use Rattle.pm_rail.specs.SurveyLength.{SurveysAreShort};
 
 use pm_table::{cells_are_told_apart, cells_have_places};
 
-/// Each order of the plan leaves what the output commands, or makes it what it commands at the end (`one`). The
-/// same holds of any number of them from any moment on (`any`), if the output isn't cut by the words at the end. So it never
-/// commands anything but its first value and its last, and changes once at most.
+/// Each order of the plan leaves what the output commands, or makes it what it commands at the end (`one`). Any number of
+/// orders from any moment on do so, too, if the output isn't cut by the words at the end (`any`). The output never commands
+/// anything but its first value and its last, and changes once at most.
 pub fn plans_are_without_glitch()
     ensures { PlansAreWithoutGlitch }
 {}
@@ -18,15 +18,15 @@ pub fn plans_end()
     ensures { PlansEnd }
 {}
 
-/// No order cuts an output that isn't cut, neither by its words nor by those at the end; and no order cuts what any
+/// No order cuts an output that isn't cut, neither by its words nor by those at the end. No order cuts what any
 /// other byte of OPERATION would select for such an output, if that isn't cut either.
 pub fn plans_cut_nothing()
     ensures { PlansCutNothing }
 {}
 
 /// What a plan answers by what is known is what it answers for the words that are held, whichever of the possible ones
-/// these are: the next order is theirs (`next`), the output isn't cut by the words at the end (`uncut`), and if no
-/// order is left each wanted word is held (`done`).
+/// these are: the next order is theirs (`next`), and the output isn't cut by the words at the end (`uncut`). Each
+/// wanted word is held if no order is left (`done`).
 pub fn plans_are_of_what_is_held()
     ensures { PlansAreOfWhatIsHeld }
 {}
@@ -38,17 +38,17 @@ pub fn plans_are_accepted()
 
 /// A survey that has ended by its own rule has its answers: since it began the format was learned and is known (`format`),
 /// each register that is needed is known, and was read if the part has it (`known`), and for a plan WRITE_PROTECT too
-/// (`protection`). If it has tries left it asks as long as this isn't so, and each job takes one (`asks`), unless it is
-/// stuck at a needed register that the part doesn't have; of a part with every register it never is (`whole`). It never
-/// asks for a register that the part doesn't have (`unread`). If it has ended by its own rule the output has a band
-/// (`band`).
+/// (`protection`). A survey asks until then while it has tries left, and each job takes one (`asks`), unless it is stuck
+/// at a needed register that the part doesn't have. It never is stuck with a part that has every register (`whole`). It
+/// never asks for a register that the part doesn't have (`unread`). The output has a band if the survey has ended by its
+/// own rule (`band`).
 pub fn surveys_end_known()
     ensures { SurveysEndKnown }
 {}
 
-/// A survey that has read nothing takes a check for each cell that it reads, if each has a good answer of a word that
-/// its cell takes and none surprises (`calm`); and at most one less than two for each if one surprises at most (`short`), as
-/// it is unless the converter restarts after the first of them.
+/// A survey that has read nothing takes a check for each cell that it reads, if each has a good answer of a word that its
+/// cell takes and none surprises (`calm`). It takes at most one check less than two for each cell if one answer surprises at
+/// most (`short`), as it is unless the converter restarts after the first of them.
 pub fn surveys_are_short()
     ensures { SurveysAreShort }
 {

@@ -116,12 +116,12 @@ impl Reads {
     }
 }
 
-/// A survey of an output: it asks for one job after another until all that decides what the output commands, or all
+/// A survey of an output. It asks for one job after another until all that decides what the output commands, or all
 /// that a plan needs, is known by good answers that came since it began. It is a plain value, and holds no guard.
 ///
-/// Ask `next` for a job while the guard's host is idle, carry the job out, and tell `told` how it ended; if `next` answers
-/// `None`, the survey has ended. It has ended by its own rule if [`Survey::is_done`] says so, and otherwise because it has
-/// no tries left, or stands at a margin that OPERATION selects, or that a plan asks for, and that the part lacks.
+/// Ask `next` for a job while the guard's host is idle, carry the job out, and report how it ended to `told`. The survey
+/// has ended if `next` answers `None`. It has ended by its own rule if [`Survey::is_done`] says so. Otherwise it has no
+/// tries left, or stands at a margin that the part lacks and that OPERATION selects or a plan asks for.
 #[derive(Clone, Copy, Debug, PartialEq, Eq)]
 pub struct Survey {
     /// The output's number, from 0.
@@ -156,9 +156,9 @@ impl Survey {
     }
 
     /// What to ask the guard for now: a learn of the output first, then a check of each needed cell that had no good
-    /// answer since the survey began, then one of each that isn't known, as after an answer that showed a restart. A
-    /// register that the part doesn't have is never asked for. `None` if nothing is left to ask for, or no try. The
-    /// output is there.
+    /// answer since the survey began. A check of each cell that isn't known follows, as after an answer that showed
+    /// a restart. A register that the part doesn't have is never asked for. `None` if nothing is left to ask for, or
+    /// no try. The output is there.
     pub fn next(&mut self, guard: &Guard) -> Option<Job>
         requires { self.old.output < guard.now.host.setup.outputs }
         ensures job { result ≡ next_job guard.now.registers self.old guard.now.host }
@@ -290,7 +290,7 @@ impl Survey {
         is_stuck_in(host, form, &self.settings(host, form))
     }
 
-    // The words of its output that are known, and those that its plan wants.
+    // The words of its output that are known, and the wanted words of its plan.
     fn settings(&self, host: &State, form: &OutputForm) -> Settings
         requires { self.now.output < 8 }
         ensures output { result.output ≡ self.now.output }
@@ -306,7 +306,7 @@ impl Survey {
     }
 }
 
-// The words that are wanted by the plan that a survey is for; none where it is for no plan.
+// The wanted words of the plan that a survey is for; none if it is for no plan.
 pub(crate) fn wanted_of(plan: Option<Wanted>) -> Wanted
     ensures { result ≡ wanted_in plan }
 {

@@ -1,4 +1,4 @@
-//! The law, over the definitions alone.
+//! The law, over nothing but definitions.
 
 ghost use Rattle.pm_restart_laws.specs.Restarts.{CoursesKeepBetween};
 

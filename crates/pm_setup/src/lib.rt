@@ -1,8 +1,8 @@
 //! Why a converter and its host aren't made of what they are asked for: [`SetupFault`] has the converter's
 //! refusal or the host's.
 //!
-//! It stands below the world, which makes both, so that what only tells such a fault doesn't wait for the
-//! world: the texts do. `pm_world` exports it. It takes no memory.
+//! It stands below the world, which makes both, so that a crate that only prints such a fault, as those of
+//! texts do, doesn't wait for the world. `pm_world` exports it. It takes no memory.
 //!
 //! ```
 //! fn both(config: Config, passes: u8) -> Result<(Converter, Host), SetupFault> {

@@ -5,8 +5,8 @@ use pm_device::ConfigFault;
 use pm_host::HostFault;
 use thiserror::Error;
 
-/// Why no world is made: the converter's fault before the host's. It is told as that fault: `V2 BadStart 0
-/// OPERATION`, `H2 Passes`.
+/// Why no world is made: the converter's fault before the host's. It is printed as that fault:
+/// `V2 BadStart 0 OPERATION`, `H2 Passes`.
 #[derive(Clone, Copy, Debug, PartialEq, Eq, Error)]
 pub enum SetupFault {
     /// V1 to V5: the converter can't be made of this configuration.

@@ -1,4 +1,4 @@
-//! The laws, over the definitions alone.
+//! The laws, over nothing but definitions.
 
 ghost use Rattle.pm_stairs_laws.specs.Back.{StairsGoBack};
 ghost use Rattle.pm_stairs_laws.specs.Climb.{ClimbsAreStairs, ClimbsComeBack};
@@ -31,8 +31,8 @@ pub fn cells_take_what_is_ordered()
 ///
 /// At each moment every output holds the words of the stair before the step under way, but that step's own output, which stands as at
 /// this stair or as at the next (`between`, `each`). At an earlier moment fewer steps or the same had begun: no stair is skipped, and
-/// none comes again (`earlier`). Where the last step is over by what the host knows, each register of each output has the word of its
-/// stair (`over`).
+/// none comes again (`earlier`). Each register of each output has the word of its stair if the last step is over by what the host
+/// knows (`over`).
 pub fn stairs_hold_in_lives()
     ensures { StairsHoldInLives }
 {
@@ -43,7 +43,7 @@ pub fn stairs_hold_in_lives()
 }
 
 /// The way back, from wherever steps were stopped: the steps undone, the newest first, are steps whose stairs are those of the way up.
-/// Where the last is over, each register of each output has its word of before.
+/// Each register of each output has its word of before if the last is over.
 pub fn stairs_go_back()
     ensures { StairsGoBack }
 {
@@ -54,7 +54,7 @@ pub fn stairs_go_back()
     stairs_hold_in_lives();
 }
 
-/// Steps are carried out event by event: what a caller's own loop goes by. Where a step begins, each word that it is to change is known,
+/// Steps are carried out event by event: what a caller's own loop goes by. Each word that a step is to change is known when it begins,
 /// unless its plan has no answer.
 pub fn stairs_are_followed()
     ensures { StairsAreFollowed }
@@ -65,8 +65,8 @@ pub fn stairs_are_followed()
     possible_words_are_held();
 }
 
-/// What the stairs say next, by what a host knows alone: a job reads, or is the order that is due in the step under way. The first step
-/// ahead begins only where the one before it is over by what is known then.
+/// What the stairs say next, by nothing but what a host knows: a job reads, or is the order that is due in the step under way. The
+/// first step ahead begins only if the one before it is over by what is known then.
 pub fn moves_are_due()
     ensures { MovesAreDue }
 {
@@ -94,7 +94,7 @@ pub fn climbs_come_back()
     stairs_hold_in_lives();
 }
 
-/// The calls of stairs over frames are steps of such a caller: to hand out a frame (`hands`), and to be told what became of it (`hears`).
+/// The calls of stairs over frames are steps of such a caller: to hand out a frame (`hands`), and to hear what became of it (`hears`).
 pub fn stairs_are_handed()
     ensures { StairsAreHanded }
 {

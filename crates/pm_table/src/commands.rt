@@ -8,9 +8,9 @@ use crate::protection::Protection::{Always, At00, At20, At40, At80};
 use crate::scope::Scope;
 use crate::scope::Scope::{Device, Output};
 
-// The command table, a row for each code: its name, its bytes, what it acts on, and, where it is written,
-// up to which value of WRITE_PROTECT. It is asked for one column at a time, so that who wants the attributes
-// doesn't pay for the name.
+// The command table, a row for each code: its name, its bytes, what it acts on, and up to which value of
+// WRITE_PROTECT it is written, if it is. It is asked for one column at a time, so that whoever needs the
+// attributes doesn't pay for the name.
 macro_rules! command_table {
     ($column:ident of $code:expr) => {
         column_of!($column of $code =>
@@ -123,8 +123,8 @@ impl Code {
     /// The codes of the command table, in their order.
     pub const ALL: [Code; 25] = command_table!(all of 25);
 
-    /// What the command table says of the code beside its name; `None` where it isn't in the table.
-    /// Whoever asks several things of one code asks this once.
+    /// What the command table says of the code beside its name; `None` if it isn't in the table. Whoever asks
+    /// several things of one code asks this once.
     #[tactic(auto, unfolding(crate::specs::Commands::line_of))]
     pub fn attributes(self) -> Option<Attributes>
         ensures attributes { result ≡ attributes_of self.0 }
@@ -172,8 +172,8 @@ impl Code {
         }
     }
 
-    /// The name of the code as the standard prints it, as `VOUT_COMMAND`; no text where it isn't in
-    /// the command table.
+    /// The name of the code as the standard prints it, as `VOUT_COMMAND`; no text if it isn't in the command
+    /// table.
     #[tactic(auto, unfolding(crate::specs::Commands::line_of))]
     pub fn name(self) -> &'static str
         ensures { result.now ≡ name_of self.0 }

@@ -1,4 +1,4 @@
-//! The laws of the tables, over the definitions alone: each is the contract of a function that does
+//! The laws of the tables, over nothing but definitions: each is the contract of a function that does
 //! nothing. What each says stands in the definitions, under its name.
 
 ghost use Rattle.pm_table.specs.Laws.{CellsAreToldApart, CellsHavePlaces, PayloadsAreShort, RegistersAreInTheTable};
@@ -8,7 +8,7 @@ pub fn payloads_are_short()
     ensures { PayloadsAreShort }
 {}
 
-/// Two cells are one exactly where `same_cell` says so.
+/// Two cells are one exactly if `same_cell` says so.
 pub fn cells_are_told_apart()
     ensures { CellsAreToldApart }
 {}

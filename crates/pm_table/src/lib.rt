@@ -1,7 +1,7 @@
-//! The tables of PMBus 1.3 Part II on which both ends of the bus stand: the command codes with
-//! their lengths, the VOUT_MODE byte and the five bytes of COEFFICIENTS with the format that they
-//! name, the addresses of SMBus, the cells, which are the settings that a power converter keeps for
-//! each output, and the codes that WRITE_PROTECT lets a host write.
+//! The tables of PMBus 1.3 Part II on which both ends of the bus stand. They are the command codes with their
+//! lengths, the VOUT_MODE byte and the five bytes of COEFFICIENTS with the format that they name, and the
+//! addresses of SMBus. The cells are the settings that a power converter keeps for each output; a further
+//! table has the codes that WRITE_PROTECT lets a host write.
 //!
 //! It holds no setting and reads no frame: `pm_frame` reads frames by these tables, and the
 //! converter and the host keep the cells. It takes no memory.

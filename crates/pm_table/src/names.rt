@@ -11,8 +11,7 @@ use std::error::Error;
 use std::fmt;
 use std::str::FromStr;
 
-/// A text that is the name of no code of the command table or, where a register was sought, of no
-/// register.
+/// A text that is the name of no code of the command table, or of no register if a register was sought.
 #[derive(Clone, Copy, Debug, PartialEq, Eq)]
 pub struct UnknownName;
 

@@ -9,7 +9,7 @@ use crate::commands::Code;
 pub enum Protection {
     /// The code isn't written at any value.
     NotWritten,
-    /// Written at 00h alone.
+    /// Written only at 00h.
     At00,
     /// Written at 00h and 20h.
     At20,
@@ -47,9 +47,8 @@ impl Protection {
     }
 }
 
-/// Whether a host may write this code while WRITE_PROTECT has this value, as the code's row of the
-/// command table says. In PAGE_PLUS_WRITE the code is the carried one (PMBus 1.3 Part II,
-/// WRITE_PROTECT).
+/// Whether a host may write this code while WRITE_PROTECT has this value, as the code's row of the command
+/// table says. The code of a PAGE_PLUS_WRITE is the carried one (PMBus 1.3 Part II, WRITE_PROTECT).
 pub fn is_allowed(protect: u16, code: Code) -> bool
     ensures { result ≡ spec_is_allowed protect code.0 }
 {

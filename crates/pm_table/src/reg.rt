@@ -17,7 +17,7 @@ pub enum Reg {
     MarginHigh,
     /// VOUT_MARGIN_LOW: the voltage while OPERATION asks for margin low.
     MarginLow,
-    /// VOUT_MIN: the least voltage that may be commanded, where VOUT_MAX isn't below it.
+    /// VOUT_MIN: the least voltage that may be commanded, unless VOUT_MAX is below it.
     VoutMin,
 }
 

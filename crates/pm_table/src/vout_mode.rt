@@ -14,9 +14,9 @@ pub enum VoutMode {
 }
 
 impl VoutMode {
-    /// Reads the byte: 00h to 1Fh is ULINEAR16, 40h DIRECT. Refuses every other byte, by the first
-    /// that applies: C3 where bit 7 is 1, C1 where bits 6:5 are 01, C2 where they are 11, C4 where
-    /// they are 10 and bits 4:0 aren't 0.
+    /// Reads the byte: 00h to 1Fh is ULINEAR16, 40h DIRECT. Refuses every other byte, by the first that
+    /// applies: C3 if bit 7 is 1, C1 if bits 6:5 are 01, C2 if they are 11, C4 if they are 10 and bits 4:0
+    /// aren't 0.
     pub fn read(byte: u8) -> Result<VoutMode, TableFault>
         ensures mode { result ≡ mode_of byte }
         ensures range { IfOk result IsMode }

@@ -83,21 +83,21 @@ impl Decoder {
     /// }
     /// ```
     ///
-    /// After `finish` it takes nothing, and refuses nothing. Takes memory for the counts alone, and only
-    /// where a code is new.
+    /// After `finish` it takes nothing, and refuses nothing. Takes memory only for the counts, and only if a
+    /// code is new.
     ///
     /// # Errors
     ///
-    /// X3 where a byte comes after the 1,048,576th, and X6 where a line ended whose code is new, and
-    /// memory for its count was refused. Then the decoder has failed: it shows no line, counts
-    /// nothing more, and gives the same refusal from then on.
+    /// X3 if a byte comes after the 1,048,576th, and X6 if memory was refused for the count of an ended line,
+    /// whose code is new. The decoder has failed then: it shows no line, counts nothing more, and gives the
+    /// same refusal from then on.
     pub fn feed(&mut self, piece: &[u8]) -> Result<Fed, TextFault>
         ensures fed { IfOk result (λ fed. Feeds self.old piece.now fed self.new) }
         ensures within { IfOk result (λ fed. fed.taken ≤ length piece.now) }
         ensures room { self.new.kept.taken ≤ max_text }
         ensures failed { IfErr result (λ fault. Fails self.old fault self.new) }
 
-        // X3 and a repeated refusal come exactly where they are due, and X6 only for a new code.
+        // X3 and a repeated refusal come exactly when they are due, and X6 only for a new code.
         ensures taken { OnOk result (refusal_of self.old piece.now ≡ None) }
         ensures refused { IfErr result (λ fault. (refusal_of self.old piece.now ≡ Some fault)
             ⊎ ((refusal_of self.old piece.now ≡ None) × (fault ≡ TextFault.Memory)
@@ -110,7 +110,7 @@ impl Decoder {
         fed
     }
 
-    // As `feed`. After a refusal nothing is shown, and the decoder has yet to fail.
+    // As `feed`. Nothing is shown after a refusal, and the decoder has yet to fail.
     fn take(&mut self, piece: &[u8]) -> Result<Fed, TextFault>
         ensures fed { IfOk result (λ fed. Feeds self.old piece.now fed self.new) }
         ensures within { IfOk result (λ fed. fed.taken ≤ length piece.now) }
@@ -179,8 +179,8 @@ impl Decoder {
         Fed { taken, ended }
     }
 
-    // Ends the line: counts and shows it, if it isn't skipped. Memory is wanted only where its code is new; where it was
-    // refused nothing changes.
+    // Ends the line: counts and shows it, if it isn't skipped. Memory is taken only if its code is new; nothing changes
+    // if it was refused.
     fn end_line(&mut self) -> Result<(), AllocError>
         requires unshown { self.old.shown ≡ None }
         requires bounded { IsBounded (lines_at_end self.old.intake) self.old.kept }
@@ -212,14 +212,14 @@ impl Decoder {
         self.intake = Intake::Failed(fault);
     }
 
-    /// Ends the trace: a last line ends here that has bytes and no line feed, and the answer is
-    /// whether there was one. `line` then shows it. A further `finish` is false. Takes memory for the
-    /// count of the last line's code, where it is new.
+    /// Ends the trace: a last line ends here that has bytes and no line feed, and the answer is whether there
+    /// was one. `line` then shows it. A further `finish` is false. Takes memory for the count of the last
+    /// line's code, if it is new.
     ///
     /// # Errors
     ///
-    /// X6 where the last line's code is new, and memory for its count was refused, as for `feed`;
-    /// and the refusal of a decoder that has failed.
+    /// X6 if memory was refused for the count of the last line, whose code is new, as for `feed`; and the
+    /// refusal of a decoder that has failed.
     pub fn finish(&mut self) -> Result<bool, TextFault>
         ensures finished { IfOk result (λ ended. Finishes self.old ended self.new) }
         ensures failed { IfErr result (λ fault. Fails self.old fault self.new) }
@@ -266,9 +266,9 @@ impl Decoder {
         self.line.is_begun()
     }
 
-    /// The line that the last call ended, with its number; the first line of a trace has number 1.
-    /// None where that line is skipped (it is empty, has spaces alone or begins with `#`), and where
-    /// the last call ended none. What is shown borrows the decoder's buffers.
+    /// The line that the last call ended, with its number; the first line of a trace has number 1. None if
+    /// that line is skipped (it is empty, has nothing but spaces or begins with `#`) or the last call ended
+    /// none. What is shown borrows the decoder's buffers.
     pub fn line(&self) -> Option<(u64, Shown<'_>)>
         ensures { option_map told_in result ≡ self.now.shown }
     {

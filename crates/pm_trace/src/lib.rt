@@ -1,8 +1,8 @@
 //! Traces of captured bytes: what their lines say of the packets that went over the bus, and a
 //! streaming decoder that is fed the bytes in any pieces.
 //!
-//! A line is the write part of a packet in hexadecimal, and optionally `/` and the read part. A
-//! [`Decoder`] keeps no line as text, and takes memory for the counts of codes alone. A line by itself,
+//! A line is the write part of a packet in hexadecimal, and optionally `/` and the read part. A [`Decoder`]
+//! keeps no line as text, and takes memory only for the counts of codes. A line by itself,
 //! `B0 05 04 00 21 CD 34 5A` of number 1, says `1 58 page 0 VOUT_COMMAND write 34CD`:
 //!
 //! ```

@@ -57,12 +57,12 @@ pub struct Place {
     pub written: Option<PageLine>,
     /// The line of a packet of PAGE that wasn't good, until a good one comes, or something is lost.
     pub failed: Option<u64>,
-    /// The time of the last packet, in microseconds, where lines have one.
+    /// The time of the last packet, in microseconds, if lines have one.
     pub time: Option<u64>,
 }
 
 impl Place {
-    /// The output that a packet reaches which acts on an output and names none, where it is known.
+    /// The output that a packet reaches which acts on an output and names none, if it is known.
     pub fn output(&self, used: PageUse) -> Option<u8>
         ensures { result ≡ output_of self.now used }
     {
@@ -73,7 +73,7 @@ impl Place {
     }
 
     /// The line that a packet contradicts: a page is read that isn't the one written last, or a packet acts on an output
-    /// and names none where a packet of PAGE wasn't good, and no good one came since then.
+    /// and names none after a packet of PAGE that wasn't good, and no good one came since then.
     pub fn contradicted(&self, used: PageUse) -> Option<u64>
         ensures { result ≡ contradicted self.now used }
     {
@@ -84,7 +84,7 @@ impl Place {
         }
     }
 
-    // What is known behind the packet in this line, where a byte of it wasn't acknowledged if `doubted` says so.
+    // What is known after the packet in this line; `doubted` says whether a byte of it wasn't acknowledged.
     fn behind(self, line: u64, doubted: bool, used: PageUse) -> Place
         ensures { result ≡ behind line doubted self used }
     {
@@ -202,8 +202,8 @@ impl Pages {
         self.doubted = true;
     }
 
-    /// What is known of an address when a packet comes at a time, where lines have one: behind a pause of more than `gap`
-    /// microseconds, or a time before the last one, nothing is known any more.
+    /// What is known of an address when a packet comes at a time, if lines have one. Nothing is known any more after a
+    /// pause of more than `gap` microseconds, or at a time before the last one.
     pub fn place(&self, gap: u64, time: Option<u64>, addr: u8) -> Place
         ensures { result ≡ place_in gap time self.now addr }
     {
@@ -261,7 +261,7 @@ fn is_apart(gap: u64, last: Option<u64>, time: Option<u64>) -> bool
     }
 }
 
-// What a line said of a page, where nothing was lost behind it.
+// What a line said of a page, if nothing was lost after it.
 fn kept_since(lost: u64, said: Option<PageLine>) -> Option<PageLine>
     ensures { result ≡ spec_kept_since lost said }
 {
@@ -271,7 +271,7 @@ fn kept_since(lost: u64, said: Option<PageLine>) -> Option<PageLine>
     }
 }
 
-// A line, where nothing was lost behind it.
+// A line, if nothing was lost after it.
 fn line_since(lost: u64, line: Option<u64>) -> Option<u64>
     ensures { result ≡ spec_line_since lost line }
 {

@@ -24,8 +24,7 @@ pub enum Shown<'a> {
     },
     /// A packet with a fault.
     Faulty {
-        /// The address, where byte 0 of the write part gives one: an even byte, and half of it is
-        /// 08h to 77h.
+        /// The address, if byte 0 of the write part gives one: an even byte, and half of it is 08h to 77h.
         addr: Option<u8>,
         /// Whether the fault is in the read part, and not in the write part.
         read: bool,
@@ -38,7 +37,7 @@ pub enum Shown<'a> {
     BadHex,
 }
 
-/// What a packet says by its two parts; there is no read part where a stop ended the write part.
+/// What a packet says by its two parts; there is no read part if a stop ended the write part.
 #[tactic(auto, unfolding(crate::specs::Trace::parts_judged))]
 pub fn packet_shown<'a>(write: &'a [u8], read: Option<&'a [u8]>) -> Shown<'a>
     ensures { judged_in result ≡ parts_judged write.entry.now

@@ -64,7 +64,7 @@ fn push_fault(text: &mut String, fault: FrameFault) -> Result<(), AllocError>
     push_place(text, fault.place())
 }
 
-// The place of a fault, where it has one.
+// The place of a fault, if it has one.
 #[tactic(auto, using(pm_lines::specs::Lemmas::Joins::joins))]
 fn push_place(text: &mut String, place: Option<usize>) -> Result<(), AllocError>
     ensures { OnOk result (string_bytes text.new ≡ string_bytes text.old ++ place_text place) }
@@ -115,7 +115,7 @@ fn push_plain(
     }
 }
 
-// A space, and the page where one is named: one that a converter may have is put as one text.
+// A space, and the page if one is named: one that a converter may have is put as one text.
 #[tactic(auto, using(pm_lines::specs::Lemmas::Joins::digit_joins))]
 fn push_page(text: &mut String, page: Option<u8>) -> Result<(), AllocError>
     ensures { OnOk result (string_bytes text.new
@@ -152,7 +152,7 @@ fn push_written(text: &mut String, payload: &[u8]) -> Result<(), AllocError>
     push_hex_number(text, payload)
 }
 
-/// The bytes of an answer, none where there is no answer.
+/// The bytes of an answer, none if there is no answer.
 pub fn answered<'a>(answer: Option<&'a [u8]>) -> &'a [u8]
     ensures { result.now ≡ unwrap_or (option_map (λ bytes. bytes.now) answer.entry) [] }
 {

@@ -53,8 +53,7 @@ impl Tally {
         }
     }
 
-    /// Counts a line. Memory is wanted only where its code is new; where it was refused nothing is
-    /// counted.
+    /// Counts a line. Memory is taken only if its code is new; nothing is counted if it was refused.
     #[tactic(auto, using(crate::specs::Lemmas::Counts::total_one_more))]
     pub fn count(&mut self, shown: &Shown<'_>) -> Result<(), AllocError>
         requires { lines_in self.old + 1 < 2 ^ 64 }
@@ -140,8 +139,8 @@ fn code_at(codes: &IndexMap<u8, u64>, place: usize) -> Option<u8>
     }
 }
 
-// Counts one more line of a code: at its place, or at the end where the code is new, and then memory may be wanted. Gives
-// that place, where it is below 256.
+// Counts one more line of a code: at its place, or at the end if the code is new, and then memory may be needed. Gives
+// that place, if it is below 256.
 #[cold]
 #[inline(never)]
 fn count_placed(codes: &mut IndexMap<u8, u64>, code: u8) -> Result<u8, AllocError>
@@ -155,8 +154,8 @@ fn count_placed(codes: &mut IndexMap<u8, u64>, code: u8) -> Result<u8, AllocErro
     Ok((place % 256) as u8)
 }
 
-/// Counts one more line of a code: at its place, or at the end where the code is new, and then
-/// memory may be wanted.
+/// Counts one more line of a code: at its place, or at the end if the code is new, and then memory may be
+/// needed.
 #[inline(always)]
 #[tactic(auto, using(crate::specs::Lemmas::Counts::new_is, crate::specs::Lemmas::Counts::placed_is, crate::specs::Lemmas::Counts::found_bound, crate::specs::Lemmas::Counts::absent_code))]
 pub fn count_code(codes: &mut IndexMap<u8, u64>, code: u8) -> Result<(), AllocError>

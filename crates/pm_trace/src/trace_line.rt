@@ -16,7 +16,7 @@ use std::alloc::Global;
 pub struct TraceLine {
     /// The bytes before the repeated start, or all of a packet that a stop ended.
     pub write: ByteList,
-    /// The bytes after the repeated start, where there is one.
+    /// The bytes after the repeated start, if there is one.
     pub read: Option<ByteList>,
 }
 
@@ -25,9 +25,8 @@ pub struct TraceLine {
 ///
 /// # Errors
 ///
-/// X2 with line 1 where a word isn't an even number of hexadecimal digits, X1 with line 1 for a
-/// second `/` or a part of more than 300 bytes, and X6 where memory was refused. X2 comes before
-/// X1.
+/// X2 with line 1 if a word isn't an even number of hexadecimal digits, X1 with line 1 for a second `/` or a
+/// part of more than 300 bytes, and X6 if memory was refused. X2 comes before X1.
 pub fn read_trace_line(alloc: Global, line: &[u8]) -> Result<TraceLine, TextFault>
     ensures line { IfOk result (λ parts. line_read line.now ≡ Ok parts) }
     ensures fault { IfErr result (λ fault. ((fault ≡ TextFault.Syntax 1) × (line_read line.now ≡ Err LineFault.Syntax))
@@ -57,7 +56,7 @@ const ROOM: usize = 96;
 ///
 /// # Errors
 ///
-/// X6 alone.
+/// Only X6.
 pub fn render_line(alloc: Global, number: u64, line: &TraceLine) -> Result<String, TextFault>
     ensures text { IfOk result (λ text. string_bytes text
         ≡ told_text (number, parts_judged line.now.write line.now.read)) }

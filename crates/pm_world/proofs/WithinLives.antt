@@ -39,7 +39,7 @@ use Rattle.pm_limits.specs.declared.ends.Side.{Side}
 use Rattle.pm_limits.specs.declared.guard.Within.{Within}
 use Rattle.pm_limits.specs.Band as limits
 use Rattle.pm_limits.specs.Band.{HasDens, Known, band_on, band_with, band_within, each_selection, is_untaken, is_yes, may_select_avsbus}
-use Rattle.pm_limits.specs.Band.{operation_end, operations, within_of, word_end}
+use Rattle.pm_limits.specs.Band.{lets_on, operation_end, operations, within_of, word_end}
 use Rattle.pm_limits.specs.Part.{missing_word}
 use Rattle.pm_limits.specs.declared.part_registers.PartRegisters.{PartRegisters}
 use Rattle.pm_limits.specs.declared.band.Band.{Band}
@@ -324,9 +324,8 @@ module _ (laws : Below) (guards : GuardedOrdersAreWithin) (config : Config) (pas
         registers = part;
       }) (job.Order cell w) ≡ None)
       same_word free) in
-      ap (λ (w : Within). is_yes w) (ap (λ (o : OutputLimits). within_of o (band_on part
-      (now config passes before).host output byte)) (sym are)
-      ∙ guards.on (record { host = (now config passes before).host; limits = limits'; registers = part }) output byte free' on)
+      ap (λ (o : OutputLimits). lets_on o (band_on part (now config passes before).host output byte)) (sym are)
+      ∙ guards.on (record { host = (now config passes before).host; limits = limits'; registers = part }) output byte free' on
   operation-within (Some (job.OrderMicro cell x)) byte free is on =
       let same_cell' = micro-cell (micro_word (now config passes before).host cell x) is in
       absurd (not-micro (record { host = (now config passes before).host; limits = limits'; registers = part }) output x

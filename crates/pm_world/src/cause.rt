@@ -21,8 +21,8 @@ pub enum Cause {
     Full,
     /// S2: no frame is being sent.
     NothingSent,
-    /// S3: a read is being sent where a write is delivered or finished, or a write where a request
-    /// is exchanged.
+    /// S3: a write is delivered or finished while a read is being sent, or a request is exchanged while a
+    /// write is being sent.
     WrongKind,
     /// S1: bytes were heard, or came back, that no cut explains and that the PEC doesn't betray.
     NotBetrayed,

@@ -12,9 +12,9 @@ use pm_table::{Cell, Code};
 /// What comes back to the host of the converter's answer to a request.
 #[derive(Clone, Debug, PartialEq, Eq, Drop)]
 pub enum Back {
-    /// The answer; no bytes where the converter gave none.
+    /// The answer; no bytes if the converter gave none.
     Whole,
-    /// The answer's first bytes, of this number, or all where there are no more.
+    /// The answer's first bytes, of this number, or all if there are no more.
     Cut(u8),
     /// Bytes that come in the answer's place.
     Bytes(Frame),
@@ -37,7 +37,7 @@ impl Back {
 pub enum Arrival {
     /// All bytes of the frame, ended as the host ends them: a write by a stop, a request by a repeated start.
     Whole,
-    /// The frame's first bytes, of this number, or all where there are no more, ended by a stop.
+    /// The frame's first bytes, of this number, or all if there are no more, ended by a stop.
     Cut(u8),
     /// Bytes that come in the frame's place, with this ending.
     Bytes(Frame, Ending),
@@ -103,7 +103,7 @@ impl Event {
         }
     }
 
-    /// The job that it asks the host for; `None` where it is something that happens on the bus, or to an end.
+    /// The job that it asks the host for; `None` for an event of the bus or a restart of an end.
     pub fn job(&self) -> Option<Job>
         ensures { result ≡ asked_by self.now }
     {

@@ -32,17 +32,18 @@ use pm_host::{
 use pm_model::{orders_stay_in_their_cells, settings_are_a_map};
 use pm_table::{Reg, cells_are_told_apart, cells_have_places, registers_are_in_the_table};
 
-/// Whether an event is taken, its cause alone decides. An order in microvolts that isn't refused has a word, since a
-/// format has a nearest word for each number (`word`). So an event is taken exactly where the world isn't full and
-/// nothing else is against it (`taken`), and events are legal exactly where nothing else is against any (`legal`).
+/// Only its cause decides whether an event is taken. An order in microvolts that isn't refused has a word, since a
+/// format has a nearest word for each number (`word`). An event is taken exactly if the world isn't full and
+/// nothing else is against it (`taken`). Events are legal exactly if nothing else is against any of them
+/// (`legal`).
 pub fn causes_decide()
     ensures { CausesDecide }
 {}
 
-/// What a world holds after its life, which the definitions find in what its ends lived through, is
-/// what one event after another makes of its start: of no event (`none`), and of one more (`more`).
-/// What the host was told is a transcript that might come (`told`). Events that are taken one after
-/// another from the start are the life's (`from_start`).
+/// What a world holds after its life, which the definitions find in what its ends lived through, is what one
+/// event after another makes of its start: of no event (`none`), and of one more (`more`). What the host
+/// heard is a transcript that might come (`told`). Events that are taken one after another from the start are
+/// the life's (`from_start`).
 pub fn lives_are_followed()
     ensures { LivesAreFollowed }
 {
@@ -57,31 +58,31 @@ pub fn events_are_lived()
     ensures { EventsAreLived }
 {}
 
-/// However frames are delivered, lost, cut, damaged, repeated or falsely acknowledged, and whenever an
-/// end restarts: the converter's words, and those in its store, are those of a run of the order machine that
-/// retells the events (`orders`). So each cell has its start word, or the word of an order that was taken for
-/// that very cell (`own`), and so it has in the store (`stored`), and each output commands the value of one
-/// of its own words, cut to its own VOUT_MIN and VOUT_MAX (`commanded`).
+/// The converter's words, and those in its store, are those of a run of the order machine that retells the
+/// events (`orders`). This holds however frames are delivered, lost, cut, damaged, repeated or falsely
+/// acknowledged, and whenever an end restarts. Each cell has its start word, or the word of an order that was
+/// taken for that very cell (`own`), and such a word in the store (`stored`). Each output commands the value
+/// of one of its own words, cut to its own VOUT_MIN and VOUT_MAX (`commanded`).
 pub fn lives_are_orders()
     ensures { LivesAreOrders }
 {
     lower_laws();
 }
 
-/// However frames are delivered, lost, cut, damaged, repeated or falsely acknowledged, and whenever an
-/// end restarts: a word that the host calls confirmed is the one that the converter holds, unless the
-/// converter restarted since the host read the cell.
+/// A word that the host calls confirmed is the one that the converter holds, unless the converter restarted
+/// since the host read the cell. This holds however frames are delivered, lost, cut, damaged, repeated or
+/// falsely acknowledged, and whenever an end restarts.
 pub fn confirmed_settings_are_held()
     ensures { ConfirmedSettingsAreHeld }
 {
     lower_laws();
 }
 
-/// However frames are delivered, lost, cut, damaged, repeated or falsely acknowledged, and whenever an
-/// end restarts: where the host lists the words that are possible for a cell, the converter's word is
-/// among them, unless the converter restarted since the host's last good answer for the cell (`held`).
-/// A good answer that the host didn't think possible comes only where the converter restarted since
-/// the answer before it for the same cell, so the host sees no restart that didn't happen (`seen`).
+/// The converter's word is among the words that the host lists as possible for a cell, unless the converter
+/// restarted since the host's last good answer for the cell (`held`). A good answer that the host didn't
+/// think possible comes only if the converter restarted since the answer before it for the same cell. The
+/// host sees no restart that didn't happen (`seen`). Both hold however frames are delivered, lost, cut,
+/// damaged, repeated or falsely acknowledged, and whenever an end restarts.
 pub fn possible_words_are_held()
     ensures { PossibleWordsAreHeld }
 {
@@ -91,13 +92,13 @@ pub fn possible_words_are_held()
 /// What the host lists as possible is exactly what can be so, for all cells of all outputs together.
 ///
 /// Let the converter not have restarted since the host did, and let no word but 00h have been ordered for
-/// WRITE_PROTECT or read from it since then, and no restore. Choose a word for each cell of each output, one
-/// that the host lists, or where it says that any is possible one that the cell accepts. Then some one list
-/// of events without a restart, in a new world with the same address, outputs, formats and passes, tells the
-/// host just what it was told since it started, and leaves all these words together. That list is named:
-/// each cell starts with the word that is due there, jobs and answers come as they came, and a write is
-/// delivered where its word is due after it (`witness`). Conversely, words that some such list leaves are
-/// all possible (`only`). A list is legal where nothing but the limit of events may be against it (`legal`).
+/// WRITE_PROTECT or read from it since then, and no restore. Choose a word for each cell of each output: one
+/// that the host lists, or any word that the cell accepts if the host says that any is possible. One list of
+/// events without a restart leaves all these words together, in a new world with the same address, outputs,
+/// formats and passes. The host of that world hears just what this one heard since it started. That list is
+/// named: each cell starts with the word that is due there, jobs and answers come as they came, and a write
+/// is delivered if its word is due after it (`witness`). Conversely, words that some such list leaves are all
+/// possible (`only`). A list is legal if nothing but the limit of events may be against it (`legal`).
 pub fn possible_words_are_exact()
     ensures { PossibleWordsAreExact }
 {
@@ -114,9 +115,9 @@ pub fn learned_formats_are_true()
     lower_laws();
 }
 
-/// What came back to the host since its last restart were bytes, where the numbers of the configuration and those that the
-/// events carry are bytes, and words of two, as they are in a program: [`spell`] says so of the one, and
-/// [`World::run`](crate::World::run) and [`World::step`](crate::World::step) of the others.
+/// What came back to the host since its last restart were bytes, if the numbers of the configuration and of the events are
+/// bytes, and their words have two. They are so in a program: [`spell`] says it of the configuration, and
+/// [`World::run`](crate::World::run) and [`World::step`](crate::World::step) say it of the events.
 pub fn answers_come_in_bytes()
     ensures { AnswersComeInBytes }
 {
@@ -125,8 +126,8 @@ pub fn answers_come_in_bytes()
 }
 
 /// The numbers of a configuration are those that its bytes spell (`spelled`), and its start words have two (`short`). It
-/// does nothing when it runs, and tells a caller that makes a converter by
-/// [`Converter::new`](pm_device::Converter::new) what a life asks of its configuration.
+/// does nothing when it runs. Its contract gives a caller of [`Converter::new`](pm_device::Converter::new) what a life
+/// asks of its configuration.
 pub fn spell(c: Config)
     ensures spelled { IsSpelled c }
     ensures short { StartsShort c }
@@ -158,19 +159,18 @@ fn spell_byte(byte: u8)
     ensures { byte < 2 ^ 8 }
 {}
 
-/// After each of the events, the last job has sent at most twice as many frames as a
-/// job has passes.
+/// The last job has sent at most twice as many frames as a job has passes, after each of the events.
 pub fn frames_are_few()
     ensures { FramesAreFew }
 {
     lower_laws();
 }
 
-/// An order goes through where WRITE_PROTECT allows its code as it is
-/// accepted, its write is delivered whole at least once, whatever else is delivered of it, is then
-/// over, acknowledged or not, and is read back undisturbed: it took one write and one read, it is
-/// done, the cell's word is confirmed, and the converter holds it (`through`). Once its deliveries
-/// were taken, so are that end and that read, where the world has room for two more events (`taken`).
+/// An order goes through on three conditions: WRITE_PROTECT allows its code as it is accepted, its write is
+/// delivered whole at least once, and an undisturbed read follows the write's end. It is then done after one
+/// write, acknowledged or not, and one read, whatever else was delivered of the write. The cell's word is
+/// confirmed, and the converter holds it (`through`). That end and that read are taken after the deliveries
+/// if the world has room for two more events (`taken`).
 pub fn honest_orders_go_through()
     ensures { HonestOrdersGoThrough }
 {
@@ -198,24 +198,24 @@ pub fn betrayed_damage_is_taken()
     betrayed_damage_is_legal();
 }
 
-/// However frames are delivered, lost, cut, damaged, repeated or falsely acknowledged, and whenever an end
-/// restarts: an output commands a voltage within limits at each moment where its own words are within them
-/// (`limited`), which are its start words and those that were ordered for it. Of a word of VOUT_COMMAND or a margin that
-/// asks that its value lies within the limits, of VOUT_MAX that it is at least the least of them, and of VOUT_MIN that it
-/// is at most the most. The output commands no more than the most of all words of its VOUT_MAX, whatever else was ordered
-/// (`most`), and no less than the least of all words of its VOUT_MIN, where none of these is above one of VOUT_MAX
-/// (`least`). Each word that a guard lets be ordered lies within its limits (`ordered`), so where the start words are
-/// within, all own words are (`guarded`), and they stay so while no other is ordered (`kept`, `newer`).
+/// An output commands a voltage within limits at each moment if its own words are within them (`limited`): its start
+/// words and those that were ordered for it. A word of VOUT_COMMAND or of a margin is within if its value lies within the
+/// limits. A word of VOUT_MAX is within if it is at least the lower limit, and one of VOUT_MIN if it is at most the upper
+/// one. The output commands no more than the most of all words of its VOUT_MAX, whatever else was ordered (`most`). It
+/// commands no less than the least of all words of its VOUT_MIN, if none of these is above one of VOUT_MAX (`least`).
+/// Each word that a guard lets be ordered lies within its limits (`ordered`), so all own words are within if the start
+/// words are (`guarded`). They stay so while no other is ordered (`kept`, `newer`). All this holds however frames are
+/// delivered, lost, cut, damaged, repeated or falsely acknowledged, and whenever an end restarts.
 pub fn lives_stay_limited()
     ensures { LivesStayLimited }
 {
     lower_laws();
 }
 
-/// However frames are delivered, lost, cut, damaged, repeated or falsely acknowledged, and whenever an end restarts:
-/// where the host gives a band for an output, what the converter commands there lies in it, unless that restarted
-/// since the good answers that the band rests on. Of a part that is said to lack VOUT_MIN or VOUT_MAX it asks that no such
-/// register cuts the output.
+/// What the converter commands at an output lies in the band that the host gives for it, unless the converter restarted
+/// since the good answers that the band rests on. This holds however frames are delivered, lost, cut, damaged, repeated or
+/// falsely acknowledged, and whenever an end restarts. The law asks of a part that is said to lack VOUT_MIN or VOUT_MAX
+/// that no such register cuts the output.
 pub fn bands_are_held()
     ensures { BandsAreHeld }
 {
@@ -223,10 +223,10 @@ pub fn bands_are_held()
 }
 
 /// No narrower band is true. Let the converter not have restarted since the host did, let no word but 00h have been
-/// ordered for WRITE_PROTECT or read from it since then, and no restore. Choose an end for each output. Then one
-/// life, which is named, tells the host just what it was told since it started, and leaves each output that has a
-/// band at the chosen end, as that very fraction, all at once. Of a part that is said to lack VOUT_MIN or VOUT_MAX it asks
-/// that the host was told nothing of one.
+/// ordered for WRITE_PROTECT or read from it since then, and no restore. Choose an end for each output. One life, which is
+/// named, then leaves each output that has a band at the chosen end, as that very fraction, all at once; its host hears
+/// just what this one heard since it started. The law asks of a part that is said to lack VOUT_MIN or VOUT_MAX that the
+/// host heard nothing of one.
 pub fn bands_are_exact()
     ensures { BandsAreExact }
 {
@@ -242,11 +242,11 @@ pub fn differing_orders_never_took()
 }
 
 /// Nothing moves but by the open job, at each moment of a life, whatever was lost, cut, damaged, repeated or falsely
-/// acknowledged. A cell's word is another one after an event only where the converter restarted and the word is the
-/// stored one, or where a delivery let the open job take, its frame heard whole and its code allowed: an order of this
-/// word for this very cell, or a restore, and the word is the stored one (`moves`). The store is another one only where a
-/// delivery let an open store take, which copies all outputs' words at once (`stores`). So it has the words of one
-/// earlier moment, or of the start, never a mixture, and of WRITE_PROTECT the start word (`moment`). And each delivery
+/// acknowledged. A cell's word changes in an event only by a restart of the converter, to the stored word, or by a
+/// delivery that let the open job take. The job's frame was heard whole then, and its code is allowed. That job is an
+/// order of this word for this very cell, or a restore, and then the word is the stored one (`moves`). The store changes
+/// only by a delivery that let an open store take, which copies all outputs' words at once (`stores`). It has the words
+/// of one earlier moment, or of the start, never a mixture, and of WRITE_PROTECT the start word (`moment`). Each delivery
 /// that hears the open job's frame whole, while its code is allowed, leaves what that job makes of them (`takes`).
 pub fn settings_move_by_the_open_job()
     ensures { SettingsMoveByTheOpenJob }
@@ -254,33 +254,34 @@ pub fn settings_move_by_the_open_job()
     lower_laws();
 }
 
-/// What a list of events says by itself. Where the converter doesn't restart in it, it didn't since any good answer
-/// (`since`), nor since the host's start (`host`). The retelling of [`possible_words_are_exact`] has at most twice as
-/// many events (`short`), so that it can be taken where that is no more than a world takes.
+/// What a list of events says by itself. The converter didn't restart since any good answer (`since`) or since the
+/// host's start (`host`) if it doesn't restart in the list. The named list of [`possible_words_are_exact`] has at
+/// most twice as many events (`short`), and can be taken if that is no more than a world takes.
 pub fn lists_say_enough()
     ensures { ListsSayEnough }
 {}
 
 /// What the converter answers to the host's own request that arrives whole is an answer to it, of the payload that it
-/// has for the request (`answered`): to each read of a cell (`cell`), and to that of the coefficients where an output
-/// has the DIRECT format. So the damage of which [`betrayed_damage_is_taken`] speaks has something to damage.
+/// has for the request (`answered`). It answers each read of a cell (`cell`), and that of the coefficients if an
+/// output has the DIRECT format. The damage of which [`betrayed_damage_is_taken`] speaks has something to damage.
 pub fn own_requests_are_answered()
     ensures { OwnRequestsAreAnswered }
 {
     lower_laws();
 }
 
-/// A bus that is good again. Let a frame be undisturbed: a write is heard whole at least once, whatever else is
-/// delivered of it, or all of a request is heard and the converter's answer comes back, by the bytes and by how they end.
-/// Readings may change in between, and nothing else happens. Then, at any moment of a life and whatever went before:
-/// one read ends an open check Done, its cell confirmed and its word alone possible; where that word wasn't possible
-/// before, the host says from then on that it saw a restart (`check`). The write and the read of one pass end an order
-/// that WRITE_PROTECT allows Done, whichever pass it is (`order`); where it is to be read back first, that read does, or
-/// that and the next pass (`read_back`, `again`, `three`), and in the last pass it ends Differs with the word that the
-/// converter holds (`last`). A write that WRITE_PROTECT forbids is followed by a read like any other, and changes no word
-/// (`write`). A clear, a store or a restore ends Done by one write that is acknowledged (`send`); where that isn't, it is
-/// sent again, and ends Unknown after the last try (`resend`, `unacked`). A learn ends Learned by one read or by two
-/// (`mode`, `coefficients`). [`open_jobs_end`] has it of any job at once.
+/// A bus that is good again. Let a frame be undisturbed. That means, of a write, that it is heard whole at least once,
+/// whatever else is delivered of it. It means, of a request, that all of it is heard and the converter's answer comes
+/// back, by the bytes and by how they end. Readings may change in between, and nothing else happens. The following holds
+/// at any moment of a life, whatever went before. One read ends an open check Done, its cell confirmed and only its word
+/// possible; the host says from then on that it saw a restart if that word wasn't possible before (`check`). The write
+/// and the read of one pass end an order that WRITE_PROTECT allows Done, whichever pass it is (`order`). An order that is
+/// to be read back first ends by that read, or by that and the next pass (`read_back`, `again`, `three`). It ends Differs
+/// in the last pass, with the word that the converter holds (`last`). A write that WRITE_PROTECT forbids is followed by a
+/// read like any other, and changes no word (`write`). A clear, a store or a restore ends Done by one write that is
+/// acknowledged (`send`). It is sent again if the write isn't acknowledged, and ends Unknown after the last try
+/// (`resend`, `unacked`). A learn ends Learned by one read or by two (`mode`, `coefficients`). [`open_jobs_end`] has it
+/// of any job at once.
 pub fn good_frames_end_jobs()
     ensures { GoodFramesEndJobs }
 {
@@ -289,18 +290,18 @@ pub fn good_frames_end_jobs()
 
 /// Each frame of an open job that comes whole makes of the job just what its stage says, whatever went
 /// before, with what the converter holds and whether the write was acknowledged (`turn`): its end, or its
-/// next stage. Once its frames come whole, a command's acknowledged, there are no more of them than the job
-/// had left (`few`), and it ends as its stage says (`ends`): a check and a command Done, a learn Learned. An
-/// order ends Done where WRITE_PROTECT allows it and a write of it isn't over, or where the converter holds
-/// its word, and otherwise Differs with the word that the converter holds.
+/// next stage. There are no more frames than the job had left once these come whole, a command's acknowledged
+/// (`few`), and the job ends as its stage says (`ends`): a check and a command Done, a learn Learned. An
+/// order ends Done if the converter holds its word, or if WRITE_PROTECT allows it and a write of it isn't
+/// over. Otherwise it ends Differs with the word that the converter holds.
 pub fn open_jobs_end()
     ensures { OpenJobsEnd }
 {
     lower_laws();
 }
 
-/// Whether what the host was told since its start leaves WRITE_PROTECT open, as [`possible_words_are_exact`] asks, goes
-/// by one event after another (`none`, `more`, `test`): so [`run_open`](crate::run_open) decides it while they happen.
+/// Whether what the host heard since its start leaves WRITE_PROTECT open, as [`possible_words_are_exact`] asks, goes by
+/// one event after another (`none`, `more`, `test`): [`run_open`](crate::run_open) decides it while they happen.
 pub fn open_lists_are_followed()
     ensures { OpenListsAreFollowed }
 {
@@ -309,10 +310,10 @@ pub fn open_lists_are_followed()
 
 /// How far the last order has come with nothing to disturb it goes by one event after another (`none`, `more`), so
 /// that [`Way::after`](crate::Way::after) and [`run_way`](crate::run_way) decide it while they happen. An order is on
-/// its way exactly where the events are it, allowed by WRITE_PROTECT, and deliveries of its write alone (`sent`), and
-/// through exactly where they have the form of an undisturbed order (`through`); then it went through, as
-/// [`honest_orders_go_through`] says (`went`). Once its write was heard whole, its end and an undisturbed read are
-/// taken, where the world has room for two more events, and it goes through by them (`ahead`).
+/// its way exactly if the events are it, allowed by WRITE_PROTECT, and nothing but deliveries of its write (`sent`).
+/// It is through exactly if they have the form of an undisturbed order (`through`); then it went through, as
+/// [`honest_orders_go_through`] says (`went`). Its end and an undisturbed read are taken after its write was heard
+/// whole, if the world has room for two more events, and it goes through by them (`ahead`).
 pub fn ways_are_followed()
     ensures { WaysAreFollowed }
 {

@@ -23,7 +23,7 @@ pub fn heard_bytes<'a>(frame: &'a [u8], arrival: &'a Arrival) -> &'a [u8]
     }
 }
 
-/// How it ends, where a whole frame ends so.
+/// How the arrived bytes end, if the whole frame ends so.
 pub fn heard_ending(whole: Ending, arrival: &Arrival) -> Ending
     ensures { result ≡ ending_of whole arrival.now }
 {
@@ -64,7 +64,7 @@ pub fn back_bytes<'a>(answer: &'a [u8], back: &'a Back) -> &'a [u8]
     }
 }
 
-// The first bytes, or all where there are no more.
+// The first bytes, or all if there are no more.
 fn first(bytes: &[u8], count: u8) -> &[u8]
     ensures { result.now ≡ take count bytes.entry.now }
 {
@@ -89,7 +89,7 @@ pub fn is_heard_whole(frame: &[u8], bytes: &[u8], ending: Ending) -> bool
     ending == Ending::Restart && bytes == frame
 }
 
-/// Whether bytes that come back for a request are legal, where the converter answered this to it.
+/// Whether bytes that come back for a request are legal, if this is the converter's answer to it.
 #[tactic(auto, unfolding(crate::specs::Legal::is_legal_return))]
 pub fn is_legal_return(
     request: &[u8],

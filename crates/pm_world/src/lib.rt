@@ -5,11 +5,10 @@
 //! end. [`World::run`] takes a list of them, and its contract is the main theorem: what the converter's
 //! settings are, what the host's words about them are worth, and when an order goes through.
 //!
-//! What a run tests of the bus is that the packet error code (PEC) betrays damage: bytes that it doesn't
-//! betray, that no cut and no repeated start explains, and that aren't too few for an answer, stop a run as [`Cause::NotBetrayed`]. What no run can test are
-//! premises: there are one host and one converter, a frame is heard during its own attempt alone, and an
-//! answer belongs to its own exchange. Time, voltages between frames and more than one converter are no
-//! part of a world.
+//! What a run tests of the bus is that the packet error code (PEC) betrays damage. Bytes that it doesn't betray, that no cut and no
+//! repeated start explains, and that aren't too few for an answer, stop a run as [`Cause::NotBetrayed`]. What no run can test are premises:
+//! there are one host and one converter, a frame is heard only during its own attempt, and an answer belongs to its own exchange. Time,
+//! voltages between frames and more than one converter are no part of a world.
 //!
 //! An order whose write is cut, repeated and not acknowledged:
 //!

@@ -27,9 +27,9 @@ use pm_host::Possible;
 use pm_setup::SetupFault;
 use pm_table::Cell;
 
-/// Makes a new world and lets the events happen, as [`World::run`] does, and says besides whether what the host was
-/// told since it last started left WRITE_PROTECT open: no other word than 00h was ordered for it or read from it, and
-/// no restore was ordered. [`possible_words_are_exact`](crate::possible_words_are_exact) asks that.
+/// Makes a new world and lets the events happen, as [`World::run`] does, and says besides whether what the host heard
+/// since it last started left WRITE_PROTECT open. It is open if no other word than 00h was ordered for it or read
+/// from it, and no restore was ordered. [`possible_words_are_exact`](crate::possible_words_are_exact) asks that.
 pub fn run_open(
     c: Config,
     passes: u8,

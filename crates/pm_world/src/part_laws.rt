@@ -9,9 +9,9 @@ use pm_device::{pasts_are_followed, words_have_an_origin};
 use pm_model::{orders_stay_in_their_cells, settings_are_a_map};
 use pm_table::{cells_are_told_apart, cells_have_places};
 
-/// Whatever words a converter holds and whatever it has stored, each one that its cell takes, some life of a converter that
-/// started with what is stored led there, with a host that has just started and with however many passes. The converter
-/// never restarted in it, and each word that was ordered for an output's register is the one that is held.
+/// Some life of a converter that started with what is stored led to any words that a converter holds and has stored, each
+/// one that its cell takes. Its host has just started, and has however many passes. The converter never restarted in it,
+/// and each word that was ordered for an output's register is the one that is held.
 pub fn parts_are_reached()
     ensures { PartsAreReached }
 {

@@ -8,8 +8,8 @@ ghost use Rattle.pm_world.specs.Bands.{AreShort};
 use pm_device::Converter;
 use pm_table::{Cell, Reg};
 
-/// The words of an output's registers have 16 bits. It does nothing when it runs, and tells a caller what
-/// [`bands_are_held`](crate::bands_are_held) asks of them.
+/// The words of an output's registers have 16 bits. It does nothing when it runs. Its contract gives a caller
+/// what [`bands_are_held`](crate::bands_are_held) asks of these words.
 pub fn words_are_short(device: &Converter, output: u8)
     requires { output < device.now.config.count }
     ensures { AreShort device.now.words output }

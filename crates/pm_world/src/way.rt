@@ -119,7 +119,7 @@ fn is_whole(frame: &[u8], arrival: &Arrival) -> bool
 }
 
 /// Makes a new world and lets the events happen, as [`World::run`] does, and says besides how far the last order came
-/// with nothing to disturb it. Where it is [`Way::Through`] it went through, by [`ways_are_followed`].
+/// with nothing to disturb it. The order went through if that is [`Way::Through`], by [`ways_are_followed`].
 pub fn run_way(
     c: Config,
     passes: u8,

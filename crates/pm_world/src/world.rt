@@ -92,39 +92,39 @@ impl World {
         })
     }
 
-    /// Makes a new world, and lets the events happen one after another, up to the first that isn't taken.
-    /// It gives the world after them, and where it stopped and why, or `None` where every event was
-    /// taken. `Err` is why no world is made.
+    /// Makes a new world, and lets the events happen one after another, up to the first that isn't taken. It
+    /// gives the world after them, and where it stopped and why, or `None` if every event was taken. `Err` is
+    /// why no world is made.
     ///
-    /// The *taken events* are those before the stop, or all where there is none. Whatever was lost, cut,
+    /// The *taken events* are those before the stop, or all if there is none. Whatever was lost, cut,
     /// damaged, repeated or falsely acknowledged, and whichever end started again:
     ///
     /// - `orders`: the converter's words, and those in its store, are those of the run of the order machine that
-    ///   retells the taken events. In it exactly the orders, stores and restores are accepted, each in its place, an
-    ///   order with its word, and each takes exactly at those deliveries between its acceptance and its job's end by
-    ///   which its frame is heard whole while WRITE_PROTECT allows its code.
+    ///   retells the taken events. Exactly the orders, stores and restores are accepted in it, each in its place, an
+    ///   order with its word. Each takes exactly at those deliveries between its acceptance and its job's end by which
+    ///   its frame is heard whole while WRITE_PROTECT allows its code.
     /// - `own`, `stored`: each cell has its start word, or that of an order for that very cell, also in the store.
-    /// - `moves`: at each moment a cell gets another word only by a restart of the converter, or by a delivery that lets
-    ///   an order of this word for this very cell, or a restore, take; the store only by one that lets an open store
+    /// - `moves`: a cell gets another word only by a restart of the converter, or by a delivery that lets an order of
+    ///   this word for this very cell, or a restore, take. The store changes only by a delivery that lets an open store
     ///   take, so it has the settings of one earlier moment.
     /// - `commanded`: each output commands the value of one of its own words, cut to its own VOUT_MIN and VOUT_MAX.
     /// - `confirmed`: a word that the host calls confirmed is held, unless the converter restarted since it was read.
-    /// - `possible`: where the host lists the words that are possible for a cell, the converter's is among
-    ///   them, unless the converter restarted since the host's last good answer for the cell.
-    /// - `seen`: a good answer that the host didn't think possible comes only where the converter restarted since the
-    ///   one before it for the same cell. So where the host saw a restart, there was one since the host started.
-    /// - `limited`: at each moment of the taken events an output commands a voltage within limits that allow all of its
-    ///   own words, and no more than the most of all words of its VOUT_MAX; words that a guard let be ordered lie within
-    ///   its limits.
+    /// - `possible`: the converter's word is among those that the host lists as possible for a cell, unless
+    ///   the converter restarted since the host's last good answer for the cell.
+    /// - `seen`: a good answer that the host didn't think possible comes only if the converter restarted since the
+    ///   one before it for the same cell. A restart that the host saw happened since the host started.
+    /// - `limited`: an output commands, at each moment of the taken events, a voltage within limits that allow all of
+    ///   its own words, and no more than the most of all words of its VOUT_MAX. Words that a guard let be ordered lie
+    ///   within its limits.
     /// - `few`: no job sends more than twice as many frames as it has passes.
     /// - `through`: an undisturbed order that WRITE_PROTECT allows ends done, confirmed and held.
-    /// - `good`: at any moment, whatever went before, what a frame that nothing disturbs makes of an open job: an order
-    ///   that WRITE_PROTECT allows is done by the write and the read of one pass, whichever it is; and a read shows a word
+    /// - `good`: what a frame that nothing disturbs makes of an open job, at any moment, whatever went before. An order
+    ///   that WRITE_PROTECT allows is done by the write and the read of one pass, whichever it is, and a read shows a word
     ///   that wasn't possible.
     /// - `formats`, `nearest`: a format that the host learned is the converter's, and an order in
     ///   microvolts is that of the nearest word in it. A learn that learned leaves a format until the host restarts,
     ///   and no other job changes one.
-    /// - `never`: an order that differs never took, where the converter didn't restart since it was accepted.
+    /// - `never`: an order that differs never took, if the converter didn't restart since it was accepted.
     /// - `taken`, `room`: how many events the world took, no more than there are.
     /// - `now`, `all`, `lived`, `stop`: the world is what its definition says of the taken events, each of them was
     ///   taken, so that a world lived through them, and the first other one has a cause, which is the stop's.
@@ -260,8 +260,8 @@ impl World {
         &self.host
     }
 
-    /// How the last job that was accepted since the host's start ended; `None` while it is open, and
-    /// where there is none.
+    /// How the last job that was accepted since the host's start ended; `None` if it is open or there is
+    /// none.
     pub fn last_end(&self) -> Option<JobEnd>
         ensures { result ≡ self.now.end }
     {

@@ -15,8 +15,8 @@ const START: Standing = Standing::Confirmed(0x1000);
 
 const ORDERED: Standing = Standing::Confirmed(0x34CD);
 
-// An event; then how VOUT_COMMAND of the first output stands, the words that it may hold, any where
-// none is given, the word that it holds, and whether the host saw a restart.
+// An event; then how VOUT_COMMAND of the first output stands, the words that it may hold, any if none is
+// given, the word that it holds, and whether the host saw a restart.
 type Row = (Event, Standing, &'static [u16], u16, bool);
 
 fn follow_one(rt: &impl Abort, world: &mut World, at: usize, row: &Row) {
@@ -130,8 +130,8 @@ const OTHERS: [u16; 13] = [
     0x20,
 ];
 
-// Every cell has the word that it has now as a confirmed one, and the cell by which a restart was seen
-// may hold that word alone, each other any.
+// Every cell has the word that it has now as a confirmed one, and the cell by which a restart was seen may
+// hold only that word, each other any.
 fn are_confirmed(rt: &impl Abort, world: &World, seen_by: Cell) {
     for &cell in &CELLS {
         let start = world.word(cell);

@@ -1,4 +1,4 @@
-//! The world beside the order machine, which is told what each event is to it.
+//! The world beside the order machine, which hears what each event is to it.
 
 ghost use Rattle.std.specs.Prelude.{◌≡◌};
 
@@ -15,7 +15,7 @@ const CUT: Event = Event::Deliver(Arrival::Cut(5));
 
 const CUT_READ: Event = Event::Exchange(Arrival::Cut(3), Back::Whole);
 
-// What the order machine is told with an event.
+// What the order machine hears with an event.
 #[derive(Clone, Copy)]
 enum Told {
     Nothing,
@@ -25,7 +25,7 @@ enum Told {
     Back,
 }
 
-// Tells the machine so; whether it could be told.
+// The machine hears this; whether it could.
 fn tell(machine: &mut OrderMachine, told: Told) -> bool {
     match told {
         Told::Nothing => true,

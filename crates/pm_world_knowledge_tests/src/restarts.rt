@@ -15,10 +15,10 @@ use pm_world::{Arrival, Event, SetupFault, World};
 use pm_world_tests::{ACKED, CHECK, LOST, Look, NOT_ACKED, ORDER, READ, READ_LOST, WHOLE};
 use std::process::Abort;
 
-// The settings are those of the machine. Where the converter didn't restart since the last good
-// answer, a confirmed word is held, and the word that is held is possible. A restart is seen where
-// the converter restarted since the host's start, and a word that wasn't possible is answered where
-// it did since a good answer for that cell. Of cells that were never read nothing is said.
+// The settings are those of the machine. A confirmed word is held, and the word that is held is possible, if
+// the converter didn't restart since the last good answer. A restart is seen only if the converter restarted
+// since the host's start. A word that wasn't possible is answered only if it did since a good answer for that
+// cell. Of cells that were never read nothing is said.
 fn agrees(rt: &impl Abort, world: &World, watch: &Watch, at: usize) {
     are_ordered(rt, world, &watch.machine, at);
     let [first, second] = watch.since_answer;

@@ -77,7 +77,7 @@ fn commands(format: AnyFormat, words: [u16; 6]) -> (i128, i128, bool) {
 }
 
 // The words of an output, in that order, with the value that it commands and whether that is cut: in
-// ULINEAR16 with N = -12, and in DIRECT where a greater word is a lower voltage.
+// ULINEAR16 with N = -12, and in DIRECT with a greater word as a lower voltage.
 static LINEAR: [([u16; 6], (i128, i128, bool)); 17] = [
     (
         [0x80, 0x34CD, 0x4000, 0x1100, 0x0F00, 0x0000],

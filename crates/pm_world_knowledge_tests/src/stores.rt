@@ -121,14 +121,14 @@ fn a_restore_is_blocked_by_write_protect(rt: HostRuntime) -> Result<(), SetupFau
     for protect in [0x00, 0x20, 0x40, 0x80] {
         ends(&rt, protect, &known, (0x1000, Standing::Unknown, UNKNOWN))?;
     }
-    // An order that WRITE_PROTECT allows at 20h stays over a restore that it blocks, and so does
-    // WRITE_PROTECT over one that it doesn't.
+    // An order that WRITE_PROTECT allows at 20h stays over a restore that it blocks. WRITE_PROTECT stays over
+    // a restore that it doesn't block.
     let blocked = [ORDER, WHOLE, ACKED, READ, RESTORE, WHOLE, ACKED];
     ends(&rt, 0x20, &blocked, (0x34CD, Standing::Unknown, DONE))
 }
 
 // What the host says of the first cell and of WRITE_PROTECT after each event: how it stands, and the words
-// that it may hold, any where none is given.
+// that it may hold, any if none is given.
 type Said = (Event, Standing, &'static [u16], Standing, &'static [u16]);
 
 const ANY: Standing = Standing::Unknown;

@@ -12,10 +12,10 @@ use pm_world::{Arrival, Back, Event, World};
 use pm_world_tests::Look;
 use std::process::Abort;
 
-/// What is seen from outside: the settings and the store under jobs alone, whether the converter restarted since
-/// the last good answer for VOUT_COMMAND of either output, and whether it did since the host's start; which of the
-/// two had a good answer since then; and whether each good answer with a word that wasn't possible came after
-/// another one and a restart since that one.
+/// What is seen from outside: the settings and the store under nothing but jobs, whether the converter restarted
+/// since the last good answer for VOUT_COMMAND of either output, and whether it did since the host's start; which
+/// of the two had a good answer since then; and whether each good answer with a word that wasn't possible came
+/// after another one and a restart since that one.
 #[derive(Drop)]
 pub(crate) struct Watch {
     pub(crate) machine: OrderMachine,
@@ -127,7 +127,7 @@ pub(crate) fn takes(rt: &impl Abort, world: &mut World, events: &[Event]) {
     }
 }
 
-/// An event that happens, where it is taken, to the world and before the watch.
+/// An event that happens to the world, if it is taken, and before the watch.
 pub(crate) fn happens(world: &mut World, watch: &mut Watch, event: &Event) {
     let delivered = matches!(event, Event::Deliver(Arrival::Whole)) && would_take(world);
     let answered = match event {
@@ -145,7 +145,7 @@ pub(crate) fn happens(world: &mut World, watch: &mut Watch, event: &Event) {
     }
 }
 
-/// The word of a cell in the machine; 0 where there is no such cell.
+/// The word of a cell in the machine; 0 if there is no such cell.
 pub(crate) fn ordered(machine: &OrderMachine, cell: Cell) -> u16 {
     if machine.has(cell) {
         machine.word(cell)
@@ -154,7 +154,7 @@ pub(crate) fn ordered(machine: &OrderMachine, cell: Cell) -> u16 {
     }
 }
 
-// The word of an output's cell in the store of the machine; 0 where there is no such cell.
+// The word of an output's cell in the store of the machine; 0 if there is no such cell.
 fn in_store(machine: &OrderMachine, cell: Cell) -> u16 {
     match cell {
         Cell::Out(_, _) if machine.has(cell) => machine.stored(cell),

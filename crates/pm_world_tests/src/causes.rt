@@ -74,7 +74,7 @@ fn is_not_taken(rt: &impl Abort, world: &mut World, event: &Event, cause: Cause)
     equal(rt, &world.meets(event), &Err(cause), &event);
 }
 
-// No event of the bus is taken, nor a further job where one is open; nothing changes.
+// No event of the bus is taken, nor a further job if one is open; nothing changes.
 fn stops(
     rt: &impl Abort,
     job: &[Event],

@@ -107,7 +107,7 @@ static SETUP: [(SetupFault, &str); 3] = [
     (SetupFault::Host(HostFault::Passes), "H2 Passes"),
 ];
 
-// Each fault of a table is told by its text.
+// Each fault of a table is printed as its text.
 fn are_told<T: Display>(rt: &(impl Abort + AllocGlobal), table: &[(T, &str)]) -> Result<(), Fail> {
     for (fault, text) in table {
         equal(rt, &fault.to_string(rt.alloc())?.as_str(), text, text);

@@ -70,7 +70,7 @@ pub(crate) fn after(
     Ok(world)
 }
 
-/// Whether the host sends what a text spells; nothing where it is empty.
+/// Whether the host sends what a text spells; nothing if it is empty.
 pub(crate) fn sends(rt: &impl Abort, world: &World, text: &str) -> bool {
     world.is_sending(frame(rt, text).as_slice())
 }

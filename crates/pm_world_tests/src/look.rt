@@ -26,10 +26,10 @@ pub trait Look {
     /// Lets an event happen.
     fn meets(&mut self, event: &Event) -> Result<(), Cause>;
 
-    /// The word of a cell; 0 where there is no such cell.
+    /// The word of a cell; 0 if there is no such cell.
     fn word(&self, cell: Cell) -> u16;
 
-    /// The word of an output's cell in the user store; 0 where there is no such cell.
+    /// The word of an output's cell in the user store; 0 if there is no such cell.
     fn stored(&self, cell: Cell) -> u16;
 
     /// STATUS_CML.
@@ -38,19 +38,19 @@ pub trait Look {
     /// What the converter answers to bytes.
     fn replies(&self, bytes: &[u8], ending: Ending) -> Heard;
 
-    /// Whether these bytes are being sent; nothing is where there are none.
+    /// Whether these bytes are being sent; with no bytes, whether nothing is.
     fn is_sending(&self, bytes: &[u8]) -> bool;
 
-    /// How the last job since the start of the host ended; nothing while it is open, and where there is none.
+    /// How the last job since the start of the host ended; nothing if it is open or there is none.
     fn ended(&self) -> Option<JobEnd>;
 
     /// Whether the host saw a restart.
     fn sees_restart(&self) -> bool;
 
-    /// What the host says of a cell; nothing where there is no such cell.
+    /// What the host says of a cell; nothing if there is no such cell.
     fn says(&self, cell: Cell) -> Option<Standing>;
 
-    /// Whether the host says that a cell may hold exactly these words, in this order; any word where none is
+    /// Whether the host says that a cell may hold exactly these words, in this order; any word if none is
     /// given.
     fn may_hold(&self, cell: Cell, words: &[u16]) -> bool;
 }

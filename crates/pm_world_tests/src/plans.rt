@@ -133,7 +133,7 @@ fn any_config(state: &mut u64) -> Config {
     }
 }
 
-// The voltage that an output commands; nothing where it isn't there.
+// The voltage that an output commands; nothing if it isn't there.
 fn commands(world: &World, output: u8) -> Option<Frac> {
     let device = world.device();
     if output < device.count() {

@@ -1,4 +1,4 @@
-//! Which of the host's refusals comes first, where a call can have two.
+//! Which of the host's refusals comes first, if a call can have two.
 
 use crate::checks::equal;
 use crate::fixtures::{after, takes};

@@ -304,7 +304,7 @@ const START: Standing = Standing::Confirmed(0x1000);
 
 const DIFFERS: Option<JobEnd> = Some(JobEnd::Differs(0x1000));
 
-// What ends a job: the end that a run tells, and how the cell stands then.
+// What ends a job: the end that a run shows, and how the cell stands then.
 #[test]
 fn each_job_has_its_ends(rt: HostRuntime) -> Result<(), SetupFault> {
     has_end(&rt, &[], None, UNKNOWN)?;

@@ -20,15 +20,10 @@ ENDS = ("next", "done", "differs", "unknown", "learned")
 STORE_USER_ALL = b"\x15"
 
 
-LIMITS_STATES = {0x91: "within", 0x92: "outside", 0x93: "not known"}
-NO_LIMITS, NONE_GIVEN = 0xE6, "no limits"
+NO_LIMITS = 0xE6
+LIMITS_STATES = {0x91: "within", 0x92: "outside", 0x93: "not known", NO_LIMITS: "no limits"}
 POWER = {0: None, 1: True, 2: False}
 SELECTED = {0xFF: "AVSBus", **NAMES}
-
-
-def state_of(number: int, limits: Limits | None) -> str:
-    """How an output lies to its limits, in words."""
-    return NONE_GIVEN if limits is None else LIMITS_STATES[number]
 
 
 def registers_image(lacks: Iterable[str | int]) -> at.RegistersImage:
@@ -129,12 +124,12 @@ class Host:
         return Limits(of_microvolts(found.least), of_microvolts(found.most))
 
     def limits_state(self, output: int) -> str:
-        """How an output's voltage lies to its limits, by what is known: `within`, `outside`, `not known` if that doesn't tell, or
-        `no limits` if it was given none."""
+        """How an output's voltage lies to its limits, by what is known: `within`, `outside`, `not known` if that doesn't say, or
+        `no limits` if it has none."""
         number = library.pm_host_limits_state(REFERENCE(self._image), self._there(output))
         if number not in LIMITS_STATES:
             raise refusal(number)
-        return state_of(number, self.limits(output))
+        return LIMITS_STATES[number]
 
     def band(self, output: int) -> Band:
         """Which voltages an output may be commanded to. H7 if its format isn't known, NoBand if OPERATION may hand its voltage
@@ -149,7 +144,7 @@ class Host:
         accepted(library.pm_host_rail(REFERENCE(self._image), self._there(output), REFERENCE(found)))
         band = None if found.band else band_of(found.ends)
         limits = self.limits(output)
-        return RailState(POWER[found.power], band, state_of(found.within, limits), limits, SELECTED.get(found.selected))
+        return RailState(POWER[found.power], band, LIMITS_STATES[found.within], limits, SELECTED.get(found.selected))
 
     # ---- Jobs ----
 

@@ -74,9 +74,9 @@ def outside(limits, found):
 
 
 def within(limits, found):
-    """Whether a band lies within limits: yes, no or not known."""
+    """Whether a band lies within limits: yes, no, not known, or none if there are no limits."""
     if limits is None:
-        return "yes"
+        return "none"
     if found is None:
         return "unknown"
     faults = [outside(limits, end) for end in found]

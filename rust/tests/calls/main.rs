@@ -69,7 +69,7 @@ fn every_job_ends() {
 fn limits_are_kept_by_the_host() {
     let (mut host, mut part) = learned();
     let limits = Limits { least: 3_200_000, most: 3_465_000 };
-    assert_eq!((host.limits(0), host.limits_state(0)), (Ok(None), Ok(LimitsState::Yes)));
+    assert_eq!((host.limits(0), host.limits_state(0)), (Ok(None), Ok(LimitsState::NoLimits)));
     host.set_limits(0, limits).unwrap();
     assert_eq!((host.limits(0), host.limits_state(0)), (Ok(Some(limits)), Ok(LimitsState::NotKnown)));
     assert_eq!(host.order(COMMAND, 0xFFFF), Err(Refusal::L4AboveLimit));
@@ -105,7 +105,7 @@ fn no_voltage_is_ordered_where_no_limits_are_known() {
     let refused = host.run_course(&mut course, &mut part);
     assert!(matches!(refused, Err(NotReached::Refused { refusal: Refusal::L8NoLimits, .. })), "{refused:?}");
     assert_eq!((host.no_limits(2), host.no_limits(0)), (Err(Refusal::H4UnknownOutput), Ok(())));
-    assert_eq!((host.limits(0), host.limits_state(0)), (Ok(None), Ok(LimitsState::Yes)));
+    assert_eq!((host.limits(0), host.limits_state(0)), (Ok(None), Ok(LimitsState::NoLimits)));
     assert_eq!(host.run_job(Job::Order(COMMAND, 0x3400), &mut part), Ok(Done::Word(0x3400)));
     assert_eq!(host.order(Cell::Output(1, Register::VoutCommand), 0x3400), Err(Refusal::L8NoLimits));
     // Limits that are given later end it, and stay.

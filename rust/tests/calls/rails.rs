@@ -42,11 +42,11 @@ fn a_rail_is_told_by_what_is_known() {
     let (mut host, mut bus) = (free(0x58, 1, 3), lossy(0));
     let before = host.rail(0).unwrap();
     assert_eq!((before.power, before.selected), (Power::NotKnown, Selected::NotKnown));
-    assert_eq!((before.band, before.within), (Err(Refusal::H7FormatUnknown), LimitsState::Yes));
+    assert_eq!((before.band, before.within), (Err(Refusal::H7FormatUnknown), LimitsState::NoLimits));
     host.run_course(&mut Course::survey(0, 5).unwrap(), &mut bus).unwrap();
     let band = Ok(Band { least: 3_300_048, greatest: 3_300_049 });
     let selected = Selected::Register(Register::VoutCommand);
-    assert_eq!(host.rail(0), Ok(Rail { power: Power::On, selected, band, within: LimitsState::Yes }));
+    assert_eq!(host.rail(0), Ok(Rail { power: Power::On, selected, band, within: LimitsState::NoLimits }));
     host.run_job(Job::Order(Cell::Output(0, Register::Operation), 0), &mut bus).unwrap();
     assert_eq!(host.rail(0).unwrap().power, Power::Off);
     assert_eq!(host.rail(1), Err(Refusal::H4UnknownOutput));
@@ -62,7 +62,7 @@ fn a_set_says_what_its_own_output_commands() {
     assert_eq!(host.rail(0).unwrap().band, Err(Refusal::H7FormatUnknown));
     // Output 0 has limits that nothing is known to be within, and output 1 none.
     host.set_limits(0, Limits { least: 900_000, most: 1_100_000 }).unwrap();
-    assert_eq!((host.rail(0).unwrap().within, host.rail(1).unwrap().within), (LimitsState::NotKnown, LimitsState::Yes));
+    assert_eq!((host.rail(0).unwrap().within, host.rail(1).unwrap().within), (LimitsState::NotKnown, LimitsState::NoLimits));
 }
 
 #[test]

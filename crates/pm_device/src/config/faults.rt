@@ -63,7 +63,7 @@ fn bad_register(output: u8, start: &OutputStart) -> Option<Cell>
         .map(|register| Cell::Out(output, register))
 }
 
-// The cell, where it doesn't accept the word.
+// The cell, if it doesn't accept the word.
 fn bad_word(cell: Cell, word: u16) -> Option<Cell>
     ensures { result ≡ (if cell_accepts cell word then None else Some cell) }
 {
@@ -83,7 +83,7 @@ fn bad_mode(outputs: &[OutputStart]) -> Option<ConfigFault>
     None
 }
 
-// Why the coefficients are no format, where some output needs them.
+// Why the coefficients are no format, if some output needs them.
 fn bad_coefficients(config: &Config) -> Option<NumFault>
     requires { config.now.count ≤ 8 }
     ensures { result ≡ spec.bad_coefficients config.now }

@@ -16,7 +16,7 @@ impl Converter {
         output < usize::from(self.config.count) && self.settings.is_cut(&self.formats, output as u8)
     }
 
-    // The latch of a place, set where the output is there and its selected value is cut.
+    // The latch of a place. It is set, too, if the output is there and its selected value is cut.
     fn is_latched_or_cut(&self, output: usize) -> bool
         requires { output < 8 }
         ensures { result ≡ (cut_at self.now.cut output

@@ -63,7 +63,7 @@ impl Converter {
         self.latch_all();
     }
 
-    // Gives a cell a word, and latches that its output is outside its limits, where it is.
+    // Gives a cell a word, and latches that its output is outside its limits, if it is.
     #[tactic(auto, unfolding(crate::specs::History::after))]
     fn put(&mut self, cell: Cell, word: u16)
         requires cell { IsCell self.old.config.count cell }

@@ -82,7 +82,7 @@ pub(super) fn is_on(part: &PartImage, output: u8) -> (u8, u8) {
     (pm_part_on_state(part, output, &mut on), on)
 }
 
-/// STATUS_BYTE, STATUS_WORD, STATUS_VOUT and STATUS_CML; 7 where a call is refused.
+/// STATUS_BYTE, STATUS_WORD, STATUS_VOUT and STATUS_CML; 7 if a call is refused.
 pub(super) fn status(part: &PartImage, output: u8) -> (u8, u16, u8, u8) {
     let mut byte = 7;
     let mut word = 7;

@@ -48,7 +48,7 @@ type Row = (
     Option<ConfigFault>,
 );
 
-// Each fault alone, then each with each that comes after it, then what is no fault.
+// Each fault by itself, then each with each that comes after it, then what is no fault.
 static ROWS: [Row; 44] = [
     (0, [0x80, 0x80], 0x00, 0x58, [0x14, 0x14], (1, 0), V1),
     (9, [0x80, 0x80], 0x00, 0x58, [0x14, 0x14], (1, 0), V1),

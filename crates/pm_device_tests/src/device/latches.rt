@@ -20,7 +20,7 @@ const OFF: &str = "B0 05 03 00 01 40 4C";
 
 const ON: &str = "B0 05 03 00 01 80 02";
 
-// Frames to a converter of its own, of which UNKNOWN alone is refused, and last what is read then.
+// Frames to a converter of its own, of which only UNKNOWN is refused, and last what is read then.
 static ROWS: [&[&str]; 17] = [
     // RESTORE_USER_ALL, STORE_USER_ALL, CLEAR_FAULTS and OPERATION leave the readings.
     &["B0 16 2D", "B0 06 02 01 8C / B1 02 34 12 CC"],

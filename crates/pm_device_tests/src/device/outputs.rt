@@ -79,7 +79,7 @@ fn takes_readings(
     }
 }
 
-// A reading of the device is set whatever output is named, one of an output where it is there.
+// A reading of the device is set whatever output is named, one of an output if that is there.
 #[test]
 fn a_reading_is_of_an_output_that_is_there_or_of_the_device(rt: HostRuntime) -> Result<(), Fail> {
     for count in 1..=8 {

@@ -216,8 +216,7 @@ static NO_COEFFICIENTS: [&str; 8] = [
     "B0 30 02 30 00 /",
 ];
 
-// A COEFFICIENTS request is refused for its code and for its side, and where no output that exists
-// is DIRECT.
+// A COEFFICIENTS request is refused for its code, for its side, and if no output that exists is DIRECT.
 #[test]
 fn coefficients_are_refused_for_code_side_and_mode(rt: HostRuntime) -> Result<(), Fail> {
     let mut without = with_third(2)?;

@@ -217,8 +217,8 @@ fn readings_are_kept_by_a_restart(rt: HostRuntime) -> Result<(), Fail> {
     Ok(())
 }
 
-// Writes of VOUT_MIN over the base configuration, each alone: what output 0 commands then in 2^-12 volts, and
-// its STATUS_VOUT and STATUS_WORD.
+// Writes of VOUT_MIN over the base configuration, each by itself: what output 0 commands then in 2^-12 volts,
+// and its STATUS_VOUT and STATUS_WORD.
 static LIMITS: [(&str, i128, &str, &str); 3] = [
     (
         "B0 05 04 00 2B 00 20 B5",

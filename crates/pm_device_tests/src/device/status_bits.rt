@@ -33,7 +33,7 @@ static CML_WRITES: [(u8, [&str; 2]); 10] = [
     (0xFF, ["B0 7E FF 6D", "B0 05 03 01 7E FF 72"]),
 ];
 
-// A bit latched alone goes with a byte that is written where that has it, and no other does.
+// A bit that is the only one latched goes with a byte that is written if that has the bit, and with no other.
 fn goes_with(
     rt: &impl Abort,
     latch: (u8, &str, DeviceFault),
@@ -59,7 +59,7 @@ fn latched(rt: &impl Abort) -> Result<Converter, Fail> {
     Ok(all)
 }
 
-// Each bit latched alone, and all four, against a byte: what is written as 1 goes, and nothing else.
+// Each bit latched by itself, and all four, against a byte: what is written as 1 goes, and nothing else.
 fn clears(rt: &impl Abort, byte: u8, write: &str) -> Result<(), Fail> {
     for &latch in &LATCHES {
         goes_with(rt, latch, byte, write)?;
@@ -106,7 +106,7 @@ static VOUT_WRITES: [(&str, &str, bool); 11] = [
     ("B0 7A F7 01", "B0 05 03 00 7A F7 75", false),
 ];
 
-// What both outputs show after rows, in a converter of its own where both are warned.
+// What both outputs show after rows, in a converter of its own in which both are warned.
 fn shown(rt: &impl Abort, rows: &[&str]) -> Result<[(u16, u8); 2], Fail> {
     let mut converter = base()?;
     hears_rows(rt, &mut converter, &WERE_ABOVE);

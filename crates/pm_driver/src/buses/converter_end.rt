@@ -23,7 +23,7 @@ pub(crate) fn disturb(device: &mut Converter, restarts: bool)
     }
 }
 
-/// The converter hears a packet as it arrives, where that is legal; otherwise the packet is lost.
+/// The converter hears a packet as it arrives, if that is legal; otherwise the packet is lost.
 pub(crate) fn deliver(device: &mut Converter, packet: &[u8], arrival: &Arrival)
     ensures is { IsSentPart packet.now device.old device.new }
     ensures after { device.new ≡ delivered packet.now device.old arrival.now }
@@ -35,7 +35,8 @@ pub(crate) fn deliver(device: &mut Converter, packet: &[u8], arrival: &Arrival)
     }
 }
 
-/// The converter hears a packet as it arrives, where that is legal; a packet without an arrival is lost.
+/// The converter hears a packet as it arrives, if that is legal; otherwise the packet is lost. A packet without an
+/// arrival is lost.
 pub(crate) fn deliver_some(device: &mut Converter, packet: &[u8], arrival: &Option<Arrival>)
     ensures is { IsSentPart packet.now device.old device.new }
     ensures after { device.new ≡ delivered_some packet.now device.old arrival.now }

@@ -8,7 +8,7 @@ pub struct Fault {
     /// The converter hears nothing of the frame, nothing comes back, and an adapter says so. The members below count for
     /// nothing then.
     pub unheard: bool,
-    /// How a write is heard; `None` where it is lost.
+    /// How a write is heard; `None` if it is lost.
     pub heard: Option<Arrival>,
     /// How it is heard once more.
     pub repeated: Option<Arrival>,

@@ -11,7 +11,7 @@ use crate::{
 };
 
 /// What happens to a converter in parts, put together: a write that is heard in two goes, and times in which it heard
-/// nothing before a write and before a request, or alone.
+/// nothing: before a write, before a request, or with no frame after them.
 pub fn parts_compose()
     ensures { PartsCompose }
 {
@@ -24,7 +24,7 @@ pub fn requests_may_be_lost()
     ensures { RequestsMayBeLost }
 {}
 
-/// Over a plan without restarts, each job keeps what the host confirms true of the converter.
+/// Each job keeps what the host confirms true of the converter, over a plan without restarts.
 pub fn never_restarts_stays()
     ensures { NeverRestartsStays }
 {
@@ -45,7 +45,7 @@ pub fn patient_never_restarts_stays()
     jobs_restart_nothing::<Patient<SimulatedBus<'static>>>();
 }
 
-/// Over a plan at its end an order that WRITE_PROTECT allows is done, and the converter holds its word.
+/// An order that WRITE_PROTECT allows is done over a plan at its end, and the converter holds its word.
 pub fn orders_go_through()
     ensures { OrdersGoThrough }
 {
@@ -62,8 +62,8 @@ pub fn patient_orders_go_through()
     undisturbed_orders_are_done::<Patient<SimulatedBus<'static>>>();
 }
 
-/// Over a simulated bus at the end of its plan of faults, and over a patient one, a course to wanted words with 27 tries ends as
-/// the words say that the converter holds.
+/// A course to wanted words with 27 tries ends as the words say that the converter holds, over a simulated bus at the end of its
+/// plan of faults and over a patient one.
 pub fn courses_go_through()
     ensures { CoursesGoThrough }
 {

@@ -6,7 +6,7 @@ use crate::{Adapter, Bus, ReadEnd, WriteEnd};
 
 /// A bus over an adapter, which sends again what the converter heard nothing of, up to this many tries for each frame:
 /// what a converter needs that is busy for a while. Nothing that may have been heard is sent again by it; above all no
-/// read is. With one try it is the adapter as a bus; with none nothing is ever sent.
+/// read is. One try makes it the adapter as a bus; nothing is ever sent with no try.
 ///
 /// It waits for nothing itself: how long a try takes is the adapter's own.
 #[derive(Drop)]

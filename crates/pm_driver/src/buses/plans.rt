@@ -68,8 +68,8 @@ pub fn run_patiently_without_restart<'a>(
     driver.run(job)
 }
 
-/// An order, as [`Driver::order`], over a plan at its end, as an empty one is, of a cell that WRITE_PROTECT allows: where it isn't
-/// refused it is done, and its word is held.
+/// An order, as [`Driver::order`], of a cell that WRITE_PROTECT allows, over a plan at its end, as an empty one is. The order is
+/// done and its word is held, unless it is refused.
 pub fn order_through<'a>(
     driver: &mut Driver<SimulatedBus<'a>>,
     cell: Cell,
@@ -85,8 +85,8 @@ pub fn order_through<'a>(
     driver.order(cell, word)
 }
 
-/// An order, as [`Driver::order`], over a patient bus that has a try and a plan at its end, of a cell that
-/// WRITE_PROTECT allows: where it isn't refused it is done, and its word is held.
+/// An order, as [`Driver::order`], of a cell that WRITE_PROTECT allows, over a patient bus that has a try and
+/// a plan at its end. The order is done and its word is held, unless it is refused.
 pub fn order_patiently_through<'a>(
     driver: &mut Driver<Patient<SimulatedBus<'a>>>,
     cell: Cell,

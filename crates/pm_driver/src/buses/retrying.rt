@@ -3,7 +3,7 @@ ghost use Rattle.pm_driver.specs.Tries.{tries_give};
 use crate::Bus;
 use crate::buses::laws::parts_compose;
 
-/// A bus that tries a write again, once, where it wasn't acknowledged, and then alone. The converter may have heard both: a host that
+/// A bus that sends a write a second time exactly if the first wasn't acknowledged. The converter may have heard both: a host that
 /// reads back what it wrote isn't misled by it.
 #[derive(Drop)]
 pub struct Retrying<B: Bus> {

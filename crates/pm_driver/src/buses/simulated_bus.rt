@@ -19,8 +19,8 @@ use pm_device::{Config, Converter};
 use pm_host::Host;
 use pm_world::{Arrival, Back, spell};
 
-/// A bus with the model converter at its other end, and what goes wrong with each frame in turn; once the plan is at
-/// its end, nothing does. It is an [`Adapter`] too, which says where a frame was unheard.
+/// A bus with the model converter at its other end, and a plan of what goes wrong with each frame in turn. Nothing
+/// goes wrong once the plan is at its end. It is an [`Adapter`] too, which says which frames were unheard.
 #[derive(Drop)]
 pub struct SimulatedBus<'a> {
     /// The converter.
@@ -32,7 +32,7 @@ pub struct SimulatedBus<'a> {
 }
 
 impl<'a> SimulatedBus<'a> {
-    // The fault whose turn it is, and the converter restarted where that says so; `None` where the plan is at its end.
+    // The fault whose turn it is; the converter restarts if the fault says so. `None` if the plan is at its end.
     fn turn(&mut self) -> Option<&'a Fault>
         ensures fault { MatchOption result (fault_next self.old ≡ None) (λ fault. fault_next self.old ≡ Some fault.now) }
         ensures turn { TurnsTo self.old self.new }
@@ -135,10 +135,10 @@ fn came(count: usize) -> ReadEnd
     }
 }
 
-/// A driver of a new host and a new converter of this configuration, over a simulated bus with this plan. `None` where
-/// the configuration, or the number of passes, is refused.
+/// A driver of a new host and a new converter of this configuration, over a simulated bus with this plan. `None` if
+/// the configuration or the number of passes is refused.
 ///
-/// Where the plan has no restart, the driver keeps that with each job ([`never_restarts_stays`](crate::never_restarts_stays)).
+/// A plan without a restart stays one with each job of the driver ([`never_restarts_stays`](crate::never_restarts_stays)).
 pub fn driver_over<'a>(c: Config, passes: u8, plan: &'a [Fault]) -> Option<Driver<SimulatedBus<'a>>>
     ensures guard { IfSome result (λ driver. driver.guard
         ≡ record { host = start (setup_of c passes); limits = replicate 8 Unlimited; registers = all_registers }) }

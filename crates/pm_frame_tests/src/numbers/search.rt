@@ -10,7 +10,7 @@ use std::process::Abort;
 enum Plain {
     /// Over 2^16.
     Linear11,
-    /// `(word * scale + offset) / den`, the word in two's complement where `signed` is true.
+    /// `(word * scale + offset) / den`, the word in two's complement if `signed` is true.
     Line {
         signed: bool,
         scale: i32,

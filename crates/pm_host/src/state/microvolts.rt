@@ -67,7 +67,7 @@ pub fn nearest_word(format: &AnyFormat, x: i64) -> Result<u16, HostFault>
     }
 }
 
-// The word of a format that is nearest to a number, of any format. N3 and N4 where it lies outside.
+// The word that is nearest to a number, in any format. N3 below the least value, N4 above the greatest.
 fn word_in<F: NumFormat>(format: &F, x: Frac) -> Result<u16, NumFault>
     ensures fault { result_err result
         ≡ outside_fault (F.lowest format.now) (F.highest format.now) x }

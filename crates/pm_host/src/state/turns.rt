@@ -124,7 +124,7 @@ impl State {
         }
     }
 
-    // The question is asked again after these tries, where one is left.
+    // The question is asked again after these tries if one is left.
     fn another(&self, question: Question, tries: u8) -> Progress
         requires sound { IsSound (held None self.now) }
         requires asking { IsAsking (held None self.now) question tries }

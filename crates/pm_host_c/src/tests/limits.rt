@@ -30,7 +30,7 @@ static NARROWED: [(u8, i64, i64, u8); 6] = [
 fn limits_are_narrowed(rt: HostRuntime) {
     let mut image = host(2);
     equal(&rt, &limits(&image, 0), &(0xE6, 7, 7), &1);
-    equal(&rt, &within(&image, 0), &0x91, &2);
+    equal(&rt, &within(&image, 0), &0xE6, &2);
     equal(&rt, &narrow(&mut image, 0, 3_200_000, 3_465_000), &0, &3);
     equal(&rt, &limits(&image, 0), &(0, 3_200_000, 3_465_000), &4);
     equal(&rt, &limits(&image, 1), &(0xE6, 7, 7), &5);
@@ -122,11 +122,11 @@ fn no_voltage_is_ordered_where_no_limits_are_known(rt: HostRuntime) {
     }
     let mut image = bare(2);
     equal(&rt, &limits(&image, 0), &(0xE6, 7, 7), &1);
-    equal(&rt, &within(&image, 0), &0x93, &2);
+    equal(&rt, &within(&image, 0), &0xE6, &2);
     equal(&rt, &no_limits(&mut image, 2), &4, &3);
     equal(&rt, &no_limits(&mut image, 0), &0, &4);
     equal(&rt, &limits(&image, 0), &(0xE6, 7, 7), &5);
-    equal(&rt, &within(&image, 0), &0x91, &6);
+    equal(&rt, &within(&image, 0), &0xE6, &6);
     equal(&rt, &order(&mut image, 1, 0x21, 0x34CD), &0x28, &7);
     equal(&rt, &narrow(&mut image, 0, 3_200_000, 3_465_000), &0, &8);
     equal(&rt, &no_limits(&mut image, 0), &0x26, &9);

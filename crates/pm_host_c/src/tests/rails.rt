@@ -71,7 +71,7 @@ fn a_rail_says_what_its_output_commands(rt: HostRuntime) {
     equal(
         &rt,
         &rail(&image, 0),
-        &(0, (0, 0x91, 7, 0, [0; 4], 0, 0)),
+        &(0, (0, 0xE6, 7, 0, [0; 4], 0, 0)),
         &3,
     );
     let _ = narrow(&mut image, 0, 3_200_000, 3_465_000);
@@ -81,7 +81,7 @@ fn a_rail_says_what_its_output_commands(rt: HostRuntime) {
         equal(
             &rt,
             &rail(&image, 0),
-            &(0, (power, 0x91, 0, 0x21, [0; 4], 3_300_048, 3_300_049)),
+            &(0, (power, 0xE6, 0, 0x21, [0; 4], 3_300_048, 3_300_049)),
             &power,
         );
         equal(&rt, &band(&image, 0), &(0, 3_300_048, 3_300_049), &power);

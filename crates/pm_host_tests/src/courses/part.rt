@@ -7,7 +7,7 @@ use pm_limits::Guard;
 /// A part with one output.
 #[derive(Clone, Copy, Debug)]
 pub(crate) struct Part {
-    /// What it answers for VOUT_MODE; nothing where it answers nothing.
+    /// What it answers for VOUT_MODE; nothing if it answers nothing.
     pub(crate) mode: Option<u8>,
     /// The payload of COEFFICIENTS: m, b, R.
     pub(crate) coefficients: [u8; 5],
@@ -54,7 +54,7 @@ pub(crate) struct Run {
     pub(crate) asked_protect: bool,
 }
 
-// The byte at a place, 0 behind the end.
+// The byte at a place, 0 after the end.
 fn byte_at(bytes: &[u8], place: usize) -> u8 {
     match bytes.get(place) {
         Some(byte) => *byte,

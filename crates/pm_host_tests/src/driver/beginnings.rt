@@ -26,8 +26,8 @@ fn cut() -> Fault {
     }
 }
 
-// How an order of VOUT_COMMAND, or a check where no word is given, ends for a new host of so many passes, and what that host says
-// of the cell.
+// How an order of VOUT_COMMAND, or a check if no word is given, ends for a new host of so many passes, and what that host says of
+// the cell.
 fn ended(
     bus: &mut SimulatedBus<'_>,
     passes: u8,
@@ -91,7 +91,7 @@ fn a_host_begins_at_any_page_beside_words_that_are_not_stored(rt: HostRuntime) {
                 );
                 // A new host of five passes, two of whose requests are cut, reads what is held and not what is stored.
                 equal(&rt, &ended(&mut bus, 5, 0, None), &done, &4);
-                // Its order of output 1 reaches that output alone.
+                // Its order of output 1 reaches only that output.
                 let other = Some((Some(JobEnd::Done), Standing::Confirmed(0x2000)));
                 equal(&rt, &ended(&mut bus, 5, 1, Some(0x2000)), &other, &5);
                 equal(

@@ -36,7 +36,7 @@ fn status<B: Bus>(driver: &mut Driver<B>) -> Option<u16> {
     // law: no beginning of the request is a write
     requests_are_no_writes();
     let count = driver.read(&code_request(0x58, code), &mut room).ok()?; // H3: a job is open
-    let payload = read_plain(0x58, code, 2, &room[..count]).ok()?; // F5 where a bit changed
+    let payload = read_plain(0x58, code, 2, &room[..count]).ok()?; // F5 if a bit changed
     Some(u16::from_le_bytes([payload[0], payload[1]]))
 }
 
@@ -58,7 +58,7 @@ fn the_examples_of_the_roots_run(rt: HostRuntime) {
     }
 }
 
-// Its second frame, a request, is cut behind its second byte: CML is bit 1 of STATUS_WORD, and the host says no less.
+// Its second frame, a request, is cut after its second byte: CML is bit 1 of STATUS_WORD, and the host says no less.
 #[test]
 fn a_status_between_two_orders_shows_what_was_latched(rt: HostRuntime) {
     let plan = [

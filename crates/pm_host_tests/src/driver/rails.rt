@@ -200,7 +200,7 @@ static ENDS: [(&[(usize, Wrong)], u16, ApplyEnd, usize, [u16; 2]); 12] = [
         20,
         [0x34CD, 0x3770],
     ),
-    // An order that ended unknown is checked before the next; so it is where it never took.
+    // An order that ended unknown is checked before the next, even if it never took.
     (&[(7, Cut)], 60, ApplyEnd::Reached, 17, [0x34CD, 0x3770]),
     (
         &[(6, Lost), (7, Cut)],
@@ -238,7 +238,7 @@ fn a_plan_is_carried_out(rt: HostRuntime) {
     }
 }
 
-// The converter restarts before any one of the frames: all is brought about again, unless what is read behind the
+// The converter restarts before any one of the frames: all is brought about again, unless what is read after the
 // restart is what was held before it too, VOUT_MIN and WRITE_PROTECT.
 #[test]
 fn a_restart_is_made_good(rt: HostRuntime) {
@@ -341,7 +341,7 @@ fn a_rail_as_it_is_wanted_is_only_read(rt: HostRuntime) {
     }
 }
 
-// A survey sends one frame more than registers that it reads, two where the format is DIRECT.
+// A survey sends one frame more than registers that it reads, two if the format is DIRECT.
 #[test]
 fn a_survey_sends_a_frame_for_each_register(rt: HostRuntime) {
     for (mode, more) in &[(0x14, 1), (0x40, 2)] {
@@ -495,7 +495,7 @@ fn courses_to_a_byte_and_to_nothing_are_carried_out(rt: HostRuntime) {
     let plan = plan(&[]);
     match driver_over(BASE, 1, &plan) {
         Some(mut driver) => {
-            // Off is ordered once more where the byte is known.
+            // Off is ordered once more if the byte is known.
             let end = completed(&rt, &mut driver, Course::power(0, 0x00, 4));
             equal(&rt, &end, &Some(ApplyEnd::Reached), &1);
             let end = completed(&rt, &mut driver, Course::power(0, 0x00, 4));
@@ -510,11 +510,11 @@ fn courses_to_a_byte_and_to_nothing_are_carried_out(rt: HostRuntime) {
     }
     match driver_over(BASE, 1, &plan) {
         Some(mut driver) => {
-            // On, where the output is on: as many, and no order.
+            // On, if the output is on: as many, and no order.
             let end = completed(&rt, &mut driver, Course::power(0, 0x80, 60));
             equal(&rt, &end, &Some(ApplyEnd::Reached), &4);
             equal(&rt, &driver.bus().next, &5, &4);
-            // On, where it was turned off: as many, the order, and all of these once more.
+            // On, after it was turned off: as many, the order, and all of these once more.
             let end = completed(&rt, &mut driver, Course::power(0, 0x00, 4));
             equal(&rt, &end, &Some(ApplyEnd::Reached), &5);
             let end = completed(&rt, &mut driver, Course::power(0, 0x80, 60));

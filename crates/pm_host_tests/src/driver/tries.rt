@@ -53,7 +53,7 @@ fn wanted(command: u16, others: bool) -> Wanted {
     }
 }
 
-// A survey for five words, or a course to them, with so many tries, after a restart by which WRITE_PROTECT alone has another
+// A survey for five words, or a course to them, with so many tries, after a restart by which only WRITE_PROTECT has another
 // word than the host knows.
 fn words(wanted: Wanted, survey: bool, tries: u16) -> Option<End> {
     let plan = [whole(), whole(), restarted()];
@@ -72,7 +72,7 @@ fn words(wanted: Wanted, survey: bool, tries: u16) -> Option<End> {
     }
 }
 
-// A course to a byte of OPERATION, with so many tries, after a restart by which VOUT_MIN alone has another word than the
+// A course to a byte of OPERATION, with so many tries, after a restart by which only VOUT_MIN has another word than the
 // host knows. OPERATION selects VOUT_MARGIN_HIGH, which is stored.
 fn power(byte: u16, tries: u16) -> Option<End> {
     let plan = [whole(), whole(), whole(), whole(), whole(), restarted()];

@@ -43,7 +43,7 @@ fn a_band_is_what_the_words_can_command(rt: HostRuntime) {
     is_true(&rt, band(&guard).is_none(), &1);
     learn(&mut guard, 0, LINEAR, &[]);
     is_band(&rt, &guard, 4096, 0, 0xFFFF);
-    // VOUT_MAX alone bounds it from above.
+    // Only VOUT_MAX bounds it from above.
     read(&mut guard, Reg::VoutMax, 14000);
     is_band(&rt, &guard, 4096, 0, 14000);
     read(&mut guard, Reg::VoutMin, 13000);
@@ -128,11 +128,11 @@ fn a_band_is_within_or_not_or_that_isnt_known(rt: HostRuntime) {
         }
         equal(&rt, &within(&guard), &Some(wanted), &command);
     }
-    // Where it is said that there are no limits everything is.
+    // Nothing lies within limits that aren't there.
     let mut free = guard_without_limits();
-    equal(&rt, &within(&free), &Some(Within::Yes), &3);
+    equal(&rt, &within(&free), &Some(Within::NoLimits), &3);
     learn(&mut free, 0, LINEAR, &[]);
-    equal(&rt, &within(&free), &Some(Within::Yes), &4);
+    equal(&rt, &within(&free), &Some(Within::NoLimits), &4);
 }
 
 fn guard_without_limits() -> Guard {

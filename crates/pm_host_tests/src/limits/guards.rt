@@ -31,7 +31,7 @@ pub(crate) fn guard(least: i64, most: i64) -> Guard {
     }
 }
 
-// The answer of the device to a request with this payload; no bytes where that is none.
+// The answer of the device to a request with this payload; no bytes if that is none.
 fn answer_to(request: &Message, payload: &[u8]) -> Frame {
     if !request.is_read() || !fits(request) || request.answer_length() != payload.len() {
         return Frame::new();
@@ -39,7 +39,7 @@ fn answer_to(request: &Message, payload: &[u8]) -> Frame {
     answer(0x58, request, payload)
 }
 
-/// Tells the answer to a request, where one is being sent.
+/// The guard hears the answer to a request, if one is being sent.
 pub(crate) fn tell(guard: &mut Guard, request: &Message, payload: &[u8]) {
     let frame = answer_to(request, payload);
     if let Turn::Request { .. } = guard.turn() {
@@ -47,7 +47,7 @@ pub(crate) fn tell(guard: &mut Guard, request: &Message, payload: &[u8]) {
     }
 }
 
-/// Learns the format of an output: its mode, and the coefficients where it is DIRECT.
+/// Learns the format of an output: its mode, and the coefficients if it is DIRECT.
 pub(crate) fn learn(guard: &mut Guard, output: u8, mode: &[u8], coefficients: &[u8]) {
     let _ = guard.learn(output);
     let read = Message::PagePlusRead {

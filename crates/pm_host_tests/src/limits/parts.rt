@@ -186,7 +186,7 @@ fn a_job_on_a_missing_register_is_refused(rt: HostRuntime) {
     equal(&rt, &LimitFault::FormatUnknown.number(), &0x22, &3);
 }
 
-// The byte that is read of OPERATION, and the least and the greatest over 4096 that the output may command then, where it
+// The byte that is read of OPERATION, and the least and the greatest over 4096 that the output may command then, if it
 // has a band: VOUT_COMMAND is 1 V, VOUT_MARGIN_HIGH 3 V, VOUT_MARGIN_LOW 0.5 V.
 static BYTES: [(u16, Option<(i128, i128)>); 8] = [
     (0x80, Some((4096, 4096))),

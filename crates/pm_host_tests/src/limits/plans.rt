@@ -65,7 +65,7 @@ static PLANS: [(bool, [u16; 6], Wishes, &[(Reg, u16)]); 10] = [
         [None, Some(6144), Some(5734), None, None],
         &[(Reg::VoutMax, 6144), (Reg::MarginHigh, 5734)],
     ),
-    // on margin low, cut by VOUT_MIN: VOUT_COMMAND alone wouldn't be
+    // on margin low, cut by VOUT_MIN: VOUT_COMMAND by itself wouldn't be
     (
         false,
         [0x94, 4096, 6144, 4915, 1024, 2048],
@@ -129,7 +129,7 @@ fn a_plan_gives_one_order_after_another(rt: HostRuntime) {
 // What is read of the first output, OPERATION to VOUT_MIN, and of WRITE_PROTECT; what is wanted of it; and why no order
 // is given, if so. Its limits are 0.4 V and 4 V.
 static REFUSALS: [(Held, Option<u8>, Wishes, Option<PlanFault>); 22] = [
-    // the wish alone is judged first, and below before above
+    // the wish by itself is judged first, and below before above
     (
         [None; 6],
         None,
@@ -204,7 +204,7 @@ static REFUSALS: [(Held, Option<u8>, Wishes, Option<PlanFault>); 22] = [
         [None; 5],
         Some(PlanFault::NotKnown(Cell::Out(0, Reg::VoutMin))),
     ),
-    // WRITE_PROTECT where an order is due, before what is cut at the end
+    // WRITE_PROTECT if an order is due, before what is cut at the end
     (
         [Some(0x80), Some(4096), Some(6144), None, None, Some(2048)],
         None,

@@ -1,4 +1,4 @@
-//! What a rail is told to command, by rows written by hand; and a host that knows words, which plans and surveys begin with.
+//! What a rail is to command, by rows written by hand; and a host that knows words, which plans and surveys begin with.
 
 use super::guards::{DIRECT, FALLING, LINEAR, first, give_up, guard, learn, read, tell};
 use crate::checks::{equal, is_true};
@@ -11,7 +11,7 @@ use pm_rail::{
 use pm_table::{Cell, Reg};
 use std::process::Abort;
 
-// What the first output's cells are read as, in the order of `Reg`; none where a cell isn't read.
+// What the first output's cells are read as, in the order of `Reg`; none if a cell isn't read.
 pub(super) type Held = [Option<u16>; 6];
 
 // The words that are wanted: VOUT_COMMAND, VOUT_MAX, the margins, high first, and VOUT_MIN.
@@ -97,8 +97,8 @@ pub(crate) fn asks(rt: &impl Abort, survey: &mut Survey, guard: &Guard) -> Optio
     survey.next(guard)
 }
 
-// The byte that is read of OPERATION, what is told of it, which register has the voltage, and whether 1 V is within limits of
-// 0.9 V to 1.1 V where VOUT_MARGIN_HIGH is 1.2 V and VOUT_MARGIN_LOW 0.5 V.
+// The byte that is read of OPERATION, what it says, which register has the voltage, and whether 1 V is within limits of 0.9 V
+// to 1.1 V if VOUT_MARGIN_HIGH is 1.2 V and VOUT_MARGIN_LOW 0.5 V.
 static POWERS: [(u16, Power, Selected, Within); 6] = [
     (0x80, Power::On, COMMAND, Within::Yes),
     (0xA8, Power::On, HIGH, Within::No),

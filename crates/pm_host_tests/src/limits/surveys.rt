@@ -9,8 +9,8 @@ use pm_rail::{Survey, Wanted};
 use pm_table::{Cell, Reg};
 use std::process::Abort;
 
-// Carries out the next job of a survey at a converter that holds these words, and tells it how that ended; whether there
-// was one.
+// Carries out the next job of a survey at a converter that holds these words, and reports to the survey how that ended;
+// whether there was one.
 fn surveys(rt: &impl Abort, guard: &mut Guard, survey: &mut Survey, words: &[u16; 6]) -> bool {
     match asks(rt, survey, guard) {
         Some(Job::Learn(_)) => {
@@ -96,7 +96,7 @@ static SURVEYS: [([u16; 6], [u16; 6], Option<Wishes>, u16, (bool, u16)); 9] = [
         30,
         (true, 5),
     ),
-    // on margin high, where the last answer shows a restart: OPERATION isn't known then, so that VOUT_COMMAND is read too, and
+    // on margin high, if the last answer shows a restart: OPERATION isn't known then, so that VOUT_COMMAND is read too, and
     // then all but these two once more
     (
         [0xA8, 1, 2, 3, 4, 5],

@@ -146,19 +146,19 @@ fn guard_of_none() -> Guard {
 }
 
 #[test]
-fn a_voltage_isnt_known_to_lie_within_unknown_limits(rt: HostRuntime) {
+fn a_voltage_without_limits_lies_within_none(rt: HostRuntime) {
     let mut guard = guard();
     learn(&mut guard, 0, LINEAR, &[]);
     read(&mut guard, Reg::Operation, 0x80);
     read(&mut guard, Reg::VoutCommand, 0x34CD);
-    equal(&rt, &within(&guard), &Some(Within::NotKnown), &1);
+    equal(&rt, &within(&guard), &Some(Within::NoLimits), &1);
     equal(&rt, &guard.no_limits(0), &Ok(()), &2);
-    equal(&rt, &within(&guard), &Some(Within::Yes), &3);
+    equal(&rt, &within(&guard), &Some(Within::NoLimits), &3);
     equal(&rt, &guard.limits(0).are_known(), &true, &4);
     equal(&rt, &guard.limits(1).are_known(), &false, &5);
 }
 
-// Why a plan for the first output gives no order; none where the output isn't there.
+// Why a plan for the first output gives no order; none if the output isn't there.
 fn refused(guard: &Guard, wanted: &Wanted) -> Option<PlanFault> {
     if guard.host().outputs() == 0 {
         return None;

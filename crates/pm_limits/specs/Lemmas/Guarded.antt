@@ -25,9 +25,7 @@ use Rattle.pm_limits.specs.declared.fault.LimitFault.{LimitFault}
 use Rattle.pm_limits.specs.declared.fault.LimitFault.TheVariants.{BelowLimit, AboveLimit, MissingRegister}
 use Rattle.pm_limits.specs.declared.output_limits.OutputLimits.{OutputLimits}
 use Rattle.pm_limits.specs.declared.output_limits.OutputLimits.TheVariants.{Unknown, Unlimited, Between}
-use Rattle.pm_limits.specs.declared.guard.Within.{Within}
-use Rattle.pm_limits.specs.declared.guard.Within.TheVariants.{Yes, No, NotKnown}
-use Rattle.pm_limits.specs.Band.{band_on, is_yes, within_of}
+use Rattle.pm_limits.specs.Band.{band_on, lets_on}
 use Rattle.pm_limits.specs.Bounds.{Bounds, IsWithin, outside_fault}
 use Rattle.pm_limits.specs.Guard.{Guarded, guard_fault, guarded_order, judged, limits_at, missing_cell, missing_ordered, of_host}
 use Rattle.pm_limits.specs.Guard.{operation_limit, unsure_fault, voltage_limit}
@@ -123,21 +121,20 @@ guarded-known g asked output register word free is voltage =
     go Unlimited shape none = refl
     go (Between bounds) shape none = refl
 
--- A byte of OPERATION that leaves the output on is let through only where all of the band lies within the limits.
+-- A byte of OPERATION that leaves the output on is let through only where the limits let it be on with its band.
 pub guarded-on : (g : Guarded) (output byte : ℕ) → guard_fault g (job.Order (Out output Operation) byte) ≡ None →
-    has_on byte ≡ true → within_of (limits_at g output) (band_on g.registers g.host output byte) ≡ Yes
+    has_on byte ≡ true → lets_on (limits_at g output) (band_on g.registers g.host output byte) ≡ true
 guarded-on g output byte free on =
-    go (has_on byte) (within_of (limits_at g output) (band_on g.registers g.host output byte)) on
+    go (has_on byte) (lets_on (limits_at g output) (band_on g.registers g.host output byte)) on
     (or-none (operation_limit g.registers (limits_at g output) g.host output byte) _
     (or-none (missing_ordered g.registers (Out output Operation) byte) _
     (or-none (of_host (cell_fault g.host (Out output Operation))) _ free).1).1).0
   where
-    go : (b : Bool) (w : Within) → b ≡ true →
-        cond (b && not (is_yes w)) (Some (unsure_fault (limits_at g output) (format_at g.host output))) None ≡ None → w ≡ Yes
-    go false w on' none = cc
-    go true Yes on' none = refl
-    go true No on' none = cc
-    go true NotKnown on' none = cc
+    go : (b lets : Bool) → b ≡ true →
+        cond (b && not lets) (Some (unsure_fault (limits_at g output) (format_at g.host output))) None ≡ None → lets ≡ true
+    go false lets on' none = cc
+    go true true on' none = refl
+    go true false on' none = cc
 
 -- the host alone refuses an order if the limits say nothing and the part doesn't lack what it needs
 alone : (g : Guarded) (cell : Cell) (word : ℕ) → missing_ordered g.registers cell word ≡ None →
@@ -176,7 +173,7 @@ pub guarded-off : (g : Guarded) (output byte : ℕ) → has_on byte ≡ false �
     ≡ of_host (begin_fault g.host (job.Order (Out output Operation) byte))
 guarded-off g output byte off = alone g (Out output Operation) byte
     (ap (λ (r : Reg). rule (not (has_register g.registers r)) MissingRegister) (off-selects byte off))
-    (ap (λ (b : Bool). cond (b && not (is_yes (within_of (limits_at g output) (band_on g.registers g.host output byte))))
+    (ap (λ (b : Bool). cond (b && not (lets_on (limits_at g output) (band_on g.registers g.host output byte)))
     (Some (unsure_fault (limits_at g output) (format_at g.host output))) None)
     off)
 
@@ -184,7 +181,7 @@ guarded-off g output byte off = alone g (Out output Operation) byte
 judged-free : (g : Guarded) (output : ℕ) (register : Reg) (word : ℕ) → limits_at g output ≡ Unlimited →
     judged g.registers (limits_at g output) g.host (Out output register) word ≡ None
 judged-free g output Operation word none =
-    ap (λ (l : OutputLimits). cond (has_on word && not (is_yes (within_of l (band_on g.registers g.host output word))))
+    ap (λ (l : OutputLimits). cond (has_on word && not (lets_on l (band_on g.registers g.host output word)))
     (Some (unsure_fault l (format_at g.host output))) None)
     none
     ∙ go (has_on word)

@@ -8,7 +8,7 @@ use pm_lines::pair_of;
 pub(crate) enum LineKind {
     /// It has no byte.
     Empty,
-    /// It has spaces alone.
+    /// It has nothing but spaces.
     Blank,
     /// Its first byte is `#`.
     Comment,
@@ -38,8 +38,8 @@ impl LineKind {
         !matches!(self, LineKind::Packet)
     }
 
-    /// Whether these bytes begin with pairs of digits, which change nothing but the part that goes on
-    /// and the kind, in a line of this kind where no digit waits for another.
+    /// Whether these bytes begin with pairs of digits, which change nothing but the part that goes on and the
+    /// kind, in a line of this kind in which no digit waits for another.
     pub(crate) fn takes_pairs(self, bytes: &[u8]) -> bool
         ensures { result ≡ takes_pairs self bytes.now }
     {

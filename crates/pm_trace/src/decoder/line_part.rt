@@ -134,7 +134,7 @@ impl LinePart {
     }
 }
 
-// What follows the space that stands first, or all where none does.
+// What follows the space that stands first, or all if none does.
 fn past_space(digits: &[u8]) -> &[u8]
     ensures bytes { paired_bytes result.now ≡ paired_bytes digits.now }
     ensures rest { behind_pairs result.now ≡ behind_pairs digits.now }

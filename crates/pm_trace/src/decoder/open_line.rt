@@ -15,7 +15,7 @@ pub struct OpenLine {
     // The bytes before the first slash, and after it.
     write: LinePart,
     read: LinePart,
-    // The last digit, where it has no other to make a byte with yet.
+    // The last digit, if it has no other to make a byte with yet.
     digit: Option<u8>,
     slashes: Slashes,
     // A word isn't hexadecimal: one that ended, or the one that goes on by its bytes so far.
@@ -95,8 +95,8 @@ impl OpenLine {
         }
     }
 
-    // Takes at once what most lines have most of, pairs of digits with spaces between them, where
-    // they change the part that goes on alone, and gives what is left.
+    // Takes at once what most lines have most of, pairs of digits with spaces between them, if they change
+    // nothing but the part that goes on and the kind. Gives what is left.
     #[tactic(auto, using(crate::proofs::PairLemmas::passes_none))]
     fn take_pairs<'a>(&mut self, bytes: &'a [u8]) -> &'a [u8]
         ensures { Passes self.old bytes.entry.now result.now self.new }
@@ -199,7 +199,7 @@ impl OpenLine {
         }
     }
 
-    /// What the line says as it stands, where it isn't skipped.
+    /// What the line says as it stands, if it isn't skipped.
     pub(crate) fn shown(&self) -> Option<Shown<'_>>
         ensures { option_map judged_in result ≡ open_told self.now }
     {
@@ -213,7 +213,7 @@ impl OpenLine {
         })
     }
 
-    /// Whether the line is skipped, as it stands: it has no byte, spaces alone or `#` first.
+    /// Whether the line is skipped, as it stands: it has no byte, nothing but spaces, or `#` first.
     pub fn is_skipped(&self) -> bool
         ensures { result ≡ is_skipped_kind self.now.kind }
     {

@@ -1,4 +1,4 @@
-//! What an event that asks for no job tells the two ends.
+//! What the two ends hear of an event that asks for no job.
 
 ghost use Rattle.std.specs.Prelude.{◌≡◌, true};
 ghost use Rattle.pm_device.specs.Effect as heard;
@@ -80,7 +80,7 @@ impl World {
         Ok(())
     }
 
-    // The host is told what came of its frame.
+    // The host hears what came of its frame.
     fn tell(&mut self, told: Told<'_>)
         requires { may_come self.old.host (entry_told told) ≡ true }
         ensures after { self.new ≡ shared self.old (tells (entry_told told.entry)) }
