@@ -56,7 +56,7 @@ pub fn is_told(line: &PacketLine<'_>) -> bool
     line.other.is_some() || matches!(line.shown, Shown::Accepted { .. })
 }
 
-/// Whether a packet that is shown so has the right PEC.
+/// Whether a packet that isn't shown as a fault has the right PEC.
 pub fn is_checked(marks: &Marks, line: &PacketLine<'_>) -> bool
     ensures { result ≡ spec_is_checked line.now.other marks.now.lacks (packet_in line.now.packet) }
 {

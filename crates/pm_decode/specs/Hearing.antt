@@ -106,7 +106,7 @@ known_said options number (Noted remark) known = record known {
 abbrev pub known_by : TellOptions → Known → Entry → Known
 known_by options known entry = known_said options entry.0 entry.1 known
 
--- what is known after several
+-- what is known after several lines
 abbrev pub known_from : TellOptions → Known → List Entry → Known
 known_from options known entries = fold (known_by options) known entries
 

@@ -112,7 +112,7 @@ fn has_entry(entries: &[Option<GivenFormat>]) -> bool
     matches!(entries, [Some(_), ..])
 }
 
-// The first such line, if a format of voltages was given.
+// The first line that orders a voltage beyond 1000 V by these formats: `before`, or else this line if it does.
 fn first_of(
     given: &GivenFormats,
     lessons: &Lessons,
