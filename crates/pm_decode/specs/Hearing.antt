@@ -211,7 +211,7 @@ lines_hint false faults = Some NoGoodPacket
 -- packets without PEC aren't shown, and there are faults of packets that would all be good with it
 abbrev pub is_without_any_pec : Bool → HeardLines → Bool
 is_without_any_pec all heard =
-    not all && (heard.counts.accepted == 0 && (nat_lt 0 heard.counts.faults && heard.known.lacking))
+    heard.counts.accepted == 0 && (nat_lt 0 heard.counts.faults && (heard.known.lacking && not all))
 
 abbrev pub hint_from : Option ℕ → Option Hint → Bool → Option Hint
 hint_from (Some line) lines lacking = Some (Beyond line)

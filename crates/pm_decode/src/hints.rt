@@ -1,7 +1,7 @@
 //! What is said besides of a capture that was shown whole.
-ghost use Rattle.std.specs.Prelude.{◌≡◌, ◌<◌, ◌^◌, None, if◌then◌else◌};
+ghost use Rattle.std.specs.Prelude.{◌≡◌, ◌<◌, ◌^◌, None, false, if◌then◌else◌, option_map};
 ghost use Rattle.pm_trace.specs.ShownLines.{judged_in};
-ghost use Rattle.pm_capture.specs.Readings.{judged_by};
+ghost use Rattle.pm_trace.specs.Trace.{parts_judged};
 ghost use Rattle.pm_capture.specs.ShownReadings.{packet_in};
 ghost use Rattle.pm_decode.specs.Hearing.{heard_lines, hint_by, is_none_told, is_without_any_pec as spec_is_without_any_pec, lines_hint as spec_lines_hint};
 ghost use Rattle.pm_decode.specs.Hints.{beyond_by, first_if, has_entry as spec_has_entry, has_vout as spec_has_vout, is_beyond as spec_is_beyond, is_huge as spec_is_huge, is_huge_value as spec_is_huge_value, lacking_by};
@@ -66,12 +66,13 @@ fn is_without_any_pec(all: bool, heard: &HeardLines) -> bool
     ensures { result ≡ spec_is_without_any_pec all heard.now }
 {
     let (_, accepted, faults, _) = heard.tally().lines();
-    !all && accepted == 0 && faults > 0 && heard.known().is_lacking()
+    accepted == 0 && faults > 0 && heard.known().is_lacking() && !all
 }
 
 /// Whether each packet that isn't good would be with its PEC: those before this one, as `lacking` says, and this one.
 pub(crate) fn still_lacking(all: bool, line: &PacketLine<'_>, lacking: bool) -> bool
-    requires { judged_in line.now.shown.now ≡ judged_by all line.now.ones (packet_in line.now.packet) }
+    requires { all ≡ false → judged_in line.now.shown.now
+        ≡ parts_judged line.now.packet.write.now (option_map (λ bytes. bytes.now) line.now.packet.read) }
     ensures { result ≡ lacking_by all (packet_in line.now.packet) lacking }
 {
     if all || matches!(line.shown, Shown::Accepted { .. }) {

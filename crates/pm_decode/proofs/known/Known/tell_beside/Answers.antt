@@ -12,8 +12,8 @@ returns-clause-known c =
     let judged = judged_in line.shown.now in
     let step_is = beside_is options.gap line.time c.args.self.now.pages line.ones parts judged line.other c.requires.time c.requires.used in
     page_learned options line.number line.time parts c.args.self.now line.ones c.args.lacks judged line.other
-    (beside_step judged) c.marks.result c.learn.result _ _ c.requires.pages c.requires.ones c.requires.shown c.requires.other
-    c.requires.lacks step_is c.marks.ensures (c.self.view_is ∙ c.in_ok-tell_packet.ensures.known)
+    (beside_step judged) c.without_page-marks.result c.learn.result _ _ c.requires.pages c.requires.ones c.requires.shown c.requires.other
+    c.requires.lacks step_is c.without_page-marks.ensures (c.self.view_is ∙ c.in_ok-tell_packet.ensures.known)
     (beside_learned c.learn.result line.number judged _ _ c.learn.ensures)
 
 pub returns-clause-text : goal.returns-clause-text
@@ -24,5 +24,5 @@ returns-clause-text c =
     let judged = judged_in line.shown.now in
     let step_is = beside_is options.gap line.time c.args.self.now.pages line.ones parts judged line.other c.requires.time c.requires.used in
     page_told options line.number line.time parts c.args.self.now line.ones c.args.lacks judged line.other
-    (beside_step judged) c.marks.result c.learn.result _ _ c.requires.pages c.requires.ones c.requires.shown c.requires.other
-    c.requires.lacks step_is c.marks.ensures c.in_ok-tell_packet.ensures.text
+    (beside_step judged) c.without_page-marks.result c.learn.result _ _ c.requires.pages c.requires.ones c.requires.shown c.requires.other
+    c.requires.lacks step_is c.without_page-marks.ensures c.in_ok-tell_packet.ensures.text
