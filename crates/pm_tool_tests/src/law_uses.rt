@@ -4,7 +4,7 @@ ghost use Rattle.std.specs.Prelude.{◌≡◌, ◌<◌, ℕ, Bool};
 ghost use Rattle.pm_num.specs.Ratio.{IsMicroFloor};
 ghost use Rattle.pm_values.specs.declared.formats.GivenFormats.{GivenFormats};
 ghost use Rattle.pm_decode.specs.CaptureText.{capture_text};
-ghost use Rattle.pm_decode.specs.Laws.{plain_options};
+ghost use Rattle.pm_capture.specs.Options.{plain_options};
 ghost use Rattle.pm_trace.specs.TraceText.{trace_text};
 
 use pm_decode::plain_captures_are_traces;
@@ -19,7 +19,7 @@ pub fn microvolts_of(voltage: Frac) -> i128
     millionths(voltage)
 }
 
-/// A capture that is told without options is told as a trace.
+/// A capture that is shown without options is shown as a trace.
 pub fn a_capture_without_options(text: &[u8])
     ensures { (formats : GivenFormats) (long : Bool) (gap : ℕ) →
         capture_text (plain_options formats long gap) text.now ≡ trace_text text.now }
