@@ -42,7 +42,7 @@ uint32_t wide_word(const pm_format *format, int64_t microvolts, uint16_t *word) 
 #define wide_word pm_nearest_word
 #endif
 
-enum { HOSTS = 4, HALVES = PM_HOST_SIZE / 2, GUARD = 4, ROOM = 320, EXPORTS = 78 };
+enum { HOSTS = 4, HALVES = PM_HOST_SIZE / 2, GUARD = 4, ROOM = 320, EXPORTS = 86, STEPS_OF_STAIRS = 4 };
 
 /* Hosts at addresses that eight divides, with guards around them: the last is damaged. */
 static uint64_t memory[HOSTS][(GUARD + HALVES + GUARD) / 4];
@@ -63,6 +63,11 @@ static struct { uint16_t before[4]; pm_course course; uint16_t after[4]; } asked
 
 /* A delivery, with guards around it. */
 static struct { uint16_t before[3]; pm_delivery delivery; uint16_t after[3]; } looked;
+
+/* Stairs, their steps and the steps back, with guards around them. */
+static struct {
+    uint16_t before[4]; pm_stairs stairs; pm_stairs_step steps[STEPS_OF_STAIRS], backs[STEPS_OF_STAIRS]; pm_stairs_end end; uint16_t after[4];
+} stood;
 
 /* What is known of all cells, which is large: with guards of its own. */
 static struct { uint16_t before[3]; pm_known known; uint16_t after[3]; } cells;
@@ -249,12 +254,22 @@ static void told(unsigned which, pm_step step) {
     ends += step.kind > PM_NEXT && step.kind <= PM_LEARNED;
 }
 
-/* What is to be sent goes to the converter, and what comes of it to the host, or to the course. */
-static void exchange(pm_host *host, int is_course) {
-    unsigned fate = draw(10);
+/* How many steps of stairs there are, or have room. */
+static unsigned draw_count(void) {
+    return draw(8) ? STEPS_OF_STAIRS : draw(STEPS_OF_STAIRS);
+}
+
+/* Who hands out a frame and hears what became of it. */
+enum { BY_HOST, BY_COURSE, BY_STAIRS };
+
+/* What is to be sent goes to the converter, and what comes of it to the host, or to the course or the stairs. */
+static void exchange(pm_host *host, int by) {
+    unsigned fate = draw(10), steps = by == BY_STAIRS ? draw_count() : 0, backs = by == BY_STAIRS ? draw_count() : 0;
     memset(&out.sending, (int)draw(256), sizeof out.sending);
-    if (is_course)
+    if (by == BY_COURSE)
         heard(61, pm_course_frame(&asked.course, host, &out.sending), 255);
+    else if (by == BY_STAIRS)
+        heard(79, pm_stairs_ask(&stood.stairs, host, stood.steps, steps, stood.backs, backs, &out.sending), 255);
     else
         heard(9, pm_host_frame(host, &out.sending), 255);
     wrote(&out.sending, sizeof out.sending);
@@ -264,10 +279,12 @@ static void exchange(pm_host *host, int is_course) {
     unsigned answer = fate == 1 ? 0 : hear(out.sending.bytes, count, is_request);
     if (!is_request) {
         uint8_t acked = (uint8_t)(fate == 2 ? draw(256) : answer == PM_HEARD_TAKEN ? 1 + draw(255) : 0);
-        if (is_course && fate > 5)
-            told(76, pm_course_after_write(&asked.course, host, acked, (uint8_t)draw(3), &out.sending));
-        else if (is_course)
+        if (by == BY_COURSE && fate > 5)
+            told(84, pm_course_after_write(&asked.course, host, acked, (uint8_t)draw(3), &out.sending));
+        else if (by == BY_COURSE)
             told(62, pm_course_write_ended(&asked.course, host, acked));
+        else if (by == BY_STAIRS)
+            told(80, pm_stairs_write_ended(&stood.stairs, host, acked));
         else
             told(10, pm_host_write_ended(host, acked));
         return;
@@ -279,11 +296,13 @@ static void exchange(pm_host *host, int is_course) {
         damage(at, count);
     if (fate == 4)
         count = draw(ROOM - 4);
-    if (is_course && fate > 5) {
-        told(77, pm_course_after_read(&asked.course, host, at, count, (uint8_t)draw(3), &out.sending));
+    if (by == BY_COURSE && fate > 5) {
+        told(85, pm_course_after_read(&asked.course, host, at, count, (uint8_t)draw(3), &out.sending));
         wrote(&out.sending, sizeof out.sending);
-    } else if (is_course)
+    } else if (by == BY_COURSE)
         told(63, pm_course_read_ended(&asked.course, host, at, fate == 5 ? 0 : count));
+    else if (by == BY_STAIRS)
+        told(81, pm_stairs_read_ended(&stood.stairs, host, at, fate == 5 ? 0 : count));
     else
         told(11, pm_host_read_ended(host, at, fate == 5 ? 0 : count));
 }
@@ -371,7 +390,7 @@ static void rails(pm_host *host) {
         break;
     default: /* frame after frame: it mostly ends */
         for (unsigned frames = draw(40); frames; frames--)
-            exchange(host, 1);
+            exchange(host, BY_COURSE);
         heard(59, pm_course_ended(course, &out.end), 255); break;
     }
     add_bytes(&out, sizeof out);
@@ -443,6 +462,58 @@ static void deliveries(const pm_host *host) {
     }
     add_bytes(&out, sizeof out);
     add_halves((const uint16_t *)&looked, sizeof looked / 2);
+}
+
+/* A wish and a step of stairs, most times such as there are. */
+static pm_stairs_wish draw_wish(void) {
+    pm_stairs_wish wish;
+    memset(&wish, 0, sizeof wish);
+    wish.kind = (uint16_t)(draw(16) ? draw(3) : draw(65536));
+    wish.word = draw_word();
+    wish.microvolts = draw_microvolts();
+    return wish;
+}
+
+static pm_stairs_step draw_step(void) {
+    pm_stairs_step step;
+    memset(&step, 0, sizeof step);
+    step.host = (uint8_t)(draw(8) ? draw(HOSTS) : draw(256));
+    step.output = draw_output();
+    step.kind = (uint8_t)(draw(16) ? 1 + draw(2) : draw(256));
+    step.byte = (uint8_t)(draw(2) ? draw(2) * 0x80 : draw(256));
+    step.command = draw_wish();
+    step.max = draw_wish();
+    step.margin_high = draw_wish();
+    step.margin_low = draw_wish();
+    step.min = draw_wish();
+    return step;
+}
+
+/* Stairs over the hosts. */
+static void stairs(pm_host *host) {
+    uint16_t tries = (uint16_t)(draw(8) ? 4 + draw(40) : draw(65536));
+    uint8_t is_down = (uint8_t)(draw(2) ? 0 : 1 + draw(255));
+    memset(&out, (int)draw(256), sizeof out);
+    switch (draw(10)) {
+    case 0: pm_stairs_new(&stood.stairs, tries, is_down); heard(78, 0, 255); break;
+    case 1: heard(82, pm_stairs_skip(&stood.stairs), 255); break;
+    case 2: heard(83, pm_stairs_check(host, &stood.steps[draw(STEPS_OF_STAIRS)], &stood.end), 255); break;
+    case 3: heard(76, (uint32_t)pm_stairs_size() ^ (uint32_t)(pm_stairs_size() >> 32), UINT32_MAX);
+        heard(77, pm_stairs_version(), 65535); break;
+    case 4:
+        for (unsigned i = 0; i < STEPS_OF_STAIRS; i++)
+            stood.steps[i] = draw_step();
+        break;
+    case 5:
+        if (draw(8) == 0)
+            damage((uint8_t *)&stood.stairs, sizeof stood.stairs);
+        break;
+    default: /* frame after frame, by the host that they name */
+        for (unsigned frames = draw(40); frames; frames--)
+            exchange(draw(16) ? host_at(stood.stairs.host % HOSTS) : host, BY_STAIRS);
+        break;
+    }
+    add_halves((const uint16_t *)&stood, sizeof stood / 2);
 }
 
 static void numbers(void) {
@@ -551,9 +622,11 @@ static void step(void) {
     else if (kind < 21)
         begin(host);
     else if (kind < 56)
-        exchange(host, 0);
-    else if (kind < 61)
+        exchange(host, BY_HOST);
+    else if (kind < 60)
         rails(host);
+    else if (kind < 61)
+        stairs(host);
     else if (kind < 64)
         deliveries(host);
     else if (kind < 70)
@@ -584,6 +657,7 @@ static int life(unsigned number, uint32_t steps) {
     memset(memory, 0, sizeof memory);
     memset(&kept, 0, sizeof kept);
     memset(&looked, 0, sizeof looked);
+    memset(&stood, 0, sizeof stood);
     memset(&out, 0, sizeof out);
     new_part();
     for (uint32_t i = 0; i < steps; i++)
