@@ -9,7 +9,7 @@ use Rattle.pm_host_c.proofs.course.hear.Goals as goal
 
 pub returns-clause-there : goal.returns-clause-there
 returns-clause-there c =
-    let state = c.told_with-progress.new.self in
+    let state = c.told_with-progress.new.host in
     let now = held (stage_after c.told_with-progress.result) state in
     let there : host_of c.write_stage.new.self ≡ Some now =
     c.write_stage.ensures.host ∙ ap (λ (at : Option Stage). Some (held at state)) c.stage.ensures in
@@ -17,7 +17,7 @@ returns-clause-there c =
 
 pub returns-clause-current : goal.returns-clause-current
 returns-clause-current c =
-    let state = c.told_with-progress.new.self in
+    let state = c.told_with-progress.new.host in
     let now = held (stage_after c.told_with-progress.result) state in
     let there : host_of c.write_stage.new.self ≡ Some now =
     c.write_stage.ensures.host ∙ ap (λ (at : Option Stage). Some (held at state)) c.stage.ensures in
@@ -25,7 +25,7 @@ returns-clause-current c =
 
 pub returns-clause-sound : goal.returns-clause-sound
 returns-clause-sound c =
-    let state = c.told_with-progress.new.self in
+    let state = c.told_with-progress.new.host in
     let now = held (stage_after c.told_with-progress.result) state in
     let there : host_of c.write_stage.new.self ≡ Some now =
     c.write_stage.ensures.host ∙ ap (λ (at : Option Stage). Some (held at state)) c.stage.ensures in
@@ -33,7 +33,7 @@ returns-clause-sound c =
 
 pub returns-clause-after : goal.returns-clause-after
 returns-clause-after c =
-    let state = c.told_with-progress.new.self in
+    let state = c.told_with-progress.new.host in
     let now = held (stage_after c.told_with-progress.result) state in
     let there : host_of c.write_stage.new.self ≡ Some now =
     c.write_stage.ensures.host ∙ ap (λ (at : Option Stage). Some (held at state)) c.stage.ensures in
