@@ -23,7 +23,7 @@ use pm_host::{JobEnd, Progress, Question, Stage, State, Told};
 use pm_table::Cell;
 
 impl FrameCourse {
-    /// A host's state is told what became of the frame of a stage, and the course hears it: if the job still stands.
+    /// A host's state hears what became of the frame of a stage, and so does the course: if the job still stands.
     pub fn told_with(&mut self, host: &mut State, stage: Stage, told: Told<'_>) -> Progress
         requires sound { IsSound (held (Some stage) host.old) }
         requires awaited { is_awaited stage told ≡ true }
@@ -45,7 +45,7 @@ impl FrameCourse {
         }
     }
 
-    // The same of any frame: what came back for a request is read here too.
+    // What came back for a request is read here once more, beside the host.
     fn noticed_with(&mut self, host: &mut State, stage: Stage, told: Told<'_>) -> Progress
         requires sound { IsSound (held (Some stage) host.old) }
         requires awaited { is_awaited stage told ≡ true }
@@ -65,7 +65,7 @@ impl FrameCourse {
         progress
     }
 
-    // The same of what came back for a check, which the host alone reads if it is good: the check is done then, and only then.
+    // A good answer to a check is read by the host alone: the check is done then, and only then.
     fn checked_with(&mut self, host: &mut State, cell: Cell, tries: u8, bytes: &[u8]) -> Progress
         requires sound { IsSound (held (Some (Asks (Word cell) tries)) host.old) }
         ensures sound { IsSound (held (stage_after result) host.new) }
