@@ -279,9 +279,10 @@ static void exchange(pm_host *host, int by) {
     unsigned answer = fate == 1 ? 0 : hear(out.sending.bytes, count, is_request);
     if (!is_request) {
         uint8_t acked = (uint8_t)(fate == 2 ? draw(256) : answer == PM_HEARD_TAKEN ? 1 + draw(255) : 0);
-        if (by == BY_COURSE && fate > 5)
+        if (by == BY_COURSE && fate > 5) {
             told(84, pm_course_after_write(&asked.course, host, acked, (uint8_t)draw(3), &out.sending));
-        else if (by == BY_COURSE)
+            wrote(&out.sending, sizeof out.sending);
+        } else if (by == BY_COURSE)
             told(62, pm_course_write_ended(&asked.course, host, acked));
         else if (by == BY_STAIRS)
             told(80, pm_stairs_write_ended(&stood.stairs, host, acked));

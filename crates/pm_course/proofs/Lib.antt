@@ -1,3 +1,4 @@
 -- Lemmas of this crate.
 mod Awaited
+mod Good
 mod Says

@@ -1,11 +1,16 @@
 -- Which answers show that the part restarted or was exchanged. This project's own choice.
-use Rattle.std.specs.Prelude.{ℕ, Bool, false, not, List, Option, Some, None}
+use Rattle.std.specs.Prelude.{ℕ, Bool, true, false, not, List, Option, Some, None}
 use Rattle.pm_table.specs.declared.cell.Cell.{Cell}
 use Rattle.pm_host.specs.declared.question.Question.{Question}
 use Rattle.pm_host.specs.declared.question.Question.TheVariants.{Word, Mode, Coefficients}
 use Rattle.pm_host.specs.declared.stage.Stage.{Stage}
 use Rattle.pm_host.specs.declared.stage.Stage.TheVariants.{Writes, Reads, Asks, Sends}
+use Rattle.pm_frame.specs.View.{answer_payload}
+use Rattle.pm_host.specs.declared.host.Step.{Step}
+use Rattle.pm_host.specs.declared.host.Step.TheVariants.{Next, Ended}
+use Rattle.pm_host.specs.declared.job.JobEnd.TheVariants.{Done}
 use Rattle.pm_host.specs.Answers.{good_word, word_in}
+use Rattle.pm_host.specs.Messages.{cell_read as cell_read_by}
 use Rattle.pm_host.specs.Possible.{is_possible}
 use Rattle.pm_host.specs.Summary.{Summary, possible_at}
 use Rattle.pm_host.specs.Transcript.{Entry, Accepted, Finished, Got, Restarted}
@@ -43,3 +48,12 @@ surprises s stage (Got bytes) = surprises_at s (cell_read stage) bytes
 surprises s stage (Accepted job) = false
 surprises s stage (Finished acked) = false
 surprises s stage Restarted = false
+
+-- a job has ended well
+abbrev pub is_done : Step → Bool
+is_done (Ended Done) = true
+is_done step = false
+
+-- the cell of a check couldn't hold the word that came back, if the answer is good
+abbrev pub looks_new : Summary → Cell → List ℕ → Bool
+looks_new s cell bytes = is_new s (Some cell) (answer_payload (cell_read_by cell) bytes)

@@ -33,7 +33,14 @@ impl FrameCourse {
     }
 
     /// Hears it by what [`notices`](crate::notices) found, so that an answer is read once.
-    pub fn heard_so(&mut self, address: u8, stage: Stage, told: Told<'_>, noticed: Noticed, step: Step)
+    pub fn heard_so(
+        &mut self,
+        address: u8,
+        stage: Stage,
+        told: Told<'_>,
+        noticed: Noticed,
+        step: Step,
+    )
         requires address { IsAddress address }
         requires word { HasWord stage }
         requires awaited { is_awaited stage told ≡ true }
@@ -131,8 +138,8 @@ fn entry_fault(address: u8, stage: Stage, told: Told<'_>) -> Option<AnswerFault>
     }
 }
 
-// What is wrong with the bytes that came back for a request.
-fn bytes_fault(address: u8, stage: Stage, bytes: &[u8]) -> Option<AnswerFault>
+/// What is wrong with the bytes that came back for a request.
+pub(crate) fn bytes_fault(address: u8, stage: Stage, bytes: &[u8]) -> Option<AnswerFault>
     requires address { IsAddress address }
     requires word { HasWord stage }
     requires read { is_read_message (stage_message stage) ≡ true }

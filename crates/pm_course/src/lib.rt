@@ -21,6 +21,7 @@ mod frame_course;
 mod frames;
 mod heard;
 mod surprise;
+mod told;
 mod voltages;
 mod wish;
 mod words;

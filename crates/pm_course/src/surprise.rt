@@ -1,6 +1,6 @@
 //! An answer that shows that the part restarted or was exchanged.
 
-ghost use Rattle.std.specs.Prelude.{◌≡◌, true, Some};
+ghost use Rattle.std.specs.Prelude.{◌≡◌, true, Some, None};
 ghost use Rattle.pm_table.specs.Cell.{IsCell};
 ghost use Rattle.pm_host.specs.Answers.{word_in as spec_word_in};
 ghost use Rattle.pm_host.specs.Image.{held};
@@ -11,7 +11,9 @@ ghost use Rattle.pm_host.specs.Told.{entry_told, is_awaited};
 ghost use Rattle.pm_frame.specs.Layout.{is_read_message};
 ghost use Rattle.pm_host.specs.Summary.{stage_message};
 ghost use Rattle.pm_course.specs.Heard.{bytes_fault, entry_fault};
-ghost use Rattle.pm_course.specs.Surprise.{cell_read as spec_cell_read, is_new as is_new_in, surprises as spec_surprises, surprises_at};
+ghost use Rattle.pm_course.specs.Surprise.{cell_read as spec_cell_read, is_new as is_new_in, looks_new as spec_looks_new, surprises as spec_surprises, surprises_at};
+ghost use Rattle.pm_frame.specs.View.{answer_payload};
+ghost use Rattle.pm_host.specs.Messages.{cell_read as message_of};
 
 use crate::answer_fault::AnswerFault;
 use pm_frame::read_answer;
@@ -103,6 +105,29 @@ fn cell_read(stage: Stage) -> Option<Cell>
             Question::Mode(_) | Question::Coefficients(_) => None,
         },
         Stage::Writes { .. } | Stage::Sends { .. } => None,
+    }
+}
+
+/// Whether a cell couldn't hold the word that came back for a check of it, if the answer is good. That isn't judged here.
+pub(crate) fn looks_new(host: &State, cell: Cell, bytes: &[u8]) -> bool
+    requires { IsCell 8 cell }
+    ensures { result ≡ spec_looks_new (held None host.now) cell bytes.now }
+{
+    !is_possible(host, cell, word_in(payload_in(cell, bytes)))
+}
+
+// What stands where the payload of a good answer does.
+fn payload_in<'a>(cell: Cell, bytes: &'a [u8]) -> &'a [u8]
+    ensures { result.now ≡ answer_payload (message_of cell) bytes.entry.now }
+{
+    let place = match cell {
+        Cell::Out(..) => 2,
+        Cell::Protect => 1,
+    };
+    if bytes.len() <= place {
+        &bytes[..0]
+    } else {
+        &bytes[place..bytes.len() - 1]
     }
 }
 

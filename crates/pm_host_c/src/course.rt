@@ -28,7 +28,7 @@ use crate::numbers::{ACCEPTED, ENDED, NO_COURSE, NO_HOST, OTHER_FRAME};
 use crate::sending_image::SendingImage;
 use crate::told::send;
 use crate::wanted_image::WantedImage;
-use pm_course::{CourseEnd, CourseNext, FrameCourse, Refusal, Wishes, notices};
+use pm_course::{CourseEnd, CourseNext, FrameCourse, Refusal, Wishes};
 use pm_host::{HostFault, Job, Progress, Stage, Told};
 use pm_limits::LimitFault;
 use pm_table::{Cell, Code, Reg, cell_of};
@@ -438,11 +438,8 @@ fn hear(host: &mut GuardImage, asked: &mut FrameCourse, stage: Stage, told: Told
     ensures registers { host.new.registers ≡ host.old.registers }
     ensures written { IsMemory host.old → IsMemory host.new }
 {
-    let address = host.host.state.address;
-    let noticed = notices(&host.host.state, stage, told);
-    let progress = host.host.state.told(stage, told);
+    let progress = asked.told_with(&mut host.host.state, stage, told);
     host.host.write_stage(progress.stage());
-    asked.heard_so(address, stage, told, noticed, progress.step());
     progress
 }
 

@@ -3,9 +3,10 @@
 use super::calls::{NOTHING, host};
 use super::checks::equal;
 use crate::course::{
-    CourseJobImage, pm_course_accept, pm_course_after_read, pm_course_after_write, pm_course_ended, pm_course_frame, pm_course_job_now,
-    pm_course_microvolts, pm_course_next, pm_course_power, pm_course_read_ended, pm_course_size,
-    pm_course_survey, pm_course_version, pm_course_want, pm_course_words, pm_course_write_ended,
+    CourseJobImage, pm_course_accept, pm_course_after_read, pm_course_after_write, pm_course_ended,
+    pm_course_frame, pm_course_job_now, pm_course_microvolts, pm_course_next, pm_course_power,
+    pm_course_read_ended, pm_course_size, pm_course_survey, pm_course_version, pm_course_want,
+    pm_course_words, pm_course_write_ended,
 };
 use crate::course_end_image::CourseEndImage;
 use crate::course_image::CourseImage;
@@ -251,18 +252,58 @@ fn after_read(course: &mut CourseImage, host: &mut GuardImage, bytes: &[u8]) -> 
 fn a_course_is_told_and_hands_out_what_is_next(rt: HostRuntime) {
     let mut image = host(1);
     let mut course = blank();
-    equal(&rt, &after_write(&mut course, &mut image, 1), &(0xE9, 0, 0, 0), &1);
+    equal(
+        &rt,
+        &after_write(&mut course, &mut image, 1),
+        &(0xE9, 0, 0, 0),
+        &1,
+    );
     equal(&rt, &pm_course_power(&mut course, 0, 0x00, 3), &0, &2);
     let mut none = GuardImage::blank();
-    equal(&rt, &after_read(&mut course, &mut none, &[]), &(0xE0, 0, 0, 0), &3);
-    equal(&rt, &after_read(&mut course, &mut image, &[]), &(0xE2, 0, 0, 0), &4);
+    equal(
+        &rt,
+        &after_read(&mut course, &mut none, &[]),
+        &(0xE0, 0, 0, 0),
+        &3,
+    );
+    equal(
+        &rt,
+        &after_read(&mut course, &mut image, &[]),
+        &(0xE2, 0, 0, 0),
+        &4,
+    );
     equal(&rt, &frame(&mut course, &mut image), &(0, 1, 0x01), &5);
-    equal(&rt, &after_read(&mut course, &mut image, &[]), &(0xE2, 0, 0, 0), &6);
-    equal(&rt, &after_write(&mut course, &mut image, 1), &(0, 0, 2, 0x01), &7);
-    equal(&rt, &after_read(&mut course, &mut image, &[]), &(3, 0, 1, 0x01), &8);
-    equal(&rt, &after_write(&mut course, &mut image, 0), &(0, 0, 2, 0x01), &9);
+    equal(
+        &rt,
+        &after_read(&mut course, &mut image, &[]),
+        &(0xE2, 0, 0, 0),
+        &6,
+    );
+    equal(
+        &rt,
+        &after_write(&mut course, &mut image, 1),
+        &(0, 0, 2, 0x01),
+        &7,
+    );
+    equal(
+        &rt,
+        &after_read(&mut course, &mut image, &[]),
+        &(3, 0, 1, 0x01),
+        &8,
+    );
+    equal(
+        &rt,
+        &after_write(&mut course, &mut image, 0),
+        &(0, 0, 2, 0x01),
+        &9,
+    );
     let read = [0xB1, 0x01, 0x00, 0x00];
-    equal(&rt, &after_read(&mut course, &mut image, &read), &(3, 0x35, 1, 0x01), &10);
+    equal(
+        &rt,
+        &after_read(&mut course, &mut image, &read),
+        &(3, 0x35, 1, 0x01),
+        &10,
+    );
 }
 
 #[test]
@@ -273,7 +314,12 @@ fn a_course_that_stops_waits_before_an_order(rt: HostRuntime) {
     equal(&rt, &pm_course_power(&mut course, 0, 0x00, 3), &0, &1);
     equal(&rt, &frame(&mut course, &mut image), &(0, 1, 0x01), &2);
     let step = pm_course_after_write(&mut course, &mut image, 1, 1, &mut sending);
-    equal(&rt, &(step.kind, sending.kind, code_of(&sending)), &(0, 2, 0x01), &3);
+    equal(
+        &rt,
+        &(step.kind, sending.kind, code_of(&sending)),
+        &(0, 2, 0x01),
+        &3,
+    );
     let step = pm_course_after_read(&mut course, &mut image, &[], 1, &mut sending);
     equal(&rt, &(step.kind, sending.kind), &(3, 0), &4);
     equal(&rt, &job_now(&course), &(0, 0, 0, 0), &5);

@@ -9,32 +9,32 @@ use Rattle.pm_host_c.proofs.course.hear.Goals as goal
 
 pub returns-clause-there : goal.returns-clause-there
 returns-clause-there c =
-    let state = c.told-progress.new.self in
-    let now = held (stage_after c.told-progress.result) state in
+    let state = c.told_with-progress.new.host in
+    let now = held (stage_after c.told_with-progress.result) state in
     let there : host_of c.write_stage.new.self ≡ Some now =
     c.write_stage.ensures.host ∙ ap (λ (at : Option Stage). Some (held at state)) c.stage.ensures in
     there ∙ ap (λ (s : Summary). Some s) (sym (held-of c.write_stage.new.self now there).whole)
 
 pub returns-clause-current : goal.returns-clause-current
 returns-clause-current c =
-    let state = c.told-progress.new.self in
-    let now = held (stage_after c.told-progress.result) state in
+    let state = c.told_with-progress.new.host in
+    let now = held (stage_after c.told_with-progress.result) state in
     let there : host_of c.write_stage.new.self ≡ Some now =
     c.write_stage.ensures.host ∙ ap (λ (at : Option Stage). Some (held at state)) c.stage.ensures in
     (held-of c.write_stage.new.self now there).current
 
 pub returns-clause-sound : goal.returns-clause-sound
 returns-clause-sound c =
-    let state = c.told-progress.new.self in
-    let now = held (stage_after c.told-progress.result) state in
+    let state = c.told_with-progress.new.host in
+    let now = held (stage_after c.told_with-progress.result) state in
     let there : host_of c.write_stage.new.self ≡ Some now =
     c.write_stage.ensures.host ∙ ap (λ (at : Option Stage). Some (held at state)) c.stage.ensures in
-    subst (λ (s : Summary). IsSound s) (sym (held-of c.write_stage.new.self now there).whole) c.told-progress.ensures.sound
+    subst (λ (s : Summary). IsSound s) (sym (held-of c.write_stage.new.self now there).whole) c.told_with-progress.ensures.sound
 
 pub returns-clause-after : goal.returns-clause-after
 returns-clause-after c =
-    let state = c.told-progress.new.self in
-    let now = held (stage_after c.told-progress.result) state in
+    let state = c.told_with-progress.new.host in
+    let now = held (stage_after c.told_with-progress.result) state in
     let there : host_of c.write_stage.new.self ≡ Some now =
     c.write_stage.ensures.host ∙ ap (λ (at : Option Stage). Some (held at state)) c.stage.ensures in
-    (held-of c.write_stage.new.self now there).whole ∙ c.told-progress.ensures.after
+    (held-of c.write_stage.new.self now there).whole ∙ c.told_with-progress.ensures.after
