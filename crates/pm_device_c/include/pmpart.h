@@ -15,9 +15,9 @@
  * The library takes no memory, keeps nothing between calls, calls nothing and never blocks.
  *
  * A part lives in memory of yours, a pm_part, with no pointer in it, so it may be copied. Any bytes may stand there:
- * each call but pm_part_new, which makes one, asks first whether it is a part, and answers PM_NO_PART if the mark or
- * the version is another, the configuration is one that pm_part_new refuses, PAGE names no output, a cell doesn't
- * accept its word, or WRITE_PROTECT has another word in the store than its start. */
+ * pm_part_new makes a part of them, and each other call asks first whether it is one. It answers PM_NO_PART if the mark or
+ * the version is another, or the configuration is one that pm_part_new refuses. It answers it, too, if PAGE names no output, a
+ * cell doesn't accept its word, or WRITE_PROTECT has another word in the store than its start. */
 #ifndef PM_PART_H
 #define PM_PART_H
 
@@ -49,7 +49,7 @@ enum {
 };
 
 /* What a part makes of a frame: silence, if it is for another device; a write that is taken; a read that is
- * answered; or a refusal, which changes no setting, no word in the store and no PAGE, and sets one bit of
+ * answered; or a refusal. A refusal changes no setting, no word in the store and no PAGE, and sets one bit of
  * STATUS_CML. */
 enum {
     PM_HEARD_SILENT = 0x81,
@@ -105,7 +105,7 @@ typedef struct { uint8_t length; uint8_t frame_fault; uint8_t bytes[16]; } pm_pa
 uint8_t pm_part_hear(pm_part *part, const uint8_t *bytes, uint64_t count, uint8_t is_request, pm_part_reply *reply);
 
 /* It restarts, as after a loss of its supply: the outputs' cells have their words in the store, WRITE_PROTECT its start
- * word, PAGE is 0, and what is latched is clear but for what shows at once. The store and the readings stay.
+ * word, and PAGE is 0. Latched bits are clear but for those that show at once. The store and the readings stay.
  * PM_NO_PART. */
 uint8_t pm_part_restart(pm_part *part);
 
@@ -122,7 +122,7 @@ uint8_t pm_part_stored_word(const pm_part *part, uint8_t output, uint8_t code, u
 /* PAGE. PM_NO_PART. */
 uint8_t pm_part_page(const pm_part *part, uint8_t *page);
 
-/* The whole microvolts that an output commands, on or off, rounded down. PM_NO_PART, PM_PART_NO_OUTPUT,
+/* The voltage that an output commands, on or off, in microvolts, rounded down. PM_NO_PART, PM_PART_NO_OUTPUT,
  * PM_PART_TOO_LARGE. */
 uint8_t pm_part_commanded_microvolts(const pm_part *part, uint8_t output, int64_t *microvolts);
 

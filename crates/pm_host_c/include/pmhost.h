@@ -16,17 +16,17 @@
  *
  * The library takes no memory, keeps nothing between calls, calls nothing and never blocks.
  *
- * A host lives in memory of yours, a pm_host. Any bytes may stand there: each call but pm_host_new and
- * pm_host_new_with, which make one, asks first whether it is a host, and answers PM_NO_HOST if it isn't, as for zeros and for a
- * host of another version. It looks at the mark, the version, the setup and the stage of the open job, 13 of
- * the 2,064 bytes, and while an order is open at what is known of its cell; at nothing else. So most damage
- * isn't noticed: of flipped bits and overwritten bytes about 0.4 %. Damaged memory that still reads as a
- * host is safe to use, and what it says may be wrong; its limits may be others, or unknown. Keep it from others.
+ * A host lives in memory of yours, a pm_host. Any bytes may stand there: pm_host_new and pm_host_new_with make a
+ * host of them. Each other call asks first whether it is a host, and answers PM_NO_HOST if it isn't, as for zeros and for a
+ * host of another version. It looks at 13 of the 2,064 bytes: the mark, the version, the setup and the stage of the open
+ * job. While an order is open it looks at what is known of its cell, too. Most damage isn't noticed: of flipped bits and
+ * overwritten bytes about 0.4 %. Damaged memory that still reads as a host is safe to use, and what it says may be wrong; its
+ * limits may be others, or unknown. Keep it from others.
  *
  * What stands in a pm_host is a function of what it holds: two hosts that were made and used the same are equal byte for
  * byte. It holds no pointer, so it may be copied, and kept over a sleep or a warm reset. Who keeps one
- * keeps a checksum with it, as a CRC-32 over all PM_HOST_SIZE bytes: taken before the sleep, or after each
- * call that changes the host if a reset may come at any time, and compared before the first call
+ * keeps a checksum with it, as a CRC-32 over all PM_HOST_SIZE bytes. Take it before the sleep, or after each
+ * call that changes the host if a reset may come at any time. Compare it before the first call
  * afterwards. If the two differ, make a new host by pm_host_new, and narrow its limits again. */
 #ifndef PM_H
 #define PM_H
@@ -51,9 +51,9 @@ extern "C" {
 /* The version of the library, the greater part in the upper byte; pm_version answers that of the one that was linked. */
 #define PM_VERSION 0x0001
 
-/* The versions of the layouts of a host, a course and a delivery, their sizes in bytes, and the stack that a call takes at most:
- * PM_STACK, and PM_NAME_STACK of pm_refusal_name, in which a loader may bind memmove. docs/c.md has what calls take on each
- * processor, and an archive says its own bound as stack-bytes in its section .comment. */
+/* The versions of the layouts of a host, a course and a delivery, and their sizes in bytes. A call takes at most PM_STACK bytes of
+ * stack, and pm_refusal_name PM_NAME_STACK, since a loader may bind memmove in it. docs/c.md has what calls take on each
+ * processor. An archive says its own bound as stack-bytes in its section .comment. */
 #define PM_HOST_VERSION 6
 #define PM_HOST_SIZE 2064
 #define PM_COURSE_VERSION 1
@@ -217,10 +217,10 @@ typedef char pm_course_has_its_size[sizeof(pm_course) == PM_COURSE_SIZE ? 1 : -1
 /* How a course ended; kind 0 if it goes on. */
 enum {
     PM_REACHED = 1,       /* each wanted word is held and the output commands what it is to, by answers that all came after the last
-                           * order; of a survey: all that decides what the output commands is known; of a byte that turns the output
-                           * off: its order was read back. Each unless the part restarted since the course began: then an output with
-                           * wanted words commands a value between its start value and what is wanted, or as far as the wanted limits
-                           * if the stored VOUT_MAX or VOUT_MIN cuts the stored word */
+                           * order. Of a survey: all that decides what the output commands is known. Of a byte that turns the output
+                           * off: its order was read back. None of this is promised if the part restarted since the course began. An
+                           * output with wanted words then commands a value between its start value and what is wanted, or as far
+                           * as the wanted limits if the stored VOUT_MAX or VOUT_MIN cuts the stored word */
     PM_REFUSED = 2,       /* `number` says why, and `code` of which register, or 0. Nothing more is ordered, and before the first
                            * order nothing was written */
     PM_STILL_DIFFERS = 3, /* an order of the register `code` was read back as another word a second time, now as `word` */
@@ -342,19 +342,19 @@ uint64_t pm_delivery_size(void);
 uint16_t pm_delivery_version(void);
 
 /* Makes a host, whatever stood in the memory, for the device at this address, 08h to 77h, which has this
- * many outputs, 1 to 8; a job has at most this many passes or tries, 1 to 15. Nothing is known, no limits either: give each
+ * many outputs, 1 to 8. A job has at most this many passes or tries, 1 to 15. Nothing is known, no limits either: give each
  * output some, or say by pm_host_no_limits that it has none. PM_NO_ADDRESS, H1, H2, the first that applies. */
 PM_MUST_USE
 uint8_t pm_host_new(pm_host *host, uint8_t address, uint8_t outputs, uint8_t passes);
 
-/* The same of a part that lacks registers. A missing VOUT_MIN or VOUT_MAX stands at the end of the output's format, if it
- * cuts nothing, and is never read by a survey; a job on a missing register, and an order of OPERATION that selects a missing
- * margin, is refused (L7). pm_host_new makes a host of a part that has all. PM_NO_ADDRESS, H1, H2. */
+/* Makes a host of a part that lacks registers; pm_host_new makes one of a part that has all. A missing VOUT_MIN or VOUT_MAX stands
+ * at the end of the output's format, since it cuts nothing, and no survey reads it. A job on a missing register is refused, and
+ * an order of OPERATION that selects a missing margin (L7). PM_NO_ADDRESS, H1, H2. */
 PM_MUST_USE
 uint8_t pm_host_new_with(pm_host *host, uint8_t address, uint8_t outputs, uint8_t passes, const pm_registers *registers);
 
 /* Gives an output limits, or narrower ones than it has: a least and a most in microvolts. From then on every order for
- * the output is judged by them, however it is asked: a voltage (VOUT_COMMAND, VOUT_MAX, VOUT_MIN, the margins) by the
+ * the output is judged by them, however it is asked. A voltage (VOUT_COMMAND, VOUT_MAX, VOUT_MIN, the margins) is judged by the
  * value of the word that would be sent, and a byte of OPERATION that leaves the output on by the band that would then
  * hold. Turning an output off is never refused by a limit. pm_host_restart keeps limits, pm_host_new drops them. A
  * word that was ordered before stays possible, and what the part or its store holds no host knows: check the
@@ -489,9 +489,9 @@ uint8_t pm_course_want(pm_course *course, uint8_t code, int64_t microvolts);
 /* For parts that round. The word that a register holds is wanted in the place of what was, and the course begins anew, by the tries that
  * are left: carry it out again. The register is the one of which an order differed, or else the first of which something is wanted. What
  * was wanted as a voltage stays one, of whole microvolts that mean just this word; of a word its value counts, rounded down. PM_NO_HOST,
- * PM_NO_COURSE, H4; H3 while a job is open, P1, P4 if the word isn't known, P9 if nothing is wanted, if its value is more than so many
- * microvolts away from what was, or if no whole microvolts mean it, L3 or L4 by the limits; then nothing changes. Of a rounded word it is
- * tested, and not proved, what the rail commands. */
+ * PM_NO_COURSE, H4; H3 while a job is open, P1, P4 if the word isn't known, P9, L3 or L4 by the limits; then nothing changes. P9 comes if
+ * nothing is wanted, if the word's value is more than so many microvolts away from what was, and if no whole microvolts mean it.
+ * What the rail commands by a rounded word is tested, and not proved. */
 PM_MUST_USE
 uint8_t pm_course_accept(pm_course *course, const pm_host *host, uint32_t microvolts);
 
@@ -518,8 +518,8 @@ uint8_t pm_course_next(const pm_course *course, const pm_host *host, pm_course_j
  * written. */
 uint8_t pm_course_job_now(const pm_course *course, pm_course_job *job);
 
-/* The word that a course asks for of VOUT_COMMAND, VOUT_MARGIN_HIGH or VOUT_MARGIN_LOW, by the format that the host knows now; of a course
- * to a byte that leaves the output on, the word that the register is known to hold that the byte selects. PM_NO_GOAL if it has none
+/* The word that a course asks for of VOUT_COMMAND, VOUT_MARGIN_HIGH or VOUT_MARGIN_LOW, by the format that the host knows now. Of a course
+ * to a byte that leaves the output on it is the word that the selected register is known to hold. PM_NO_GOAL if it has none
  * of this register. PM_NO_HOST, PM_NO_COURSE, H4, PM_NO_CELL; then nothing is written. */
 PM_MUST_USE
 uint8_t pm_course_goal(const pm_course *course, const pm_host *host, uint8_t code, uint16_t *word);
@@ -584,16 +584,16 @@ uint8_t pm_end_name(uint16_t kind, pm_name *name);
 
 /* ---- Numbers and packets by themselves ---- */
 
-/* The whole microvolts of a word, rounded down. H7 if the format is none, N5 exactly if the word's value
+/* The voltage of a word in microvolts, rounded down. H7 if the format is none, N5 exactly if the word's value
  * is beyond 10^15 microvolts in size. */
 uint8_t pm_microvolts(const pm_format *format, uint16_t word, int64_t *microvolts);
 
 /* The word nearest to a number of microvolts. H7 if the format is none, N5, N3, N4. */
 uint8_t pm_nearest_word(const pm_format *format, int64_t microvolts, uint16_t *word);
 
-/* The word of a bound, of several the one that pm_nearest_word gives for its value: pm_at_most of the greatest value that isn't
- * above so many microvolts, N3 if each is, and above all of them the greatest's word; pm_at_least of the least value that
- * isn't below them, N4 if each is, and below all the least's word. H7 if the format is none, N5. */
+/* The word of a bound; of several words the one that pm_nearest_word gives for its value. pm_at_most gives the word of the greatest
+ * value that isn't above so many microvolts, and N3 if each value is. pm_at_least gives that of the least value that isn't below
+ * them, and N4 if each value is. H7 if the format is none, N5. */
 uint8_t pm_at_most(const pm_format *format, int64_t microvolts, uint16_t *word);
 uint8_t pm_at_least(const pm_format *format, int64_t microvolts, uint16_t *word);
 
@@ -638,13 +638,13 @@ typedef struct {
 
 /* What came back for a read of any code, whose request is the address byte and the code; the read address first. A block has a
  * count, at most 32; of a plain read so many bytes were asked for, at most 32. Of a block's 34 bytes hand over those up to its count + 3,
- * the read address in front counted, and all if the count is above 32, since all 34 of a shorter one are too many (F3).
+ * the read address in front counted: all 34 of a shorter one are too many (F3). If the count is above 32 hand over all.
  * PM_NO_ADDRESS, PM_NO_PACKET if more were asked for, F1 to F5; then nothing is written. */
 uint8_t pm_read_block(uint8_t address, uint8_t code, const uint8_t *bytes, uint64_t count, pm_block *block);
 uint8_t pm_read_plain(uint8_t address, uint8_t code, uint8_t size, const uint8_t *bytes, uint64_t count, pm_block *block);
 
-/* A read by PAGE_PLUS of any code that it carries, whether it stands in the table of pm_packet_write or not: of a byte (`size` 1), of a
- * word (2), of so many bytes up to 32, or of a block (0), whose count the answer says. The request; its `answer` is the number of
+/* A read by PAGE_PLUS of any code that it carries, whether it stands in the table of pm_packet_write or not. `size` is 1 for a byte, 2 for
+ * a word, so many bytes up to 32, or 0 for a block, whose count the answer says. The request; its `answer` is the number of
  * bytes of a whole one, of a block 35 at most. PM_NO_ADDRESS, PM_NO_PACKET for PAGE, PAGE_PLUS_WRITE, PAGE_PLUS_READ and COEFFICIENTS,
  * which PAGE_PLUS doesn't carry, and for a greater size; then nothing is written. */
 PM_MUST_USE
@@ -669,7 +669,7 @@ enum {
 
 /* A bus of yours. `write` puts a packet on it, the address byte first and the PEC last, and answers PM_ACKED, PM_NOT_ACKED
  * or PM_UNHEARD. `read` sends a request, then a repeated start and the read address, and writes what comes after that to
- * `answer`, whose `room` bytes are 0 before: it answers how many bytes came, 0 if none did or the transfer failed. A HAL
+ * `answer`, whose `room` bytes are 0 before. It answers how many bytes came, 0 if none did or the transfer failed. A HAL
  * that sends the address by itself is handed the bytes after it. Neither call may try again by itself, nor hand over an
  * older answer. */
 typedef uint8_t (*pm_write)(void *context, const uint8_t *bytes, uint64_t count);
@@ -708,8 +708,8 @@ static inline int pm_silence_lasts(pm_silence *silence) {
 }
 
 /* Asks all that a delivery has to ask. `pause` may be NULL. A part that gives no answer at all for READ_VOUT in two rounds is asked no more
- * for that; one that gives none for STATUS_WORD, with the look before an order as a round, is asked nothing more, and the verdict stays
- * PM_NOT_YET. 0, or why a call was refused. */
+ * for that. One that gives none for STATUS_WORD is asked nothing more, and the verdict stays PM_NOT_YET; the look before an order
+ * counts as a round. 0, or why a call was refused. */
 PM_MUST_USE
 static inline uint8_t pm_delivery_ask(pm_delivery *delivery, const pm_host *host, pm_read read, pm_pause pause, void *context) {
     pm_silence status_word = {0, 0, 0}, read_vout = {0, 0, 0};
@@ -807,8 +807,8 @@ static inline uint8_t pm_delivery_before_order(pm_delivery *delivery, const pm_c
 /* Carries a course out, or the host's open job if `course` is NULL, frame after frame, and answers the last step; PM_ENDED of a
  * course; or why a call was refused. With a `delivery`, which may be NULL, fault limits are read and judged before the course's first
  * order, and P8 stops it there, with nothing ordered. The loop ends since a job has at most twice as many frames as passes and a course
- * at most its tries of jobs, which is proved; it is C of this header, tried under rows of each kind of fault (trials/c/rows/run_rows.c,
- * trials/course) and under random ones (examples/c/faults.c, examples/c/rail.c), and isn't proved. */
+ * at most its tries of jobs, which is proved. The loop itself is C of this header, and isn't proved: it is tried under rows of each kind
+ * of fault (trials/c/rows/run_rows.c, trials/course) and under random ones (examples/c/faults.c, examples/c/rail.c). */
 static inline pm_step pm_carry_out(pm_host *host, pm_course *course, pm_delivery *delivery, pm_write write, pm_read read,
                                    void *context) {
     pm_step step = {PM_UNKNOWN, 0};

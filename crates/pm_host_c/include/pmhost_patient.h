@@ -1,7 +1,7 @@
 /* A bus over a bus of yours that waits for a busy part. Some parts are busy for milliseconds after a write, and for some
- * hundred after a store: they don't acknowledge their address, or answer nothing but FFh. Here each write is followed by a
- * question, a plain read of CAPABILITY after 10 ms and then after twice the wait each time, until an answer came that isn't of
- * ones, or the patience is spent. So the next frame meets a part that is ready. A part may note each question as a BUSY fault and
+ * hundred after a store: they don't acknowledge their address, or answer nothing but FFh. Here a question follows each write:
+ * a plain read of CAPABILITY after 10 ms, and then after twice the wait each time. It ends with an answer that isn't of
+ * ones, or with the patience. The next frame then meets a part that is ready. A part may note each question as a BUSY fault and
  * pull SMBALERT#: a `ready_code` has it asked for a byte of its own instead. A write whose address nobody acknowledged
  * (PM_UNHEARD) is sent again after such waits; a store isn't, since it wears the memory. A read is sent once. An answer of
  * nothing but FFh is handed over as none: a bus that nobody drives is high, and no true answer of the host's jobs is of nothing but

@@ -22,7 +22,7 @@ pub struct PayloadImage {
 }
 
 /// What the bytes that came back after a request say, the read address first: their PEC covers the request too. E3h,
-/// E4h where the numbers mean no request, F1 to F5.
+/// E4h if the numbers mean no request, F1 to F5.
 #[unsafe(no_mangle)]
 pub extern "C" fn pm_packet_read_answer(
     address: u8,

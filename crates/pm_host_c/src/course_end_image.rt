@@ -10,17 +10,17 @@ use pm_table::{Cell, Code, cell_of};
 #[repr(C)]
 #[derive(Clone, Copy, Debug)]
 pub struct CourseEndImage {
-    /// 0 where it goes on; 1 reached, 2 refused, 3 an order still differs, 4 no try is left, 5 another format, 6 another source.
+    /// 0 if it goes on; 1 reached, 2 refused, 3 an order still differs, 4 no try is left, 5 another format, 6 another source.
     pub kind: u8,
     /// The number of the refusal, otherwise 0.
     pub number: u8,
-    /// The command code of the register; VOUT_MODE of a learn; 0 where it is about none.
+    /// The command code of the register; VOUT_MODE of a learn; 0 if it is about none.
     pub code: u8,
     /// No meaning.
     pub unused: u8,
     /// What was read: the word that differs, VOUT_MODE of another format, the byte of OPERATION of another source; otherwise 0.
     pub word: u16,
-    /// What was wrong with the last answer where no try is left: 0 nothing, 31h to 35h F1 to F5, 1 none came, 2 a write wasn't
+    /// What was wrong with the last answer if no try is left: 0 nothing, 31h to 35h F1 to F5, 1 none came, 2 a write wasn't
     /// acknowledged; otherwise 0.
     pub fault: u16,
 }
@@ -34,7 +34,7 @@ pub struct EndNumbers {
     pub number: u8,
     /// The command code, otherwise 0.
     pub code: u8,
-    /// 1 where the refusal is about a register, otherwise 0.
+    /// 1 if the refusal is about a register, otherwise 0.
     pub has_code: u8,
     /// What was read, otherwise 0.
     pub word: u16,
@@ -136,7 +136,7 @@ pub(crate) fn end_held(end: &EndNumbers) -> Option<CourseEnd>
     }
 }
 
-/// The number of what was wrong with the last answer, 0 where nothing was.
+/// The number of what was wrong with the last answer, 0 if nothing was.
 pub(crate) fn number_of(fault: Option<AnswerFault>) -> u8
     ensures { result ≡ fault_number fault }
 {

@@ -31,17 +31,17 @@ pub struct DeliveredImage {
     pub bit: u8,
     /// What was wrong with the last answer of a register that isn't known, otherwise 0.
     pub fault: u8,
-    /// 1 where READ_VOUT is told, otherwise 0.
+    /// 1 if READ_VOUT stands here, otherwise 0.
     pub has_microvolts: u8,
     /// No meaning.
     pub unused: u8,
-    /// What that register held in the last round, where its answer was good; otherwise 0.
+    /// What that register held in the last round, if its answer was good; otherwise 0.
     pub word: u16,
     /// READ_VOUT in microvolts, rounded down.
     pub microvolts: i64,
 }
 
-/// Which limits a word is at or beyond: the command code of each, 0 where there is none, and the word that it holds.
+/// Which limits a word is at or beyond: the command code of each, 0 if there is none, and the word that it holds.
 #[repr(C)]
 #[derive(Clone, Copy, Debug)]
 pub struct JudgementImage {
@@ -115,7 +115,7 @@ fn verdict(delivery: &Delivery, host: &GuardImage) -> Verdict
     )
 }
 
-// READ_VOUT in microvolts, where it gave a good answer and its format is known.
+// READ_VOUT in microvolts, if it gave a good answer and its format is known.
 fn told(delivery: &Delivery, host: &GuardImage) -> Option<i64>
     requires { delivery.now.output < 8 }
     ensures told { is_some result ≡ is_told (format_at (idle host.now) delivery.now.output) delivery.now }
@@ -128,7 +128,7 @@ fn told(delivery: &Delivery, host: &GuardImage) -> Option<i64>
     }
 }
 
-// A word of an output's voltage in microvolts, rounded down, where its format is known.
+// A word of an output's voltage in microvolts, rounded down, if its format is known.
 fn floor_at(state: &State, output: u8, word: u16) -> Option<i64>
     requires { output < 8 }
     ensures told { is_some result ≡ is_near (format_at (held None state.now) output) word }
@@ -218,8 +218,8 @@ fn word_of(delivery: &Delivery, register: Option<Question>) -> u16
     }
 }
 
-/// Which limits a word of the output's voltage is at or beyond, of those that gave a good answer. P8 where that is a fault limit, and
-/// fault limits aren't told alone; what it is at or beyond is told then too. E0h, ECh, H4, H7; then nothing is written.
+/// Which limits a word of the output's voltage is at or beyond, of those that gave a good answer. P8 if that is a fault limit, and
+/// fault limits refuse; that limit is written then too. E0h, ECh, H4, H7; then nothing is written.
 #[unsafe(no_mangle)]
 pub extern "C" fn pm_delivery_judge(
     delivery: &DeliveryImage,

@@ -65,7 +65,7 @@ pub extern "C" fn pm_delivery_after(delivery: &mut DeliveryImage, off: u8) -> u8
     ACCEPTED
 }
 
-/// The request that is to be sent now. 95h, and then nothing, where nothing is to be asked any more. E0h, ECh, H4; then nothing too.
+/// The request that is to be sent now. 95h, and then nothing, if nothing is to be asked any more. E0h, ECh, H4; then nothing too.
 #[unsafe(no_mangle)]
 pub extern "C" fn pm_delivery_frame(
     delivery: &mut DeliveryImage,
@@ -108,7 +108,7 @@ pub extern "C" fn pm_delivery_frame(
     }
 }
 
-/// That request was sent, and these bytes came back, the read address first; none where there was no answer. E0h, ECh, H4, E2h where
+/// That request was sent, and these bytes came back, the read address first; none if there was no answer. E0h, ECh, H4, E2h if
 /// no request is being sent.
 #[unsafe(no_mangle)]
 pub extern "C" fn pm_delivery_read_ended(

@@ -20,7 +20,7 @@ use pm_host::{HostFault, State, nearest_word};
 use pm_table::{Cell, Code, Operation, Reg, cell_of};
 
 /// The word that a course wants of VOUT_COMMAND or of a margin; of a course to a byte that leaves the output on the word that the
-/// register is known to hold that the byte selects. EDh where the course has none of it. E0h, E9h, H4, E1h.
+/// register is known to hold that the byte selects. EDh if the course has none of it. E0h, E9h, H4, E1h.
 #[unsafe(no_mangle)]
 pub extern "C" fn pm_course_goal(
     course: &CourseImage,
@@ -59,7 +59,7 @@ fn course_goal(asked: &FrameCourse, host: &GuardImage, register: Option<Reg>, wo
     }
 }
 
-// The goal of a register, where the course has one.
+// The goal of a register, if the course has one.
 fn register_goal(asked: &FrameCourse, state: &State, register: Reg, word: &mut u16) -> u8
     requires { asked.now.course.survey.output < 8 }
     ensures number { result ≡ register_number (held None state.now) asked.now (Some register) }

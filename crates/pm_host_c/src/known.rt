@@ -90,7 +90,7 @@ pub(crate) fn counted(words: &WordsImage) -> WordsImage
     }
 }
 
-/// 1 where a restart of the device was seen since the host started, 0 where none was. E0h.
+/// 1 if a restart of the device was seen since the host started, 0 if none was. E0h.
 #[unsafe(no_mangle)]
 pub extern "C" fn pm_host_restart_seen(host: &GuardImage) -> u8
     ensures { result ≡ seen_number (host_of host.now.host) }

@@ -1,9 +1,9 @@
 //! The host core for callers in C: a static library, whose header is `include/pmhost.h`. It has the host, and calls for
 //! packets and numbers that need no host. A converter to try firmware against is the library `pm_device_c`.
 //!
-//! A host lives in the caller's memory, as plain numbers that are worked on in place. No call wants
+//! A host lives in the caller's memory, as plain numbers that are worked on in place. No call needs
 //! anything of what is in that memory: a call of a host asks first whether a host is there, and refuses
-//! where none is. The library takes no memory, keeps nothing between calls and calls nothing.
+//! if none is. The library takes no memory, keeps nothing between calls and calls nothing.
 //!
 //! An order, by the exported calls. In C each reference is a pointer, and bytes are a pointer and their number:
 //!

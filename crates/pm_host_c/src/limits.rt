@@ -30,7 +30,7 @@ pub struct BandImage {
     pub greatest: i64,
 }
 
-/// Gives an output narrower limits; an output without any takes these. E0h, H4, N5, L1, L6, then H3 where an order of the
+/// Gives an output narrower limits; an output without any takes these. E0h, H4, N5, L1, L6, then H3 if an order of the
 /// output is open that these would refuse.
 #[unsafe(no_mangle)]
 pub extern "C" fn pm_host_set_limits(host: &mut GuardImage, output: u8, least: i64, most: i64) -> u8
@@ -61,7 +61,7 @@ pub extern "C" fn pm_host_set_limits(host: &mut GuardImage, output: u8, least: i
     }
 }
 
-/// Says that an output has no limits, so that they refuse none of its orders. E0h, H4, L6 where it has limits.
+/// Says that an output has no limits, so that none of its orders is refused by them. E0h, H4, L6 if it has limits.
 #[unsafe(no_mangle)]
 pub extern "C" fn pm_host_no_limits(host: &mut GuardImage, output: u8) -> u8
     ensures number { result ≡ unlimited_number (guard_of host.old) output }
@@ -82,7 +82,7 @@ pub extern "C" fn pm_host_no_limits(host: &mut GuardImage, output: u8) -> u8
     ACCEPTED
 }
 
-/// The limits of an output. E0h, H4, E6h where it was given none.
+/// The limits of an output. E0h, H4, E6h if it was given none.
 #[unsafe(no_mangle)]
 pub extern "C" fn pm_host_limits(host: &GuardImage, output: u8, limits: &mut LimitsImage) -> u8
     ensures number { result ≡ limits_number (guard_of host.now) output }
@@ -141,8 +141,8 @@ pub(crate) fn of_within(within: Within) -> u8
     }
 }
 
-/// Between which voltages an output may be, by what is known. E0h, H4, H7 where its format isn't known, EBh where OPERATION
-/// may hand its voltage to AVSBus, N5 where an end is beyond 10^15 microvolts in size.
+/// Between which voltages an output may be, by what is known. E0h, H4, H7 if its format isn't known, EBh if OPERATION
+/// may hand its voltage to AVSBus, N5 if an end is beyond 10^15 microvolts in size.
 #[unsafe(no_mangle)]
 pub extern "C" fn pm_host_band(host: &GuardImage, output: u8, band: &mut BandImage) -> u8
     ensures number { result ≡ band_number (guard_of host.now) output }
@@ -179,7 +179,7 @@ pub(crate) fn known_band(host: &GuardImage, output: u8) -> Option<Band>
     band_in(&host.host.state, host.registers.registers(), output)
 }
 
-/// The ends of a band of an output, where there is one. H7 where its format isn't known, EBh where AVSBus may decide, N5 where
+/// The ends of a band of an output, if there is one. H7 if its format isn't known, EBh if AVSBus may decide, N5 if
 /// an end is beyond 10^15 microvolts in size.
 pub(crate) fn put_known(state: &State, output: u8, known: &Option<Band>, ends: &mut BandImage) -> u8
     requires { output < 8 }
@@ -205,7 +205,7 @@ fn no_band(state: &State, output: u8) -> u8
     }
 }
 
-// The ends of a band in whole microvolts. N5 where one is beyond 10^15 in size.
+// The ends of a band in whole microvolts. N5 if one is beyond 10^15 in size.
 fn put_band(known: &Band, band: &mut BandImage) -> u8
     ensures number { result ≡ ends_number known.now }
     ensures said { result ≡ 0 → IsBand known.now band.new }

@@ -16,7 +16,7 @@ use pm_table::{Cell, Reg, TableFault};
 /// How many bytes a name has room for.
 const ROOM: usize = 32;
 
-/// A name as a text of C: its characters, and zeros behind them.
+/// A name as a text of C: its characters, and zeros after them.
 #[repr(C)]
 #[derive(Clone, Copy, Debug)]
 pub struct NameImage {
@@ -35,7 +35,7 @@ impl NameImage {
     }
 }
 
-/// The letter and the name of a refusal: `H6 TooUncertain`. E7h where the number is no refusal's.
+/// The letter and the name of a refusal: `H6 TooUncertain`. E7h if the number is no refusal's.
 #[unsafe(no_mangle)]
 pub extern "C" fn pm_refusal_name(number: u8, name: &mut NameImage) -> u8
     ensures number { result ≡ named_number (spec_refusal_words number) }

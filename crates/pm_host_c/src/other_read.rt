@@ -43,7 +43,7 @@ pub extern "C" fn pm_read_block(address: u8, code: u8, bytes: &[u8], block: &mut
     }
 }
 
-/// What came back for a read of so many bytes of a code, the read address first. E3h, E4h where more than 32 bytes were asked
+/// What came back for a read of so many bytes of a code, the read address first. E3h, E4h if more than 32 bytes were asked
 /// for, F1 to F3 and F5.
 #[unsafe(no_mangle)]
 pub extern "C" fn pm_read_plain(

@@ -1,4 +1,4 @@
-//! Packets alone: their packet error code, their bytes and what bytes say.
+//! Packets without a host: their packet error code, their bytes and what bytes say.
 
 ghost use Rattle.std.specs.Prelude.{◌≡◌, ◌≢◌, Some, IsSomeAnd};
 ghost use Rattle.pm_frame.specs.Fault.{write_fault, request_fault};
@@ -30,7 +30,7 @@ pub struct PacketImage {
 }
 
 impl PacketImage {
-    /// The message; `None` where the numbers mean none.
+    /// The message; `None` if the numbers mean none.
     pub(crate) fn message(&self) -> Option<Message>
         ensures { result ≡ packet_message self.now }
     {
@@ -120,7 +120,7 @@ pub extern "C" fn pm_pec(bytes: &[u8]) -> u8
     pec(bytes)
 }
 
-/// The bytes of a packet before its stop or its repeated start. E3h, E4h where the numbers mean no
+/// The bytes of a packet before its stop or its repeated start. E3h, E4h if the numbers mean no
 /// packet, or its code doesn't have this layout.
 #[unsafe(no_mangle)]
 pub extern "C" fn pm_packet_write(address: u8, packet: &PacketImage, frame: &mut SendingImage) -> u8

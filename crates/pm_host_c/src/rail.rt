@@ -17,17 +17,17 @@ use pm_rail::{Power, Selected, power_in, selected_in};
 #[repr(C)]
 #[derive(Clone, Copy, Debug)]
 pub struct RailImage {
-    /// 1 where it is on, 2 where it is off, 0 where that isn't known.
+    /// 1 if it is on, 2 if it is off, 0 if that isn't known.
     pub power: u8,
     /// 91h if its band lies within its limits, 92h if it lies below or above them, 93h if neither is known, E6h if it has none.
     pub within: u8,
-    /// 0 where its band is told; otherwise why it isn't, H7, EBh or N5.
+    /// 0 if its band stands in `ends`; otherwise why it doesn't, H7, EBh or N5.
     pub band: u8,
-    /// The command code of the register that has its voltage, FFh of AVSBus, 0 where that isn't known.
+    /// The command code of the register that has its voltage, FFh of AVSBus, 0 if that isn't known.
     pub selected: u8,
     /// No meaning.
     pub unused: [u8; 4],
-    /// The ends of its band; zeros where it isn't told.
+    /// The ends of its band, or zeros.
     pub ends: BandImage,
 }
 

@@ -40,7 +40,7 @@ pub extern "C" fn pm_host_format(host: &GuardImage, output: u8, format: &mut For
     ACCEPTED
 }
 
-/// The whole microvolts of a word, rounded down. H7 where the numbers mean no format, N5 exactly where
+/// The voltage of a word in microvolts, rounded down. H7 if the numbers mean no format, N5 exactly if
 /// the word's value is beyond 10^15 microvolts in size.
 #[unsafe(no_mangle)]
 pub extern "C" fn pm_microvolts(format: &FormatNumbers, word: u16, microvolts: &mut i64) -> u8
@@ -55,7 +55,7 @@ pub extern "C" fn pm_microvolts(format: &FormatNumbers, word: u16, microvolts: &
     put_floor(&format.value_of(word), microvolts)
 }
 
-/// The whole microvolts of a value, rounded down. N5 exactly where the value is beyond 10^15 microvolts in
+/// A value in microvolts, rounded down. N5 exactly if the value is beyond 10^15 microvolts in
 /// size.
 pub(crate) fn put_floor(value: &Frac, microvolts: &mut i64) -> u8
     ensures number { result ≡ floor_number value.now }
@@ -71,7 +71,7 @@ pub(crate) fn put_floor(value: &Frac, microvolts: &mut i64) -> u8
     ACCEPTED
 }
 
-/// The whole microvolts of a value, rounded up. N5 exactly where the value is beyond 10^15 microvolts in
+/// A value in microvolts, rounded up. N5 exactly if the value is beyond 10^15 microvolts in
 /// size.
 pub(crate) fn put_ceil(value: &Frac, microvolts: &mut i64) -> u8
     ensures number { result ≡ floor_number value.now }
@@ -119,7 +119,7 @@ fn is_far(value: &Frac) -> bool
     LIMIT * value.den() < microvolts || microvolts < -LIMIT * value.den()
 }
 
-/// The word nearest to a number of microvolts. H7 where the numbers mean no format, N5, N3, N4.
+/// The word nearest to a number of microvolts. H7 if the numbers mean no format, N5, N3, N4.
 #[unsafe(no_mangle)]
 pub extern "C" fn pm_nearest_word(format: &FormatNumbers, microvolts: i64, word: &mut u16) -> u8
     ensures number { result ≡ word_number (format_meant format.now) microvolts }
@@ -140,7 +140,7 @@ pub extern "C" fn pm_nearest_word(format: &FormatNumbers, microvolts: i64, word:
     }
 }
 
-/// The word of the greatest value that isn't above a number of microvolts, as of a bound from above. H7 where the numbers mean
+/// The word of the greatest value that isn't above a number of microvolts, as of a bound from above. H7 if the numbers mean
 /// no format, N5, N3; above the greatest value it is that value's word.
 #[unsafe(no_mangle)]
 pub extern "C" fn pm_at_most(format: &FormatNumbers, microvolts: i64, word: &mut u16) -> u8
@@ -161,7 +161,7 @@ pub extern "C" fn pm_at_most(format: &FormatNumbers, microvolts: i64, word: &mut
     }
 }
 
-/// The word of the least value that isn't below a number of microvolts, as of a bound from below. H7 where the numbers mean no
+/// The word of the least value that isn't below a number of microvolts, as of a bound from below. H7 if the numbers mean no
 /// format, N5, N4; below the least value it is that value's word.
 #[unsafe(no_mangle)]
 pub extern "C" fn pm_at_least(format: &FormatNumbers, microvolts: i64, word: &mut u16) -> u8

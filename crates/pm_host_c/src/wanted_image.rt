@@ -9,7 +9,7 @@ use pm_rail::Wanted;
 #[repr(C)]
 #[derive(Clone, Copy, Debug)]
 pub struct WishImage {
-    /// 0 where none is wanted, and the register is to stay as it is.
+    /// 0 if none is wanted, and the register is to stay as it is.
     pub has: u16,
     /// The word.
     pub word: u16,
