@@ -1,14 +1,18 @@
 """What is made of answers and of time with no part there: transfers and why a job ended badly, the clock, zeros at 48h, a part that is too hot,
 and margins that bounds cut."""
+import importlib.util
 import time
 import unittest
 from decimal import Decimal
 from types import SimpleNamespace
 from unittest import mock
 
-from pmhost import Format, clock, stores
+from pmhost import Course, Device, Format, ModelPart, ModelPartBus, Output, clock, stores, why
 from pmhost.cuts import Cut, cuts
+from pmhost.parts import BadRails
 from pmhost.readings import Reading
+from pmhost.rehearsal import first_not_reached, is_reached, modelled
+from pmhost.sequence import place_of
 from pmhost.transfers import Transfers
 from pmhost.zeros import Believing, NotBelieved
 
@@ -36,7 +40,12 @@ class Told(unittest.TestCase):
 
 
 class Clock(unittest.TestCase):
+    """The module's own functions: other tests put theirs in their place."""
+
     def test_a_moment_is_waited_for_and_no_longer(self):
+        spec = importlib.util.spec_from_file_location("own_clock", clock.__file__)
+        own = importlib.util.module_from_spec(spec)
+        spec.loader.exec_module(own)
         now, slept = [50.0], []
 
         def sleep(seconds):
@@ -44,10 +53,10 @@ class Clock(unittest.TestCase):
             now[0] += seconds
         with mock.patch.object(time, "monotonic", lambda: now[0]), mock.patch.object(time, "sleep", sleep), \
                 mock.patch.object(time, "time", lambda: 10**9):
-            self.assertEqual((clock.until(), clock.until(49), clock.until(50)), (50, 50, 50))
+            self.assertEqual((own.until(), own.until(49), own.until(50)), (50, 50, 50))
             self.assertEqual(slept, [])
-            self.assertEqual(clock.until(50.25), 50.25)
-            clock.wait(0.5)
+            self.assertEqual(own.until(50.25), 50.25)
+            own.wait(0.5)
             self.assertEqual((slept, now), ([0.25, 0.5], [50.75]))
 
 
@@ -113,3 +122,58 @@ class Cuts(unittest.TestCase):
             with self.subTest(least=least, most=most):
                 self.assertEqual(cuts(form, margins, least, most), found)
         self.assertEqual(cuts(form, {"VOUT_MARGIN_HIGH": None, "VOUT_MARGIN_LOW": 0x0800}, 0x0C00, 0x1400), [low])
+
+
+class Rehearsals(unittest.TestCase):
+    def part(self, coefficients=None):
+        """A part of two outputs, of which the host knows what output 1 holds, and WRITE_PROTECT."""
+        outputs = [Output(), Output(mode=0x40 if coefficients else 0x14, command=0x0400, max=0x0800, min=0x0100, high=0x0500, low=0x0300)]
+        part = Device(ModelPartBus(ModelPart(0x58, outputs, coefficients or (1, 0, 3), 0x40)), 0x58, 2)
+        part.host.no_limits(1)
+        part.survey(1)
+        for register in "VOUT_MARGIN_HIGH", "VOUT_MARGIN_LOW", "WRITE_PROTECT":
+            part.host.check(0 if register == "WRITE_PROTECT" else 1, register)
+            part.run()
+        return part
+
+    def test_a_model_holds_what_is_known(self):
+        for coefficients in None, (2, 5, 1):
+            part = self.part(coefficients)
+            for is_lifted, protect in ((False, 0x40), (True, 0)):
+                model = modelled(part, 1, is_lifted).bus.part
+                self.assertEqual([model.word(1, name) for name in ("VOUT_COMMAND", "VOUT_MAX", "VOUT_MARGIN_HIGH", "VOUT_MARGIN_LOW", "VOUT_MIN", "OPERATION")],
+                                 [0x0400, 0x0800, 0x0500, 0x0300, 0x0100, 0x80])
+                self.assertEqual((model.word(0, "VOUT_COMMAND"), model.word(0, "WRITE_PROTECT")), (Output().command, protect))
+                self.assertEqual(model.formats[1], part.host.format(1))
+
+    def test_which_courses_would_be_reached(self):
+        part = self.part()
+        for word, is_one in ((0x0600, True), (0x0900, False)):
+            self.assertEqual(is_reached(modelled(part, 1, True), Course.words(1, {"VOUT_COMMAND": word}, 40)), is_one, word)
+        part.host.set_limits(1, "0.2V", "0.3V")
+        self.assertIsNone(first_not_reached(part, 1, (0x80, 0xA8 - 0x28), True))
+        byte, end = first_not_reached(part, 1, (0x80, 0xA8, 0x94), True)
+        self.assertEqual((byte, end.kind), (0xA8, "refused"))
+
+
+class Whys(unittest.TestCase):
+    def test_what_is_read_of_which_output(self):
+        asked, learned = [], SimpleNamespace(missing={}, unended="")
+        host = SimpleNamespace(address=0x58, format=lambda _: None, check=lambda *at: asked.append(at))
+        part = SimpleNamespace(host=host, bus=None, run=lambda: None)
+
+        def read(bus, address, output, name, form):
+            asked.append((output, name))
+            return Reading(name, 1, bits=["VOUT", "CML", "INPUT"] if name == "STATUS_WORD" else [])
+        with mock.patch.multiple(why, read=read, survey=lambda *_: learned, commanded=lambda *_: learned):
+            self.assertIs(why.findings(part, 1).state, learned)
+        self.assertEqual(asked, [(1, "STATUS_WORD"), (1, "STATUS_VOUT"), (None, "STATUS_CML"), (1, "STATUS_INPUT"), (1, "ON_OFF_CONFIG"), (None, "READ_VIN"),
+                                 (1, "READ_VOUT"), (1, "VOUT_OV_FAULT_LIMIT"), (1, "VOUT_UV_FAULT_LIMIT"), (1, "POWER_GOOD_ON"), (0, "WRITE_PROTECT")])
+
+
+class Places(unittest.TestCase):
+    def test_the_longest_wait(self):
+        self.assertEqual(place_of("rails.io", {"after": ["core"], "wait": "60s"}), (("core",), 60_000, False))
+        for wait in "61s", "60001ms":
+            with self.assertRaises(BadRails):
+                place_of("rails.io", {"after": ["core"], "wait": wait})
