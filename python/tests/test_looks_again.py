@@ -1,14 +1,21 @@
-"""A call looks again at what it ordered, and the numbers of its answers, with no part there."""
+"""A call looks again at what it ordered, and what it answers: numbers, causes and codes, with no part there."""
 import argparse
 import json
 import unittest
+from decimal import Decimal
 from types import SimpleNamespace
+from unittest import mock
 
+from pmhost.cli import readings, why
 from pmhost.cli.again import RESTARTED, Ordered, are_several
 from pmhost.cli.answer import Answer, between, in_digits, number
 from pmhost.delivery import Verdict
 from pmhost.look import Delivered, Looks
+from pmhost.readings import Reading
+from pmhost.reads import Read
+from pmhost.states import Known
 from pmhost.survey import Commanded
+from pmhost.why import Findings
 
 
 class Call:
@@ -85,3 +92,63 @@ class Answers(unittest.TestCase):
             "restart_seen": True, "rows": [], "part": "u1"})
         self.assertEqual([Answer("x", "done", output=output, register=register, name=name).place()
                           for output, register, name in ((1, None, ""), (None, "WRITE_PROTECT", ""), (None, None, ""), (0, None, "core"))], [" 1", " -", "", " core"])
+
+
+class Causes(unittest.TestCase):
+    def ran(self, because, bits, status=0x40, possible=(0x80,)):
+        """The status of `why 1`, its answer and its lines."""
+        state = Commanded(cells={"OPERATION": Known(1, "OPERATION", None, possible), "WRITE_PROTECT": Known(None, "WRITE_PROTECT", None, (0x40,))})
+        found = {"STATUS_WORD": Reading("STATUS_WORD", status, bits=bits), **{name: Reading(name, 1) for name in why.BESIDE},
+                 "READ_VOUT": Reading("READ_VOUT", 0x1000, value=Decimal(1))}
+        lines, said = [], []
+        part = SimpleNamespace(host=SimpleNamespace(restart_seen=False))
+        call = SimpleNamespace(part=lambda: part, is_json=False, named=None, say_lines=lines.extend, say=lambda it: said.append(it) or it.status)
+        with mock.patch.multiple(why, findings=lambda *_: Findings(1, state, found), cause=lambda _: because):
+            ended = why.why(argparse.Namespace(call=call, output=1, command="why", said="why 1"))
+        return ended, said[0], lines
+
+    def test_a_cause_is_status_1(self):
+        ended, answer, lines = self.ran("it tripped", ["OFF"])
+        self.assertEqual((ended, answer.end, answer.text, answer.status), (1, "fault", "it tripped", 1))
+        self.assertEqual(lines[:3], ["why 1: STATUS_WORD 0040 OFF", "why 1: ON_OFF_CONFIG 01; OPERATION 80; WRITE_PROTECT 40",
+                                     "why 1: " + "; ".join("READ_VOUT 1000 1V" if name == "READ_VOUT" else f"{name} 0001" for name in why.BESIDE[1:])])
+
+    def test_all_is_well(self):
+        self.assertEqual(self.ran("", ["OFF"])[:1] + (self.ran("", ["OFF"])[1].text,), (0, "it is off, since OPERATION turns it off: `on 1` turns it on"))
+        ended, answer, lines = self.ran("", [], 0, None)
+        self.assertEqual((ended, answer.end, answer.text), (0, "told", "it is on: READ_VOUT is 1V"))
+        self.assertIn("no good OPERATION; WRITE_PROTECT 40", lines[1])
+
+
+class Codes(unittest.TestCase):
+    def told(self, register, output, payload, why_not=""):
+        """What is asked of the bus, and the answer."""
+        asked, said = [], []
+
+        class Asked:
+            def __init__(self, *_):
+                """It keeps what it is asked."""
+
+            def code(self, *words):
+                asked.append(("code", *words))
+                return Read(payload, why=why_not)
+
+            def block(self, *words):
+                asked.append(("block", *words))
+                return Read(payload, why=why_not)
+
+            def of_page(self, *words):
+                asked.append(("page", *words))
+                return Read(payload, why=why_not)
+        host = SimpleNamespace(address=0x58, restart_seen=False)
+        call = SimpleNamespace(part=lambda: SimpleNamespace(host=host, bus=None), say=lambda it: said.append(it) or it.status)
+        with mock.patch.object(readings, "Reads", Asked):
+            status = readings.tell_code(argparse.Namespace(call=call, output=output, register=register, command="read"))
+        return asked, status, said[0].end, said[0].text, said[0].rows[0]["bytes"], said[0].rows[0]["text"]
+
+    def test_each_kind_of_code(self):
+        self.assertEqual(self.told("E7:word", 1, b"\x34\x12"), ([("code", 0xE7, 2, 1)], 0, "done", "E7:word 1234", "3412", None))
+        self.assertEqual(self.told("E7:byte", None, b"\x34"), ([("code", 0xE7, 1, None)], 0, "done", "E7:byte 34", "34", None))
+        self.assertEqual(self.told("E7:block", 1, b"LTC\0"), ([("page", 1, 0xE7, 0)], 0, "done", 'E7:block 4C 54 43 00 "LTC"', "4C544300", "LTC"))
+        self.assertEqual(self.told("E7:block", None, b"\x01A"), ([("block", 0xE7)], 0, "done", "E7:block 01 41", "0141", None))
+        self.assertEqual(self.told("E7:block", None, None, "nobody"), ([("block", 0xE7)], 1, "unknown", "no good E7:block", None, None))
