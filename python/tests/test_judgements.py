@@ -9,10 +9,13 @@ from unittest import mock
 
 from pmhost import Course, Device, Format, ModelPart, ModelPartBus, Output, clock, stores, why
 from pmhost.cuts import Cut, cuts
+from pmhost.errors import refusal
 from pmhost.parts import BadRails
 from pmhost.readings import Reading
 from pmhost.rehearsal import first_not_reached, is_reached, modelled
+from pmhost.rounded import Accepting
 from pmhost.sequence import place_of
+from pmhost.states import Step
 from pmhost.transfers import Transfers
 from pmhost.zeros import Believing, NotBelieved
 
@@ -177,3 +180,22 @@ class Places(unittest.TestCase):
         for wait in "61s", "60001ms":
             with self.assertRaises(BadRails):
                 place_of("rails.io", {"after": ["core"], "wait": wait})
+
+
+class Roundings(unittest.TestCase):
+    def test_a_word_is_taken_of_an_order_that_differs_and_once(self):
+        asked, order = [], SimpleNamespace(register="VOUT_MAX")
+        course = SimpleNamespace(accept=lambda _, microvolts: asked.append(microvolts.microvolts))
+        part = SimpleNamespace(host=None)
+        for accept, kind, word in ((None, "differs", 5), (1000, "done", 5), (1000, "unknown", None), (1000, "differs", None)):
+            found = Accepting(part, course, accept)
+            self.assertEqual((found.after(order, Step(kind, word)), found.taken, asked), (False, {}, []))
+        found = Accepting(part, course, 1000)
+        self.assertEqual((found.after(order, Step("differs", 5)), found.taken, asked), (True, {"VOUT_MAX": 5}, [1000]))
+        self.assertEqual((found.after(order, Step("differs", 6)), found.taken, asked), (False, {"VOUT_MAX": 5}, [1000]))
+
+        def refuse(*_):
+            raise refusal(0x51)
+        course.accept = refuse
+        found = Accepting(part, course, 1000)
+        self.assertEqual((found.after(order, Step("differs", 5)), found.taken), (False, {}))
