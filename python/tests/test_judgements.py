@@ -7,8 +7,9 @@ from decimal import Decimal
 from types import SimpleNamespace
 from unittest import mock
 
-from pmhost import Course, Device, Format, ModelPart, ModelPartBus, Output, clock, stores, why
+from pmhost import Course, Device, Format, ModelPart, ModelPartBus, Output, clock, delivery, stores, why
 from pmhost.cuts import Cut, cuts
+from pmhost.delivery import Heard
 from pmhost.errors import refusal
 from pmhost.parts import BadRails
 from pmhost.readings import Reading
@@ -199,3 +200,23 @@ class Roundings(unittest.TestCase):
         course.accept = refuse
         found = Accepting(part, course, 1000)
         self.assertEqual((found.after(order, Step("differs", 5)), found.taken), (False, {}))
+
+
+class Deliveries(unittest.TestCase):
+    def test_what_came_of_a_question(self):
+        found = delivery.Delivery(0)
+        for asked, fault, said in ((0, 0, Heard(0, None)), (1, 0, Heard(1, 0x40)), (2, 0x35, Heard(2, None, "F5 WrongPec")),
+                                   (3, delivery.NO_ANSWER, Heard(3, None, "no answer", True))):
+            question = found._image.status_word
+            question.asked, question.fault, question.word = asked, fault, 0x40
+            self.assertEqual(found.heard("status_word"), said)
+
+    def test_each_field_of_a_verdict(self):
+        def verdict(*given):
+            for name, value in (("kind", 5), ("code", 0x7A), ("bit", 6), ("fault", 0x35), ("has_microvolts", 1), ("microvolts", -7)):
+                setattr(given[-1]._obj, name, value)
+            return 0
+        found = delivery.Delivery(0)
+        with mock.patch.object(delivery, "library", SimpleNamespace(pm_delivery_verdict=verdict)):
+            said = found.verdict(SimpleNamespace(reference=None))
+        self.assertEqual(said, delivery.Verdict("fault", "STATUS_VOUT", 6, "F5 WrongPec", -7))

@@ -1,5 +1,6 @@
 """`pmhost` as a process over the stand-in for the kernel: streams that are closed, full or left, signals, colours, the library."""
 import _ctypes
+import ctypes
 import os
 import pty
 import signal
@@ -145,7 +146,11 @@ class Processes(unittest.TestCase):
     def test_a_library_of_another_size_is_refused(self):
         """A library that has every call of this one, and answers its numbers but for one."""
         numbers = {"pm_version": _library.VERSION, "pm_host_version": _library.HOST_VERSION, "pm_host_size": _library.HOST_SIZE,
-                   "pm_course_version": _library.COURSE_VERSION, "pm_course_size": _library.COURSE_SIZE, "pm_part_size": _library.PART_SIZE}
+                   "pm_course_version": _library.COURSE_VERSION, "pm_course_size": _library.COURSE_SIZE,
+                   "pm_delivery_version": _library.DELIVERY_VERSION, "pm_delivery_size": ctypes.sizeof(_library.DeliveryImage),
+                   "pm_part_size": _library.PART_SIZE}
+        self.assertEqual([ctypes.sizeof(it) for it in (_library.HostImage, _library.CourseImage, _library.PartImage)],
+                         [_library.HOST_SIZE, _library.COURSE_SIZE, _library.PART_SIZE])
         with tempfile.TemporaryDirectory() as folder:
             for name, number in numbers.items():
                 with self.subTest(name=name):
