@@ -92,7 +92,7 @@ fn limits_are_kept_by_the_host() {
 fn no_voltage_is_ordered_where_no_limits_are_known() {
     let (mut host, mut part) = (Host::new(0x58, 2, 3).unwrap(), part());
     let switch = |output| Cell::Output(output, Register::Operation);
-    assert_eq!((host.limits(0), host.limits_state(0)), (Ok(None), Ok(LimitsState::NotKnown)));
+    assert_eq!((host.limits(0), host.limits_state(0)), (Ok(None), Ok(LimitsState::NoLimits)));
     host.run_job(Job::Learn(0), &mut part).unwrap();
     for register in [Register::VoutCommand, Register::VoutMax, Register::VoutMin, Register::VoutMarginHigh, Register::VoutMarginLow] {
         assert_eq!(host.order(Cell::Output(0, register), 0x34CD), Err(Refusal::L8NoLimits), "{register:?}");
