@@ -220,3 +220,8 @@ class Deliveries(unittest.TestCase):
         with mock.patch.object(delivery, "library", SimpleNamespace(pm_delivery_verdict=verdict)):
             said = found.verdict(SimpleNamespace(reference=None))
         self.assertEqual(said, delivery.Verdict("fault", "STATUS_VOUT", 6, "F5 WrongPec", -7))
+
+
+class Steps(unittest.TestCase):
+    def test_which_end_a_job(self):
+        self.assertEqual([Step(kind).is_over for kind in ("next", "done", "differs", "unknown", "learned")], [False, True, True, True, True])
