@@ -236,6 +236,8 @@ class Model(unittest.TestCase):
                     fails()
                 self.assertEqual(raised.exception.errno, errno.EREMOTEIO)
             bus.close()
+            with self.assertRaisesRegex(ValueError, "closed file"):
+                bus.write(FRAME)
             self.assertEqual(file.read().decode().splitlines(), [
                 "B0 05 04 00 21 CD 34 5A", "B0 06 02 00 21 / B1 02 CD 34 B9",
                 "# failed: B0 05 04 00 21 CD 34 5B: Remote I/O error", "# failed: B0 06 02 02 21: Remote I/O error"])

@@ -5,6 +5,7 @@ import unittest
 
 from pmhost import Device, Differs, ModelPart, Unknown
 
+from .runs import called
 from .fixtures import ADDRESS, RAILS, Faulty, free
 
 FATES = ("ok", "lost", "deaf", "error", "cut", "bit", "long", "acked")
@@ -62,3 +63,18 @@ class Faults(unittest.TestCase):
                 self.assertIn(confirmed, (None, held))
                 possible = pmbus.host.possible_words(1, "VOUT_COMMAND")
                 self.assertTrue(possible is None or held in possible)
+
+
+class Ends(unittest.TestCase):
+    """The status of `pmhost faults`, and what the outputs hold at its end."""
+
+    def test_each_job_counts(self):
+        for words, status, held in ((["set", "0", "5V", "--limit", "0:3.135V:3.465V", "+", "word", "1", "VOUT_COMMAND", "1800"], 1,
+                                     "output 0 holds 1000; output 1 holds 1800"),
+                                    (["word", "0", "VOUT_COMMAND", "1800", "+", "part", "restart"], 0, "output 0 holds 1000; output 1 holds 1000"),
+                                    (["--plain-host", "--passes", "1", "--strike=mute", "word", "0", "VOUT_COMMAND", "1800"], 1,
+                                     "output 0 holds 1000; output 1 holds 1000"),
+                                    (["--plain-host", "word", "1", "VOUT_COMMAND", "1800"], 0, "output 0 holds 1000; output 1 holds 1800")):
+            found, out, err = called(["faults", *words], None)
+            with self.subTest(words=words):
+                self.assertEqual((found, out.splitlines()[-1], bool(err)), (status, held, words[0] == "set"))

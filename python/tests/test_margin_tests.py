@@ -1,6 +1,6 @@
 """Margin tests that are broken off: the bus is away for a while, a signal comes, a transfer is lost or the part restarts, each at each
 transfer. No rail is on a margin at the end where the bus came back, and `back` is said only where it is so. PMHOST_AWAY names for how many
-transfers the bus is away, as 1-30; without it some."""
+transfers the bus is away, as 1-30; without it some. PMHOST_EVERY takes each so many-th transfer only."""
 import errno
 import os
 import re
@@ -16,7 +16,7 @@ from .runs import called
 from .test_board_files import table_of
 
 AWAY = os.environ.get("PMHOST_AWAY", "1 2 9 30").split()
-EACH_LENGTH = "PMHOST_AWAY" in os.environ
+EACH_LENGTH, EVERY = "PMHOST_AWAY" in os.environ, int(os.environ.get("PMHOST_EVERY", "1"))
 LENGTHS = [*range(1, 31)] if AWAY == ["1-30"] else [int(each) for each in AWAY]
 ON, MARGINS, NAMES = 0x80, (0xA8, 0x94), ("core", "io")
 BACK = re.compile(r"(\w+)(?: is back: |: back, |: )OPERATION ([0-9A-F]{2}) confirmed")
@@ -103,7 +103,7 @@ class MarginTests(Broken):
 
     def places(self, step=1, first=0):
         """Where something befalls the run: at each transfer."""
-        found = range(first, self.transfers(), step)
+        found = range(first, self.transfers(), step * EVERY)
         self.assertGreater(len(found), 1)
         return found
 

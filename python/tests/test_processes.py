@@ -149,6 +149,8 @@ class Processes(unittest.TestCase):
                    "pm_course_version": _library.COURSE_VERSION, "pm_course_size": _library.COURSE_SIZE, "pm_part_size": _library.PART_SIZE,
                    "pm_delivery_version": _library.DELIVERY_VERSION, "pm_delivery_size": ctypes.sizeof(_library.DeliveryImage),
                    "pm_stairs_version": _library.STAIRS_VERSION, "pm_stairs_size": ctypes.sizeof(_library.StairsImage)}
+        self.assertEqual([ctypes.sizeof(it) for it in (_library.HostImage, _library.CourseImage, _library.PartImage)],
+                         [_library.HOST_SIZE, _library.COURSE_SIZE, _library.PART_SIZE])
         with tempfile.TemporaryDirectory() as folder:
             for name, number in numbers.items():
                 with self.subTest(name=name):

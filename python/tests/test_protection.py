@@ -3,6 +3,10 @@ import json
 import signal
 import tempfile
 import unittest
+from types import SimpleNamespace
+
+from pmhost.cli.protection import Protection
+from pmhost.errors import refusal
 
 from .board_kernel import BoardKernel
 from .field import Field
@@ -161,6 +165,80 @@ class Protected(unittest.TestCase):
             self.assertIn('give "80", "40" or "20"', err)
         self.assertEqual(self.ran("verify", "FILE", board=f'protect = "80"\n{BOARD}')[0], 2)
         self.assertEqual(writes(self.part), 0)
+
+
+class Place:
+    """A part whose file says 80, with a host that knows `known` of it; what is ordered of it fails if `fails` has the byte."""
+
+    def __init__(self, held, known=None, protect=0x80, fails=None, answers=True):
+        self.held, self.known, self.fails, self.answers, self.orders, self.reads = held, known, fails or {}, answers, [], 0
+        self.part, self.is_begun = SimpleNamespace(protect=protect), True
+        self.host = SimpleNamespace(address=0x58, check=self.check, order=self.order,
+                                    possible_words=lambda *_: None if self.known is None else (self.known,))
+        self.transfers = SimpleNamespace(why=lambda: "")
+
+    def pmbus(self):
+        return self
+
+    def ask_operation(self):
+        return ""
+
+    def check(self, *_):
+        self.reads += 1
+        self.known = self.held if self.answers else None
+
+    def order(self, _, __, byte):
+        if isinstance(self.fails.get(byte), Exception):
+            raise self.fails[byte]
+        self.orders.append(byte)
+        if byte not in self.fails:
+            self.held = self.known = byte
+
+    def run(self):
+        return SimpleNamespace(kind="unknown" if self.orders and self.orders[-1] in self.fails else "done")
+
+
+class Locks(unittest.TestCase):
+    """What a call does about WRITE_PROTECT of a part that doesn't do as it is told."""
+
+    def call(self, place):
+        said = []
+        call = SimpleNamespace(places=lambda: {"u1": place}, say=lambda answer: said.append((answer.end, answer.text)))
+        return Protection(call), said
+
+    def test_a_part_that_stays_protected_is_not_called_lifted(self):
+        place = Place(0x80, 0x80, fails={0x00: ""})
+        protection, said = self.call(place)
+        self.assertEqual((protection.lift("u1"), said, place.orders), (False, [], [0x00]))
+        self.assertEqual((protection.lock(), protection.left, place.orders), (0, "", [0x00]))
+
+    def test_a_part_that_stays_lifted_is_told(self):
+        for fault, words in (("", "no good answer"), (refusal(0x03), "H3 Busy: a job is open: carry it out first")):
+            place = Place(0x80, 0x80, fails={0x80: fault})
+            protection, said = self.call(place)
+            self.assertEqual((protection.lift("u1"), protection.lock()), (True, 1))
+            self.assertEqual((said, protection.left), ([("lifted", "u1: WRITE_PROTECT 00 confirmed, and was 80")],
+                                                       f"u1: WRITE_PROTECT is 00: {words}: order 80 by word"))
+
+    def test_a_part_that_gives_no_answer_afterwards_is_told(self):
+        place = Place(0x80, 0x80)
+        protection, _ = self.call(place)
+        self.assertTrue(protection.lift("u1"))
+        place.answers = False
+        self.assertEqual((protection.lock(), protection.left), (1, "u1: WRITE_PROTECT is 00: no good answer: order 80 by word"))
+
+    def test_it_is_read_before_it_is_written(self):
+        place = Place(0x00, 0x80)
+        protection, said = self.call(place)
+        protection.touch("u1")
+        self.assertEqual((protection.lock(), place.orders, place.reads), (0, [0x80], 1))
+        self.assertEqual(said, [("protected", "u1: WRITE_PROTECT 80 confirmed")])
+
+    def test_a_part_whose_file_says_nothing_is_left_alone(self):
+        place = Place(0x00, 0x00, protect=None)
+        protection, _ = self.call(place)
+        protection.touch("u1")
+        self.assertEqual((protection.lift("u1"), protection.lock(), place.orders, place.reads), (False, 0, [], 0))
 
 
 if __name__ == "__main__":

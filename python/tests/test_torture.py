@@ -11,12 +11,14 @@ import unittest
 
 from pmhost import cli
 from pmhost.faults import FaultyBus, Struck
+from pmhost.packets import pec
 from pmhost.part import ModelPart
 from pmhost.torture import Judge, Program, Run, Unjudged, drawn_faults
 from pmhost.torture.i2c_dev import Message
 from pmhost.torture.below import preload
 from pmhost.torture.server import Server
-from pmhost.torture.watched import Took, WatchedPart, read_meant
+from pmhost.torture.verdict import Verdict
+from pmhost.torture.watched import Took, WatchedPart, read_meant, start_of
 from .running import needs_tool
 
 # A host in the words of a Linux program: transfers of messages by I2C_RDWR, with packet error codes.
@@ -186,6 +188,17 @@ class Verdicts(unittest.TestCase):
         found = self.judged(took=[Took(TWO, 0x10, 2), Took(TWO, 0x20, 3)], held=HELD)
         self.assertEqual(([each[1] for each in found.wrong], found.lost, found.is_bad), ([0], [], True))
 
+    def test_which_runs_are_bad_and_what_is_said_of_them(self):
+        took = Took(ONE, 0x99, 4)
+        for found, is_bad, words in ((Verdict(run()), False, "good"), (Verdict(run(status=None)), True, "NOT ENDED"),
+                                     (Verdict(run(), wrong=[(took, 1)]), True,
+                                      "WRONG: output 0 VOUT_COMMAND took 0099, which was meant for output 1, by transfer 4"),
+                                     (Verdict(run(), strange=[took]), False,
+                                      "STRANGE: output 0 VOUT_COMMAND took 0099, which was meant for none, by transfer 4"),
+                                     (Verdict(run(), lost=[(TWO, 1, 2)]), True,
+                                      "FALSE: the program ended well, and output 1 VOUT_COMMAND holds 0001 in place of 0002")):
+            self.assertEqual((found.is_bad, found.words), (is_bad, words))
+
     def test_a_word_that_was_meant_for_both_is_not(self):
         judge = Judge(run([Took(ONE, 0x10, 1), Took(TWO, 0x10, 2), Took(TWO, 0x20, 3)], HELD))
         self.assertFalse(judge.judge(run([Took(TWO, 0x10, 5)], HELD)).is_bad)
@@ -216,7 +229,9 @@ class Verdicts(unittest.TestCase):
         self.assertEqual(judge.judge(run(held=HELD)).lost, [(ONE, 0x10, 0x77), (TWO, 0x20, 0x88)])
 
     def test_without_a_good_run_nothing_is_judged(self):
-        for plain in (run(PLAIN.took, HELD, status=1), run([], HELD), run([Took(ONE, 7, 1), Took(TWO, 7, 1)], HELD)):
+        most = [Took((output, "VOUT_MAX"), 9, 1) for output in range(2)]
+        for plain in (run(PLAIN.took, HELD, status=1), run(PLAIN.took, HELD, status=None), run([], HELD), run([Took(ONE, 7, 1), Took(TWO, 7, 1)], HELD),
+                      run([Took(ONE, 7, 1), Took(TWO, 7, 1), *most], {**HELD, (0, "VOUT_MAX"): 9, (1, "VOUT_MAX"): 9})):
             with self.assertRaises(Unjudged):
                 Judge(plain)
 
@@ -232,6 +247,22 @@ class Watching(unittest.TestCase):
         part.hear(bytes.fromhex("B0 06 02 00 21"), is_request=True)
         self.assertEqual(part.took, [Took(TWO, 0x1234, 2)])
         self.assertEqual(part.named, {TWO: 2, ONE: 3})
+
+    def test_what_is_watched(self):
+        part = WatchedPart(3)
+        self.assertEqual([each.mode for each in start_of(3)], [0x14, 0x15, 0x16])
+        self.assertEqual(sorted(part.words()), sorted((output, name) for output in range(3) for name in (
+            "OPERATION", "VOUT_COMMAND", "VOUT_MAX", "VOUT_MARGIN_HIGH", "VOUT_MARGIN_LOW", "VOUT_MIN")))
+        for page, outputs in ((2, [2]), (0xFF, [0, 1, 2]), (3, [])):
+            self.assertEqual(part._cells_of(bytes([0xB0, 0x06, 0x02, page, 0x21])), [(output, "VOUT_COMMAND") for output in outputs])
+        self.assertEqual([part._cells_of(bytes.fromhex(each)) for each in ("A0 21 34 12", "B0", "B0 99")], [[]] * 3)
+
+    def test_a_restore_takes_nothing(self):
+        part = WatchedPart(2)
+        part.hear(bytes.fromhex("B0 21 34 12 63"))
+        part.hear(bytes([0xB0, 0x16, pec(b"\xB0\x16")]))
+        self.assertEqual([each.word for each in part.took], [0x1234])
+        self.assertNotEqual(part.word(0, "VOUT_COMMAND"), 0x1234)
 
     def test_what_comes_from_the_store_is_taken_by_none(self):
         part = WatchedPart(2)

@@ -85,6 +85,7 @@ mod tests {
             (NoTransfer::Went { went: 0, of: 1 }, "0 of 1 message went"),
             (NoTransfer::Went { went: 1, of: 2 }, "1 of 2 messages went"),
             (NoTransfer::Ones, "nothing but FFh"),
+            (NoTransfer::OtherAddress, "the bus was opened for another address"),
             (NoTransfer::Operations, "a transaction has one operation or two"),
             (NoTransfer::TooLong, "a message has more than 8192 bytes"),
             (NoTransfer::Reserved(Reserved::of(0x0C).unwrap()), "0C is kept for the SMBus alert response: no part may have it"),

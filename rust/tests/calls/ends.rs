@@ -265,6 +265,16 @@ fn a_bound_is_no_nearest_word() {
 }
 
 #[test]
+fn a_number_that_a_format_lacks_is_refused() {
+    let format = Format::Ulinear16(-12);
+    let (below, above) = (Err(Refusal::N3BelowLeast), Err(Refusal::N4AboveGreatest));
+    assert_eq!((format.nearest_word(-1_000_000), format.nearest_word(20_000_000)), (below, above));
+    assert_eq!((format.at_most(-1_000_000), format.at_least(20_000_000)), (below, above));
+    assert_eq!((format.at_most(20_000_000), format.at_least(-1_000_000)), (Ok(0xFFFF), Ok(0)));
+    assert_eq!(Format::Direct { m: 0, b: 0, r: 0 }.microvolts(1), Err(Refusal::H7FormatUnknown));
+}
+
+#[test]
 fn an_output_that_isnt_there_is_h4() {
     let (host, cell) = (host(), Cell::Output(9, Register::VoutCommand));
     let found = [

@@ -137,6 +137,31 @@ fn a_bus_may_be_borrowed_and_is_given_back() {
     assert_eq!(host.run_job(CHECK, &mut any), Ok(Done::Word(0x1000)));
 }
 
+/// A bus whose first transaction goes, and which counts them.
+struct Counts(u32);
+
+impl Bus for Counts {
+    type Error = Failed;
+
+    fn transaction(&mut self, _: u8, _: &mut [Operation<'_>]) -> Result<(), Failed> {
+        self.0 += 1;
+        if self.0 == 1 {
+            Ok(())
+        } else {
+            Err(Failed::Byte)
+        }
+    }
+}
+
+#[test]
+fn a_borrowed_bus_hands_each_transaction_on_once() {
+    let mut below = Counts(0);
+    let mut over = &mut below;
+    assert_eq!(Bus::transaction(&mut over, 0x58, &mut [Operation::Write(&[])]), Ok(()));
+    assert_eq!(Bus::transaction(&mut over, 0x58, &mut [Operation::Write(&[])]), Err(Failed::Byte));
+    assert_eq!(below.0, 2);
+}
+
 /// What a patient bus is told: for how long it waits, and the byte by which a part is ready.
 type Told = (Option<u32>, Option<(u8, u8)>);
 

@@ -8,6 +8,7 @@ import errno
 import os
 import select
 import struct
+import time
 from collections.abc import Iterator, Sequence
 
 from .i2c_dev import (DATA, FUNCTIONS, HAS_COUNT, I2C_FUNCS, I2C_PEC, I2C_RDWR, I2C_RETRIES, I2C_SLAVE, I2C_SLAVE_FORCE, I2C_SMBUS, I2C_TENBIT,
@@ -25,6 +26,8 @@ READ_IN, WRITE_IN = struct.Struct("=QQI20x"), struct.Struct("=QQI20x")
 ANY_MEMORY, ASKED_AGAIN, HAS_32_BITS = 1, 4, 8
 MOST_WRITTEN = 4096
 ROOM = 1 << 17
+# How many seconds the kernel has for the device's file, which it makes by a task of its own: an emulated machine is slow.
+PATIENCE = 60
 
 
 class AskAgain(Exception):
@@ -211,12 +214,11 @@ def cuse(number: int) -> Iterator[Cuse]:
         made = Cuse(number, device)
         while not made.is_made:
             made.serve(1)
-        for _ in range(100):
-            if os.path.exists(path):
-                break
+        end = time.monotonic() + PATIENCE
+        while not os.path.exists(path):
+            if time.monotonic() > end:
+                raise NoBench(f"the kernel made no {path}")
             made.serve(0.02)
-        else:
-            raise NoBench(f"the kernel made no {path}")
         yield made
     finally:
         os.close(device)
