@@ -131,6 +131,7 @@ class Files(unittest.TestCase):
         lines = self.read().splitlines()
         self.assertRegex(lines[0], r"^## \d{4}-\d\d-\d\dT[\d:.]+Z pmhost \d[\w.]* -b model --outputs 2 --no-limit --log \S+ set 0 3\.3V$")
         self.assertEqual(lines[1:3], ["## bus model address 58", "#log 58 2 3"])
+        self.assertEqual(sum(line.startswith("B0 06 02 00 24 / ") for line in lines), 2)
         self.assertIn("#holds 0 VOUT_COMMAND 34CD", lines)
         self.assertEqual(lines[-1], "#commands 0 3300048 to 3300049 uV")
 
