@@ -60,7 +60,7 @@ class Sources(unittest.TestCase):
         lines = ran.stdout.splitlines()
         self.assertEqual((ran.stderr, ran.returncode, lines[1], lines[-3]), ("", 0, "    pub fn causes_decide()", "    ensures { CausesDecide }"))
         self.assertRegex(lines[0], r"\Acauses_decide \(.*/src/laws\.rt:[0-9]+\)\Z")
-        self.assertRegex(lines[2], r"\A    Whether an event ")
+        self.assertRegex(lines[2], r"\A    Only its cause decides whether an event is taken\.")
         self.assertRegex(lines[-2], r"\A    CausesDecide: .*/specs/Laws\.antt:[0-9]+\Z")
 
     def prose(self, text):
