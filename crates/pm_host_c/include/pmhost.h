@@ -64,7 +64,7 @@ extern "C" {
 #define PM_STAIRS_VERSION 1
 #define PM_STAIRS_SIZE 272
 #define PM_STAIRS_STEP_SIZE 88
-#define PM_STACK 3072
+#define PM_STACK 4096
 #define PM_STAIRS_STACK 12288
 #define PM_NAME_STACK 4096
 
