@@ -140,7 +140,7 @@ fn a_part_may_lack_registers(rt: HostRuntime) {
     equal(
         &rt,
         &rail(&image, 0),
-        &(0, (1, 0x91, 0, 0x21, [0; 4], 3_300_048, 3_300_049)),
+        &(0, (1, 0xE6, 0, 0x21, [0; 4], 3_300_048, 3_300_049)),
         &9,
     );
 }
