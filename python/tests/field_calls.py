@@ -95,10 +95,11 @@ def carry_out(call, mishaps):
     return status, out + err
 
 
-def is_dead(part, output):
-    """Whether a rail had tripped or was outside its limits, which 0 V is, as it was last asked what it does; now, where it wasn't."""
+def is_dead(part, output, by_status):
+    """Whether a rail had tripped, was at 0 V or outside its limits, as it was last asked what it does; now, if it wasn't. Nothing shows of a
+    part without READ_VOUT, judged by its STATUS_WORD, how far it is on its ramp, unless POWER_GOOD does."""
     has_tripped, microvolts = part.seen.get(output) or (part.get("has_tripped", output), part.volts(output))
-    return has_tripped or not LEAST <= microvolts <= MOST
+    return has_tripped or microvolts == 0 or not by_status and not LEAST <= microvolts <= MOST
 
 
 def wrong_with(call, status, said):
@@ -111,7 +112,7 @@ def wrong_with(call, status, said):
         if call.command == "off":
             if part.volts(output) > 0:
                 return f"off ended well, and output {output} is at {part.volts(output)} uV: {said}"
-        elif part.get("OPERATION", output) >= 0x80 and is_dead(part, output):
+        elif part.get("OPERATION", output) >= 0x80 and is_dead(part, output, "by STATUS_WORD" in said):
             return f"{call.words} ended well, and output {output} is at {part.volts(output)} uV: {said}"
     return ""
 

@@ -2,7 +2,6 @@
 boards, of which no rail that is dead ends well."""
 import asyncio
 import pickle
-import random
 import threading
 import unittest
 
@@ -166,12 +165,12 @@ class Boards(unittest.TestCase):
 
 
 class Calls(unittest.TestCase):
-    def test_no_call_ends_well_over_a_dead_rail(self):
+    @seeded(3)
+    def test_no_call_ends_well_over_a_dead_rail(self, draw):
         """trials/field/calls.py has thousands. Nor does an off end well while the rail is on."""
-        seed = random.randrange(2**32)
-        well, wrong = field_calls.counts(random.Random(seed), CALLS)
-        self.assertEqual(wrong, [], f"seed {seed}")
-        self.assertGreater(sum(well.values()), CALLS, f"seed {seed}")
+        well, wrong = field_calls.counts(draw, CALLS)
+        self.assertEqual(wrong, [])
+        self.assertGreater(sum(well.values()), CALLS)
 
 
 class Transfers(unittest.TestCase):
