@@ -1,4 +1,4 @@
-//! A course of an output: it is made, hands out frames, and is told what became of them.
+//! A course of an output: it is made, hands out frames, and hears what became of them.
 
 ghost use Rattle.std.specs.Prelude.{◌≡◌, ◌≢◌, true, not, ◌&&◌, ◌==◌, nat_lt, Some, None, IfSome};
 ghost use Rattle.pm_host.specs.Image.{held, host_of, is_current};
@@ -169,7 +169,7 @@ pub extern "C" fn pm_course_want(course: &mut CourseImage, code: u8, microvolts:
     ACCEPTED
 }
 
-// The register of a code, where it is a voltage.
+// The register of a code, if it is a voltage.
 fn voltage_of(code: u8) -> Option<Reg>
     ensures { result ≡ voltage_register code }
 {
@@ -181,8 +181,8 @@ fn voltage_of(code: u8) -> Option<Reg>
 
 /// The word that a register is known to hold is wanted in the place of what was: the course begins anew, by the tries that are left. The
 /// register is the one of which an order differed, or else the first of which something is wanted. E0h, E9h, H4; H3 while a job is open,
-/// P1, P4 where the word isn't known, P9 where nothing is wanted, where the word's value isn't within so many microvolts of what was wanted, or
-/// where no whole microvolts mean it, L3 or L4 by the limits. Then nothing changes.
+/// P1, P4 if the word isn't known, P9 if nothing is wanted, if the word's value isn't within so many microvolts of what was wanted, or
+/// if no whole microvolts mean it, L3 or L4 by the limits. Then nothing changes.
 #[unsafe(no_mangle)]
 pub extern "C" fn pm_course_accept(
     course: &mut CourseImage,
@@ -217,7 +217,7 @@ fn has_output(host: &GuardImage, output: u8) -> bool
     output < host.host.state.outputs
 }
 
-/// What a course would begin now: 0 and the job, 95h where it would end. It changes nothing. E0h, E9h.
+/// What a course would begin now: 0 and the job, 95h if it would end. It changes nothing. E0h, E9h.
 #[unsafe(no_mangle)]
 pub extern "C" fn pm_course_next(
     course: &CourseImage,
@@ -244,7 +244,7 @@ pub extern "C" fn pm_course_next(
     }
 }
 
-// What a course says next. H4 ends it where the host has no such output.
+// What a course says next. H4 ends it if the host has no such output.
 fn says(host: &GuardImage, stage: Option<Stage>, course: &mut FrameCourse) -> CourseNext
     requires { IsSound (held stage host.now.host.state) }
     ensures { SaysIn (guard_at host.now stage) course.old result course.new }
@@ -262,7 +262,7 @@ fn says(host: &GuardImage, stage: Option<Stage>, course: &mut FrameCourse) -> Co
     course.next_in(&host.host.state, stage, registers, &limits)
 }
 
-/// The frame of a course's open job; where none is open, what is next is begun. 95h once it has ended, also where the limits or the
+/// The frame of a course's open job; if none is open, what is next is begun. 95h once it has ended, also if the limits or the
 /// host refuse what it would begin. E0h, E9h; then, and once it has ended, it is nothing.
 #[unsafe(no_mangle)]
 pub extern "C" fn pm_course_frame(
@@ -301,7 +301,7 @@ fn own_stage(asked: &FrameCourse, stage: Option<Stage>) -> Option<Stage>
     }
 }
 
-// The first frame of what a course says next, which begins; or none, where it has ended, or waits before an order.
+// The first frame of what a course says next, which begins; or none, if it has ended, or waits before an order.
 fn begin_next(
     course: &mut CourseImage,
     host: &mut GuardImage,
@@ -362,7 +362,7 @@ fn refuse(course: &mut CourseImage, asked: &FrameCourse, fault: LimitFault, job:
     course.write(&refused);
 }
 
-/// The job of a course that is under way, by what it asked for last: none once it was told the end of that. E9h.
+/// The job of a course that is under way, by what it asked for last: none once it heard the end of that. E9h.
 #[unsafe(no_mangle)]
 pub extern "C" fn pm_course_job_now(course: &CourseImage, now: &mut CourseJobImage) -> u8
     ensures number { result ≡ kept_number (course_in course.now) }
@@ -375,7 +375,7 @@ pub extern "C" fn pm_course_job_now(course: &CourseImage, now: &mut CourseJobIma
     ACCEPTED
 }
 
-/// A write was sent, and acknowledged or not (0). E0h, E9h, E2h where no write is being sent.
+/// A write was sent, and acknowledged or not (0). E0h, E9h, E2h if no write is being sent.
 #[unsafe(no_mangle)]
 pub extern "C" fn pm_course_write_ended(
     course: &mut CourseImage,
@@ -387,7 +387,7 @@ pub extern "C" fn pm_course_write_ended(
     tell(course, host, Told::Finished { acked: acked != 0 })
 }
 
-/// A request was sent, and these bytes came back, the read address first; none where there was no answer. E0h, E9h, E2h where
+/// A request was sent, and these bytes came back, the read address first; none if there was no answer. E0h, E9h, E2h if
 /// no request is being sent.
 #[unsafe(no_mangle)]
 pub extern "C" fn pm_course_read_ended(
@@ -400,7 +400,7 @@ pub extern "C" fn pm_course_read_ended(
     tell(course, host, Told::Got(bytes))
 }
 
-// Tells a host what became of its frame, and the course where it is of its job.
+// A host hears what became of its frame, and the course does if the frame is of its job.
 fn tell(course: &mut CourseImage, host: &mut GuardImage, told: Told<'_>) -> HostStep
     ensures { TellsCourse host.old course.old (entry_told told.entry) result host.new course.new }
 {
@@ -444,7 +444,7 @@ fn hear(host: &mut GuardImage, asked: &mut FrameCourse, stage: Stage, told: Told
 }
 
 /// A write was sent, and acknowledged or not (0); and what is to be sent next, as `pm_course_frame` hands it out. It is nothing once the
-/// course has ended, and, where `stops` isn't 0, where an order is next, which then doesn't begin. E0h, E9h, E2h where no write is
+/// course has ended, and, if `stops` isn't 0, if an order is next, which then doesn't begin. E0h, E9h, E2h if no write is
 /// being sent; then nothing changes, and it is nothing.
 #[unsafe(no_mangle)]
 pub extern "C" fn pm_course_after_write(
@@ -460,8 +460,8 @@ pub extern "C" fn pm_course_after_write(
     tell_and_send(course, host, told, stops != 0, sending)
 }
 
-/// A request was sent, and these bytes came back, the read address first; none where there was no answer. And what is to be sent next,
-/// as by `pm_course_after_write`. E0h, E9h, E2h where no request is being sent; then nothing changes, and it is nothing.
+/// A request was sent, and these bytes came back, the read address first; none if there was no answer. And what is to be sent next,
+/// as by `pm_course_after_write`. E0h, E9h, E2h if no request is being sent; then nothing changes, and it is nothing.
 #[unsafe(no_mangle)]
 pub extern "C" fn pm_course_after_read(
     course: &mut CourseImage,
@@ -475,7 +475,7 @@ pub extern "C" fn pm_course_after_read(
     tell_and_send(course, host, Told::Got(bytes), stops != 0, sending)
 }
 
-// Tells a host what became of its frame, and the course where it is of its job; and hands out what is to be sent next.
+// A host hears what became of its frame, and the course does if the frame is of its job. What is to be sent next is handed out.
 fn tell_and_send(
     course: &mut CourseImage,
     host: &mut GuardImage,
@@ -532,7 +532,7 @@ fn send_next(
     }
 }
 
-/// How a course ended; kind 0 where it goes on. E9h.
+/// How a course ended; kind 0 if it goes on. E9h.
 #[unsafe(no_mangle)]
 pub extern "C" fn pm_course_ended(course: &CourseImage, end: &mut CourseEndImage) -> u8
     ensures number { result ≡ kept_number (course_in course.now) }

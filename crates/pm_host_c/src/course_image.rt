@@ -12,7 +12,7 @@ use pm_host::Job;
 use pm_rail::{Course, Differing, Reads, Survey, Wanted};
 use pm_table::{Code, cell_of};
 
-/// The voltages that are wanted, in microvolts; 0 where none is.
+/// The voltages that are wanted, in microvolts; 0 if none is.
 #[repr(C)]
 #[derive(Clone, Copy, Debug)]
 pub struct VoltagesImage {
@@ -94,7 +94,7 @@ pub struct CourseImage {
     pub left: u16,
     /// The word of the order that it asked for, otherwise 0.
     pub word: u16,
-    /// The byte that is wanted of OPERATION, where one is.
+    /// The byte that is wanted of OPERATION, if one is.
     pub byte: u16,
     /// The word of its end.
     pub end_word: u16,
@@ -104,19 +104,19 @@ pub struct CourseImage {
     pub voltages: VoltagesImage,
     /// The output's number, 0 to 7.
     pub output: u8,
-    /// 1 where it is to wanted words, otherwise 0.
+    /// 1 if it is to wanted words, otherwise 0.
     pub planned: u8,
-    /// 1 where the format was learned since its survey began, otherwise 0.
+    /// 1 if the format was learned since its survey began, otherwise 0.
     pub learned: u8,
-    /// What it asked for and wasn't told the end of: 1 a learn, 2 a check, 3 an order, 0 nothing.
+    /// What it asked for and didn't hear the end of: 1 a learn, 2 a check, 3 an order, 0 nothing.
     pub asked: u8,
     /// The command code of the cell of that check or order, VOUT_MODE of a learn, otherwise 0.
     pub code: u8,
-    /// 1 where it is to a byte of OPERATION, otherwise 0.
+    /// 1 if it is to a byte of OPERATION, otherwise 0.
     pub has_byte: u8,
-    /// 1 where something was ordered since its survey began, otherwise 0.
+    /// 1 if something was ordered since its survey began, otherwise 0.
     pub ordered: u8,
-    /// 1 where an order was read back as it was given, otherwise 0.
+    /// 1 if an order was read back as it was given, otherwise 0.
     pub done: u8,
     /// Which cells had a good answer since its survey began.
     pub read: ReadImage,
@@ -124,15 +124,15 @@ pub struct CourseImage {
     pub differed: DifferedImage,
     /// The registers of which a voltage is wanted.
     pub has: HasImage,
-    /// What was wrong with the last answer, by its number; 0 where nothing was.
+    /// What was wrong with the last answer, by its number; 0 if nothing was.
     pub fault: u8,
-    /// How it ended, by its number; 0 where it goes on.
+    /// How it ended, by its number; 0 if it goes on.
     pub end_kind: u8,
     /// The number of its refusal, otherwise 0.
     pub end_number: u8,
     /// The command code of what its end is about, otherwise 0.
     pub end_code: u8,
-    /// 1 where its refusal is about a register, otherwise 0.
+    /// 1 if its refusal is about a register, otherwise 0.
     pub end_has: u8,
     /// What was wrong with the last answer as it ended for want of tries, otherwise 0.
     pub end_fault: u8,
@@ -393,7 +393,7 @@ pub(crate) fn numbers_of(asked: Option<Job>) -> (u8, u8, u16)
     }
 }
 
-// The words that are wanted as such; none where there is no plan.
+// The words that are wanted as such; none if there is no plan.
 fn words_of(plan: Option<Wanted>) -> Wanted
     ensures { result ≡ wanted_in plan }
 {

@@ -24,8 +24,8 @@ pub struct GuardImage {
     pub limits: [LimitsImage; OUTPUTS],
 }
 
-/// Which registers of an output a part has, beside OPERATION and VOUT_COMMAND: 0 where it lacks one, and any other number
-/// where it has it.
+/// Which registers of an output a part has, beside OPERATION and VOUT_COMMAND: 0 if it lacks one, and any other number
+/// if it has it.
 #[repr(C)]
 #[derive(Clone, Copy, Debug)]
 pub struct RegistersImage {

@@ -125,7 +125,7 @@ pub(crate) fn begin(host: &mut GuardImage, job: Option<Job>) -> u8
     }
 }
 
-/// Begins a job where the open one stands at this stage: where it stands then, or why it is refused.
+/// Begins a job if the open one stands at this stage: where it stands then, or why it is refused.
 pub(crate) fn begin_at(
     host: &mut GuardImage,
     stage: Option<Stage>,

@@ -10,19 +10,19 @@ ghost use Rattle.pm_host_c.specs.Host.{host_step, refused_step, told_fault};
 use pm_frame::read_answer;
 use pm_host::{JobEnd, Stage, Step, Told};
 
-/// What a call answers that tells what became of a frame: how the job stands, or a refusal.
+/// What a call answers that hears what became of a frame: how the job stands, or a refusal.
 #[repr(C)]
 #[derive(Clone, Copy, Debug, PartialEq, Eq)]
 pub struct HostStep {
-    /// 0 where the job goes on, 1 to 4 where it ended as Done, Differs, Unknown or Learned; otherwise
+    /// 0 if the job goes on, 1 to 4 if it ended as Done, Differs, Unknown or Learned; otherwise
     /// the number of a refusal.
     pub kind: u16,
-    /// The word that was read where the end is Differs. Where it is Unknown, which fault the last answer had, F1 to F5
-    /// as 31h to 35h: 0 where none came, where it was good and gave no format, and where a command was sent. Otherwise 0.
+    /// The word that was read if the end is Differs. If it is Unknown, which fault the last answer had, F1 to F5
+    /// as 31h to 35h: 0 if none came, if it was good and gave no format, and if a command was sent. Otherwise 0.
     pub word: u16,
 }
 
-/// How the job stands after a call that told what became of a stage's frame.
+/// How the job stands after a call that heard what became of a stage's frame.
 #[inline(always)]
 pub fn step_after(step: Step, address: u8, stage: Stage, told: Told<'_>) -> HostStep
     requires address { IsAddress address }
@@ -54,7 +54,7 @@ fn fault_told(address: u8, stage: Stage, told: Told<'_>) -> u16
     }
 }
 
-// The number of the fault of the bytes that came back for a request. It is asked where a job ends Unknown alone.
+// The number of the fault of the bytes that came back for a request. It is asked only if a job ends Unknown.
 #[inline(never)]
 fn answer_fault(address: u8, stage: Stage, bytes: &[u8]) -> u16
     requires address { IsAddress address }

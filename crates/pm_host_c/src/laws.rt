@@ -1,4 +1,4 @@
-//! What is said of the numbers alone: the contract of a function that does nothing.
+//! What is said of the numbers: the contract of a function that does nothing.
 
 ghost use Rattle.pm_host_c.specs.CourseImage.{CoursesAreKept};
 ghost use Rattle.pm_host_c.specs.Memory.{MemoriesAreMeanings};

@@ -55,7 +55,7 @@ pub extern "C" fn pm_stairs_version() -> u16
     StairsImage::VERSION
 }
 
-/// Makes stairs of which no step has begun, each with this many jobs at most; a way down where the last number isn't 0.
+/// Makes stairs of which no step has begun, each with this many jobs at most; a way down if the last number isn't 0.
 #[unsafe(no_mangle)]
 pub extern "C" fn pm_stairs_new(stairs: &mut StairsImage, tries: u16, is_down: u8)
     ensures { stairs.new ≡ stairs_begun tries is_down }
@@ -63,8 +63,8 @@ pub extern "C" fn pm_stairs_new(stairs: &mut StairsImage, tries: u16, is_down: u
     *stairs = StairsImage::of(&Sequence::new(tries, is_down != 0), StairsEndImage::none());
 }
 
-/// What is to be sent now, by the host at the place that the stairs name. 96h where another host is to be asked or this one again, 97h
-/// where the way back of the next step would be refused, 95h once they have ended; E0h, EEh, EAh, EFh, H4. Then it is nothing.
+/// What is to be sent now, by the host at the place that the stairs name. 96h if another host is to be asked or this one again, 97h
+/// if the way back of the next step would be refused, 95h once they have ended; E0h, EEh, EAh, EFh, H4. Then it is nothing.
 #[unsafe(no_mangle)]
 pub extern "C" fn pm_stairs_ask(
     stairs: &mut StairsImage,
@@ -96,7 +96,7 @@ pub extern "C" fn pm_stairs_ask(
     }
 }
 
-// Whether there is less room for the way back than there are steps, where one is noted.
+// Whether there is less room for the way back than there are steps, if one is noted.
 fn lacks_room(stairs: &Sequence, steps: usize, room: usize) -> bool
     ensures { result ≡ spec_lacks_room stairs.now steps room }
 {
@@ -193,7 +193,7 @@ fn back_said(said: Turn) -> Option<WordStep>
     }
 }
 
-// What is answered where nothing is to be sent.
+// What is answered if nothing is to be sent.
 fn number_said(said: Turn) -> u8
     ensures { result ≡ spec_number_said said }
 {
@@ -217,7 +217,7 @@ fn end_said(is: &Sequence, said: Turn) -> StairsEndImage
     }
 }
 
-// The stairs where the host or its limits refuse by this number what they named.
+// The stairs if the host or its limits refuse by this number what they named.
 fn stopped(kept: &Sequence, number: u8, job: Job) -> StairsImage
     ensures { result ≡ stopped_by kept.now number job }
 {
@@ -225,7 +225,7 @@ fn stopped(kept: &Sequence, number: u8, job: Job) -> StairsImage
     StairsImage::of(kept, StairsEndImage::stopped(kept, why))
 }
 
-// Keeps the step that undoes the one that has begun, where a way back is noted.
+// Keeps the step that undoes the one that has begun, if a way back is noted.
 fn keep_back(backs: &mut [StairsStepImage], was: &Sequence, is: &Sequence, said: Turn)
     ensures { backs.new ≡ backs_with was.now.is_down backs.old was.now.begun is.now.under_host (spec_back_said said) }
 {
@@ -240,7 +240,7 @@ fn keep_back(backs: &mut [StairsStepImage], was: &Sequence, is: &Sequence, said:
     }
 }
 
-// Keeps a step at a place, where there is room.
+// Keeps a step at a place, if there is room.
 fn keep(backs: &mut [StairsStepImage], at: usize, step: StairsStepImage)
     ensures { backs.new ≡ kept_at backs.old at step }
 {
@@ -249,7 +249,7 @@ fn keep(backs: &mut [StairsStepImage], at: usize, step: StairsStepImage)
     }
 }
 
-/// A write was sent, and acknowledged or not (0). E0h, EEh, E2h where no write is being sent.
+/// A write was sent, and acknowledged or not (0). E0h, EEh, E2h if no write is being sent.
 #[unsafe(no_mangle)]
 pub extern "C" fn pm_stairs_write_ended(
     stairs: &mut StairsImage,
@@ -261,7 +261,7 @@ pub extern "C" fn pm_stairs_write_ended(
     tell(stairs, host, Told::Finished { acked: acked != 0 })
 }
 
-/// A request was sent, and these bytes came back, the read address first; none where there was no answer. E0h, EEh, E2h where
+/// A request was sent, and these bytes came back, the read address first; none if there was no answer. E0h, EEh, E2h if
 /// no request is being sent.
 #[unsafe(no_mangle)]
 pub extern "C" fn pm_stairs_read_ended(
@@ -274,7 +274,7 @@ pub extern "C" fn pm_stairs_read_ended(
     tell(stairs, host, Told::Got(bytes))
 }
 
-// Tells a host what became of its frame, and the stairs where it is of their job.
+// A host hears what became of its frame, and the stairs do if the frame is of their job.
 fn tell(stairs: &mut StairsImage, host: &mut GuardImage, told: Told<'_>) -> HostStep
     ensures { TellsStairs host.old stairs.old (entry_told told.entry) result host.new stairs.new }
 {
@@ -322,7 +322,7 @@ fn heard_by(
     }
 }
 
-/// The step of a way down that stopped is left, and the next one goes on. EEh, EFh where there is none.
+/// The step of a way down that stopped is left, and the next one goes on. EEh, EFh if there is none.
 #[unsafe(no_mangle)]
 pub extern "C" fn pm_stairs_skip(stairs: &mut StairsImage) -> u8
     ensures number { result ≡ skip_number stairs.old (stairs_in stairs.old) }
@@ -339,7 +339,7 @@ pub extern "C" fn pm_stairs_skip(stairs: &mut StairsImage) -> u8
     ACCEPTED
 }
 
-/// Judges a step by the words that are known now. 0; 95h where it would be refused, 97h where its way back would be; E0h, EFh, H4.
+/// Judges a step by the words that are known now. 0; 95h if it would be refused, 97h if its way back would be; E0h, EFh, H4.
 #[unsafe(no_mangle)]
 pub extern "C" fn pm_stairs_check(
     host: &GuardImage,

@@ -12,13 +12,13 @@ use pm_stairs::{Sequence, StepEnd};
 #[repr(C)]
 #[derive(Clone, Copy, Debug)]
 pub struct StairsEndImage {
-    /// 0 where they go on; 1 to 6 as the end of a course; 7 the step changed, 8 the part restarted, 9 the way back would be refused.
+    /// 0 if they go on; 1 to 6 as the end of a course; 7 the step changed, 8 the part restarted, 9 the way back would be refused.
     pub kind: u8,
     /// The number of the refusal, otherwise 0.
     pub number: u8,
-    /// The command code of the register; 0 where it is about none.
+    /// The command code of the register; 0 if it is about none.
     pub code: u8,
-    /// 1 where the step had begun.
+    /// 1 if the step had begun.
     pub has_begun: u8,
     /// What was read, otherwise 0.
     pub word: u16,

@@ -14,21 +14,21 @@ use pm_stairs::{Sequence, Stairs, Under, WordAct, WordStep};
 #[repr(C)]
 #[derive(Clone, Copy, Debug)]
 pub struct UnderImage {
-    /// 0 where none has begun, 1 where registers get words, 2 where OPERATION gets a byte.
+    /// 0 if none has begun, 1 if registers get words, 2 if OPERATION gets a byte.
     pub kind: u8,
     /// The place of its host.
     pub host: u8,
     /// Its output.
     pub output: u8,
-    /// 1 where it was over just now, otherwise 0.
+    /// 1 if it was over just now, otherwise 0.
     pub is_free: u8,
-    /// 1 where it was said that the next one has no way back, otherwise 0.
+    /// 1 if it was said that the next one has no way back, otherwise 0.
     pub is_warned: u8,
-    /// 1 where what was said last is of the first step ahead, otherwise 0.
+    /// 1 if what was said last is of the first step ahead, otherwise 0.
     pub is_reading: u8,
-    /// 1 where a restart was seen, otherwise 0.
+    /// 1 if a restart was seen, otherwise 0.
     pub is_restarted: u8,
-    /// 1 where the course of the first step ahead has begun to read, otherwise 0.
+    /// 1 if the course of the first step ahead has begun to read, otherwise 0.
     pub has_coming: u8,
     /// The byte.
     pub byte: u16,
@@ -97,7 +97,7 @@ impl StairsImage {
         }
     }
 
-    /// The stairs; `None` where the memory holds none.
+    /// The stairs; `None` if the memory holds none.
     pub(crate) fn stairs(&self) -> Option<Sequence>
         ensures { result ≡ stairs_in self.now }
     {
@@ -156,7 +156,7 @@ fn course_under(stairs: &Sequence) -> Option<FrameCourse>
     }
 }
 
-// The image of a course; that of a survey of nothing where there is none.
+// The image of a course; that of a survey of nothing if there is none.
 fn course_of(course: Option<FrameCourse>) -> CourseImage
     ensures { result ≡ course_written course }
 {

@@ -13,7 +13,7 @@ use pm_stairs::{Act, Placed, Step, WordAct, WordStep};
 #[repr(C)]
 #[derive(Clone, Copy, Debug)]
 pub struct StairsWishImage {
-    /// 0 where it stays, 1 a word, 2 a voltage.
+    /// 0 if it stays, 1 a word, 2 a voltage.
     pub kind: u16,
     /// The word, otherwise 0.
     pub word: u16,
@@ -31,7 +31,7 @@ pub struct StairsStepImage {
     pub host: u8,
     /// Its output.
     pub output: u8,
-    /// 1 where registers get words or voltages, 2 where OPERATION gets a byte.
+    /// 1 if registers get words or voltages, 2 if OPERATION gets a byte.
     pub kind: u8,
     /// The byte, otherwise 0.
     pub byte: u8,

@@ -83,7 +83,7 @@ fn an_end_has_its_number(rt: HostRuntime) {
     equal(&rt, &order_micro(&mut image, 0, 0x21, 3_300_000), &7, &15);
 }
 
-// What came back for a check of VOUT_COMMAND with one try, and the word of its end: which fault that had, and 0 where
+// What came back for a check of VOUT_COMMAND with one try, and the word of its end: which fault that had, and 0 if
 // nothing came.
 static FAULTS: [(&[u8], u16); 6] = [
     (&[], 0),
@@ -246,8 +246,8 @@ fn damaged_memory_says_what_can_be_read(rt: HostRuntime) {
     equal(&rt, &format(&image, 1), &(0, 0, 0), &3);
 }
 
-// A host's memory has the byte of VOUT_MODE and the five bytes of COEFFICIENTS as they were answered, FFh where there is
-// none; a caller is told numbers, here of ULINEAR16 with -12 and of DIRECT with R 1.
+// A host's memory has the byte of VOUT_MODE and the five bytes of COEFFICIENTS as they were answered, FFh if there is
+// none; a caller gets numbers, here of ULINEAR16 with -12 and of DIRECT with R 1.
 #[test]
 fn a_format_is_kept_as_it_was_learned(rt: HostRuntime) {
     let mut image = host(1);

@@ -12,7 +12,7 @@ use crate::numbers::{ACCEPTED, NO_HOST, OTHER_FRAME};
 use crate::sending_image::SendingImage;
 use pm_host::{Stage, Told};
 
-/// The frame that is to be sent now. E0h where the memory holds no host; then, and where no job is
+/// The frame that is to be sent now. E0h if the memory holds no host; then, and if no job is
 /// open, it is nothing.
 #[unsafe(no_mangle)]
 pub extern "C" fn pm_host_frame(host: &GuardImage, sending: &mut SendingImage) -> u8
@@ -38,7 +38,7 @@ pub(crate) fn send(host: &GuardImage, stage: Stage, sending: &mut SendingImage)
     sending.put(host.host.state.address, &stage.message());
 }
 
-/// A write was sent, and acknowledged or not (0). E0h, E2h where no write is being sent.
+/// A write was sent, and acknowledged or not (0). E0h, E2h if no write is being sent.
 #[unsafe(no_mangle)]
 pub extern "C" fn pm_host_write_ended(host: &mut GuardImage, acked: u8) -> HostStep
     ensures { TellsHost host.old (Finished (not (acked == 0))) result host.new }
@@ -46,8 +46,8 @@ pub extern "C" fn pm_host_write_ended(host: &mut GuardImage, acked: u8) -> HostS
     tell(host, Told::Finished { acked: acked != 0 })
 }
 
-/// A request was sent, and these bytes came back, the read address first; none where there was no
-/// answer. E0h, E2h where no request is being sent.
+/// A request was sent, and these bytes came back, the read address first; none if there was no
+/// answer. E0h, E2h if no request is being sent.
 #[unsafe(no_mangle)]
 pub extern "C" fn pm_host_read_ended(host: &mut GuardImage, bytes: &[u8]) -> HostStep
     ensures { TellsHost host.old (Got bytes.now) result host.new }

@@ -22,12 +22,12 @@ pub enum Came {
     Passed(WordStep),
     /// No frame: each step is over.
     Reached,
-    /// No frame: the step under way stopped so, or where `reading` is set the first one ahead.
+    /// No frame: the step under way stopped so, or if `reading` is set the first one ahead.
     Stopped(StepEnd),
 }
 
 impl Stairs {
-    /// The frame that is to be sent now, where this is the first step ahead, which gets so many tries. It stays the same until
+    /// The frame that is to be sent now, if this is the first step ahead, which gets so many tries. It stays the same until
     /// `write_ended` or `read_ended`. Where the guard refuses what is named, nothing changes.
     pub fn frame(
         &mut self,
@@ -73,7 +73,7 @@ impl Stairs {
         }
     }
 
-    /// A write was sent, and acknowledged or not. S2 where nothing is being sent, S3 where a request is: then nothing changes.
+    /// A write was sent, and acknowledged or not. S2 if nothing is being sent, S3 if a request is: then nothing changes.
     pub fn write_ended(&mut self, guard: &mut Guard, acked: bool) -> Result<(), Untold>
         ensures { Hears guard.old self.old (Finished acked) result guard.new self.new }
     {
@@ -86,8 +86,8 @@ impl Stairs {
         result
     }
 
-    /// A request was sent, and these bytes came back, the read address first; none where there was no answer. S2 where nothing
-    /// is being sent, S3 where a write is: then nothing changes.
+    /// A request was sent, and these bytes came back, the read address first; none if there was no answer. S2 if nothing
+    /// is being sent, S3 if a write is: then nothing changes.
     pub fn read_ended(&mut self, guard: &mut Guard, bytes: &[u8]) -> Result<(), Untold>
         ensures { Hears guard.old self.old (Got bytes.now) result guard.new self.new }
     {
@@ -124,7 +124,7 @@ impl Stairs {
         }
     }
 
-    // The stairs where that course has become this one, and an answer showed a restart or didn't.
+    // The stairs if that course has become this one, and an answer showed a restart or didn't.
     pub(crate) fn with_course(&self, course: FrameCourse, restarted: bool) -> Stairs
         ensures { result ≡ spec_with_course self.now course restarted }
     {

@@ -2,7 +2,7 @@
 //!
 //! A [`Step`] gives an output's registers words or voltages, or OPERATION a byte. [`Stairs::frame`] hands out what is to be sent now, for the
 //! step under way or to read what the first one ahead needs; [`Stairs::write_ended`] and [`Stairs::read_ended`] hear what became of it. A
-//! step begins only where the one before it is over by what the host knows at that moment, and what it changes is known.
+//! step begins only if the one before it is over by what the host knows at that moment, and what it changes is known.
 //!
 //! The caller keeps the list. As a step begins it gets the [`WordStep`] that undoes it, and keeps that too: carried out the newest first, by
 //! stairs of their own, they are the way back. Each step goes by a [`pm_course::FrameCourse`]; an order that isn't due by the step's

@@ -73,7 +73,7 @@ fn ordered(begun: bool, output: u8, due: &Due, cell: Cell, word: u16) -> Said
     }
 }
 
-// The answer where its course has ended `Reached`.
+// The answer if its course has ended `Reached`.
 fn reached(due: &Due) -> Said
     ensures { result ≡ spec_reached due.now }
 {
@@ -84,7 +84,7 @@ fn reached(due: &Due) -> Said
     }
 }
 
-// A cell is looked at first where it has to be known.
+// A cell is looked at first if it has to be known.
 fn looking(lacks: Option<Cell>, said: Said) -> Said
     ensures { result ≡ spec_looking lacks said }
 {

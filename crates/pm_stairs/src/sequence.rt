@@ -61,7 +61,7 @@ pub enum Turn {
     NoWayBack(PlanFault),
     /// Nothing: each step is over.
     Reached,
-    /// Nothing: the step under way stopped so, or where `reading` is set the first step ahead, which hasn't begun.
+    /// Nothing: the step under way stopped so, or if `reading` is set the first step ahead, which hasn't begun.
     Stops(StepEnd),
 }
 
@@ -82,7 +82,7 @@ impl Sequence {
         }
     }
 
-    /// What comes next by the host at the place `host`, where this is the first step ahead.
+    /// What comes next by the host at the place `host`, if this is the first step ahead.
     pub fn next<S: Sight>(&mut self, guard: &S, ahead: Option<Placed>) -> Turn
         ensures { Turns (S.guarded guard.now) ahead self.old result self.new }
     {
@@ -143,7 +143,7 @@ impl Sequence {
         self.stairs.under.is_some() && (!self.is_free || ahead.is_none())
     }
 
-    // The first step ahead, where it is asked without the one under way, which is over.
+    // The first step ahead, if it is asked without the one under way, which is over.
     fn asked_apart(&self, ahead: Option<Placed>) -> Option<Step>
         ensures { result ≡ spec_asked_apart self.now ahead }
     {
@@ -153,7 +153,7 @@ impl Sequence {
         }
     }
 
-    // The first step ahead, where the host that is asked is its own and it doesn't begin at once.
+    // The first step ahead, if the host that is asked is its own and it doesn't begin at once.
     fn ahead_here(&self, ahead: Option<Placed>) -> Option<Step>
         ensures { result ≡ spec_ahead_here self.now ahead }
     {
@@ -175,7 +175,7 @@ impl Sequence {
         }
     }
 
-    // The first step ahead, where it begins at once now.
+    // The first step ahead, if it begins at once now.
     fn off_at_once(&self, ahead: Option<Placed>) -> Option<Step>
         ensures { result ≡ spec_off_at_once self.now (spec_is_under self.now ahead) ahead }
     {
@@ -210,7 +210,7 @@ impl Sequence {
         self.is_warned = false;
     }
 
-    // What comes of what the stairs say, where the way back of the step that begins would be refused so.
+    // What comes of what the stairs say, if the way back of the step that begins would be refused so.
     fn goes(
         &mut self,
         ahead: Option<Placed>,
@@ -265,7 +265,7 @@ impl Sequence {
         }
     }
 
-    // Why the way back of the step that begins would be refused, where one begins.
+    // Why the way back of the step that begins would be refused, if one begins.
     fn refused_for<S: Sight>(&self, guard: &S, said: Move) -> Option<PlanFault>
         ensures { result ≡ spec_refused_for (S.guarded guard.now) self.now said }
     {
@@ -275,7 +275,7 @@ impl Sequence {
         }
     }
 
-    // Why the way back of the first step ahead would be refused, where it wasn't said.
+    // Why the way back of the first step ahead would be refused, if it wasn't said.
     fn refused_back<S: Sight>(&self, guard: &S, back: &WordStep) -> Option<PlanFault>
         ensures { result ≡ spec_refused_back (S.guarded guard.now) self.now back.now }
     {

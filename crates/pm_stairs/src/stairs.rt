@@ -49,7 +49,7 @@ pub enum Move {
     Passes(WordStep),
     /// Nothing: each step is over.
     Reached,
-    /// Nothing: the step under way stopped so, or where `reading` is set the first step ahead, which hasn't begun.
+    /// Nothing: the step under way stopped so, or if `reading` is set the first step ahead, which hasn't begun.
     Stops(StepEnd),
 }
 
@@ -66,7 +66,7 @@ impl Stairs {
         }
     }
 
-    /// What comes next, where this is the first step ahead, which gets so many tries.
+    /// What comes next, if this is the first step ahead, which gets so many tries.
     pub fn next<S: Sight>(&mut self, guard: &S, ahead: Option<Step>, tries: u16) -> Move
         ensures { Goes (S.guarded guard.now) tries ahead self.old result self.new }
     {
@@ -82,7 +82,7 @@ impl Stairs {
         }
     }
 
-    /// What the first step ahead asks for, where the step under way is over by its own host.
+    /// What the first step ahead asks for, if the step under way is over by its own host.
     pub(crate) fn next_apart<S: Sight>(&mut self, guard: &S, step: &Step, tries: u16) -> Move
         ensures { GoesApart (S.guarded guard.now) tries step.now self.old result self.new }
     {
@@ -92,7 +92,7 @@ impl Stairs {
         self.ahead(guard, step, tries)
     }
 
-    // What the step under way asks for; nothing where it is over, or none has begun.
+    // What the step under way asks for; nothing if it is over, or none has begun.
     fn under<S: Sight>(&mut self, guard: &S) -> Option<Move>
         ensures { GoesUnder (S.guarded guard.now) self.old result self.new }
     {

@@ -63,7 +63,7 @@ impl Step {
         }
     }
 
-    // The step in words, where its wishes have these.
+    // The step in words, if its wishes have these.
     pub(crate) fn with_words(&self, words: Wanted) -> WordStep
         ensures { result ≡ step_with self.now words }
     {
@@ -92,7 +92,7 @@ impl WordStep {
         }
     }
 
-    // The step that undoes it, where it begins now: each word that it changes is to be as it is known to be. The output's number is
+    // The step that undoes it, if it begins now: each word that it changes is to be as it is known to be. The output's number is
     // below 8.
     pub(crate) fn noted(&self, host: &State) -> WordStep
         requires { self.now.output < 8 }
@@ -144,7 +144,7 @@ fn words_back(host: &State, output: u8, words: &Wanted) -> Wanted
     }
 }
 
-// The word that is known of a register, where one is wanted of it.
+// The word that is known of a register, if one is wanted of it.
 fn word_back(host: &State, output: u8, register: Reg, wanted: Option<u16>) -> Option<u16>
     requires { output < 8 }
     ensures { result ≡ back_word (held None host.now) output register wanted }
@@ -166,7 +166,7 @@ fn byte_known(host: &State, output: u8) -> u16
     }
 }
 
-// The only word that a cell may hold, where it is one that the cell takes.
+// The only word that a cell may hold, if it is one that the cell takes.
 pub(crate) fn known_in(host: &State, cell: Cell) -> Option<u16>
     requires { IsCell 8 cell }
     ensures { result ≡ known_word cell (possible_at (held None host.now) cell) }

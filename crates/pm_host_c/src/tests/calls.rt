@@ -123,7 +123,7 @@ pub(super) fn got(image: &mut GuardImage, bytes: &[u8]) -> (u16, u16) {
     (step.kind, step.word)
 }
 
-// The number, and what was said: 7 where nothing was.
+// The number, and what was said: 7 if nothing was.
 pub(super) fn standing(image: &GuardImage, output: u8, code: u8) -> (u8, u16, u16) {
     let mut said = StandingImage {
         is_confirmed: 7,
@@ -317,7 +317,7 @@ pub(super) fn known(image: &GuardImage) -> (u8, KnownCells) {
 
 pub(super) type Rail = (u8, u8, u8, u8, [u8; 4], i64, i64);
 
-// The number, and what was said: 7 where nothing was.
+// The number, and what was said: 7 if nothing was.
 pub(super) fn rail(image: &GuardImage, output: u8) -> (u8, Rail) {
     let mut rail = RailImage {
         power: 7,

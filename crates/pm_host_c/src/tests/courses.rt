@@ -235,7 +235,7 @@ fn a_job_of_another_is_no_last_end(rt: HostRuntime) {
     equal(&rt, &end(&course), &(2, 4, 0, 0, 0), &10);
 }
 
-// What a call that tells and hands out answers: the step, and the frame's kind and code.
+// What a call that hears and hands out answers: the step, and the frame's kind and code.
 fn after_write(course: &mut CourseImage, host: &mut GuardImage, acked: u8) -> (u16, u16, u8, u8) {
     let mut sending = NOTHING;
     let step = pm_course_after_write(course, host, acked, 0, &mut sending);

@@ -21,7 +21,7 @@ fn blank() -> DeliveryImage {
     }
 }
 
-// A host of a part at 58h with one output, where a job has two passes.
+// A host of a part at 58h with one output, whose jobs have two passes.
 fn host() -> GuardImage {
     let mut host = GuardImage::blank();
     let _ = pm_host_new(&mut host, 0x58, 1, 2);

@@ -96,7 +96,7 @@ fn the_band_is_rounded_outward(rt: HostRuntime) {
     equal(&rt, &within(&image, 0), &0x91, &5);
 }
 
-// An output, a code, a word, and the number of its order where no limits are known: VOUT_COMMAND, VOUT_MAX and VOUT_MIN,
+// An output, a code, a word, and the number of its order if no limits are known: VOUT_COMMAND, VOUT_MAX and VOUT_MIN,
 // OPERATION on and off, and WRITE_PROTECT.
 static UNKNOWN: [(u8, u8, u16, u8); 8] = [
     (0, 0x21, 0x34CD, 0x28),
@@ -166,7 +166,7 @@ fn a_band_beyond_its_limits_is_outside(rt: HostRuntime) {
     }
 }
 
-// Each refusal that a caller in C alone gets and one of each other kind, with its name; an empty name for a number
+// Each refusal that only a caller in C gets and one of each other kind, with its name; an empty name for a number
 // that has none.
 static REFUSALS: [(u8, &[u8]); 33] = [
     (0x00, b""),

@@ -172,7 +172,7 @@ fn an_answer_is_read(rt: HostRuntime) {
 }
 
 // A block read of MFR_ID, which is `LTC`, and of an empty one; reads of STATUS_WORD and of no byte; and what is wrong with
-// such answers. The address, the code, how many bytes are asked for where it is no block, what came, and what is said.
+// such answers. The address, the code, how many bytes are asked for if it is no block, what came, and what is said.
 static OTHER_READS: [(u8, u8, Option<u8>, &[u8], (u8, u8, [u8; 4])); 16] = [
     (
         0x58,
