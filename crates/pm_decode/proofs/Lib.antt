@@ -10,4 +10,5 @@ pub mod NumberLemmas
 pub mod PecLemmas
 pub mod PlainLemmas
 pub mod PutLemmas
+pub mod TimedLemmas
 pub mod UsualLemmas

@@ -1,4 +1,4 @@
-//! A law of scenarios, over the definitions.
+//! A law of scenarios, over the definitions alone.
 
 ghost use Rattle.pm_text.specs.Laws.{LowestWordsCutNothing};
 

@@ -1,2 +1,2 @@
-pub mod ModeLemmas
+pub mod LetterLemmas
 pub mod ValueLemmas

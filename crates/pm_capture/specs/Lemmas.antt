@@ -1,2 +1,0 @@
--- Lemmas on the lines of a capture, which the crates above rest on. No public clause cites them.
-pub mod TimedLines

@@ -1,0 +1,82 @@
+//! What a line's packet is told as.
+ghost use Rattle.std.specs.Prelude.{◌≡◌, ◌||◌, Err, IfSome, is_some, not, option_map};
+ghost use Rattle.pm_trace.specs.ShownLines.{judged_in};
+ghost use Rattle.pm_trace.specs.Trace.{parts_judged, reading_judged};
+ghost use Rattle.pm_values.specs.Otherwise.{IsCompleted, content_of, is_accepted};
+ghost use Rattle.pm_decode.specs.Hearing.{is_checked as spec_is_checked, is_told as spec_is_told};
+ghost use Rattle.pm_decode.specs.PageSteps.{change_by};
+ghost use Rattle.pm_decode.specs.Readings.{is_without_pec};
+ghost use Rattle.pm_decode.specs.ShownReadings.{packet_in};
+
+use crate::line_text::PacketLine;
+use crate::page_step::Marks;
+use arrayvec::ArrayVec;
+use pm_trace::{LineFault, Shown};
+use pm_values::{ModeChange, Packet, completed_part, mode_change};
+
+/// The modes that a packet with these marks may change: all of its address where that restarted.
+pub(crate) fn change_in(marks: &Marks, packet: &Packet<'_>) -> ModeChange
+    ensures { result ≡ change_by marks.now (packet_in packet.now) }
+{
+    if marks.is_turned {
+        ModeChange::OfAll
+    } else {
+        mode_change(packet.write, packet.is_read(), marks.page)
+    }
+}
+
+/// Whether a packet is told as the command table has it, with its PEC: it is good, or no other is told otherwise.
+pub(crate) fn is_plain(all: bool, shown: &Shown<'_>) -> bool
+    ensures { result ≡ (not all || is_accepted (judged_in shown.now)) }
+{
+    !all || matches!(shown, Shown::Accepted { .. })
+}
+
+/// Whether a packet is told as good, or by its code and bytes.
+pub(crate) fn is_told(line: &PacketLine<'_>) -> bool
+    ensures { result ≡ spec_is_told line.now.other (judged_in line.now.shown.now) }
+{
+    line.other.is_some() || matches!(line.shown, Shown::Accepted { .. })
+}
+
+/// Whether a packet that is told so has the right PEC.
+pub(crate) fn is_checked(marks: &Marks, line: &PacketLine<'_>) -> bool
+    ensures { result ≡ spec_is_checked line.now.other marks.now.lacks (packet_in line.now.packet) }
+{
+    match line.other {
+        None => !marks.lacks,
+        Some(_) => line.packet.has_pec(),
+    }
+}
+
+/// The last part of a packet with its PEC, where it lacks nothing but that, and packets without PEC are told.
+pub(crate) fn completed_if(all: bool, line: &PacketLine<'_>) -> Option<ArrayVec<u8, 16>>
+    requires { judged_in line.now.shown.now
+        ≡ parts_judged line.now.packet.write.now (option_map (λ bytes. bytes.now) line.now.packet.read) }
+    ensures lacks { is_some result ≡ is_without_pec all line.now.ones (packet_in line.now.packet) }
+    ensures part { IfSome result (λ part.
+        IsCompleted line.now.packet.write.now (option_map (λ bytes. bytes.now) line.now.packet.read) part.items) }
+{
+    if all {
+        completed_part(&line.packet, line.shown, line.ones)
+    } else {
+        None
+    }
+}
+
+/// The code by which a packet is told that the table doesn't have.
+pub(crate) fn told_code(packet: &Packet<'_>) -> u8
+    ensures { result ≡ (content_of packet.now.write.now (option_map (λ bytes. bytes.now) packet.now.read)).code }
+{
+    packet.content(packet.has_pec()).code
+}
+
+/// What a line says that can't be read.
+pub(crate) fn bad_shown(fault: LineFault) -> Shown<'static>
+    ensures { judged_in result ≡ reading_judged (Err fault) }
+{
+    match fault {
+        LineFault::Syntax => Shown::BadSyntax,
+        LineFault::BadHex => Shown::BadHex,
+    }
+}
