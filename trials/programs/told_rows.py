@@ -1791,6 +1791,7 @@ GROUPS = [("--values", VALUES), ("--values", TAUGHT), *VOUT, *READINGS, ("--valu
 
 # Texts as bytes, the options, and the whole answer: ends of lines, skipped lines, the longest parts.
 NO_PACKET = "no line is a good packet: where lines begin with times, give --times"
+NO_PEC = "no line is a good packet: where packets have no PEC, give --all"
 NO_TIME = "no line is a time and a packet: give --times to both ends, or to none"
 BEYOND = "line {} orders a voltage beyond 1000 V by --vout: a minus may be missing".format
 ORDER = b"B0 05 04 00 21 E9 03 25\n"  # 1001 V in ULINEAR16 with exponent 0
@@ -1826,6 +1827,25 @@ WHOLE = [
      "lines 2 accepted 0 faults 1 bad 1\n", NO_PACKET),
     ("--all", b"1234567 " + ORDER + b"B0 D0\n", 1, "1 X2 BadHex\n2 58 code D0 send, no PEC\ncount code D0 1\n"
      "lines 2 accepted 0 other 1 faults 0 bad 1\n"),
+    # Each packet would be good with its PEC, or one of them wouldn't: of another fault, of two bytes too few, of no device, with a good
+    # one, with a bad line. Options but --all leave this as it is.
+    ("--values", b"B0 21 CD 34\nB0 79 / B1 40 08\nB2 03\n", 0, "1 58 write F2 Short 4 bytes B0 21 CD 34\n"
+     "2 58 read F2 Short 3 bytes B0 79 / B1 40 08\n3 59 write F2 Short 2 bytes B2 03\nlines 3 accepted 0 faults 3 bad 0\n", NO_PEC),
+    ("--long", b"B0 03", 0, "1 58 write F2 Short 2\nlines 1 accepted 0 faults 1 bad 0\n", NO_PEC),
+    ("--pages", b"B0 00 01\n# a loss\nB0 21 CD 34\n", 0, "1 58 write F2 Short 3\n3 58 write F2 Short 4\n"
+     "lines 2 accepted 0 faults 2 bad 0\n", NO_PEC),
+    ("--times", b"5 B0 05 04 00 21 CD 34\n6 B0 9\n", 1, "1 5 us 58 write F2 Short 7\n2 X2 BadHex\n"
+     "lines 2 accepted 0 faults 1 bad 1\n", NO_PEC),
+    ("--values", b"B0 03\nB0 9\n", 1, "1 58 write F2 Short 2 bytes B0 03\n2 X2 BadHex\nlines 2 accepted 0 faults 1 bad 1\n", NO_PACKET),
+    ("--values", b"B0 03\nB0 03 00\n", 0, "1 58 write F2 Short 2 bytes B0 03\n2 58 write F5 WrongPec 2 bytes B0 03 00\n"
+     "lines 2 accepted 0 faults 2 bad 0\n"),
+    ("--values", b"B0 21 CD\nB0 03\n", 0, "1 58 write F2 Short 3 bytes B0 21 CD\n2 58 write F2 Short 2 bytes B0 03\n"
+     "lines 2 accepted 0 faults 2 bad 0\n"),
+    ("--values", b"B0 03\n0E 03\n", 0, "1 58 write F2 Short 2 bytes B0 03\n2 -- write F1 NotOurs bytes 0E 03\n"
+     "lines 2 accepted 0 faults 2 bad 0\n"),
+    ("--values", b"B0 03\nB0 03 46\n", 0, "1 58 write F2 Short 2 bytes B0 03\n2 58 CLEAR_FAULTS send\ncount CLEAR_FAULTS 1\n"
+     "lines 2 accepted 1 faults 1 bad 0\n"),
+    ("--all", b"B0 03\n", 0, "1 58 CLEAR_FAULTS send, no PEC\ncount CLEAR_FAULTS 1\nlines 1 accepted 1 other 0 faults 0 bad 0\n"),
     # Lines that say nothing end no page; a comment does, of whatever length, also the last one.
     ("--pages", b"B0 00 01 ED\r\n# another device\r\n\r\n  \r\nB0 03 46\r\n#\r\nB0 03 46\n# x", 0,
      "1 58 PAGE write 01\n5 58 page 1? CLEAR_FAULTS send\n7 58 CLEAR_FAULTS send\ncount PAGE 1\ncount CLEAR_FAULTS 2\n"

@@ -203,7 +203,7 @@ def limit_faults(decode):
         text, count = line.encode() * 43_700, MIB // len(line)
         status, told, errors = decode(text, words)
         is_long, lines = "--long" in words, told.splitlines()
-        wanted = (0, "", 43_700 + 2) if is_long else (1, "pmb: X3 TooLong\n", count)
+        wanted = (0, "", 43_700 + 2) if is_long else (1, "pmb: X3 TooLong\npmb: --long reads on\n", count)
         if (status, errors, len(lines)) != wanted:
             yield f"{words}: status {status}, {errors!r} and {len(lines)} lines, and not {wanted}"
         if is_long and lines[-1] != "lines 43700 accepted 43700 faults 0 bad 0":

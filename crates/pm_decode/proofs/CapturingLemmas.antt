@@ -17,12 +17,12 @@ use Rattle.pm_decode.specs.CaptureText.{capture_text, counts_text, line_text, li
 use Rattle.pm_decode.specs.Capturing.{Kept, entry_ended, heard_ended, kept_at_end, kept_of, kept_takes, line_ended, next, said, said_text}
 use Rattle.pm_decode.specs.Capturing.{text_ended, told, told_at_end}
 use Rattle.pm_decode.specs.Hearing.{heard_of, heard_with, known_from, unknown}
-use Rattle.pm_decode.specs.Readings.{Entry, entries_of, entry_of, is_heard, is_passed, said_of}
-use Rattle.pm_decode.specs.TimedLines.{PassesTimed, passes_timed, timed_of, timed_takes}
-use Rattle.pm_decode.specs.declared.options.TellOptions.{TellOptions}
-use Rattle.pm_decode.specs.declared.timed_line.TimedLine.{TimedLine}
+use Rattle.pm_capture.specs.Readings.{Entry, entries_of, entry_of, is_heard, is_passed, said_of}
+use Rattle.pm_capture.specs.TimedLines.{PassesTimed, passes_timed, timed_of, timed_takes}
+use Rattle.pm_capture.specs.declared.options.TellOptions.{TellOptions}
+use Rattle.pm_capture.specs.declared.timed_line.TimedLine.{TimedLine}
 use Rattle.pm_decode.proofs.HearingLemmas.{heard_of-snoc, lines_text-append}
-use Rattle.pm_decode.proofs.TimedLemmas.{timed_of-snoc, timed_passes, timed_says}
+use Rattle.pm_capture.specs.Lemmas.TimedLines.{timed_of-snoc, timed_passes, timed_says}
 
 -- ---- the lines
 
@@ -34,7 +34,7 @@ lines_said options lines = map (entry_of options) (filter (is_heard options.page
 abbrev pub entry_if : Bool → Entry → List Entry
 entry_if passed entry = cond passed [] (entry ∷ [])
 
--- a line at the end of others is said after what they say, with its number, where something is heard of it
+-- a line at the end of others is said after what they say, with its number, if something is heard of it
 lines_said-snoc : (options : TellOptions) (lines : List (List ℕ)) (line : List ℕ) → lines_said options (lines ++ line ∷ [])
     ≡ lines_said options lines ++ entry_if (is_passed options.pages line) (1 + length lines, said_of options line)
 lines_said-snoc options lines line =
@@ -98,7 +98,7 @@ heard_now : (options : TellOptions) (bytes : List ℕ) → (kept_of options byte
 unfolding kept_of
 heard_now options bytes = refl
 
--- what is heard where the line that goes on ends here
+-- what is heard if the line that goes on ends here
 heard_more : (options : TellOptions) (bytes : List ℕ)
     → heard_of options (said options bytes ++ ended_entries options bytes) ≡ heard_ended (kept_of options bytes)
 unfolding ended_entries kept_of
@@ -128,7 +128,7 @@ text_here options bytes = by (passes_timed options.pages (kept_of options bytes)
     by false = append-nil (line_text options (known_from options unknown (said options bytes))
         (entry_ended (kept_of options bytes)))
 
--- the text of the line that goes on, if it ends here, is written behind that of the lines that ended
+-- the text of the line that goes on, if it ends here, is written after that of the lines that ended
 text_more : (options : TellOptions) (bytes : List ℕ)
     → lines_text options unknown (said options bytes ++ ended_entries options bytes)
     ≡ said_text options bytes ++ text_ended (kept_of options bytes)
@@ -229,17 +229,17 @@ one_came kept x xs is =
 
 -- ---- the end
 
--- a capture is told line by line
+-- a capture is shown line by line
 capture_lines : (options : TellOptions) (text : List ℕ) → entries_of options text ≡ lines_said options (lines_of text)
 unfolding entries_of
 capture_lines options text = refl
 
--- what is said is told of the lines that ended
+-- what is said is that of the lines that ended
 said_lines : (options : TellOptions) (text : List ℕ) → said options text ≡ lines_said options (map without_return (ended is_line_feed text))
 unfolding said
 said_lines options text = refl
 
--- a line goes on where bytes follow the last line feed
+-- a line goes on if bytes follow the last line feed
 line_begun : (options : TellOptions) (text : List ℕ) → (kept_of options text).line.is_begun ≡ has_bytes (since is_line_feed text)
 unfolding kept_of timed_of
 line_begun options text = refl
@@ -319,7 +319,7 @@ pub length_kept : (options : TellOptions) (bytes : List ℕ) → (kept_of option
 unfolding kept_of
 length_kept options bytes = refl
 
--- the options that are kept are those that the capture is told by
+-- the options that are kept are those that the capture is shown by
 pub options_kept : (options : TellOptions) (bytes : List ℕ) → (kept_of options bytes).options ≡ options
 unfolding kept_of
 options_kept options bytes = refl
@@ -335,7 +335,7 @@ options_at_end options bytes = by (kept_of options bytes).line.is_begun ∙ opti
 -- ---- bytes up to the first line feed
 
 module _ (old : Kept) (bytes rest : List ℕ) (line : TimedLine) (passes : PassesTimed old.line bytes rest line) where
-  -- what is kept where the line took its bytes
+  -- what is kept once the line took its bytes
   abbrev pub passed : Kept
   passed = record old { taken = old.taken + (length bytes - length rest); line = line }
 
@@ -346,7 +346,7 @@ module _ (old : Kept) (bytes rest : List ℕ) (line : TimedLine) (passes : Passe
       ap (λ n. record old { taken = old.taken + n; line = fold timed_takes old.line passes.front }) count
       ∙ ap (λ l. record old { taken = old.taken + (length bytes - length rest); line = l }) (sym passes.line)
 
-  -- what is kept behind the bytes that the line took
+  -- what is kept after the bytes that the line took
   front_passed : next old passes.front ≡ passed
   front_passed =
       taken-unmarked is_line_feed kept_takes kept_with none_came one_came old passes.front passes.plain ∙ passed_is

@@ -2,14 +2,14 @@
 use Rattle.std.proofs.Common.{◌≡◌, ℕ, ◌+◌, List, [], ◌++◌, refl, append_assoc, append-nil, add-one}
 use Rattle.std.proofs.lemmas.Result.{IfOk-equal}
 use Rattle.pm_decode.specs.CaptureText.{other_line, other_lines}
-use Rattle.pm_decode.specs.JsonText.{other_json, other_jsons}
+use Rattle.pm_decode.specs.JsonCounts.{other_json, other_jsons}
 
 -- no line is written of the codes below 0, since there are none
 pub no_lines : (others : List (ℕ × ℕ)) → other_lines others 0 ≡ []
 unfolding other_lines
 no_lines others = refl
 
--- with one code more, its line stands behind the lines of the codes below it
+-- with one code more, its line follows the lines of the codes below it
 pub more_lines : (others : List (ℕ × ℕ)) (code : ℕ) → other_lines others (code + 1) ≡ other_lines others code ++ other_line others code
 unfolding other_lines
 more_lines others code = rw add-one refl
@@ -21,7 +21,7 @@ pub no_objects : (others : List (ℕ × ℕ)) → other_jsons others 0 ≡ []
 unfolding other_jsons
 no_objects others = refl
 
--- with one code more, its object of JSON stands behind the objects of the codes below it
+-- with one code more, its object of JSON follows the objects of the codes below it
 pub more_objects : (others : List (ℕ × ℕ)) (code : ℕ) → other_jsons others (code + 1) ≡ other_jsons others code ++ other_json others code
 unfolding other_jsons
 more_objects others code = rw add-one refl

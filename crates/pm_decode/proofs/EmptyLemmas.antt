@@ -5,9 +5,10 @@ use Rattle.pm_lines.specs.Lines.{lines_of}
 use Rattle.pm_trace.specs.Counts.{counts_of}
 use Rattle.pm_decode.specs.CaptureText.{capture_text, empty_by, json_counts, other_lines, plain_counts, totals_line}
 use Rattle.pm_decode.specs.Hearing.{heard_of}
-use Rattle.pm_decode.specs.JsonText.{key, number_field, other_jsons, totals_json}
-use Rattle.pm_decode.specs.Readings.{entries_of}
-use Rattle.pm_decode.specs.declared.options.TellOptions.{TellOptions}
+use Rattle.pm_json.specs.JsonText.{key, number_field}
+use Rattle.pm_decode.specs.JsonCounts.{other_jsons, totals_json}
+use Rattle.pm_capture.specs.Readings.{entries_of}
+use Rattle.pm_capture.specs.declared.options.TellOptions.{TellOptions}
 
 -- whether options choose JSON or not, and other codes or not, the text of a capture of no bytes is the one for that choice
 pub empty_is : (options : TellOptions) (json all : Bool) → options.json ≡ json → options.all ≡ all

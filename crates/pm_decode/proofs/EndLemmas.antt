@@ -15,7 +15,7 @@ use Rattle.pm_decode.specs.LongEngine.{IsWhole, LongEnds}
 use Rattle.pm_decode.specs.Outcome.{telling}
 use Rattle.pm_decode.specs.WrittenCaptures.{Gathered, Hears, StopsHearing}
 use Rattle.pm_decode.specs.declared.telling.TellEnd.{TellEnd}
-use Rattle.pm_decode.specs.declared.options.TellOptions.{TellOptions}
+use Rattle.pm_capture.specs.declared.options.TellOptions.{TellOptions}
 use Rattle.pm_decode.proofs.GatheredLemmas.{put_memory, put_too_long, put_unread}
 
 -- a telling over these streams
@@ -23,7 +23,7 @@ abbrev pub Ends : {R W : Type 0} → TellOptions → Run R W → Result TellEnd 
 Ends options run result =
     LongEnds (most_bytes options.long) (capture_text options) (said_text options) (capture_end options) run result
 
--- ---- as every engine ends, where a capture may have no more bytes than a text
+-- ---- as every engine ends, if a capture may have no more bytes than a text
 
 module _ {R W : Type 0} (options : TellOptions) (run : Run R W) (short : options.long ≡ false) where
   most_is : most_bytes options.long ≡ max_text
@@ -71,7 +71,7 @@ module _ {R W : Type 0} (options : TellOptions) (run : Run R W) (short : options
 -- ---- each way to end
 
 module _ {R W : Type 0} (options : TellOptions) (run : Run R W) where
-  -- X3: the lines of as much as a capture may have were told
+  -- X3: the lines of as much as a capture may have were shown
   pub too_long : IsFalse run.reader'.failed → IsFalse run.writer'.failed
       → (front : List ℕ) × (more : List ℕ) × (length front ≡ most_bytes options.long) × (0 < length more)
       × Consumes (run.remaining run.reader.inner) (run.remaining run.reader'.inner) (front ++ more)
@@ -131,13 +131,13 @@ module _ {R W : Type 0} (options : TellOptions) (run : Run R W) where
 
 -- ---- how the loop over the pieces goes on and breaks off
 
--- what is heard where a piece was read
+-- what is heard if a piece was read
 pub hears_at : (r1 r2 : Option (List ℕ)) (text text' : List ℕ) (old new : Kept) (result : Result ℕ TextFault) (count : ℕ)
     → result ≡ Ok count → IfOk result (λ count. Hears r1 r2 text text' old new count) → Hears r1 r2 text text' old new count
 hears_at r1 r2 text text' old new result count is heard =
     let P : Result ℕ TextFault → Type 0 = λ r. IfOk r (λ count. Hears r1 r2 text text' old new count) in subst P is heard
 
--- what stops the hearing where no piece was read
+-- what stops the hearing if no piece was read
 pub stops_at : (r1 r2 : Option (List ℕ)) (text text' : List ℕ) (old : Kept) (result : Result ℕ TextFault) (fault : TextFault)
     → result ≡ Err fault → IfErr result (λ fault. StopsHearing r1 r2 text text' old fault) → StopsHearing r1 r2 text text' old fault
 stops_at r1 r2 text text' old result fault is stopped =

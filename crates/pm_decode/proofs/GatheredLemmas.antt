@@ -14,7 +14,7 @@ use Rattle.pm_lines.specs.Lines.{is_line_feed, lines_of}
 use Rattle.pm_trace.specs.Counts.{counts_of}
 use Rattle.pm_trace.specs.declared.decode_end.DecodeEnd.TheVariants.{Clean}
 use Rattle.pm_decode.specs.Hearing.{heard_of, told_end}
-use Rattle.pm_decode.specs.Readings.{entries_of}
+use Rattle.pm_capture.specs.Readings.{entries_of}
 use Rattle.pm_decode.proofs.PutLemmas.{AppendsFront-behind, as_all}
 use Rattle.pm_decode.specs.CaptureText.{capture_end, capture_text, counts_text}
 use Rattle.pm_decode.specs.Capturing.{Kept, kept_at_end, kept_of, kept_takes, most_bytes, next, said, said_text, text_ended, told}
@@ -22,7 +22,7 @@ use Rattle.pm_decode.specs.Capturing.{told_at_end}
 use Rattle.pm_trace.specs.Lemmas.Runs.{told-append}
 use Rattle.pm_decode.specs.LongEngine.{IsWhole}
 use Rattle.pm_decode.specs.WrittenCaptures.{Gathered, Hears, StopsBytes, StopsHearing, WrittenCapture}
-use Rattle.pm_decode.specs.declared.options.TellOptions.{TellOptions}
+use Rattle.pm_capture.specs.declared.options.TellOptions.{TellOptions}
 use Rattle.pm_decode.specs.declared.telling.TellEnd.{TellEnd}
 use Rattle.pm_decode.proofs.CapturingLemmas.{capture_text-end, heard-end, kept_of-append, length_kept, next-taken, options_at_end, options_kept}
 use Rattle.pm_decode.proofs.CapturingLemmas.{said_text-append}

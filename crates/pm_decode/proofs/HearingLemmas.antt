@@ -1,4 +1,4 @@
--- What is known, and what is written, behind one line more.
+-- What is known, and what is written, after one line more.
 use Rattle.std.proofs.Common.{◌≡◌, ℕ, ◌+◌, Bool, true, cond, List, [], ◌∷◌, ◌++◌, Option, Some, None, Result, Ok, Err, OnOk}
 use Rattle.std.proofs.Common.{refl, sym, ap, ◌∙◌, arith, append_assoc, append-nil}
 use Rattle.std.specs.List.{filter_map}
@@ -8,21 +8,22 @@ use Rattle.pm_trace.specs.Counts.{counted, counts_of, counts_with, lines_in, one
 use Rattle.pm_trace.specs.Trace.{Judged, ToldLine, Accepted, Faulty, BadSyntax, BadHex}
 use Rattle.pm_trace.specs.Lemmas.Counts.{total_one_more}
 use Rattle.pm_trace.specs.Lemmas.Said.{counts_of-snoc}
-use Rattle.pm_trace.specs.Pages.{Pages, pages_by}
+use Rattle.pm_trace.specs.Pages.{Pages, nowhere, pages_by}
+use Rattle.pm_trace.specs.declared.pages.PageUse.TheVariants.{Beside}
 use Rattle.pm_trace.specs.declared.trace_line.TraceLine.{TraceLine}
-use Rattle.pm_decode.specs.Hints.{beyond_by}
-use Rattle.pm_decode.specs.PageSteps.{marks_by, marks_in, step_by}
-use Rattle.pm_decode.specs.declared.page_step.Marks.{Marks}
-use Rattle.pm_decode.specs.declared.page_step.PageStep.{PageStep}
+use Rattle.pm_decode.specs.Hints.{beyond_by, lacking_by}
+use Rattle.pm_capture.specs.PageSteps.{judged_address, marks_by, marks_in, step_by, step_for, used_by}
+use Rattle.pm_capture.specs.declared.page_steps.Marks.{Marks}
+use Rattle.pm_capture.specs.declared.page_steps.PageStep.{PageStep}
 use Rattle.pm_decode.specs.CaptureText.{line_text, lines_text, told_line}
-use Rattle.pm_values.specs.declared.answers.Ones.{Ones}
+use Rattle.pm_packets.specs.declared.answers.Ones.{Ones}
 use Rattle.pm_decode.specs.Hearing.{Heard, HeardLines, Known, answers_read, heard_all, heard_as, heard_lines, heard_of, heard_with, known_by}
 use Rattle.pm_decode.specs.Hearing.{known_from, known_read, more_if, ones_in, other_code, other_code_in, taught_read, told_in, told_unless, unknown}
-use Rattle.pm_decode.specs.Readings.{Entry, Reading, Told, Noted, is_without_pec, judged_as, judged_by, other_address}
-use Rattle.pm_decode.specs.TimedLines.{head_remark, passes_timed, timed_said}
-use Rattle.pm_decode.specs.declared.comment.Remark.{Remark}
-use Rattle.pm_decode.specs.declared.options.TellOptions.{TellOptions}
-use Rattle.pm_decode.specs.declared.timed_line.TimedLine.{TimedLine}
+use Rattle.pm_capture.specs.Readings.{Entry, Reading, Told, Noted, is_without_pec, judged_as, judged_by, other_address}
+use Rattle.pm_capture.specs.TimedLines.{head_remark, passes_timed, timed_said}
+use Rattle.pm_capture.specs.declared.comment.Remark.{Remark}
+use Rattle.pm_capture.specs.declared.options.TellOptions.{TellOptions}
+use Rattle.pm_capture.specs.declared.timed_line.TimedLine.{TimedLine}
 
 -- what the answers of one line more are taken for
 heard_all-snoc : (options : TellOptions) (known : Known) (entries : List Entry) (entry : Entry)
@@ -78,7 +79,7 @@ heard_of-snoc options entries entry = λ i. record {
         filter_map-append (other_code options.all) before (last ∷ []) ∙ rw is refl in
         ap counted same ∙ fold-append one_more [] codes_before (code ∷ [])
 
--- a line that is told is one more that is counted
+-- a line that is shown is one more that is counted
 pub heard_one : (options : TellOptions) (heard : HeardLines) (number : ℕ) (reading : Reading)
     → heard_lines (heard_with options heard (number, Told reading)) ≡ heard_lines heard + 1
 heard_one options heard number reading = by (other_code_in options.all ones reading.parts) (judged_as options.all ones reading.parts)
@@ -104,7 +105,7 @@ pub comment_heard : (options : TellOptions) (heard : HeardLines) (number : ℕ) 
     ≡ cond (passes_timed options.pages line) heard (heard_with options heard (number, timed_said options.pages line))
 comment_heard options heard number line pages mark = rw (pages, mark) refl
 
--- the text of two lists of lines is that of the first, and that of the second by what is known behind the first
+-- the text of two lists of lines is that of the first, and that of the second by what is known after the first
 pub lines_text-append : (options : TellOptions) (known : Known) (xs ys : List Entry)
     → lines_text options known (xs ++ ys) ≡ lines_text options known xs ++ lines_text options (known_from options known xs) ys
 lines_text-append options known [] ys = refl
@@ -113,7 +114,7 @@ lines_text-append options known (x ∷ xs) ys =
     ∙ sym (append_assoc (line_text options known x) (lines_text options (known_by options known x) xs)
     (lines_text options (known_from options (known_by options known x) xs) ys))
 
--- what is known behind a packet where PAGE is followed, by its place and its marks
+-- what is known after a packet if PAGE is followed, by its place and its marks
 module _ (options : TellOptions) (number : ℕ) (time : Option ℕ) (parts : TraceLine) (known : Known) where
   pub known_on_page : (ones : Ones) (lacks : Bool) (judged : Judged) (other : Option ℕ) (step : PageStep) (marks : Marks)
       → options.pages ≡ true
@@ -128,6 +129,7 @@ module _ (options : TellOptions) (number : ℕ) (time : Option ℕ) (parts : Tra
         pages = pages_by number step.addr step.place step.used known.pages;
         beyond = beyond_by options known.taught marks.reached number judged known.beyond;
         answers = answers_read options marks.ones (Ok parts) known.answers;
+        lacking = lacking_by options.all parts known.lacking;
       } ≡ known_read options number time (Ok parts) known
   known_on_page ones lacks judged other step marks pages ones_is judged_is other_is lacks_is step_is marks_is =
       rw (marks_is, step_is, other_is, judged_is, ones_is, pages) refl
@@ -158,56 +160,72 @@ comment_noted (Ok done) options heard new number line remark pages mark is noted
     ∙ ap (λ r. heard_with options heard (number, Noted r)) is ∙ comment_heard options heard number line pages mark
 comment_noted (Err fault) options heard new number line remark pages mark is noted = tt
 
--- a packet was told on its page, and what it says of PAGE was learned: what is known then, and the text
-module _ (options : TellOptions) (number : ℕ) (time : Option ℕ) (parts : TraceLine) (self : HeardLines) (ones : Ones) (lacks : Bool)
+-- a packet was shown on its page, and what it says of PAGE was learned: what is known then, and the text
+module _ (options : TellOptions) (number : ℕ) (time : Option ℕ) (parts : TraceLine) (self : Known) (ones : Ones) (lacks : Bool)
     (judged : Judged) (other : Option ℕ) (step : PageStep) (marks : Marks) where
-  pub page_learned : {E : Type 0} (result : Result (Unit {0}) E) (told : HeardLines) (pages : Pages)
+  pub page_learned : {E : Type 0} (result : Result (Unit {0}) E) (told : Known) (pages : Pages)
       → options.pages ≡ true
-      → ones ≡ ones_in options self.known (Ok parts)
+      → ones ≡ ones_in options self (Ok parts)
       → judged ≡ judged_by options.all ones parts
       → other ≡ other_address options.all ones parts
       → lacks ≡ is_without_pec options.all ones parts
-      → step ≡ step_by options.gap time self.known.pages ones parts judged other
+      → step ≡ step_by options.gap time self.pages ones parts judged other
       → marks ≡ marks_by ones lacks (Some step)
       → told ≡ record self {
-        known = record self.known {
-          taught = taught_read options number marks (Ok parts) self.known.taught;
-          beyond = beyond_by options self.known.taught marks.reached number judged self.known.beyond;
-          answers = answers_read options marks.ones (Ok parts) self.known.answers;
-        };
+        taught = taught_read options number marks (Ok parts) self.taught;
+        beyond = beyond_by options self.taught marks.reached number judged self.beyond;
+        answers = answers_read options marks.ones (Ok parts) self.answers;
+        lacking = lacking_by options.all parts self.lacking;
       }
-      → OnOk result (pages ≡ pages_by number step.addr step.place step.used told.known.pages)
-      → OnOk result (record told { known = record told.known { pages = pages } }
-      ≡ record self { known = known_read options number time (Ok parts) self.known })
+      → OnOk result (pages ≡ pages_by number step.addr step.place step.used told.pages)
+      → OnOk result (record told { pages = pages } ≡ known_read options number time (Ok parts) self)
   page_learned (Ok done) told pages follows ones_is judged_is other_is lacks_is step_is marks_is told_is learned =
       (λ i. record {
-        known = record {
-          taught = (told_is i).known.taught;
-          pages = (learned ∙ ap (λ (h : HeardLines). pages_by number step.addr step.place step.used h.known.pages) told_is) i;
-          beyond = (told_is i).known.beyond;
-          answers = (told_is i).known.answers;
-        };
-        counts = (told_is i).counts;
-        others = (told_is i).others;
+        taught = (told_is i).taught;
+        pages = (learned ∙ ap (λ (k : Known). pages_by number step.addr step.place step.used k.pages) told_is) i;
+        beyond = (told_is i).beyond;
+        answers = (told_is i).answers;
+        lacking = (told_is i).lacking;
       })
-      ∙ ap (λ (known : Known). record self { known = known })
-      (known_on_page options number time parts self.known ones lacks judged other step marks follows ones_is judged_is other_is
-      lacks_is step_is marks_is)
+      ∙ known_on_page options number time parts self ones lacks judged other step marks follows ones_is judged_is other_is
+      lacks_is step_is marks_is
   page_learned (Err fault) told pages follows ones_is judged_is other_is lacks_is step_is marks_is told_is learned = tt
 
   pub page_told : {E : Type 0} (result : Result (Unit {0}) E) (before after : List ℕ)
       → options.pages ≡ true
-      → ones ≡ ones_in options self.known (Ok parts)
+      → ones ≡ ones_in options self (Ok parts)
       → judged ≡ judged_by options.all ones parts
       → other ≡ other_address options.all ones parts
       → lacks ≡ is_without_pec options.all ones parts
-      → step ≡ step_by options.gap time self.known.pages ones parts judged other
+      → step ≡ step_by options.gap time self.pages ones parts judged other
       → marks ≡ marks_by ones lacks (Some step)
-      → after ≡ before ++ told_line options self.known.taught marks number time (Ok parts)
+      → after ≡ before ++ told_line options self.taught marks number time (Ok parts)
       → OnOk result (after
-      ≡ before ++ line_text options self.known (number, Told (record { time = time; parts = Ok parts })))
+      ≡ before ++ line_text options self (number, Told (record { time = time; parts = Ok parts })))
   page_told (Ok done) before after follows ones_is judged_is other_is lacks_is step_is marks_is text_is = text_is
-      ∙ ap (λ (m : Marks). before ++ told_line options self.known.taught m number time (Ok parts))
-      (marks_on_page options number time parts self.known ones lacks judged other step marks follows ones_is judged_is other_is
+      ∙ ap (λ (m : Marks). before ++ told_line options self.taught m number time (Ok parts))
+      (marks_on_page options number time parts self ones lacks judged other step marks follows ones_is judged_is other_is
       lacks_is step_is marks_is)
   page_told (Err fault) before after follows ones_is judged_is other_is lacks_is step_is marks_is text_is = tt
+
+-- what is known of the page of a packet that says nothing of PAGE and has no time
+abbrev pub beside_step : Judged → PageStep
+beside_step judged = record { addr = judged_address judged; place = nowhere; used = Beside }
+
+-- such a packet leaves what is known of pages, whatever its address is
+pub beside_pages : (number : ℕ) (addr : Option ℕ) (pages : Pages)
+    → pages_by number None nowhere Beside pages ≡ pages_by number addr nowhere Beside pages
+beside_pages number None pages = refl
+beside_pages number (Some addr) pages = refl
+
+pub beside_is : (gap : ℕ) (time : Option ℕ) (pages : Pages) (ones : Ones) (parts : TraceLine) (judged : Judged) (other : Option ℕ)
+    → time ≡ None → used_by ones parts judged other ≡ Beside
+    → beside_step judged ≡ step_by gap time pages ones parts judged other
+beside_is gap time pages ones parts judged other time_is used_is =
+    sym (λ i. step_for gap (time_is i) pages (judged_address judged) (used_is i))
+
+pub beside_learned : {E : Type 0} (result : Result (Unit {0}) E) (number : ℕ) (judged : Judged) (told new : Pages)
+    → OnOk result (new ≡ pages_by number None nowhere Beside told)
+    → OnOk result (new ≡ pages_by number (beside_step judged).addr (beside_step judged).place (beside_step judged).used told)
+beside_learned (Ok done) number judged told new is = is ∙ beside_pages number (judged_address judged) told
+beside_learned (Err fault) number judged told new is = tt

@@ -10,5 +10,4 @@ pub mod NumberLemmas
 pub mod PecLemmas
 pub mod PlainLemmas
 pub mod PutLemmas
-pub mod TimedLemmas
 pub mod UsualLemmas

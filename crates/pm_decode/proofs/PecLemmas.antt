@@ -1,10 +1,10 @@
--- What a packet says where its PEC may be missing.
+-- What a packet says if its PEC may be missing.
 use Rattle.std.proofs.Common.{◌≡◌, ◌∙◌, Bool, true, false, not, ◌||◌, ◌&&◌, cond, length, List, ℕ, Option, Some, None, refl, sym, ap, true≢false}
 use Rattle.std.specs.Prelude.{is_some, nat_lt}
 use Rattle.pm_trace.specs.Trace.{Judged, Accepted, Faulty, BadSyntax, BadHex, parts_judged}
-use Rattle.pm_values.specs.Otherwise.{IsCompleted, address_otherwise, completed_judged, is_accepted, is_nobody, is_short, judged_with, lacks_pec, last_part}
-use Rattle.pm_values.specs.declared.answers.Ones.{Ones}
-use Rattle.pm_decode.specs.Readings.{is_without_pec, judged_by, other_address}
+use Rattle.pm_packets.specs.Otherwise.{IsCompleted, address_otherwise, completed_judged, is_accepted, is_nobody, is_short, judged_with, lacks_pec, last_part}
+use Rattle.pm_packets.specs.declared.answers.Ones.{Ones}
+use Rattle.pm_capture.specs.Readings.{is_without_pec, judged_by, other_address}
 
 -- a choice that is made
 chosen : (b : Bool) (x y : Judged) → b ≡ true → cond b x y ≡ x
@@ -33,7 +33,7 @@ pub usual_said : (all : Bool) (ones : Ones) (write : List ℕ) (read : Option (L
 usual_said false ones write read lacks = refl
 usual_said true ones write read lacks = sym (left (lacks_pec ones write read) (completed_judged write read) (parts_judged write read) lacks)
 
--- ---- a packet that is good, or of those that are told as the command table has them
+-- ---- a packet that is good, or of those that are shown as the command table has them
 
 -- one that is good lacks nothing
 good_lacks : (ones : Ones) (write : List ℕ) (read : Option (List ℕ)) → is_accepted (parts_judged write read) ≡ true → lacks_pec ones write read ≡ false
@@ -62,7 +62,7 @@ pub good_whole : (all : Bool) (ones : Ones) (write : List ℕ) (read : Option (L
 good_whole false ones write read good = refl
 good_whole true ones write read good = sym (good_lacks ones write read good)
 
--- it isn't told by its code and bytes
+-- it isn't shown by its code and bytes
 pub good_known : (all : Bool) (ones : Ones) (write : List ℕ) (read : Option (List ℕ)) → (not all || is_accepted (parts_judged write read)) ≡ true
     → None ≡ other_address all ones (record { write = write; read = read })
 good_known false ones write read good = refl

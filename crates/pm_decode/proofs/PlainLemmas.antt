@@ -1,4 +1,4 @@
--- What is told without options is what a trace is told as.
+-- What is shown without options is what is shown of a trace.
 use Rattle.std.proofs.Common.{◌≡◌, ◌∙◌, ℕ, ◌+◌, Bool, false, List, [], ◌∷◌, ◌++◌, map, filter, codes, Some, None, Result, Ok, Err}
 use Rattle.std.proofs.Common.{refl, sym, ap, arith, append_assoc, append-nil, inl, inr, subst}
 use Rattle.std.specs.Prelude.{decimal, flat_map}
@@ -24,16 +24,16 @@ use Rattle.pm_trace.specs.declared.line_fault.LineFault.{LineFault}
 use Rattle.pm_trace.specs.declared.trace_line.TraceLine.{TraceLine}
 use Rattle.pm_values.specs.declared.formats.GivenFormats.{GivenFormats}
 use Rattle.pm_decode.specs.CaptureText.{capture_text, counts_text, line_text, lines_text, plain_counts, plain_line, told_line, totals_line}
-use Rattle.pm_values.specs.declared.answers.Ones.{Ones}
+use Rattle.pm_packets.specs.declared.answers.Ones.{Ones}
 use Rattle.pm_decode.specs.Hearing.{HeardLines, Known, heard_all, heard_of, known_by, ones_in, other_code, other_code_in, told_in, told_unless, unknown}
-use Rattle.pm_decode.specs.Laws.{plain_options}
-use Rattle.pm_decode.specs.Readings.{Told, entries_of, entry_of, judged_as}
+use Rattle.pm_capture.specs.Options.{plain_options}
+use Rattle.pm_capture.specs.Readings.{Told, entries_of, entry_of, judged_as}
 use Rattle.pm_decode.specs.declared.telling.TellEnd.{TellEnd}
-use Rattle.pm_decode.specs.declared.options.TellOptions.{TellOptions}
+use Rattle.pm_capture.specs.declared.options.TellOptions.{TellOptions}
 
 -- ---- how a telling ends, without what may be wrong
 
--- the engine of a telling whose end says that alone
+-- the engine of a telling whose end says only that
 abbrev ending : TellOptions → Engine DecodeEnd
 ending options = record {
   whole = λ input. Ok (capture_text options input, (capture_end options input).end);
@@ -100,13 +100,13 @@ module _ (formats : GivenFormats) (long : Bool) (gap : ℕ) where
   no_codes known (line ∷ lines) = rw (no_code (ones_in plain known (line_read line.1)) (line_read line.1))
       (no_codes (known_by plain known (entry_of plain line)) lines)
 
-  -- what is told of a line where packets without PEC aren't told
+  -- what is shown of a line if packets without PEC aren't shown
   told_plain : (ones : Ones) (number : ℕ) (parts : Result TraceLine LineFault)
       → told_unless (other_code_in false ones parts) (number, judged_as false ones parts) ≡ Some (number, reading_judged parts)
   told_plain ones number (Ok parts) = refl
   told_plain ones number (Err fault) = refl
 
-  -- what is told of the lines
+  -- what is shown of the lines
   as_told : (known : Known) (lines : List Numbered)
       → filter_map (told_in false) (heard_all plain known (map (entry_of plain) lines)) ≡ map told_of lines
   as_told known [] = refl

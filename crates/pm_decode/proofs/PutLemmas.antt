@@ -43,7 +43,7 @@ why_at result fault failed is why =
     let Q : Result ℕ TextFault → Type 0 = λ r. MatchResult r (λ _. IsFalse failed) (λ fault. IsTrue failed ↔ (fault ≡ Read)) in
     subst Q is why
 
--- a write is due where a piece wasn't read whole
+-- a write is due if a piece wasn't read whole
 pub due_at_fault : (full : Bool) (result : Result ℕ TextFault) (fault : TextFault) → (full ≡ true → result ≡ Ok 512) → result ≡ Err fault
     → not full ≡ true
 due_at_fault true result fault whole is = let all : result ≡ Ok 512 = whole refl in absurd (cc)

@@ -1,5 +1,5 @@
--- A usual packet is told, taught and counted as every packet is.
-use Rattle.std.proofs.Common.{◌≡◌, ◌≢◌, ◌∙◌, ℕ, Bool, true, false, not, ◌||◌, eqb, List, [], ◌++◌, codes, Option, Some, None}
+-- A usual packet is shown, taught and counted as every packet is.
+use Rattle.std.proofs.Common.{◌≡◌, ◌≢◌, ◌∙◌, ℕ, Bool, true, false, not, ◌||◌, ◌&&◌, cond, eqb, List, [], ◌++◌, codes, Option, Some, None}
 use Rattle.std.proofs.Common.{Result, Ok, Err, OnOk, refl, sym, ap, arith, append_assoc, true≢false}
 use Rattle.std.specs.Prelude.{decimal}
 use Rattle.std.proofs.lemmas.Bool.Decides.{nat_tests}
@@ -16,16 +16,18 @@ use Rattle.pm_trace.specs.Counts.{one_counted}
 use Rattle.pm_trace.specs.Trace.{Judged, Accepted, parts_judged}
 use Rattle.pm_trace.specs.TraceText.{judged_text, page_text, payload_text, plain_text, told_text}
 use Rattle.pm_trace.specs.declared.trace_line.TraceLine.{TraceLine}
-use Rattle.pm_values.specs.declared.packet.Packet.{Packet}
+use Rattle.pm_packets.specs.declared.packet.Packet.{Packet}
 use Rattle.pm_values.specs.Taught.{Taught, taught_by}
+use Rattle.pm_packets.specs.Otherwise.{is_accepted, lacks_pec}
+use Rattle.pm_packets.specs.declared.answers.Ones.TheVariants.{Answer}
 use Rattle.pm_decode.specs.CaptureText.{line_text}
 use Rattle.pm_decode.specs.Hearing.{HeardLines, Known, heard_with}
-use Rattle.pm_decode.specs.Laws.{plain_options}
-use Rattle.pm_decode.specs.Readings.{Told}
-use Rattle.pm_decode.specs.ShownReadings.{packet_in, parts_in, reading_in}
-use Rattle.pm_decode.specs.UsualLines.{IsUsual, code_counted, is_plain, usual_text}
-use Rattle.pm_decode.specs.declared.options.TellOptions.{TellOptions}
-use Rattle.pm_decode.specs.declared.timed_line.LineReading.{LineReading}
+use Rattle.pm_capture.specs.Options.{is_plain, plain_options}
+use Rattle.pm_capture.specs.Readings.{Told}
+use Rattle.pm_capture.specs.ShownReadings.{packet_in, parts_in, reading_in}
+use Rattle.pm_decode.specs.UsualLines.{IsUsual, code_counted, usual_text}
+use Rattle.pm_capture.specs.declared.options.TellOptions.{TellOptions}
+use Rattle.pm_capture.specs.declared.timed_line.LineReading.{LineReading}
 use Rattle.pm_decode.specs.declared.usual_line.Usual.{Usual}
 use Rattle.pm_decode.proofs.PlainLemmas.{line_by}
 
@@ -73,6 +75,7 @@ module _ (addr : ℕ) (message : Message) (page : Option ℕ) (code : ℕ) (payl
         ++ (name_of (sym code_is i) ++ payload_text (sym bytes i) None)));
     taught = λ number taught. ap (taught_by number None taught) is ∙ nothing_taught number taught None message code_is;
     counted = λ counts. ap (λ j. one_counted counts j) is ∙ ap (code_counted counts) (sym code_is);
+    good = ap is_accepted is;
   }
 
   pub usual_answered : (judged : Judged) (answer : List ℕ) → payload_bytes payload ≡ answer
@@ -85,9 +88,10 @@ module _ (addr : ℕ) (message : Message) (page : Option ℕ) (code : ℕ) (payl
         ++ (name_of (sym code_is i) ++ payload_text [] (Some (sym bytes i)))));
     taught = λ number taught. ap (taught_by number None taught) is ∙ nothing_taught number taught (Some answer) message code_is;
     counted = λ counts. ap (λ j. one_counted counts j) is ∙ ap (code_counted counts) (sym code_is);
+    good = ap is_accepted is;
   }
 
--- ---- its line, where no option changes what is told
+-- ---- its line, if no option changes what is shown
 
 plain_parts : (values all times json pages : Bool) → not (values || (all || (times || (json || pages)))) ≡ true
     → (values ≡ false) × (all ≡ false) × (times ≡ false) × (json ≡ false) × (pages ≡ false)
@@ -128,12 +132,15 @@ pub usual_heard : (options : TellOptions) (heard : HeardLines) (number : ℕ) (u
     → IsUsual usual (parts_judged parts.write parts.read) → record heard { counts = code_counted heard.counts usual.code }
     ≡ heard_with options heard (number, Told (record { time = None; parts = Ok parts }))
 usual_heard options heard number usual parts plain is =
+    let lacks : Bool = lacks_pec Answer parts.write parts.read in
+    let kept = ap (λ c. cond c heard.known.lacking (heard.known.lacking && lacks)) is.good in
     (λ i. record {
       known = record {
         taught = sym (is.taught number heard.known.taught) i;
         pages = heard.known.pages;
         beyond = heard.known.beyond;
         answers = heard.known.answers;
+        lacking = sym kept i;
       };
       counts = sym (is.counted heard.counts) i;
       others = heard.others;

@@ -8,28 +8,29 @@ use Rattle.pm_trace.specs.Trace.{Judged, Accepted, Faulty, BadSyntax, BadHex, re
 use Rattle.pm_trace.specs.TraceText.{count_line, judged_text, message_text}
 use Rattle.pm_trace.specs.declared.line_fault.LineFault.{LineFault}
 use Rattle.pm_trace.specs.declared.trace_line.TraceLine.{TraceLine}
-use Rattle.pm_values.specs.Otherwise.{ones_text, other_text, spaced}
-use Rattle.pm_values.specs.declared.answers.Ones.{Ones}
-use Rattle.pm_values.specs.declared.otherwise.Otherwise.{Otherwise}
+use Rattle.pm_packets.specs.Otherwise.{ones_text, other_text, spaced}
+use Rattle.pm_packets.specs.declared.answers.Ones.{Ones}
+use Rattle.pm_packets.specs.declared.otherwise.Otherwise.{Otherwise}
 use Rattle.pm_values.specs.Taught.{Taught}
 use Rattle.pm_values.specs.ValueText.{known_text}
 use Rattle.pm_values.specs.Values.{packet_value}
 use Rattle.pm_decode.specs.Hearing.{HeardLines, Known, heard_lines, heard_of, known_by, ones_in, told_end, unknown}
-use Rattle.pm_decode.specs.JsonText.{count_json, judged_fields, lack_field, number_field_if, other_fields, other_jsons, text_field, totals_json, wrong_field}
-use Rattle.pm_decode.specs.PageSteps.{marks_in}
-use Rattle.pm_decode.specs.Readings.{Entry, Said, Told, Noted, entries_of, judged_by, other_address}
-use Rattle.pm_decode.specs.declared.options.TellOptions.{TellOptions}
-use Rattle.pm_decode.specs.declared.page_step.Marks.{Marks}
+use Rattle.pm_json.specs.JsonText.{judged_fields, lack_field, number_field_if, other_fields, text_field, wrong_field}
+use Rattle.pm_decode.specs.JsonCounts.{count_json, other_jsons, totals_json}
+use Rattle.pm_capture.specs.PageSteps.{marks_in}
+use Rattle.pm_capture.specs.Readings.{Entry, Said, Told, Noted, entries_of, judged_by, other_address}
+use Rattle.pm_capture.specs.declared.options.TellOptions.{TellOptions}
+use Rattle.pm_capture.specs.declared.page_steps.Marks.{Marks}
 use Rattle.pm_decode.specs.declared.telling.TellEnd.{TellEnd}
 
--- ---- what stands behind a packet's text
+-- ---- what follows a packet's text
 
 -- the bytes of the read part
 abbrev pub read_bytes_text : Option (List ℕ) → List ℕ
 read_bytes_text None = []
 read_bytes_text (Some read) = codes " /" ++ spaced read
 
--- all bytes of a packet, where it has a byte, or a read part
+-- all bytes of a packet, if it has a byte or a read part
 abbrev pub bytes_by : List ℕ → Option (List ℕ) → List ℕ
 bytes_by [] None = []
 bytes_by [] (Some read) = codes " bytes" ++ (spaced [] ++ read_bytes_text (Some read))
@@ -50,11 +51,11 @@ abbrev pub extra_text : TellOptions → Taught → Option ℕ → TraceLine → 
 extra_text options taught reached parts judged =
     if options.values then meaning_text options taught reached parts judged else []
 
--- behind a packet that lacks its PEC, whose answer of ones is taken so
+-- what follows a packet that lacks its PEC, whose answer of ones is taken so
 abbrev pub lack_text : Ones → Bool → List ℕ
 lack_text ones lacks = if lacks then ones_text ones else []
 
--- behind one that contradicts a line: the two lines
+-- what follows one that contradicts a line: the two lines
 unfoldable pub two_lines : ℕ → ℕ → List ℕ
 two_lines line number = decimal line ++ (codes " and " ++ decimal number)
 
@@ -64,7 +65,7 @@ wrong_text number (Some line) = codes " WRONG PAGE? lines " ++ two_lines line nu
 
 -- ---- a line
 
--- what the line of this number says of a packet, with the output that it reaches where PAGE was followed
+-- what the line of this number says of a packet, with the output that it reaches if PAGE is followed
 abbrev pub reached_text : Option ℕ → ℕ → Judged → List ℕ
 reached_text None number judged = judged_text number judged
 reached_text (Some page) number (Accepted addr message answer) = hex_byte addr
@@ -73,7 +74,7 @@ reached_text (Some page) number (Faulty addr is_read fault) = judged_text number
 reached_text (Some page) number BadSyntax = judged_text number BadSyntax
 reached_text (Some page) number BadHex = judged_text number BadHex
 
--- how a packet with these marks is told by its code and bytes
+-- how a packet with these marks is shown by its code and bytes
 abbrev pub otherwise_by : TellOptions → Marks → ℕ → Otherwise
 otherwise_by options marks addr =
     record { values = options.values; addr = addr; reached = marks.reached; ones = marks.ones }
@@ -100,7 +101,7 @@ reading_text options taught marks number time (Ok parts) =
     time_text time ++ (codes " " ++ packet_text options taught marks number parts)
 reading_text options taught marks number time (Err fault) = codes " " ++ judged_text number (reading_judged (Err fault))
 
--- a line as it is told to a person
+-- a line as it is shown to a person
 unfoldable pub plain_line : TellOptions → Taught → Marks → ℕ → Option ℕ → Result TraceLine LineFault → List ℕ
 plain_line options taught marks number time parts = decimal number
     ++ (reading_text options taught marks number time parts ++ codes "\n")
@@ -146,7 +147,7 @@ lines_text options known (entry ∷ entries) =
 
 -- ---- the counts
 
--- how often a code was carried by packets that are told otherwise, where it was
+-- how often a code was carried by packets that are shown otherwise, if it was
 abbrev pub other_line_by : ℕ → Option ℕ → List ℕ
 other_line_by code None = []
 other_line_by code (Some count) =
@@ -171,7 +172,7 @@ totals_line all heard = codes "lines " ++ (decimal (heard_lines heard) ++ (codes
     ++ (decimal heard.counts.accepted ++ (others_total all heard.others
     ++ faults_text heard.counts.faults heard.counts.bad))))
 
--- the counts as they are told to a person, and as objects of JSON
+-- the counts as they are shown to a person, and as objects of JSON
 unfoldable pub plain_counts : Bool → HeardLines → List ℕ
 plain_counts all heard = flat_map count_line heard.counts.codes
     ++ ((if all then other_lines heard.others 256 else []) ++ totals_line all heard)
@@ -190,7 +191,7 @@ unfoldable pub capture_text : TellOptions → List ℕ → List ℕ
 capture_text options text = lines_text options unknown (entries_of options text)
     ++ counts_text options (heard_of options (entries_of options text))
 
--- what is written of one without bytes, by whether it is told as JSON, and whether other codes are told
+-- what is written of one without bytes, by whether it is shown as JSON, and whether other codes are shown
 abbrev pub empty_by : Bool → Bool → List ℕ
 empty_by false false = codes "lines 0 accepted 0 faults 0 bad 0\n"
 empty_by false true = codes "lines 0 accepted 0 other 0 faults 0 bad 0\n"

@@ -8,14 +8,14 @@ use Rattle.pm_lines.specs.Streams.{max_text}
 use Rattle.pm_trace.specs.Marks.{ended, since, told_at_marks}
 use Rattle.pm_decode.specs.CaptureText.{line_text, lines_text}
 use Rattle.pm_decode.specs.Hearing.{HeardLines, heard_lines, heard_of, heard_with, unknown}
-use Rattle.pm_decode.specs.Readings.{Entry, entry_of, is_heard}
-use Rattle.pm_decode.specs.TimedLines.{passes_timed, timed_of, timed_said, timed_takes}
-use Rattle.pm_decode.specs.declared.options.TellOptions.{TellOptions}
-use Rattle.pm_decode.specs.declared.timed_line.TimedLine.{TimedLine}
+use Rattle.pm_capture.specs.Readings.{Entry, entry_of, is_heard}
+use Rattle.pm_capture.specs.TimedLines.{passes_timed, timed_of, timed_said, timed_takes}
+use Rattle.pm_capture.specs.declared.options.TellOptions.{TellOptions}
+use Rattle.pm_capture.specs.declared.timed_line.TimedLine.{TimedLine}
 
 -- ---- the bytes taken
 
--- how the capture is told, how many bytes were taken, how many lines ended, what these lines said, and what is kept of
+-- how the capture is shown, how many bytes were taken, how many lines ended, what these lines said, and what is kept of
 -- the line that goes on
 pub record Kept : Type 0 where
   pub options : TellOptions
@@ -49,7 +49,7 @@ kept_of options bytes = record {
 abbrev pub entry_ended : Kept → Entry
 entry_ended kept = (kept.ended + 1, timed_said kept.options.pages kept.line)
 
--- what is heard where a line ends here, and what is written of it
+-- what is heard if a line ends here, and what is written of it
 abbrev pub heard_ended : Kept → HeardLines
 heard_ended kept = if passes_timed kept.options.pages kept.line then kept.heard
     else heard_with kept.options kept.heard (entry_ended kept)
@@ -58,7 +58,7 @@ abbrev pub text_ended : Kept → List ℕ
 text_ended kept = if passes_timed kept.options.pages kept.line then []
     else line_text kept.options kept.heard.known (entry_ended kept)
 
--- what is kept where a line ends here
+-- what is kept if a line ends here
 abbrev pub line_ended : Kept → Kept
 line_ended kept = record {
   options = kept.options;
@@ -95,7 +95,7 @@ told_at_end kept = if kept.line.is_begun then text_ended kept else []
 abbrev pub most_bytes : Bool → ℕ
 most_bytes long = if long then 2 ^ 64 - 1 else max_text
 
--- no more lines were heard than ended, and no more ended than bytes were taken, where one that goes on has a byte
+-- no more lines were heard than ended, and no more ended than bytes were taken, if one that goes on has a byte
 pub record IsBounded (kept : Kept) : Type 0 where
   pub heard : heard_lines kept.heard ≤ kept.ended
   pub ended : kept.ended + (if kept.line.is_begun then 1 else 0) ≤ kept.taken

@@ -1,4 +1,4 @@
--- What is known behind the lines of a capture: what they teach and say of PAGE, and how many there were of each kind. This
+-- What is known after the lines of a capture: what they teach and say of PAGE, and how many there were of each kind. This
 -- project's own choice.
 use Rattle.std.specs.Prelude.{ℕ, ◌+◌, ◌==◌, ◌&&◌, ◌||◌, not, nat_lt, Bool, true, false, if◌then◌else◌, is_some, List, [], ◌∷◌, Option, Some, None, Result, Ok, Err}
 use Rattle.std.specs.List.{filter_map, fold}
@@ -8,21 +8,21 @@ use Rattle.pm_trace.specs.Trace.{Judged, ToldLine, parts_judged}
 use Rattle.pm_trace.specs.TraceText.{end_of}
 use Rattle.pm_trace.specs.declared.line_fault.LineFault.{LineFault}
 use Rattle.pm_trace.specs.declared.trace_line.TraceLine.{TraceLine}
-use Rattle.pm_values.specs.Answers.{Answers, answers_by, none_heard, ones_of}
-use Rattle.pm_values.specs.Otherwise.{content_of, has_pec, is_accepted, is_doubtful}
-use Rattle.pm_values.specs.declared.answers.Ones.{Ones}
-use Rattle.pm_values.specs.declared.answers.Ones.TheVariants.{Answer}
+use Rattle.pm_packets.specs.Answers.{Answers, answers_by, none_heard, ones_of}
+use Rattle.pm_packets.specs.Otherwise.{content_of, is_accepted, is_doubtful}
+use Rattle.pm_packets.specs.declared.answers.Ones.{Ones}
+use Rattle.pm_packets.specs.declared.answers.Ones.TheVariants.{Answer}
 use Rattle.pm_values.specs.Taught.{Taught, changed_by, paged_at, paged_by, taught_by, untaught}
-use Rattle.pm_decode.specs.Hints.{beyond_by}
-use Rattle.pm_decode.specs.PageSteps.{change_by, judged_address, marks_in, pages_noted, pages_read}
-use Rattle.pm_decode.specs.Readings.{Entry, Said, Told, Noted, is_without_pec, judged_as, judged_by, other_address}
-use Rattle.pm_decode.specs.declared.comment.Remark.{Remark}
-use Rattle.pm_decode.specs.declared.comment.Remark.TheVariants.{Elsewhere, Unacknowledged, Failed, LossAt, Loss}
+use Rattle.pm_decode.specs.Hints.{beyond_by, lacking_by}
+use Rattle.pm_capture.specs.PageSteps.{change_by, judged_address, marks_in, pages_noted, pages_read}
+use Rattle.pm_capture.specs.Readings.{Entry, Said, Told, Noted, is_without_pec, judged_as, judged_by, other_address, is_checked, is_told}
+use Rattle.pm_capture.specs.declared.comment.Remark.{Remark}
+use Rattle.pm_capture.specs.declared.comment.Remark.TheVariants.{Elsewhere, Unacknowledged, Failed, LossAt, Loss}
 use Rattle.pm_decode.specs.declared.hints.Hint.{Hint}
-use Rattle.pm_decode.specs.declared.hints.Hint.TheVariants.{Beyond, NoTimes, NoGoodPacket}
-use Rattle.pm_decode.specs.declared.page_step.Marks.{Marks}
+use Rattle.pm_decode.specs.declared.hints.Hint.TheVariants.{Beyond, NoTimes, NoGoodPacket, NoPec}
+use Rattle.pm_capture.specs.declared.page_steps.Marks.{Marks}
 use Rattle.pm_decode.specs.declared.telling.TellEnd.{TellEnd}
-use Rattle.pm_decode.specs.declared.options.TellOptions.{TellOptions}
+use Rattle.pm_capture.specs.declared.options.TellOptions.{TellOptions}
 
 -- ---- what is known
 
@@ -33,17 +33,19 @@ pub record Known : Type 0 where
   pub pages : Pages
   pub beyond : Option ℕ
   pub answers : Answers
+  -- each packet that isn't good would be with its PEC
+  pub lacking : Bool
 
 abbrev pub unknown : Known
-unknown = record { taught = untaught; pages = no_pages; beyond = None; answers = none_heard }
+unknown = record { taught = untaught; pages = no_pages; beyond = None; answers = none_heard; lacking = true }
 
--- what an answer of ones is taken for, where packets without PEC are told, and it isn't good with one
+-- what an answer of ones is taken for, if packets without PEC are shown and it isn't good with one
 abbrev pub ones_in : TellOptions → Known → Result TraceLine LineFault → Ones
 ones_in options known (Ok parts) = if options.all && not (is_accepted (parts_judged parts.write parts.read))
     then ones_of known.answers parts.write parts.read else Answer
 ones_in options known (Err fault) = Answer
 
--- what a packet teaches; where values are told, a mode that it may have changed isn't known any more, and a packet of PAGE says
+-- what a packet teaches; if values are shown, a mode that it may have changed isn't known any more, and a packet of PAGE says
 -- that its address has pages
 abbrev pub taught_over : TellOptions → ℕ → Marks → TraceLine → Taught → Taught
 taught_over options number marks parts taught = if options.values
@@ -57,15 +59,6 @@ taught_read options number marks (Ok parts) taught = if is_doubtful marks.ones
     else taught_by number marks.reached (taught_over options number marks parts taught) (judged_by options.all marks.ones parts)
 taught_read options number marks (Err fault) taught = taught
 
--- a packet is told as good, or by its code and bytes
-abbrev pub is_told : Option ℕ → Judged → Bool
-is_told other judged = is_some other || is_accepted judged
-
--- one that is has the right PEC
-abbrev pub is_checked : Option ℕ → Bool → TraceLine → Bool
-is_checked None lacks parts = not lacks
-is_checked (Some addr) lacks parts = has_pec parts.write parts.read
-
 abbrev pub answers_told : Bool → Ones → TraceLine → Answers → Answers
 answers_told all ones parts answers =
     if is_told (other_address all ones parts) (judged_by all ones parts)
@@ -76,7 +69,12 @@ abbrev pub answers_read : TellOptions → Ones → Result TraceLine LineFault �
 answers_read options ones (Ok parts) answers = if options.all then answers_told options.all ones parts answers else answers
 answers_read options ones (Err fault) answers = answers
 
--- behind a line that isn't skipped, whose answer of ones is taken so
+-- whether each packet that isn't good would be with its PEC
+abbrev pub lacking_read : Bool → Result TraceLine LineFault → Bool → Bool
+lacking_read all (Ok parts) lacking = lacking_by all parts lacking
+lacking_read all (Err fault) lacking = lacking
+
+-- what is known after a line that isn't skipped, whose answer of ones is taken so
 abbrev pub known_with : TellOptions → ℕ → Option ℕ → Ones → Result TraceLine LineFault → Known → Known
 known_with options number time ones parts known = record {
   taught = taught_read options number (marks_in options known.pages ones time parts) parts known.taught;
@@ -84,12 +82,13 @@ known_with options number time ones parts known = record {
   beyond = beyond_by options known.taught (marks_in options known.pages ones time parts).reached number
       (judged_as options.all ones parts) known.beyond;
   answers = answers_read options ones parts known.answers;
+  lacking = lacking_read options.all parts known.lacking;
 }
 
 abbrev pub known_read : TellOptions → ℕ → Option ℕ → Result TraceLine LineFault → Known → Known
 known_read options number time parts known = known_with options number time (ones_in options known parts) parts known
 
--- behind a comment: one that shows a packet of PAGE says that its address has pages
+-- what is taught after a comment: one that shows a packet of PAGE says that its address has pages
 abbrev pub taught_noted : Remark → Taught → Taught
 taught_noted Elsewhere taught = taught
 taught_noted Unacknowledged taught = taught
@@ -107,13 +106,13 @@ known_said options number (Noted remark) known = record known {
 abbrev pub known_by : TellOptions → Known → Entry → Known
 known_by options known entry = known_said options entry.0 entry.1 known
 
--- behind several
+-- what is known after several lines
 abbrev pub known_from : TellOptions → Known → List Entry → Known
 known_from options known entries = fold (known_by options) known entries
 
 -- ---- how a line is counted
 
--- the code of a packet that is told otherwise
+-- the code of a packet that is shown otherwise
 abbrev pub code_if : Option ℕ → ℕ → Option ℕ
 code_if None code = None
 code_if (Some addr) code = Some code
@@ -133,7 +132,7 @@ Heard = Ones × Entry
 abbrev pub other_code : Bool → Heard → Option ℕ
 other_code all heard = other_code_of all heard.0 heard.1.1
 
--- a line that is told as the command table has it
+-- a line that is shown as the command table has it
 abbrev pub told_unless : Option ℕ → ToldLine → Option ToldLine
 told_unless None told = Some told
 told_unless (Some code) told = None
@@ -162,14 +161,14 @@ heard_all options known (entry ∷ entries) =
 
 -- ---- all that is heard
 
--- what is known, the counts of the lines that are told as the command table has them, and how often each other code was
+-- what is known, the counts of the lines that are shown as the command table has them, and how often each other code was
 -- carried
 pub record HeardLines : Type 0 where
   pub known : Known
   pub counts : Counts
   pub others : List (ℕ × ℕ)
 
--- behind these lines
+-- what is known after these lines
 unfoldable pub heard_of : TellOptions → List Entry → HeardLines
 heard_of options entries = record {
   known = known_from options unknown entries;
@@ -200,22 +199,29 @@ heard_with options heard entry = record {
 
 -- ---- what may be wrong
 
--- there are bad lines, and no packet was told as a good one or by its code
+-- there are bad lines, and no packet was shown as a good one or by its code
 abbrev pub is_none_told : HeardLines → Bool
 is_none_told heard = heard.counts.accepted == 0 && (total_of heard.others == 0 && nat_lt 0 heard.counts.bad)
 
--- then with times no line is a time and a packet, where no packet has a fault; without them no line is a good packet
+-- then with times no line is a time and a packet, if no packet has a fault; without them no line is a good packet
 abbrev pub lines_hint : Bool → ℕ → Option Hint
 lines_hint true faults = if faults == 0 then Some NoTimes else None
 lines_hint false faults = Some NoGoodPacket
 
-abbrev pub hint_from : Option ℕ → Option Hint → Option Hint
-hint_from (Some line) lines = Some (Beyond line)
-hint_from None lines = lines
+-- packets without PEC aren't shown, and there are faults of packets that would all be good with it
+abbrev pub is_without_any_pec : Bool → HeardLines → Bool
+is_without_any_pec all heard =
+    heard.counts.accepted == 0 && (nat_lt 0 heard.counts.faults && (heard.known.lacking && not all))
+
+abbrev pub hint_from : Option ℕ → Option Hint → Bool → Option Hint
+hint_from (Some line) lines lacking = Some (Beyond line)
+hint_from None (Some hint) lacking = Some hint
+hint_from None None lacking = if lacking then Some NoPec else None
 
 abbrev pub hint_by : TellOptions → HeardLines → Option Hint
 hint_by options heard = hint_from heard.known.beyond
     (if is_none_told heard then lines_hint options.times heard.counts.faults else None)
+    (is_without_any_pec options.all heard)
 
 -- how a capture ends of which this was heard
 abbrev pub told_end : TellOptions → HeardLines → TellEnd

@@ -1,8 +1,11 @@
--- What is told besides of a capture that was told whole: a voltage that is ordered beyond 1000 V by the format that was given,
--- and lines of which none is what the options say that lines are. This project's own choice.
-use Rattle.std.specs.Prelude.{ℕ, Bool, false, ◌&&◌, nat_lt, not, is_some, unsigned_abs, if◌then◌else◌, List, [], ◌∷◌, replicate, Option, Some, None}
+-- What is said besides of a capture that was shown whole: a voltage that is ordered beyond 1000 V by the format that was given,
+-- lines of which none is what the options say that lines are, and packets that all lack their PEC. This project's own choice.
+use Rattle.std.specs.Prelude.{ℕ, Bool, false, ◌&&◌, ◌||◌, nat_lt, not, is_some, unsigned_abs, if◌then◌else◌, List, [], ◌∷◌, replicate, Option, Some, None}
 use Rattle.pm_frame.specs.declared.message.Message.{Message}
-use Rattle.pm_trace.specs.Trace.{Judged, Accepted, Faulty, BadSyntax, BadHex}
+use Rattle.pm_packets.specs.Otherwise.{is_accepted, lacks_pec}
+use Rattle.pm_packets.specs.declared.answers.Ones.TheVariants.{Answer}
+use Rattle.pm_trace.specs.Trace.{Judged, Accepted, Faulty, BadSyntax, BadHex, parts_judged}
+use Rattle.pm_trace.specs.declared.trace_line.TraceLine.{TraceLine}
 use Rattle.pm_values.specs.Taught.{Taught}
 use Rattle.pm_values.specs.Values.{millionths, packet_value}
 use Rattle.pm_values.specs.declared.formats.GivenFormat.{GivenFormat}
@@ -10,7 +13,7 @@ use Rattle.pm_values.specs.declared.formats.GivenFormats.{GivenFormats}
 use Rattle.pm_values.specs.declared.value.Unit.TheVariants.{Volt, Ampere, Celsius}
 use Rattle.pm_values.specs.declared.value.Value.{Value}
 use Rattle.pm_values.specs.declared.value.Value.TheVariants.{Measured, Operates, Protects, Scales, Relative, Vid, Half, Flags, Capable, Controls, Revises}
-use Rattle.pm_decode.specs.declared.options.TellOptions.{TellOptions}
+use Rattle.pm_capture.specs.declared.options.TellOptions.{TellOptions}
 
 -- ---- a voltage
 
@@ -46,7 +49,7 @@ is_beyond given taught reached (Faulty addr is_read fault) = false
 is_beyond given taught reached BadSyntax = false
 is_beyond given taught reached BadHex = false
 
--- the first line of such an order, behind the one of this number
+-- the first line of such an order, after the one of this number
 abbrev pub first_if : Option ℕ → Bool → ℕ → Option ℕ
 first_if (Some line) is number = Some line
 first_if None is number = if is then Some number else None
@@ -62,3 +65,11 @@ has_vout given = has_entry given.vout
 abbrev pub beyond_by : TellOptions → Taught → Option ℕ → ℕ → Judged → Option ℕ → Option ℕ
 beyond_by options taught reached number judged before =
     if options.values && has_vout options.formats then first_if before (is_beyond options.formats taught reached judged) number else before
+
+-- ---- packets without PEC
+
+-- Whether each packet that isn't good would be with its PEC: those before this one, and this one. It doesn't matter if packets
+-- without PEC are shown.
+abbrev pub lacking_by : Bool → TraceLine → Bool → Bool
+lacking_by all parts lacking = if all || is_accepted (parts_judged parts.write parts.read) then lacking
+    else lacking && lacks_pec Answer parts.write parts.read

@@ -1,4 +1,4 @@
--- What an engine promises of the reader and the writer that it runs over where its text may have this many bytes: what
+-- What an engine promises of the reader and the writer that it runs over if its text may have this many bytes: what
 -- `pm_lines` has of every engine, whose limit is `max_text`. This project's own choice.
 use Rattle.std.specs.Prelude.{◌≡◌, ◌⊎◌, ◌↔◌, ℕ, ◌<◌, ◌≤◌, List, ◌++◌, length, Option, Result, Ok, Err, IsTrue, IsFalse}
 use Rattle.std.specs.Io.KnownBytes.{Appends, Consumes, IsAtEnd}
@@ -29,7 +29,7 @@ module _ {R W T : Type 0} (limit : ℕ) (whole : List ℕ → List ℕ) (early :
   IsCut text = ((front : List ℕ) × (IsTrue run.reader'.failed → length front ≤ limit) × Gave front × (text ≡ early front))
       ⊎ (IsFalse run.reader'.failed × (input : List ℕ) × GaveAll input × (text ≡ whole input))
 
-  -- Why a telling refuses, by the bytes that the reader gave: X3 comes where this front is as much as a text may have,
+  -- Why a telling refuses, by the bytes that the reader gave: X3 comes if this front is as much as a text may have,
   -- and more came; X4 after any such front; X6 after some bytes.
   abbrev pub Breaks : TextFault → List ℕ → Type 0
   Breaks TooLong front = (more : List ℕ) × (length front ≡ limit) × (0 < length more) × Gave (front ++ more)

@@ -2,15 +2,14 @@
 ghost use Rattle.std.specs.Prelude.{[], ◌≡◌, ◌+◌, ◌≤◌, ◌<◌, ◌^◌, ◌++◌, if◌then◌else◌, OnOk, OnErr};
 ghost use Rattle.pm_decode.specs.CaptureText.{line_text};
 ghost use Rattle.pm_decode.specs.Hearing.{heard_lines, heard_with};
-ghost use Rattle.pm_decode.specs.TimedLines.{passes_timed, timed_said};
+ghost use Rattle.pm_capture.specs.TimedLines.{passes_timed, timed_said};
 
 use crate::counts_text::push_counts;
 use crate::heard_lines::HeardLines;
 use crate::hints::hint_of;
-use crate::options::TellOptions;
 use crate::telling::TellEnd;
-use crate::timed_line::TimedLine;
 use crate::told_text::ToldText;
+use pm_capture::{TellOptions, TimedLine};
 use pm_lines::MAX_TEXT;
 use pm_trace::DecodeEnd;
 use std::alloc::{AllocError, Global};
@@ -78,7 +77,7 @@ impl Capture {
         }
     }
 
-    /// Takes the bytes, and gathers what the lines say that end with them. Where memory is refused, the lines before are
+    /// Takes the bytes, and gathers what the lines say that end with them. If memory is refused, the lines before are
     /// gathered.
     pub(crate) fn take(&mut self, bytes: &[u8], gathered: &mut ToldText) -> Result<(), AllocError>
         requires { self.old.taken + length bytes.now ≤ most_bytes self.old.options.long }
@@ -187,8 +186,8 @@ impl Capture {
     }
 }
 
-// Gathers what a line says that ends here, with its number, and has it heard, if it isn't skipped, or is a comment where PAGE
-// is followed.
+// Gathers what a line says that ends here, with its number, and has it heard, if it isn't skipped. A comment is noted if PAGE is
+// followed.
 #[tactic(auto, using(crate::proofs::HearingLemmas::heard_one))]
 fn hear_line(
     heard: &mut HeardLines,

@@ -6,9 +6,9 @@ ghost use Rattle.pm_decode.specs.Hearing.{heard_lines};
 
 use crate::heard_lines::HeardLines;
 use crate::json_counts::push_json_counts;
-use crate::options::TellOptions;
-use crate::others::Others;
+use pm_capture::TellOptions;
 use pm_lines::{push_decimal, push_hex};
+use pm_packets::Others;
 use pm_trace::push_count;
 use std::alloc::AllocError;
 
@@ -54,7 +54,7 @@ fn push_others(text: &mut String, others: &Others) -> Result<(), AllocError>
     Ok(())
 }
 
-// The line of another code, where it was carried.
+// The line of another code, if it was carried.
 #[tactic(auto, using(pm_lines::specs::Lemmas::Joins::joins))]
 fn push_other(text: &mut String, others: &Others, code: u8) -> Result<(), AllocError>
     ensures { OnOk result (string_bytes text.new ≡ string_bytes text.old ++ other_line others.now code) }

@@ -4,8 +4,8 @@ ghost use Rattle.pm_lines.specs.Engine.{EngineEnds, over};
 ghost use Rattle.pm_trace.specs.Outcome.{decoding};
 ghost use Rattle.pm_trace.specs.TraceText.{IsOfDecode};
 
-use crate::options::TellOptions;
 use crate::telling::tell;
+use pm_capture::TellOptions;
 use pm_lines::{Sink, Source, TextFault};
 use pm_trace::DecodeEnd;
 use std::alloc::Global;
@@ -21,10 +21,10 @@ use std::io::{Read, Write};
 ///
 /// # Errors
 ///
-/// X3 where the trace has more than 1,048,576 bytes, and X4 where the reader failed: the lines that ended before were
-/// written, and no counts. X6 where memory was refused, which is wanted only where a byte was read: the first lines were
-/// written. X5 where the writer failed, also as it was to get what was gathered before one of these is told: a prefix of
-/// the text was written.
+/// X3 if the trace has more than 1,048,576 bytes, and X4 if the reader failed: the lines that ended before were
+/// written, and no counts. X6 if memory was refused, which is asked for only after a byte was read: the first lines were
+/// written. X5 if the writer failed, also as it was to get what was gathered before one of these: a prefix of the text was
+/// written.
 pub fn decode<R: Read, W: Write>(
     alloc: Global,
     reader: &mut Source<R>,

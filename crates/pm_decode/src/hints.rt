@@ -1,42 +1,57 @@
-//! What is told besides of a capture that was told whole.
-ghost use Rattle.std.specs.Prelude.{◌≡◌, ◌<◌, ◌^◌};
+//! What is said besides of a capture that was shown whole.
+ghost use Rattle.std.specs.Prelude.{◌≡◌, ◌<◌, ◌^◌, None, false, if◌then◌else◌, option_map};
 ghost use Rattle.pm_trace.specs.ShownLines.{judged_in};
-ghost use Rattle.pm_decode.specs.Hearing.{heard_lines, hint_by};
-ghost use Rattle.pm_decode.specs.Hints.{beyond_by, first_if, has_entry as spec_has_entry, has_vout as spec_has_vout, is_beyond as spec_is_beyond, is_huge as spec_is_huge, is_huge_value as spec_is_huge_value};
+ghost use Rattle.pm_trace.specs.Trace.{parts_judged};
+ghost use Rattle.pm_capture.specs.ShownReadings.{packet_in};
+ghost use Rattle.pm_decode.specs.Hearing.{heard_lines, hint_by, is_none_told, is_without_any_pec as spec_is_without_any_pec, lines_hint as spec_lines_hint};
+ghost use Rattle.pm_decode.specs.Hints.{beyond_by, first_if, has_entry as spec_has_entry, has_vout as spec_has_vout, is_beyond as spec_is_beyond, is_huge as spec_is_huge, is_huge_value as spec_is_huge_value, lacking_by};
 
 use crate::heard_lines::HeardLines;
-use crate::line_text::PacketLine;
-use crate::options::TellOptions;
+use pm_capture::{PacketLine, TellOptions};
 use pm_num::Frac;
+use pm_packets::{Ones, completed_part};
 use pm_trace::Shown;
 use pm_values::{
     GivenFormat, GivenFormats, GoodPacket, Lessons, Unit, Value, millionths, packet_value,
 };
 
-/// What may be wrong where a capture was told whole.
+/// What may be wrong with a capture that was shown whole.
 #[derive(Clone, Copy, Debug, PartialEq, Eq)]
 pub enum Hint {
     /// The line of this number is the first one that orders a voltage beyond 1000 V by the format that was given.
     Beyond(u64),
-    /// With times no line was a time and a packet.
+    /// With times each line was bad: none was a time and a packet.
     NoTimes,
-    /// Without times no line was a good packet, and one was bad, as where lines begin with times.
+    /// Without times no line was a good packet, and one was bad, as if lines begin with times.
     NoGoodPacket,
+    /// Packets without PEC weren't shown, and no line was a good packet, but each packet would have been one with its PEC.
+    NoPec,
 }
 
-/// What may be wrong with a capture of these lines that is told so.
+/// What may be wrong with a capture of these lines, shown by these options.
 pub(crate) fn hint_of(options: &TellOptions, heard: &HeardLines) -> Option<Hint>
     requires { heard_lines heard.now < 2 ^ 64 }
     ensures { result ≡ hint_by options.now heard.now }
 {
-    if let Some(line) = heard.beyond() {
+    if let Some(line) = heard.known().beyond() {
         return Some(Hint::Beyond(line));
     }
+    match lines_hint(options.times, heard) {
+        None if is_without_any_pec(options.all, heard) => Some(Hint::NoPec),
+        hint => hint,
+    }
+}
+
+// What bad lines say if no packet was shown as a good one or by its code.
+fn lines_hint(times: bool, heard: &HeardLines) -> Option<Hint>
+    requires { heard_lines heard.now < 2 ^ 64 }
+    ensures { result ≡ (if is_none_told heard.now then spec_lines_hint times heard.now.counts.faults else None) }
+{
     let (_, accepted, faults, bad) = heard.tally().lines();
     if accepted > 0 || heard.others().total() > 0 || bad == 0 {
         return None;
     }
-    if !options.times {
+    if !times {
         Some(Hint::NoGoodPacket)
     } else if faults == 0 {
         Some(Hint::NoTimes)
@@ -45,8 +60,29 @@ pub(crate) fn hint_of(options: &TellOptions, heard: &HeardLines) -> Option<Hint>
     }
 }
 
-/// The first line that orders a voltage beyond 1000 V by the format that was given, behind this one; before it was that
-/// one, if there was one. `reached` is the output that its packet reaches if it names none, where that is known.
+// Whether there are faults, all of packets that would be good with their PEC, and such packets aren't shown.
+fn is_without_any_pec(all: bool, heard: &HeardLines) -> bool
+    requires { heard_lines heard.now < 2 ^ 64 }
+    ensures { result ≡ spec_is_without_any_pec all heard.now }
+{
+    let (_, accepted, faults, _) = heard.tally().lines();
+    accepted == 0 && faults > 0 && heard.known().is_lacking() && !all
+}
+
+/// Whether each packet that isn't good would be with its PEC: those before this one, as `lacking` says, and this one.
+pub(crate) fn still_lacking(all: bool, line: &PacketLine<'_>, lacking: bool) -> bool
+    requires { all ≡ false → judged_in line.now.shown.now
+        ≡ parts_judged line.now.packet.write.now (option_map (λ bytes. bytes.now) line.now.packet.read) }
+    ensures { result ≡ lacking_by all (packet_in line.now.packet) lacking }
+{
+    if all || matches!(line.shown, Shown::Accepted { .. }) {
+        return lacking;
+    }
+    lacking && completed_part(&line.packet, line.shown, Ones::Answer).is_some()
+}
+
+/// The first line that orders a voltage beyond 1000 V by the format that was given, after this one; `before` is the
+/// first one before it. `reached` is the output that its packet reaches if it names none and that is known.
 pub(crate) fn first_beyond(
     options: &TellOptions,
     lessons: &Lessons,
@@ -77,7 +113,7 @@ fn has_entry(entries: &[Option<GivenFormat>]) -> bool
     matches!(entries, [Some(_), ..])
 }
 
-// The hint of a packet whose values are told by a format that was given.
+// The first line that orders a voltage beyond 1000 V by these formats: `before`, or else this line if it does.
 fn first_of(
     given: &GivenFormats,
     lessons: &Lessons,

@@ -3,12 +3,12 @@ ghost use Rattle.std.specs.Prelude.{◌≡◌, ◌<◌, ◌++◌, ◌^◌, OnOk,
 ghost use Rattle.std.specs.Map.{lookup};
 ghost use Rattle.pm_decode.specs.CaptureText.{json_counts};
 ghost use Rattle.pm_decode.specs.Hearing.{heard_lines};
-ghost use Rattle.pm_decode.specs.JsonText.{count_json, faults_json, other_json, other_jsons, others_json, totals_json};
+ghost use Rattle.pm_decode.specs.JsonCounts.{count_json, faults_json, other_json, other_jsons, others_json, totals_json};
 
 use crate::heard_lines::HeardLines;
-use crate::json_fields::push_number_field;
-use crate::others::Others;
+use pm_json::push_number_field;
 use pm_lines::{push_decimal, push_hex};
+use pm_packets::Others;
 use pm_table::Code;
 use std::alloc::AllocError;
 
@@ -32,7 +32,7 @@ pub(crate) fn push_json_counts(
 }
 
 // The object of a code.
-#[tactic(auto, using(pm_lines::specs::Lemmas::Joins::joins), unfolding(crate::specs::JsonText::count_json))]
+#[tactic(auto, using(pm_lines::specs::Lemmas::Joins::joins), unfolding(crate::specs::JsonCounts::count_json))]
 fn push_count(text: &mut String, code: u8, count: u64) -> Result<(), AllocError>
     ensures { OnOk result (string_bytes text.new ≡ string_bytes text.old ++ count_json (code, count)) }
 {
@@ -54,7 +54,7 @@ fn push_others(text: &mut String, others: &Others) -> Result<(), AllocError>
     Ok(())
 }
 
-// The object of another code, where it was carried.
+// The object of another code, if it was carried.
 #[tactic(auto, using(pm_lines::specs::Lemmas::Joins::joins))]
 fn push_other(text: &mut String, others: &Others, code: u8) -> Result<(), AllocError>
     ensures { OnOk result (string_bytes text.new ≡ string_bytes text.old ++ other_json others.now code) }
@@ -70,7 +70,7 @@ fn push_other(text: &mut String, others: &Others, code: u8) -> Result<(), AllocE
 }
 
 // The object of the counts.
-#[tactic(auto, using(pm_lines::specs::Lemmas::Joins::joins), unfolding(crate::specs::JsonText::totals_json))]
+#[tactic(auto, using(pm_lines::specs::Lemmas::Joins::joins), unfolding(crate::specs::JsonCounts::totals_json))]
 fn push_totals(text: &mut String, all: bool, heard: &HeardLines) -> Result<(), AllocError>
     requires { heard_lines heard.now < 2 ^ 64 }
     ensures { OnOk result (string_bytes text.new ≡ string_bytes text.old ++ totals_json all heard.now) }

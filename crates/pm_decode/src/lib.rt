@@ -1,4 +1,4 @@
-//! Captures told to a person: what the lines of a trace say, as `pm_trace` has it, and behind it what
+//! Captures shown to a person: what the lines of a trace say, as `pm_trace` has it, and after it what
 //! the payloads mean, with times, packets of codes that the command table doesn't have, and without
 //! a limit, as text or as objects of JSON.
 //!
@@ -26,24 +26,16 @@
 #![tactic(auto)]
 
 mod capture;
-mod comment;
 mod counts_text;
 mod decoding;
 mod heard_lines;
 mod hints;
 mod json_counts;
-mod json_fields;
-mod json_text;
-mod json_value;
+mod known;
 mod laws;
 mod line_number;
 mod line_text;
-mod options;
-mod others;
-mod page_step;
 mod telling;
-mod timed_line;
-mod told_as;
 mod told_text;
 mod usual_line;
 mod usual_packet;
@@ -51,5 +43,5 @@ mod usual_packet;
 pub use decoding::decode;
 pub use hints::Hint;
 pub use laws::plain_captures_are_traces;
-pub use options::TellOptions;
+pub use pm_capture::TellOptions;
 pub use telling::{TellEnd, tell};

@@ -5,21 +5,19 @@ ghost use Rattle.pm_trace.specs.Trace.{reading_judged};
 ghost use Rattle.pm_trace.specs.TraceText.{judged_text};
 ghost use Rattle.pm_values.specs.Taught.{Taught};
 ghost use Rattle.pm_decode.specs.CaptureText.{bytes_text, extra_text, json_line, lack_text, plain_line, meaning_text, otherwise_by as spec_otherwise_by, packet_fields_by, packet_text_by, reached_text, read_bytes_text, time_text, told_line, two_lines, wrong_text};
-ghost use Rattle.pm_decode.specs.JsonText.{lack_field};
-ghost use Rattle.pm_decode.specs.Readings.{judged_by, other_address};
-ghost use Rattle.pm_decode.specs.ShownReadings.{packet_in};
-ghost use Rattle.pm_decode.specs.declared.page_step.Marks.{Marks};
+ghost use Rattle.pm_capture.specs.Readings.{judged_by, other_address};
+ghost use Rattle.pm_capture.specs.ShownReadings.{packet_in};
+ghost use Rattle.pm_capture.specs.declared.page_steps.Marks.{Marks};
 
-use crate::json_fields::{push_number_field_if, push_text_field};
-use crate::json_text::{ones_fields, push_judged_fields, push_other_fields, push_wrong_field};
-use crate::options::TellOptions;
-use crate::page_step::Marks;
-use pm_lines::{TextFault, push_decimal, push_hex};
-use pm_trace::{LineFault, Shown, push_packet, push_shown};
-use pm_values::{
-    GoodPacket, Lessons, Ones, Otherwise, Packet, ones_words, packet_value, push_known,
-    push_otherwise, push_spaced,
+use pm_capture::{Marks, PacketLine, TellOptions};
+use pm_json::{
+    push_judged_fields, push_lack_field, push_number_field_if, push_other_fields, push_text_field,
+    push_wrong_field,
 };
+use pm_lines::{TextFault, push_decimal, push_hex};
+use pm_packets::{Otherwise, Packet, ones_words, push_otherwise, push_spaced};
+use pm_trace::{LineFault, Shown, push_packet, push_shown};
+use pm_values::{GoodPacket, Lessons, packet_value, push_known};
 use std::alloc::AllocError;
 
 /// Appends a line that can't be read to a text, with its number and without a line feed.
@@ -81,23 +79,6 @@ fn fault_words(number: u64, fault: LineFault) -> &'static str
         LineFault::Syntax => TextFault::Syntax(number).words(),
         LineFault::BadHex => TextFault::BadHex(number).words(),
     }
-}
-
-/// A packet of a line.
-#[derive(Clone, Copy)]
-pub(crate) struct PacketLine<'a> {
-    /// The line's number.
-    pub(crate) number: u64,
-    /// The time of the packet, where lines have one.
-    pub(crate) time: Option<u64>,
-    /// Its bytes.
-    pub(crate) packet: Packet<'a>,
-    /// What it says.
-    pub(crate) shown: &'a Shown<'a>,
-    /// What an answer of ones is taken for.
-    pub(crate) ones: Ones,
-    /// Its address, where it is told by its code and bytes.
-    pub(crate) other: Option<u8>,
 }
 
 /// Appends a packet's line to a text, with its number and without a line feed: as the command table has the packet, or by
@@ -215,7 +196,7 @@ fn push_packet_text(
     }
 }
 
-// How a packet with these marks is told by its code and bytes.
+// How a packet with these marks is shown by its code and bytes.
 fn otherwise_by(options: &TellOptions, marks: &Marks, addr: u8) -> Otherwise
     ensures { result ≡ spec_otherwise_by options.now marks.now addr }
 {
@@ -227,7 +208,7 @@ fn otherwise_by(options: &TellOptions, marks: &Marks, addr: u8) -> Otherwise
     }
 }
 
-// What a packet says, with the output that it reaches where PAGE was followed.
+// What a packet says, with the output that it reaches if PAGE is followed.
 #[tactic(auto, using(pm_lines::specs::Lemmas::Joins::joins))]
 fn push_reached(
     text: &mut String,
@@ -250,7 +231,7 @@ fn push_reached(
     }
 }
 
-// What stands behind a packet for its marks: that it lacks its PEC, and the lines of which one contradicts the other.
+// What follows a packet for its marks: that it lacks its PEC, and the lines of which one contradicts the other.
 #[tactic(auto, using(pm_lines::specs::Lemmas::Joins::joins))]
 fn push_marks(text: &mut String, number: u64, marks: &Marks) -> Result<(), AllocError>
     ensures { OnOk result (string_bytes text.new
@@ -262,7 +243,7 @@ fn push_marks(text: &mut String, number: u64, marks: &Marks) -> Result<(), Alloc
     push_wrong_if(text, number, marks.wrong)
 }
 
-// What stands behind a packet in this line for the earlier one that it contradicts, if there is one.
+// What follows a packet in this line for the earlier one that it contradicts, if there is one.
 fn push_wrong_if(text: &mut String, number: u64, wrong: Option<u64>) -> Result<(), AllocError>
     ensures { OnOk result (string_bytes text.new ≡ string_bytes text.old ++ wrong_text number wrong) }
 {
@@ -272,7 +253,7 @@ fn push_wrong_if(text: &mut String, number: u64, wrong: Option<u64>) -> Result<(
     }
 }
 
-// What stands behind a packet in this line that contradicts an earlier one.
+// What follows a packet in this line that contradicts an earlier one.
 #[tactic(auto, using(pm_lines::specs::Lemmas::Joins::joins))]
 fn push_wrong(text: &mut String, number: u64, line: u64) -> Result<(), AllocError>
     ensures { OnOk result (string_bytes text.new ≡ string_bytes text.old ++ wrong_text number (Some line)) }
@@ -291,18 +272,7 @@ fn push_two_lines(text: &mut String, line: u64, number: u64) -> Result<(), Alloc
     push_decimal(text, number)
 }
 
-// What stands in JSON behind a packet that lacks its PEC.
-fn push_lack_field(text: &mut String, marks: &Marks) -> Result<(), AllocError>
-    ensures { OnOk result (string_bytes text.new ≡ string_bytes text.old ++ lack_field marks.now.ones marks.now.lacks) }
-{
-    if marks.lacks {
-        text.push_str(ones_fields(marks.ones))
-    } else {
-        Ok(())
-    }
-}
-
-// The time of a packet, where it is known.
+// The time of a packet, if it is known.
 #[tactic(auto, using(pm_lines::specs::Lemmas::Joins::joins))]
 fn push_time(text: &mut String, time: Option<u64>) -> Result<(), AllocError>
     ensures { OnOk result (string_bytes text.new ≡ string_bytes text.old ++ time_text time) }
@@ -315,7 +285,7 @@ fn push_time(text: &mut String, time: Option<u64>) -> Result<(), AllocError>
     text.push_str(" us")
 }
 
-// What stands behind a packet's text: its value, or its bytes where it has a fault.
+// What follows a packet's text: its value, or its bytes if it has a fault.
 #[tactic(auto, using(pm_lines::specs::Lemmas::Joins::joins))]
 fn push_extra(
     text: &mut String,
@@ -334,7 +304,7 @@ fn push_extra(
     }
 }
 
-// Appends what the packet means, if values are told.
+// Appends what the packet means, if values are shown.
 #[tactic(auto, using(pm_lines::specs::Lemmas::Joins::joins))]
 fn push_meaning(
     text: &mut String,
@@ -361,7 +331,7 @@ fn push_meaning(
     }
 }
 
-// All bytes of a packet, where it has a byte, or a read part.
+// All bytes of a packet, if it has a byte or a read part.
 #[tactic(auto, using(pm_lines::specs::Lemmas::Joins::joins))]
 fn push_bytes(text: &mut String, packet: &Packet<'_>) -> Result<(), AllocError>
     ensures { OnOk result (string_bytes text.new ≡ string_bytes text.old ++ bytes_text (packet_in packet.now)) }

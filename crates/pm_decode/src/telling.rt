@@ -14,8 +14,8 @@ ghost use Rattle.pm_decode.specs.WrittenCaptures.{Hears, StopsBytes, StopsHearin
 
 use crate::capture::Capture;
 use crate::hints::Hint;
-use crate::options::TellOptions;
 use crate::told_text::ToldText;
+use pm_capture::TellOptions;
 use pm_lines::{Sink, Source, TextFault};
 use pm_trace::DecodeEnd;
 use std::alloc::{AllocError, Global};
@@ -24,7 +24,7 @@ use std::io::{Read, Write};
 /// The most bytes that are read at a time.
 const PIECE: usize = 512;
 
-/// The bytes of lines that are written at once, where the reader brings as many as it is asked for.
+/// The bytes of lines that are written at once, while the reader brings as many as it is asked for.
 const GATHERED: usize = 16_384;
 
 /// How a telling ends that wrote all of its text.
@@ -54,10 +54,10 @@ pub struct TellEnd {
 ///
 /// # Errors
 ///
-/// X3 where the capture has more than 1,048,576 bytes, or with `long` more than 2^64 - 1, and X4 where the reader failed:
-/// the lines that ended before were written, and no counts. X6 where memory was refused, which is wanted only where a
-/// byte was read: the first lines were written. X5 where the writer failed, also as it was to get what was gathered
-/// before one of these is told: a prefix of the text was written.
+/// X3 if the capture has more than 1,048,576 bytes, or with `long` more than 2^64 - 1, and X4 if the reader failed:
+/// the lines that ended before were written, and no counts. X6 if memory was refused, which is asked for only after a
+/// byte was read: the first lines were written. X5 if the writer failed, also as it was to get what was gathered
+/// before one of these: a prefix of the text was written.
 pub fn tell<R: Read, W: Write>(
     alloc: Global,
     reader: &mut Source<R>,
@@ -97,7 +97,7 @@ fn tell_all<R: Read, W: Write>(
 {
     hear_pieces(reader, writer, options, capture, told)?;
     if capture.taken() == 0 {
-        // the text of the counts takes memory, which is wanted only for what was read
+        // the text of the counts takes memory, which is asked for only if a byte was read
         writer.put(empty_text(options).as_bytes())?;
         return Ok(TellEnd {
             end: DecodeEnd::Clean,
@@ -190,7 +190,7 @@ fn is_full(count: &Result<usize, TextFault>) -> bool
     matches!(count, Ok(PIECE))
 }
 
-// Writes what was gathered, where it is due or is much.
+// Writes what was gathered, if it is due or is much.
 fn put_due<W: Write>(
     writer: &mut Sink<W>,
     told: &mut ToldText,

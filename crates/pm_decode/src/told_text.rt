@@ -3,9 +3,8 @@ ghost use Rattle.std.specs.Prelude.{◌≡◌};
 use crate::capture::Capture;
 use crate::heard_lines::HeardLines;
 use crate::line_number::LineNumber;
-use crate::options::TellOptions;
-use crate::timed_line::LineReading;
 use crate::usual_line::{Usual, push_usual, usual_of};
+use pm_capture::{LineReading, TellOptions};
 use std::alloc::{AllocError, Global};
 use std::marker::Model;
 
@@ -32,8 +31,8 @@ impl ToldText {
     ghost use Rattle.pm_decode.specs.UsualLines.{code_counted, usual_text};
     ghost use Rattle.pm_decode.specs.CaptureText.{counts_text, line_text};
     ghost use Rattle.pm_decode.specs.Hearing.{heard_lines, heard_with};
-    ghost use Rattle.pm_decode.specs.Readings.{Told};
-    ghost use Rattle.pm_decode.specs.ShownReadings.{reading_in};
+    ghost use Rattle.pm_capture.specs.Readings.{Told};
+    ghost use Rattle.pm_capture.specs.ShownReadings.{reading_in};
 
     /// No line. Takes no memory.
     pub(crate) fn new(alloc: Global) -> ToldText
@@ -93,7 +92,7 @@ impl ToldText {
         self.hear_any(heard, options, number, line)
     }
 
-    // Hears a usual packet, where no option changes what is told.
+    // Hears a usual packet, if no option changes what is shown.
     #[tactic(auto, using(crate::proofs::UsualLemmas::fronts))]
     fn hear_usual(
         &mut self,

@@ -1,4 +1,4 @@
-//! The line of a usual packet where no option changes what is told.
+//! The line of a usual packet, if no option changes what is shown.
 ghost use Rattle.std.specs.Prelude.{◌≡◌, ◌≢◌, ◌<◌, ◌++◌, ◌∷◌, [], codes, length, option_map, take, IfSome, OnOk, true, false, Some, None};
 ghost use Rattle.pm_frame.specs.Layout.{payload_bytes};
 ghost use Rattle.pm_lines.specs.Numbers.{hex_byte};
@@ -12,9 +12,9 @@ use crate::usual_packet::{carried_read, carried_write};
 use itoa::Buffer;
 use pm_frame::{FrameView, Payload};
 use pm_lines::hex_digits;
+use pm_packets::Packet;
 use pm_table::Code;
 use pm_trace::{Shown, packet_shown};
-use pm_values::Packet;
 use std::alloc::AllocError;
 
 /// A good packet that carries at most two bytes and teaches nothing.
@@ -28,8 +28,8 @@ pub(crate) struct Usual {
     pub(crate) is_read: bool,
 }
 
-/// A packet as a usual one. Where None comes is left open, and the caller tells such a packet as any other: this is only
-/// the quicker way.
+/// A packet as a usual one. The clauses leave open when None comes, and the caller shows such a packet as any other: this is
+/// only the quicker way.
 pub(crate) fn usual_of(packet: &Packet<'_>) -> Option<Usual>
     ensures { IfSome result (λ usual.
         IsUsual usual (parts_judged packet.now.write.now (option_map (λ bytes. bytes.now) packet.now.read))) }
@@ -112,7 +112,7 @@ fn payload_of(bytes: &[u8]) -> Option<Payload>
     }
 }
 
-/// Appends the line of a usual packet to a text, with its number's digits and a line feed. Where memory is refused, the
+/// Appends the line of a usual packet to a text, with its number's digits and a line feed. If memory is refused, the
 /// text begins with what it was.
 #[tactic(auto, using(pm_lines::specs::Lemmas::Joins::joins, crate::proofs::UsualLemmas::fronts))]
 pub(crate) fn push_usual(text: &mut Vec<u8>, digits: &[u8], usual: &Usual) -> Result<(), AllocError>
@@ -129,7 +129,7 @@ pub(crate) fn push_usual(text: &mut Vec<u8>, digits: &[u8], usual: &Usual) -> Re
     }
 }
 
-// A space, the address, a space, and the page, where the packet names one.
+// A space, the address, a space, and the page, if the packet names one.
 #[tactic(auto, using(pm_lines::specs::Lemmas::Joins::digit_joins, crate::proofs::UsualLemmas::fronts), unfolding(pm_lines::specs::Numbers::hex_byte))]
 fn push_place(text: &mut Vec<u8>, addr: u8, page: Option<u8>) -> Result<(), AllocError>
     ensures text { OnOk result (text.new.items ≡ text.old.items ++ (codes " " ++ (hex_byte addr ++ (codes " " ++ page_text page)))) }

@@ -9,11 +9,11 @@ use crate::usual_line::Usual;
 use pm_frame::{Payload, answers_are_exact, pec, pec_after, requests_are_exact, writes_are_exact};
 use pm_table::{Code, address_ok};
 
-/// A good write of a word by PAGE_PLUS_WRITE. The clauses leave open where None comes.
+/// A good write of a word by PAGE_PLUS_WRITE. The clauses leave open when None comes.
 pub(crate) fn carried_write(write: &[u8]) -> Option<Usual>
     ensures { IfSome result (λ usual. IsUsual usual (parts_judged write.now None)) }
 {
-    writes_are_exact(); // law: a write is good exactly where its bytes are those of its message
+    writes_are_exact(); // law: a write is good exactly if its bytes are those of its message
     // four bytes are counted: the page, the code and the word
     let [first, plus, 4, page, code, low, high, last] = write else {
         return None;
@@ -34,7 +34,7 @@ pub(crate) fn carried_write(write: &[u8]) -> Option<Usual>
     })
 }
 
-/// A good read of a word by PAGE_PLUS_READ. The clauses leave open where None comes.
+/// A good read of a word by PAGE_PLUS_READ. The clauses leave open when None comes.
 pub(crate) fn carried_read(write: &[u8], read: &[u8]) -> Option<Usual>
     ensures { IfSome result (λ usual. IsUsual usual (parts_judged write.now (Some read.now))) }
 {

@@ -110,7 +110,7 @@ free_comes st acts come = go (is_busy (all_after st acts)) refl
 abbrev Comes : Log → Type 0
 Comes log = (setup_fault log.setup.outputs log.setup.passes ≡ None) × MightComeFrom (start log.setup) log.acts
 
--- what is known is what a host holds that was told the acts
+-- what is known is what a host holds that heard the acts
 record Follows (log : Option Log) (known : Known) : Type 0 where
   held : known.host ≡ option_map held_by log
   come : IfSome log Comes
@@ -188,7 +188,7 @@ takes st acts frame came s is_told come is = go (fits (all_after st acts) frame 
 same_known : (r : Result Known LogFault) (a b : Known) → r ≡ Ok a → r ≡ Ok b → b ≡ a
 same_known r a b made is = cc
 
--- a transfer is told to the host of the log
+-- the host of the log hears a transfer
 told_follows : (log : Option Log) (known new : Known) (frame : List ℕ) (came : Told) → Follows log known →
     heard known known.host frame (entry_told came) ≡ Ok new → Follows (option_map (log_told frame came) log) new
 told_follows None known new frame came was is =

@@ -66,7 +66,7 @@ front_more line byte = go (nat_lt max_line (length line)) refl
         ap (λ (l : List ℕ). line_with l byte) (take_all (max_line + 1) line (short_size max_line line short))
         ∙ rw short (sym (take_all (max_line + 1) (line ++ byte ∷ []) (short_more max_line line byte short)))
 
--- it has bytes where the line has
+-- it has bytes if the line has
 some_front : (n : ℕ) (line : List ℕ) → has_bytes (take (n + 1) line) ≡ has_bytes line
 some_front n [] = ap has_bytes (take_all (n + 1) [] (omega arith))
 some_front n (byte ∷ bytes) =
@@ -183,7 +183,7 @@ first_line n text lines before line known is rest = record {
     joined : reverse (line ∷ rest.said) ≡ reverse rest.said ++ line ∷ [] → reverse (line ∷ rest.said) ++ before ≡ reverse rest.said ++ line ∷ before
     joined same = ap (λ (l : List LogLine). l ++ before) same ∙ append_assoc (reverse rest.said) (line ∷ []) before
 
--- what is left to say of the lines behind the first
+-- what is left to say of the lines after the first
 abbrev Rest : ℕ → List (List ℕ) → List LogLine → Known → Type 0
 Rest n lines before known = (next : Known) (line : LogLine) → known_of (line ∷ before) ≡ Ok next →
     (fold with_line (record { ended = n + 1; log = Ok next }) lines).log ≡ Ok known → ReadLines (n + 1) lines (line ∷ before) known

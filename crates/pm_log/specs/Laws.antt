@@ -32,7 +32,7 @@ pub record Log : Type 0 where
   pub setup : Setup
   pub acts : List Act
 
--- what a host holds that was told them
+-- what a host holds that heard them
 abbrev pub held_by : Log → Summary
 held_by log = all_after (start log.setup) log.acts
 
@@ -40,12 +40,12 @@ held_by log = all_after (start log.setup) log.acts
 abbrev pub at_hand : List ℕ → Bor (List ℕ)
 at_hand bytes = record { ref_ptr = (0, 0); now = bytes }
 
--- what came of a packet, as a host is told of it
+-- what came of a packet, as a host hears it
 abbrev pub told_of : Option (List ℕ) → Told
 told_of (Some bytes) = told.Got (at_hand bytes)
 told_of None = told.Finished true
 
--- the acts after a restart, which comes where a job is open
+-- the acts after a restart, which comes if a job is open
 abbrev pub with_restart : Summary → List Act → List Act
 with_restart s before = if is_busy s then act.Restarted ∷ before else before
 

@@ -18,7 +18,7 @@ use Rattle.pm_text.specs.declared.scenario.fault.ScenarioFault.TheVariants.{Synt
 use Rattle.pm_log.specs.declared.log_line.LogLine.{LogLine}
 use Rattle.pm_log.specs.declared.log_line.LogLine.TheVariants.{Note, Head, Claimed, Sent, Failed}
 
--- ---- a head and a claim, by the words behind the first one
+-- ---- a head and a claim, by the words after the first one
 
 -- `58 2 2`
 unfoldable pub head_rest : Field LogLine
@@ -35,7 +35,7 @@ holds_rest = do
   word ← field BadHex (cell_word held)
   gives (Claimed (Holds held word))
 
--- the next word is taken where it is this one
+-- the next word is taken if it is this one
 abbrev pub optional : List ℕ → Field Bool
 optional name left = if is_next name left.words then Ok (true, record left { words = drop 1 left.words }) else Ok (false, left)
 
@@ -100,7 +100,7 @@ failed_in number (Err fault) = Err fault
 
 -- ---- a line
 
--- a note: spaces alone, or `##` first
+-- a note: nothing but spaces, or `##` first
 abbrev pub is_note : List ℕ → Bool
 is_note text = list_all is_space text || starts_with nat_eq text (codes "##")
 

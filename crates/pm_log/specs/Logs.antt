@@ -24,7 +24,7 @@ use Rattle.pm_log.specs.declared.log_line.LogLine.TheVariants.{Note, Head, Claim
 
 -- ---- what is known
 
--- what the host of the last head holds, and how many claims were accepted and transfers told
+-- what the host of the last head holds, and how many claims were accepted and transfers heard
 pub record Known : Type 0 where
   pub host : Option Summary
   pub claims : ℕ
@@ -48,7 +48,7 @@ headed known setup = if is_address setup.addr then begun_with known (setup_fault
 
 -- ---- a claim
 
--- the words that a cell may hold; any, where it isn't there
+-- the words that a cell may hold; any, if it isn't there
 abbrev pub left_possible : Summary → Cell → Possible
 left_possible s cell = if is_cell s.setup.outputs cell then possible_at s cell else Any
 

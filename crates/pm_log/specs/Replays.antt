@@ -1,4 +1,4 @@
--- What a transfer of a log tells the host that replays it. This project's own choice.
+-- What the host that replays a log learns of a transfer. This project's own choice.
 use Rattle.std.specs.Prelude.{ℕ, Bool, true, false, ◌&&◌, if◌then◌else◌, List, Option, Some, None, Result, Ok, Err}
 use Rattle.pm_host.specs.declared.fault.HostFault.{HostFault}
 use Rattle.pm_host.specs.declared.job.Job.{Job}
@@ -16,7 +16,7 @@ use Rattle.pm_log.specs.declared.fault.LogFault.TheVariants.{NoJob, Refused}
 abbrev pub fits : Summary → List ℕ → Entry → Bool
 fits s frame entry = is_own s frame && may_come s entry
 
--- the host with no job open: it restarts where one is
+-- the host with no job open: it restarts if one is
 abbrev pub free : Summary → Summary
 free s = if is_busy s then next s Restarted else s
 
@@ -39,7 +39,7 @@ abbrev pub is_answer : Entry → Bool
 is_answer (Got bytes) = true
 is_answer _ = false
 
--- What a host holds after a transfer, and whether it was told of it: as the open job's next frame, or as the first of the job
+-- What a host holds after a transfer, and whether it heard it: as the open job's next frame, or as the first of the job
 -- that the frame names. A read that is none of a job's says nothing to it.
 abbrev pub transferred : Summary → List ℕ → Entry → Result (Summary × Bool) LogFault
 transferred s frame entry = if fits s frame entry then Ok (next s entry, true)

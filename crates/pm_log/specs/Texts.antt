@@ -74,8 +74,8 @@ pub record IsAll (old new : Option (List ℕ)) (text : List ℕ) : Type 0 where
   pub ended : IsAtEnd new
   pub short : length text ≤ most_bytes
 
--- why nothing is written, by the bytes that the reader gave: more than a log may have; any, where a read failed; some,
--- where memory was refused
+-- why nothing is written, by the bytes that the reader gave: more than a log may have; any, if a read failed; some,
+-- if memory was refused
 abbrev pub Breaks : Option (List ℕ) → Option (List ℕ) → TextFault → Type 0
 Breaks old new TooLong = (front : List ℕ) × (most_bytes < length front) × Consumes old new front
 Breaks old new Read = (front : List ℕ) × Consumes old new front

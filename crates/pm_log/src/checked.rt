@@ -66,7 +66,7 @@ impl Checked {
         }
     }
 
-    /// Takes one line more, with a carriage return that ends it. After one that isn't accepted lines are counted alone. Takes
+    /// Takes one line more, with a carriage return that ends it. After one that isn't accepted lines are only counted. Takes
     /// memory for the bytes of a packet.
     ///
     /// # Errors

@@ -33,7 +33,7 @@ pub enum LogEnd {
 ///
 /// # Errors
 ///
-/// X3 after 2^63 bytes, X4 where the reader failed, X5 where the writer did, and X6. Then nothing was written, but for
+/// X3 after 2^63 bytes, X4 if the reader failed, X5 if the writer did, and X6. Then nothing was written, but for
 /// X5 a beginning of that line.
 pub fn check_log<R: Read, W: Write>(
     alloc: Global,
@@ -62,7 +62,7 @@ fn check_all<R: Read, W: Write>(
 {
     take_all(alloc, reader, log)?;
     if log.taken() == 0 {
-        // the text of a verdict takes memory, which is wanted only for what was read
+        // the text of a verdict takes memory, which is asked for only if a byte was read
         writer.put(empty_verdict().as_bytes())?;
         return Ok(LogEnd::Refused);
     }

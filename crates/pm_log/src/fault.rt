@@ -20,7 +20,7 @@ pub enum LogFault {
     NoJob,
     /// H4 to H6: the packet begins a job that the host refuses.
     Refused(HostFault),
-    /// The cell isn't known to hold the word; these words are possible, or any where the cell isn't there.
+    /// The cell isn't known to hold the word; these words are possible, or any if the cell isn't there.
     Word {
         cell: Cell,
         word: u16,

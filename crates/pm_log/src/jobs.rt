@@ -5,7 +5,7 @@ use pm_frame::{Message, Payload};
 use pm_host::{Command, Job};
 use pm_table::{Cell, Code, cell_of};
 
-/// The job whose first frame has this message; `None` where no job begins so. A job that a host holds open is none of it.
+/// The job whose first frame has this message; `None` if no job begins with it. A job that a host holds open doesn't matter.
 pub fn job_named(message: Message) -> Option<Job>
     ensures { result ≡ spec.job_named message }
 {

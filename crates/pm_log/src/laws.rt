@@ -1,4 +1,4 @@
-//! The laws of logs over whole texts, over the definitions alone.
+//! The laws of logs over whole texts, over the definitions.
 ghost use Rattle.pm_log.specs.Laws.{LogsAreChecked};
 
 /// A text that is accepted is read line by line, and each claim in it is one that `check` of `pm_check` accepts by the acts

@@ -35,7 +35,7 @@ pub enum LogLine {
 ///
 /// # Errors
 ///
-/// X6 alone.
+/// Only X6.
 pub fn read_log_line(
     alloc: Global,
     line: Line<'_>,
@@ -62,7 +62,7 @@ fn is_note(text: &[u8]) -> bool
     is_blank(text) || text.starts_with(b"##")
 }
 
-// What stands behind `#failed `.
+// What follows `#failed `.
 fn behind_mark(text: &[u8]) -> &[u8]
     requires { starts_with nat_eq text.now (codes "#failed ") ≡ true }
     ensures { result.now ≡ drop 8 text.now }
@@ -171,7 +171,7 @@ fn holds(fields: &mut Fields<'_>) -> Result<LogLine, ScenarioFault>
     Ok(LogLine::Claimed(Claim::Holds { cell, word }))
 }
 
-// A word of the cell: X2 where it isn't so.
+// A word of the cell; X2 for any other text.
 fn cell_word(fields: &mut Fields<'_>, cell: Cell) -> Result<u16, ScenarioFault>
     ensures { Reads result fields.new (field BadHex (kinds.cell_word cell) fields.old) }
 {

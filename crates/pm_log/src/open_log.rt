@@ -55,7 +55,7 @@ impl OpenLog {
         self.claims
     }
 
-    /// How many transfers a host was told of.
+    /// How many transfers a host heard of.
     pub fn transfers(&self) -> u64
         ensures { result ≡ self.now.transfers }
     {
@@ -171,7 +171,7 @@ fn unknown(host: &Host, claim: Claim) -> LogFault
     }
 }
 
-// The words that a cell may hold: any, where it isn't there.
+// The words that a cell may hold: any, if it isn't there.
 fn possible(host: &Host, cell: Cell) -> Possible
     ensures { result ≡ left_possible host.now cell }
 {

@@ -1,4 +1,4 @@
-//! What a transfer tells a host.
+//! What a host learns of a transfer.
 ghost use Rattle.std.specs.Prelude.{◌≡◌, Ok, Err, true, false, MatchResult};
 ghost use Rattle.pm_table.specs.Address.{IsAddress};
 ghost use Rattle.pm_host.specs.Told.{entry_told};
@@ -15,8 +15,8 @@ use pm_check::{Act, replay_act};
 use pm_frame::{FrameFault, read_request, read_write};
 use pm_host::{Host, Job, Told};
 
-/// Tells a host of a frame that was sent and what came of it: as the open job's next frame, or as the first one of the job
-/// that it names, before which an open job is dropped by a restart. False where the host isn't told: what is read beside
+/// Has a host hear of a frame that was sent and what came of it: as the open job's next frame, or as the first one of the job
+/// that it names, before which an open job is dropped by a restart. False if the host learns nothing: what is read beside
 /// its jobs changes nothing.
 ///
 /// # Errors
@@ -37,7 +37,7 @@ pub(crate) fn take_transfer(host: &mut Host, frame: &[u8], told: Told<'_>) -> Re
     }
 }
 
-// Whether the frame is the one that the host sends, which is told what came of it then.
+// Whether the frame is the one that the host sends, which then hears what came of it.
 fn takes(host: &mut Host, frame: &[u8], told: Told<'_>) -> bool
     ensures fits { result ≡ fits host.old frame.now (entry_told told.entry) }
     ensures told { result ≡ true → host.new ≡ next host.old (entry_told told.entry) }
@@ -100,7 +100,7 @@ fn write_job(addr: u8, frame: &[u8]) -> Result<Option<Job>, LogFault>
     }
 }
 
-// The job that a request names. A code that the command table lacks names none, where it ends the request.
+// The job that a request names. A code that the command table lacks names none, if it ends the request.
 fn request_job(addr: u8, frame: &[u8]) -> Result<Option<Job>, LogFault>
     requires { IsAddress addr }
     ensures { result ≡ spec_request_job frame.now (request_fault addr frame.now) (message_in frame.now) }

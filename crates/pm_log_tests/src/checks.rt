@@ -4,12 +4,12 @@ ghost use Rattle.std.specs.Prelude.{IsTrue};
 use std::fmt::Debug;
 use std::process::Abort;
 
-/// Fails where what is found isn't what is wanted, and says both and where that was.
+/// Fails if what is found isn't what is expected, and says both and which row it was.
 pub(crate) fn equal<T: PartialEq + Debug>(rt: &impl Abort, found: &T, wanted: &T, at: &impl Debug) {
     is_true(rt, found == wanted, &(found, wanted, at));
 }
 
-/// Fails where this doesn't hold, and says where that was.
+/// Fails if this doesn't hold, and says which row it was.
 pub(crate) fn is_true(rt: &impl Abort, holds: bool, at: &impl Debug)
     ensures { IsTrue holds }
 {

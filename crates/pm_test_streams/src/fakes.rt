@@ -154,7 +154,7 @@ pub enum Failure {
 }
 
 /// A writer that takes this many bytes at a time. The call with this number fails, and the others
-/// don't; 0 for none. A flush is counted apart, and fails where it is said to.
+/// don't; 0 for none. A flush is counted apart, and fails with `flush_fails`.
 #[derive(Drop)]
 pub struct Paper {
     /// What was written.

@@ -1,4 +1,4 @@
-//! Long texts, told by what is repeated.
+//! Long texts, given by what is repeated.
 
 use std::alloc::{AllocError, Global};
 

@@ -73,7 +73,7 @@ module _ (form : Form) (lines left : List Numbered) (old now : State) (taken : �
         ∙ ap (λ r. after (reverse before) (event_before r (events_in form more))) is
 
     module _ (event : Event) (read : line_as (event_line form) line ≡ Ok event) where
-      -- the events of the line and of those behind it
+      -- the events of the line and of those after it
       abbrev rest-reads : events_in form lines ≡ after (reverse (event ∷ before)) (events_in form more)
       rest-reads =
           so_far.reads ∙ ap (λ l. after (reverse before) (events_in form l)) split
@@ -92,7 +92,7 @@ module _ (form : Form) (lines left : List Numbered) (old now : State) (taken : �
         room = ap (λ (s : State). s.taken) after_it ∙ omega (arith, so_far.room);
       }
 
-      -- a faulty line stands behind it
+      -- a faulty line follows it
       pub later-fault : (fault : ScenarioFault) → events_in form more ≡ Err fault → events_in form lines ≡ Err fault
       later-fault fault is = rest-reads ∙ ap (after (reverse (event ∷ before))) is
 
@@ -127,7 +127,7 @@ module _ (form : Form) (lines left : List Numbered) (old now : State) (taken : �
                 },
               )
 
--- ---- lines that are judged alone
+-- ---- lines that are only judged
 
 module _ (form : Form) (lines left : List Numbered) (given : List Event)
     (so_far : events_in form lines ≡ after given (events_in form left)) where

@@ -8,7 +8,7 @@ use Rattle.pm_lines.specs.Bytes.{byte_before, word_bytes}
 use Rattle.pm_lines.specs.Pairs.{pair_of}
 use Rattle.pm_text.specs.Kinds.{as_frame, frame_bytes}
 
--- a word of these bytes has a frame where they are 1 to 16
+-- a word of these bytes has a frame if they are 1 to 16
 made : (word : List ℕ) (bytes : Option (List ℕ)) → bytes ≡ word_bytes word → option_and_then as_frame bytes ≡ frame_bytes word
 made word bytes is = ap (option_and_then as_frame) is
 

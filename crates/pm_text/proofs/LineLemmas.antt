@@ -6,7 +6,7 @@ use Rattle.pm_text.specs.Readers.{Field, gives, lines_into, made_into, named, on
 use Rattle.pm_text.specs.declared.scenario.fault.ScenarioFault.{ScenarioFault}
 use Rattle.pm_text.specs.declared.scenario.fault.ScenarioFault.TheVariants.{Syntax}
 
--- such a line stands where the line of its name stands
+-- such a line stands at the place of the line of its name
 named_into : {A B : Type 0} (make : A → B) (lines : List (List ℕ × Field A)) (text : List ℕ) →
     named (lines_into make lines) text ≡ option_map (made_into make) (named lines text)
 named_into make [] text = refl

@@ -139,13 +139,13 @@ module _ (input : List ℕ) (fits : length input ≤ max_text) where
   header-refused fault is = ap replay_by (fits-by input fits ∙ ap (λ r. as_text_fault (scenario_by r)) is)
 
   module _ (head : Header) (rest : Rest) (read : header (rest_of input) ≡ Ok (head, rest)) where
-    -- the scenario of the lines behind them, or their first fault
+    -- the scenario of the lines after them, or their first fault
     scenario-read : (events : Result (List Event) ScenarioFault) → events_in head.form rest.lines ≡ events
         → scenario_of input ≡ as_text_fault (with_events head events)
     scenario-read events is =
         fits-by input fits ∙ ap (λ r. as_text_fault (scenario_by r)) read ∙ ap (λ r. as_text_fault (with_events head r)) is
 
-    -- a fault of the lines behind them
+    -- a fault of the lines after them
     pub lines-refused : (fault : ScenarioFault) → events_in head.form rest.lines ≡ Err fault → replay_of input ≡ Err (text_fault fault)
     unfolding replay_of
     lines-refused fault is = ap replay_by (scenario-read (Err fault) is)

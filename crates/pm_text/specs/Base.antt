@@ -1,4 +1,4 @@
--- The configuration of a converter where no scenario says another. This project's own choice.
+-- The configuration of a converter if no scenario says another. This project's own choice.
 use Rattle.std.specs.Prelude.{pos, replicate}
 use Rattle.pm_device.specs.declared.config.Config.{Config}
 use Rattle.pm_device.specs.declared.output_start.OutputStart.{OutputStart}

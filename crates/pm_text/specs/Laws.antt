@@ -8,7 +8,7 @@ use Rattle.pm_table.specs.VoutMode.{mode_of}
 use Rattle.pm_model.specs.Commanded.{is_above}
 use Rattle.pm_text.specs.ScenarioText.{lowest_word}
 
--- VOUT_MIN where a text doesn't name one cuts nothing: it is above no word of the output's voltages
+-- VOUT_MIN of a text that doesn't name one cuts nothing: it is above no word of the output's voltages
 abbrev pub LowestWordsCutNothing : Type 0
 LowestWordsCutNothing = (byte word : ℕ) (mode : VoutMode) (c : Coefficients) (shape : Shape) →
     word < 2 ^ 16 → mode_of byte ≡ Ok mode → shape_in mode c ≡ Ok shape →

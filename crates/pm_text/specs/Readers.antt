@@ -26,7 +26,7 @@ abbrev pub ◌>>◌ : {S A B : Type 0} → Reading S A → Reading S B → Readi
 abbrev pub gives : {S A : Type 0} → A → Reading S A
 gives x left = Ok (x, left)
 
--- what a call gave, and what it left, are what a reader reads; after a fault nothing is told of what
+-- what a call gave, and what it left, are what a reader reads; after a fault nothing is said of what
 -- is left
 abbrev pub Reads : {S A : Type 0} → Result A ScenarioFault → S → Result (A × S) ScenarioFault → Type 0
 Reads (Ok x) left read = read ≡ Ok (x, left)
@@ -37,7 +37,7 @@ abbrev pub ReadsTo : {S A : Type 0} → Result (Unit {0}) ScenarioFault → A �
 ReadsTo (Ok done) x left read = read ≡ Ok (x, left)
 ReadsTo (Err fault) x left read = read ≡ Err fault
 
--- a call that tells nothing of what is left reads what a reader reads
+-- a call that says nothing of what is left reads what a reader reads
 abbrev pub IsRead : {A : Type 0} → Result (Unit {0}) ScenarioFault → A → Result A ScenarioFault → Type 0
 IsRead (Ok done) x read = read ≡ Ok x
 IsRead (Err fault) x read = read ≡ Err fault
@@ -52,11 +52,11 @@ abbrev pub first_word : ℕ → List (List ℕ) → Result (List ℕ × WordsLef
 first_word line [] = Err (Syntax line)
 first_word line (text ∷ words) = Ok (text, record { line = line; words = words })
 
--- the next word; X1 where the line has no more
+-- the next word; X1 if the line has no more
 unfoldable pub word : Field (List ℕ)
 word left = first_word left.line left.words
 
--- the next word, where there is one, isn't this
+-- the next word, if there is one, isn't this
 abbrev pub IsNotNext : List ℕ → WordsLeft → Type 0
 IsNotNext name left = IfOk (word left) (λ next. bytes_eq next.0 name ≡ false)
 
@@ -76,7 +76,7 @@ abbrev pub named : {A : Type 0} → List (List ℕ × A) → List ℕ → Option
 named [] text = None
 named (entry ∷ entries) text = if bytes_eq text entry.0 then Some entry.1 else named entries text
 
--- the next word chooses among readers by their names; X1 where none has it
+-- the next word chooses among readers by their names; X1 if none has it
 abbrev pub one_of : {A : Type 0} → List (List ℕ × Field A) → Field A
 one_of readers = do
   read ← field Syntax (named readers)

@@ -41,7 +41,7 @@ abbrev pub taken_by : Option Stop → ℕ → ℕ
 taken_by None all = all
 taken_by (Some stop) all = stop.at
 
--- the run of events, told by this version, that stops so: the world that the taken ones leave, and how many
+-- the run of events, reported in this version, that stops so: the world that the taken ones leave, and how many
 -- they are
 abbrev pub ran_by : ℕ → Config → ℕ → List Event → Option Stop → Ran
 ran_by version config passes events stop = record {
@@ -67,14 +67,14 @@ pub record HasLived (form : Form) (lines : List Numbered) (old : State) (events 
   pub counts : taken ≡ taken_by stop (length events)
 
 -- a call that lets the events of lines happen, and says how many were taken and where they stopped: the first
--- faulty line is told wherever it stands, and then nothing is said of the world
+-- faulty line is named wherever it stands, and then nothing is said of the world
 abbrev pub Lives : Form → List Numbered → State → Result (ℕ × Option Stop) ScenarioFault → State → Type 0
 Lives form lines old (Ok ended) new = (events : List Event) × HasLived form lines old events ended.0 ended.1 new
 Lives form lines old (Err fault) new = events_in form lines ≡ Err fault
 
 -- ---- the replay of a text
 
--- a replay is stopped where its run is
+-- a replay is stopped if its run is
 abbrev pub end_by : Option Stop → ReplayEnd
 end_by None = AllTaken
 end_by (Some stop) = Stopped
@@ -83,7 +83,7 @@ end_by (Some stop) = Stopped
 abbrev pub told : Ran → List ℕ × ReplayEnd
 told ran = (report_text (form_of ran.version) ran.world ran.taken ran.stop, end_by ran.stop)
 
--- no world is made, or the run of the scenario is told
+-- no world is made, or the run of the scenario is reported
 abbrev pub told_or : Option SetupFault → Scenario → Result (List ℕ × ReplayEnd) TextFault
 told_or (Some fault) scenario = Err (Setup fault)
 told_or None scenario = Ok (told (run_of scenario))

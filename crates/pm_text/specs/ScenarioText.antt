@@ -63,7 +63,7 @@ coefficients_line = do
   gives (record { m = m; b = b; r = r })
 
 -- the word of the least value that an output's voltages have, by its VOUT_MODE byte and the coefficients: it
--- is VOUT_MIN where a text doesn't name one
+-- is VOUT_MIN if a text doesn't name one
 abbrev pub lowest_word : ℕ → Coefficients → ℕ
 lowest_word mode c = if is_direct (mode_of mode) then direct_least c.m else 0x0000
 
@@ -212,7 +212,7 @@ abbrev pub HasFirst : Form → List Numbered → Type 0
 HasFirst form [] = ⊥
 HasFirst form (line ∷ lines) = IsOk (line_as (event_line form) line)
 
--- the lines before the events are read, and so is a first event line
+-- the lines before the events are read, and a first event line
 abbrev pub HasEvent : List ℕ → Type 0
 HasEvent bytes = IsOkAnd (header (rest_of bytes)) (λ got. HasFirst got.0.form got.1.lines)
 

@@ -1,4 +1,4 @@
-//! The converter that stands at the other end where no scenario says which.
+//! The converter at the other end, if no scenario says which.
 ghost use Rattle.std.specs.Prelude.{◌≡◌};
 ghost use Rattle.pm_device.specs.History.{start_of};
 ghost use Rattle.pm_text.specs.Base.{base};

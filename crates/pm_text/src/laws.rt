@@ -1,4 +1,4 @@
-//! A law of scenarios, over the definitions alone.
+//! A law of scenarios, over the definitions.
 
 ghost use Rattle.pm_text.specs.Laws.{LowestWordsCutNothing};
 

@@ -11,15 +11,15 @@
 //!     let run = Ran {
 //!         version: scenario.version,
 //!         world,
-//!         taken: 4, // where none stopped it
+//!         taken: 4, // if none stopped it
 //!         stop,
 //!     };
 //!     render_report(alloc, &run)
 //! }
 //! ```
 //!
-//! Traces and streams are told in crates of their own; their types and calls are named here too, so
-//! that a caller needs this crate alone. What a world does is not here.
+//! Traces and streams have crates of their own; their types and calls are named here too, so
+//! that a caller needs only this crate. What a world does is not here.
 //!
 //! Tests: crates/pm_text_tests
 #![tactic(auto)]

@@ -19,7 +19,7 @@ use std::io::{Read, Write};
 pub enum ReplayEnd {
     /// All events were taken.
     Ran,
-    /// An event wasn't taken, which the report's first line tells.
+    /// An event wasn't taken, which the report's first line says.
     Stopped,
 }
 
@@ -30,9 +30,9 @@ pub enum ReplayEnd {
 ///
 /// # Errors
 ///
-/// X3 where the text has more than 1,048,576 bytes; X4 where the reader failed; X1 or X2 for the
-/// text's first faulty line; X7 where no world is made of what the scenario asks for; X6 where memory
-/// was refused; X5 where the writer failed, and then only a prefix of the report is written. On any
+/// X3 if the text has more than 1,048,576 bytes; X4 if the reader failed; X1 or X2 for the
+/// text's first faulty line; X7 if no world is made of what the scenario asks for; X6 if memory
+/// was refused; X5 if the writer failed, and then only a prefix of the report is written. On any
 /// other refusal nothing was written. X3 and X4 come before X1 and X2, and these before X7.
 pub fn replay<R: Read, W: Write>(
     alloc: Global,
@@ -41,7 +41,7 @@ pub fn replay<R: Read, W: Write>(
 ) -> Result<ReplayEnd, TextFault>
     requires reader { IsFalse reader.old.failed }
     requires writer { IsFalse writer.old.failed }
-    // The report is that of the life that the reader's text tells; X1 and X2 are the text's first faulty line, and
+    // The report is that of the life in the reader's text; X1 and X2 are the text's first faulty line, and
     // X7 says why no world is made.
     ensures { EngineEnds replaying
         (over R.remaining reader.old reader.new W.contents writer.old writer.new) result }

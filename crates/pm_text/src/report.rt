@@ -21,17 +21,17 @@ use std::alloc::{AllocError, Global};
 /// words, has some 7000.
 const ROOM: usize = 8192;
 
-/// The report of a run. Its first line is `ran N`, or `stopped N` and the cause, where an event wasn't
+/// The report of a run. Its first line is `ran N`, or `stopped N` and the cause, if an event wasn't
 /// taken. Then comes, of the state after the taken events: WRITE_PROTECT; for each output the voltage
 /// that it commands, its settings, each with what the host says of it, and STATUS_BYTE,
-/// STATUS_WORD and STATUS_VOUT; STATUS_CML; whether the host saw a restart; and its job. Version 1 tells
+/// STATUS_WORD and STATUS_VOUT; STATUS_CML; whether the host saw a restart; and its job. Version 1 says
 /// nothing of VOUT_MIN, and nothing of the words that a cell may hold.
 ///
 /// Takes memory once, 8192 bytes, which every report fits.
 ///
 /// # Errors
 ///
-/// X6 alone.
+/// Only X6.
 pub fn render_report(alloc: Global, run: &Ran) -> Result<String, TextFault>
     ensures text { IfOk result (λ text. string_bytes text
         ≡ report_text (form_of run.now.version) run.now.world run.now.taken run.now.stop) }
@@ -130,7 +130,7 @@ fn push_job(text: &mut String, world: &World) -> Result<(), AllocError>
     text.push_str("\n")
 }
 
-// `pending` where a job is open, and how the last one ended otherwise.
+// `pending` if a job is open, and how the last one ended otherwise.
 #[tactic(auto, using(pm_lines::specs::Lemmas::Joins::joins))]
 fn push_job_words(text: &mut String, is_open: bool, end: Option<JobEnd>) -> Result<(), AllocError>
     ensures { OnOk result (string_bytes text.new

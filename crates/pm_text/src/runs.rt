@@ -55,7 +55,7 @@ pub(crate) fn run_text(text: &[u8]) -> Result<Ran, TextFault>
 }
 
 // Lets the events of the lines that are left happen, up to the first that isn't taken, and says how many
-// were taken and where they stopped. The lines behind a stop are judged all the same.
+// were taken and where they stopped. The lines after a stop are judged all the same.
 fn run_lines(
     form: Form,
     rows: &mut Rows<'_>,

@@ -50,7 +50,7 @@ pub struct Scenario {
 /// numbered.
 ///
 /// After `scenario 1` an output has no MIN, and no event names VOUT_MIN: it is then a word of the least
-/// value that the output's voltages have, 0000h for ULINEAR16, and for DIRECT 7FFFh where m is negative
+/// value that the output's voltages have, 0000h for ULINEAR16, and for DIRECT 7FFFh if m is negative
 /// and 8000h otherwise.
 ///
 /// Whether a world can be made of the scenario isn't judged here: more than eight outputs are
@@ -61,16 +61,16 @@ pub struct Scenario {
 ///
 /// # Errors
 ///
-/// X3 where the text has more than 1,048,576 bytes; otherwise the fault of the first faulty line: X2
+/// X3 if the text has more than 1,048,576 bytes; otherwise the fault of the first faulty line: X2
 /// for a word that should be hexadecimal of a stated length, X1 for every other, also for a line that
-/// is missing, which has the number after the last; X6 where memory for the events was refused.
+/// is missing, which has the number after the last; X6 if memory for the events was refused.
 #[tactic(auto, unfolding(crate::specs::ScenarioText::scenario_of))]
 pub fn read_scenario(alloc: Global, text: &[u8]) -> Result<Scenario, TextFault>
     ensures scenario { IfOk result (λ scenario. scenario_of text.now ≡ Ok scenario) }
     ensures fault { IfErr result (λ fault. (fault ≡ Memory) ⊎ (scenario_of text.now ≡ Err fault)) }
     ensures faults { IfErr result IsOfScenario }
 
-    // X3 comes only for more bytes than a text may have, and memory is wanted only for an event.
+    // X3 comes only for more bytes than a text may have, and memory is asked for only for an event.
     ensures too_long { IsErrOf result TextFault.TooLong → max_text < length text.now }
     ensures memory { IsErrOf result Memory → HasEvent text.now }
 {

@@ -15,7 +15,7 @@ pub(crate) fn shown(alloc: Global, value: &impl Debug) -> Result<String, AllocEr
     format!(in alloc; "{value:?}")
 }
 
-/// A value as it is printed, with a text behind it.
+/// A value as it is printed, with a text after it.
 pub(crate) fn printed(
     alloc: Global,
     value: &impl Display,
@@ -24,12 +24,12 @@ pub(crate) fn printed(
     format!(in alloc; "{value}{more}")
 }
 
-/// Fails where what is found isn't what is wanted, and says both and where that was.
+/// Fails if what is found isn't what is expected, and says both and which row it was.
 pub(crate) fn equal<T: PartialEq + Debug>(rt: &impl Abort, found: &T, wanted: &T, at: &impl Debug) {
     is_true(rt, found == wanted, &(found, wanted, at));
 }
 
-/// Fails where this doesn't hold, and says where that was.
+/// Fails if this doesn't hold, and says which row it was.
 pub(crate) fn is_true(rt: &impl Abort, holds: bool, at: &impl Debug)
     ensures { IsTrue holds }
 {

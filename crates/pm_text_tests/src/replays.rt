@@ -1,4 +1,4 @@
-//! Replays over the base configuration: where they stop, a restart at each place, what a hand-made run is
+//! Replays over the base configuration: the events at which they stop, a restart at each place, what a hand-made run is
 //! reported as, and what is no scenario.
 
 use crate::checks::{equal, is_true, joined};
@@ -280,7 +280,7 @@ fn is_told(
     Ok(())
 }
 
-// The count of a run that stopped isn't told, only where it stopped.
+// The count of a run that stopped isn't shown, only the event at which it stopped.
 #[test]
 fn a_run_made_by_hand_is_reported(rt: HostRuntime) -> Result<(), Fail> {
     let full = Stop {
@@ -305,7 +305,7 @@ fn report_by_parts(alloc: Global, text: &str) -> Result<String, TextFault> {
     let run = Ran {
         version: scenario.version,
         world,
-        taken: 4, // where none stopped it
+        taken: 4, // if none stopped it
         stop,
     };
     render_report(alloc, &run)

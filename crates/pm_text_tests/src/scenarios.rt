@@ -231,8 +231,8 @@ fn with_outputs(alloc: Global, lines: usize) -> Result<String, AllocError> {
     Ok(text)
 }
 
-// A text with so many lines `output` tells of so many outputs, the first eight of them with what they start
-// with, and a faulty line after them is told by its line.
+// A text with so many lines `output` has so many outputs, the first eight of them with what they start
+// with, and a faulty line after them is named by its number.
 fn are_counted(rt: &(impl Abort + AllocGlobal), lines: usize, count: u8) -> Result<(), Fail> {
     let mut text = with_outputs(rt.alloc(), lines)?;
     let faulty = joined(

@@ -1,4 +1,4 @@
-//! The user store in texts: what is stored comes back by a restart and by a restore, in version 2 alone.
+//! The user store in texts: what is stored comes back by a restart and by a restore, only in version 2.
 
 use crate::checks::{equal, is_true, joined, shown};
 use crate::scenarios::{is_refused, scenario_of};
@@ -135,7 +135,7 @@ static PROTECTED: [(&str, &str, &str); 4] = [
         "order - WRITE_PROTECT 00\ndeliver whole\nfinish ack\nexchange whole whole\nstore\ndeliver whole\nfinish ack\nrestart device\n",
         "ran 12\nprotect 20 host confirmed 00\n",
     ),
-    // A store and a restore are allowed at 00h alone.
+    // A store and a restore are allowed only at 00h.
     (
         "20",
         "store\ndeliver whole\nfinish ack\nrestart device\n",

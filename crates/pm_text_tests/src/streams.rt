@@ -252,7 +252,7 @@ static BYTES: [(&[u8], Option<&[u8]>); 8] = [
     (b"0a 0A 0x", None),
 ];
 
-// The bytes of a line stand behind what was there, or nothing is added.
+// The bytes of a line follow what was there, or nothing is added.
 fn are_pushed(
     rt: &(impl Abort + AllocGlobal),
     text: &[u8],

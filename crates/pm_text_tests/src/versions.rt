@@ -1,4 +1,4 @@
-//! Scenarios of both versions: VOUT_MIN stands in the second one, and the first is read and told as it was.
+//! Scenarios of both versions: VOUT_MIN stands in the second one, and the first is read and reported as it was.
 
 use crate::checks::{equal, is_true, joined, shown};
 use crate::scenarios::{is_refused, scenario_of};
@@ -71,7 +71,7 @@ fn a_report_of_version_2_tells_vout_min(rt: HostRuntime) -> Result<(), Fail> {
     Ok(())
 }
 
-// Both answers of an order are lost; then a report of version 2 tells the two words that the cell may have.
+// Both answers of an order are lost; then a report of version 2 shows the two words that the cell may have.
 static LOST: &str = "check 0 VOUT_COMMAND
 exchange whole whole
 order 0 VOUT_COMMAND 34CD
@@ -122,7 +122,7 @@ fn a_report_of_version_1_tells_no_possible_words(rt: HostRuntime) -> Result<(), 
     Ok(())
 }
 
-// A byte that OPERATION and WRITE_PROTECT may have is told with its two digits.
+// A byte that OPERATION and WRITE_PROTECT may have is shown with its two digits.
 #[test]
 fn a_possible_byte_has_two_digits(rt: HostRuntime) -> Result<(), Fail> {
     let events = "check - WRITE_PROTECT\nexchange whole whole\norder - WRITE_PROTECT 40\n";
@@ -191,7 +191,7 @@ fn version_2_orders_vout_min(rt: HostRuntime) -> Result<(), Fail> {
     Ok(())
 }
 
-// Frames that the converter hears from its base configuration, where VOUT_MIN is 0000h, and the lines before
+// Frames that the converter hears from its base configuration, whose VOUT_MIN is 0000h, and the lines before
 // the outputs'.
 static HEARD: [(&str, &str); 3] = [
     (

@@ -14,7 +14,7 @@ use Rattle.pm_lines.specs.Streams.{AppendsFront, Held}
 use Rattle.pm_lines.specs.declared.fault.TextFault.{TextFault}
 use Rattle.pm_lines.specs.declared.fault.TextFault.TheVariants.{Syntax, BadHex, TooLong, Read, Write, Memory, Setup}
 use Rattle.pm_tool.specs.Refusals.{Says, text_refusal}
-use Rattle.pm_tool.specs.Execution.{End, EngineRuns, Printed, Hinted, CutShort, Refused, Broken, Misused, NumberEnds, NumberRefuses, UsageEnds}
+use Rattle.pm_tool.specs.Execution.{End, EngineRuns, Printed, Prints, Hinted, CutShort, Refused, Broken, Misused, NumberEnds, NumberRefuses, Runs, UsageEnds, said_by, status_of}
 use Rattle.pm_tool.specs.Execution.{IsDone, IsEnd, LineEnds, ParserEnds, refusal_line, wants_memory}
 use Rattle.pm_tool.specs.NumberFaults.{refusal_status, refusal_words}
 use Rattle.pm_tool.specs.NumberText.{IsCommandLineFault, IsNumberText, IsOfNumber, RefusesNumber}
@@ -51,7 +51,7 @@ pub record Wrote {W E : Type 0} (w : Writers W E) (wanted status : ℕ) (text : 
   pub done : IsDone w.err w.output' w.errors w.errors' wanted status
 
 module _ {W E : Type 0} (w : Writers W E) where
-  -- a text that was written is printed, or cut short where it wasn't handed on
+  -- a text that was written is printed, or cut short if it wasn't handed on
   pub ended : (wanted status : ℕ) (text : List ℕ) → Wrote w wanted status text
       → Ends w status (Printed wanted text) ⊎ Ends w status (CutShort text)
   ended wanted status text wrote = by wrote.done
@@ -76,47 +76,6 @@ module _ {W E : Type 0} (w : Writers W E) where
       → Says w.err w.errors w.errors' (refusal_line words) → Ends w status (Refused status words)
   refused status words same said = record { status_is = refl; printed = same; said = said }
 
-  -- ---- an engine
-
-  module _ {R T : Type 0} (engine : Engine T) (status_in : T → ℕ) (remaining : R → Option (List ℕ)) (old new : Held R) where
-    -- it wrote its text, which was handed on or not
-    pub engine_printed : (mid : Held W) (end : T) (wanted status : ℕ) → wanted ≡ status_in end
-        → EngineEnds engine (over remaining old new w.out w.output mid) (Ok end) → Keeps (w.out mid.inner) (w.out w.output'.inner)
-        → IsDone w.err w.output' w.errors w.errors' wanted status
-        → (e : End) × EngineRuns engine status_in remaining old new e × Ends w status e
-    engine_printed mid end wanted status same (read, sound, text, made, written) kept done =
-        elim (ended wanted status text (record { mid = mid; written = written; kept = kept; done = done })) [
-          | inl e ↦ (Printed wanted text, (read, end, same, made), e)
-          | inr e ↦ (CutShort text, (read_so_far _ _ new.failed engine.early text read, inr (end, made)), e)
-        ]
-
-    -- what is said, and what was told until then
-    broken : (fault : TextFault) → IsFalse w.output'.failed → IsTrue new.failed ↔ (fault ≡ Read) → (front : List ℕ)
-        → Refuses engine (remaining old.inner) (remaining new.inner) fault front
-        → Says w.err w.errors w.errors' (refusal_line (text_refusal fault))
-        → (early : Option (List ℕ → List ℕ)) → engine.early ≡ early
-        → IsLeft engine (over remaining old new w.out w.output w.output') early fault front
-        → (e : End) × EngineRuns engine status_in remaining old new e × Ends w 1 e
-    broken fault sound failed front why said None none same =
-        (Refused 1 (text_refusal fault), (refl, none, fault, refl, failed, front, why), refused 1 (text_refusal fault) same said)
-    broken fault sound failed front why said (Some early) is (text, told, written) = (
-      Broken text (text_refusal fault),
-      (early, is, fault, refl, failed, front, why, told),
-      record { status_is = refl; printed = (sound, written); said = said },
-    )
-
-    -- it refused, or its text was cut short where the writer failed
-    pub engine_refused : (fault : TextFault) → EngineEnds engine (over remaining old new w.out w.output w.output') (Err fault)
-        → Says w.err w.errors w.errors' (refusal_line (text_refusal fault))
-        → (e : End) × EngineRuns engine status_in remaining old new e × Ends w 1 e
-    engine_refused Write (failed, text, read, under_way, front) said = (CutShort text, (read, under_way), cut text failed front said)
-    engine_refused (Syntax line) (sound, failed, front, why, left) said = broken _ sound failed front why said engine.early refl left
-    engine_refused (BadHex line) (sound, failed, front, why, left) said = broken _ sound failed front why said engine.early refl left
-    engine_refused (Setup reason) (sound, failed, front, why, left) said = broken _ sound failed front why said engine.early refl left
-    engine_refused TooLong (sound, failed, front, why, left) said = broken TooLong sound failed front why said engine.early refl left
-    engine_refused Read (sound, failed, front, why, left) said = broken Read sound failed front why said engine.early refl left
-    engine_refused Memory (sound, failed, front, why, left) said = broken Memory sound failed front why said engine.early refl left
-
   -- ---- `number`
 
   module _ (asked : Result Question NumberFault) where
@@ -129,7 +88,7 @@ module _ {W E : Type 0} (w : Writers W E) where
           | inr e ↦ (CutShort text, is, e)
         ]
 
-    -- what holds where `number` refuses
+    -- what holds if `number` refuses
     pub record NumberRefusal (fault : NumberFault) : Type 0 where
       pub line : (f : NumberFault) → IsCommandLineFault f → fault ≡ f → asked ≡ Err f
       pub num : (f : NumFault) → fault ≡ Num f → RefusesNumber asked f
@@ -147,7 +106,7 @@ module _ {W E : Type 0} (w : Writers W E) where
     refused_as fault is other why =
         (Refused (refusal_status fault) (refusal_words fault), (fault, refl, refl, why), refused _ _ (is.unwritten other) is.said)
 
-    -- each refusal of `number` is said; where the writer failed, the line was cut short
+    -- each refusal of `number` is said; the line was cut short if the writer failed
     pub number_refused : (fault : NumberFault) → NumberRefusal fault
         → (end : End) × NumberEnds asked end × Ends w (refusal_status fault) end
     number_refused OneOf is = refused_as OneOf is (λ e. cc) (is.line OneOf tt refl)
@@ -164,6 +123,45 @@ module _ {W E : Type 0} (w : Writers W E) where
     number_refused (OfText TooLong) is = absurd is.of
     number_refused (OfText Read) is = absurd is.of
     number_refused (OfText (Setup reason)) is = absurd is.of
+
+-- ---- an engine
+
+-- a refusal that is said so ends like this, of which standard error doesn't know yet
+abbrev pub Refuses-as : {W : Type 0} → (End → Type 0) → (W → Option (List ℕ)) → Held W → Held W → List ℕ → Type 0
+Refuses-as ends contents old new words = (end : End) × ends end × (status_of end ≡ 1) × Prints contents old new end
+    × (said_by end ≡ Some (refusal_line words))
+
+module _ {R W T : Type 0} (engine : Engine T) (status_in : T → ℕ) (remaining : R → Option (List ℕ)) (old new : Held R)
+    (contents : W → Option (List ℕ)) (output output' : Held W) where
+  -- it wrote its text
+  pub engine_wrote : (end : T) (status : ℕ) → status ≡ status_in end
+      → EngineEnds engine (over remaining old new contents output output') (Ok end)
+      → Runs (EngineRuns engine status_in remaining old new) contents output output' (Ok (record { status = status; hint = None }))
+  engine_wrote end status same (read, sound, text, made, written) =
+      (sound, text, written, (read, end, same, made), (read_so_far _ _ new.failed engine.early text read, inr (end, made)))
+
+  -- what was shown until then
+  broken : (fault : TextFault) → IsFalse output'.failed → IsTrue new.failed ↔ (fault ≡ Read) → (front : List ℕ)
+      → Refuses engine (remaining old.inner) (remaining new.inner) fault front
+      → (early : Option (List ℕ → List ℕ)) → engine.early ≡ early
+      → IsLeft engine (over remaining old new contents output output') early fault front
+      → Refuses-as (EngineRuns engine status_in remaining old new) contents output output' (text_refusal fault)
+  broken fault sound failed front why None none same =
+      (Refused 1 (text_refusal fault), (refl, none, fault, refl, failed, front, why), refl, same, refl)
+  broken fault sound failed front why (Some early) is (text, told, written) =
+      (Broken text (text_refusal fault), (early, is, fault, refl, failed, front, why, told), refl, (sound, written), refl)
+
+  -- it refused, or its text was cut short since the writer failed
+  pub engine_refused : (fault : TextFault) → EngineEnds engine (over remaining old new contents output output') (Err fault)
+      → Refuses-as (EngineRuns engine status_in remaining old new) contents output output' (text_refusal fault)
+  engine_refused Write (failed, text, read, under_way, (front, rest, split, some, appended)) =
+      (CutShort text, (read, under_way), refl, (failed, (front, rest, split, appended)), refl)
+  engine_refused (Syntax line) (sound, failed, front, why, left) = broken _ sound failed front why engine.early refl left
+  engine_refused (BadHex line) (sound, failed, front, why, left) = broken _ sound failed front why engine.early refl left
+  engine_refused (Setup reason) (sound, failed, front, why, left) = broken _ sound failed front why engine.early refl left
+  engine_refused TooLong (sound, failed, front, why, left) = broken TooLong sound failed front why engine.early refl left
+  engine_refused Read (sound, failed, front, why, left) = broken Read sound failed front why engine.early refl left
+  engine_refused Memory (sound, failed, front, why, left) = broken Memory sound failed front why engine.early refl left
 
 -- ---- the parser's faults
 

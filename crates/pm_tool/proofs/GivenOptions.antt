@@ -1,4 +1,4 @@
--- What the parser makes of `PROGRAM number --NAME=TEXT ..`, where no option is used twice.
+-- What the parser makes of `PROGRAM number --NAME=TEXT ..`, if no option is used twice.
 use Rattle.std.proofs.Common.{◌≡◌, ◌∙◌, ◌&&◌, ◌||◌, Bool, true, false, not, cond, refl, sym, ap, ap₂, List, [], ◌∷◌, ◌++◌, map, is_some}
 use Rattle.std.proofs.Common.{Some, None, codes, unwrap_or, true≢false, append-nil, append_assoc, option_map}
 use Rattle.std.specs.List.{find, fold, list_all, list_any}
@@ -31,7 +31,7 @@ row one = record {
   reading = AsWritten;
 }
 
--- ---- rows where an option has none yet
+-- ---- rows of which an option has none yet
 
 -- the rows that stand for a missing one are added if an option has no row
 at_none : (id : Text) (change : Row → List Row) (missing rows : List Row) → has_row id rows ≡ false
@@ -52,7 +52,7 @@ rows_used one rows none =
     ap (with_values (option_name one.option) AsWritten CommandLine (one.text ∷ [])) (at_none _ (λ _. []) [] rows none ∙ append-nil rows)
     ∙ at_none (option_name one.option) (more_values CommandLine (one.text ∷ [])) (row one ∷ []) rows none
 
--- an option has a row among these and one more just where it has one among these or that one is its own
+-- an option has a row among these and one more exactly if it has one among these or that one is its own
 has_row-push : (id : Text) (rows : List Row) (r : Row) → has_row id (rows ++ r ∷ []) ≡ (has_row id rows || bytes_eq r.id id)
 has_row-push id [] r = or_false (bytes_eq r.id id)
   where
@@ -120,7 +120,7 @@ number_built = unwrap_or (find (λ s. bytes_eq s.name (codes "number")) (built p
 abbrev with_rows : List Row → Walk
 with_rows rows = walk_from (record { rows = rows; pending = None; skip = 0 })
 
--- a step over an option's word leaves the option a row with that text alone
+-- a step over an option's word leaves the option a row with only that text
 stepped_as : (option : NumberOption) (text : Text) (rows : List Row)
     → walked number_built.rules [] (with_rows rows) (option_word (record { option = option; text = text }))
     ≡ with_rows (with_values (option_name option) AsWritten CommandLine (text ∷ []) (without (option_name option) rows))

@@ -98,7 +98,7 @@ no_digit c is = go (eqb c 58) refl is
     go true at is = let e : c ≡ 58 = eqb-true c 58 at in rw e refl
     go false at is = let e : c ≡ 47 = eqb-true c 47 is in rw e refl
 
--- a text with a colon isn't digits alone
+-- a text with a colon isn't only digits
 no_digits : (text : Text) → has_colon text ≡ true → are_digits 10 text ≡ false
 no_digits [] e = absurd (true≢false (sym e))
 no_digits (c ∷ cs) e = go (is_colon c) refl e (no_digits cs)
@@ -137,7 +137,7 @@ no_decimal (c ∷ cs) e = go (eqb c 45) refl
 no_signed : (bits : ℕ) (text : Text) → has_colon text ≡ true → signed_of bits text ≡ None
 no_signed bits text e = ap (option_and_then (λ z. cond (fits bits z) (Some z) None)) (no_decimal text e)
 
--- ---- the shape of the parts: one, or two and more where a colon stands
+-- ---- the shape of the parts: one, or two and more at a colon
 
 -- two parts and more, with a colon between the first two
 pub record Several (text : Text) : Type 0 where

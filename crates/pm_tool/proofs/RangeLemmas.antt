@@ -1,4 +1,4 @@
--- That a value outside a range is refused on one side alone.
+-- That a value outside a range is refused on one side only.
 use Rattle.std.proofs.Common.{◌≡◌, ◌^◌, ◌<◌, ◌≤◌, ◌↔◌, ℕ, ℤ, pos, ◌*ℤ◌, refl, ap, subst, arith, Result, Ok, Err, IsOk, IfErr, unsigned_abs}
 use Rattle.std.proofs.lemmas.Int.{ints}
 use Rattle.pm_num.specs.Ratio.{AtMost, IsBetween, LessThan, Ratio, micros}
@@ -42,7 +42,7 @@ module _ (least greatest : Ratio) (range : IsRange least greatest) (k : ℤ) (sm
   refuses ExponentRange out = absurd out
   refuses TooLarge out = absurd out
 
-  -- for one reason alone
+  -- for one reason only
   same_fault : (e fault : NumFault) → IsOutside least greatest (micros k) e → RefusesValue least greatest (Nearest k) fault → e ≡ fault
   same_fault BelowLeast BelowLeast out h = refl
   same_fault BelowLeast AboveGreatest out h = absurd (one_side (micros k) least greatest (omega arith) range out h.1)
@@ -63,7 +63,7 @@ module _ (least greatest : Ratio) (range : IsRange least greatest) (k : ℤ) (sm
   not_inside ZeroSlope h inside = h.1
   not_inside ExponentRange h inside = h.1
 
-  -- a call that takes just the values inside refuses the others, each for where it lies
+  -- a call that takes just the values inside refuses the others, each for the side on which it lies
   pub refused_outside : (r : Result ℕ NumFault) → (IsOk r ↔ IsBetween least greatest (micros k))
       → IfErr r (IsOutside least greatest (micros k))
       → (fault : NumFault) → (r ≡ Err fault) ↔ RefusesValue least greatest (Nearest k) fault

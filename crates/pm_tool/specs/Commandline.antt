@@ -94,7 +94,7 @@ abbrev pub is_once : List Given → Bool
 is_once [] = true
 is_once (one ∷ rest) = not (list_any (is_named (option_name one.option)) rest) && is_once rest
 
--- the text of an option, where it is used
+-- the text of an option, if it is used
 abbrev pub text_of : NumberOption → List Given → Option Text
 text_of option given = option_map (λ one. one.text) (find (is_named (option_name option)) given)
 

@@ -1,6 +1,6 @@
 -- How a run of the program ends: its status, what standard output got, and the one line that
 -- standard error gets. This project's own choice.
-use Rattle.std.specs.Prelude.{◌≡◌, ◌⊎◌, ◌↔◌, ℕ, List, [], ◌++◌, Option, Some, None}
+use Rattle.std.specs.Prelude.{◌≡◌, ◌⊎◌, ◌↔◌, ℕ, Bool, true, List, [], ◌++◌, Option, Some, None}
 use Rattle.std.specs.Prelude.{Result, Ok, Err, IsTrue, IsFalse, IsSomeAnd, codes, decimal, false}
 use Rattle.std.specs.Io.KnownBytes.{Appends}
 use Rattle.std.specs.declared.io.ErrorKind.{ErrorKind as IoKind}
@@ -11,7 +11,7 @@ use Rattle.pm_lines.specs.Faults.{fault_words}
 use Rattle.pm_lines.specs.Engine.{Engine, IsMade, IsReadSoFar, IsTold, IsUnderWay, Refuses, Run, over}
 use Rattle.pm_lines.specs.Streams.{Held}
 use Rattle.pm_lines.specs.declared.fault.TextFault.{TextFault}
-use Rattle.pm_lines.specs.declared.fault.TextFault.TheVariants.{Read, Write, Memory}
+use Rattle.pm_lines.specs.declared.fault.TextFault.TheVariants.{Syntax, BadHex, TooLong, Read, Write, Memory, Setup}
 use Rattle.pm_trace.specs.Outcome.{decoding}
 use Rattle.pm_trace.specs.declared.decode_end.DecodeEnd.{DecodeEnd}
 use Rattle.pm_trace.specs.declared.decode_end.DecodeEnd.TheVariants.{Clean, BadLines}
@@ -19,8 +19,8 @@ use Rattle.pm_decode.specs.CaptureText.{capture_end, capture_text}
 use Rattle.pm_decode.specs.Capturing.{most_bytes, said_text}
 use Rattle.pm_decode.specs.LongEngine.{Breaks, GaveAll, IsCut}
 use Rattle.pm_decode.specs.declared.hints.Hint.{Hint}
-use Rattle.pm_decode.specs.declared.hints.Hint.TheVariants.{Beyond, NoTimes, NoGoodPacket}
-use Rattle.pm_decode.specs.declared.options.TellOptions.{TellOptions}
+use Rattle.pm_decode.specs.declared.hints.Hint.TheVariants.{Beyond, NoTimes, NoGoodPacket, NoPec}
+use Rattle.pm_capture.specs.declared.options.TellOptions.{TellOptions}
 use Rattle.pm_log.specs.Texts.{IsAll, log_end, log_text}
 use Rattle.pm_log.specs.Texts.{Breaks as LogBreaks}
 use Rattle.pm_log.specs.declared.checking.LogEnd.{LogEnd}
@@ -43,6 +43,11 @@ use Rattle.pm_tool.specs.declared.commandline.choice.Chosen.TheVariants.{Hear, R
 use Rattle.pm_tool.specs.declared.numbers.fault.NumberFault.{NumberFault}
 use Rattle.pm_tool.specs.declared.numbers.fault.NumberFault.TheVariants.{Num, Text as OfText}
 use Rattle.pm_tool.specs.declared.numbers.question.Question.{Question}
+use Rattle.pm_tool.specs.declared.text_commands.TextCommand.{TextCommand}
+use Rattle.pm_tool.specs.declared.text_commands.TextCommand.TheVariants as command
+use Rattle.pm_tool.specs.declared.text_commands.Unwritten.{Unwritten}
+use Rattle.pm_tool.specs.declared.text_commands.Unwritten.TheVariants.{Refused as RefusedBy, TooLong as OverLong}
+use Rattle.pm_tool.specs.declared.text_commands.Written.{Written}
 
 -- ---- how a run ends, and what its streams get
 
@@ -55,7 +60,7 @@ pub data End : Type 0 where
   CutShort : (text : List ℕ) → End
   -- standard output got nothing, and standard error says why
   Refused : (status : ℕ) (words : List ℕ) → End
-  -- standard output got the lines that were told so far, and standard error says why no more came
+  -- standard output got the lines that were shown until then, and standard error says why no more came
   Broken : (text : List ℕ) (words : List ℕ) → End
   -- standard output got nothing, and standard error gets the parser's own text
   Misused : (text : List ℕ) → End
@@ -86,7 +91,7 @@ abbrev pub AppendsSome : Option (List ℕ) → Option (List ℕ) → List ℕ �
 AppendsSome old new text =
     (front : List ℕ) × (rest : List ℕ) × (text ≡ front ++ rest) × Appends old new front
 
--- what standard output got; it failed exactly where its text was cut short
+-- what standard output got; it failed exactly if its text was cut short
 abbrev pub Prints : {W : Type 0} → (W → Option (List ℕ)) → Held W → Held W → End → Type 0
 Prints contents old new (Printed status text) =
     IsFalse new.failed × Appends (contents old.inner) (contents new.inner) text
@@ -99,7 +104,7 @@ Prints contents old new (Broken text words) =
     IsFalse new.failed × Appends (contents old.inner) (contents new.inner) text
 Prints contents old new (Misused text) = new ≡ old
 
--- what standard error got: nothing, or all that it was to get, or a strict front of it where it failed
+-- what standard error got: nothing, or all that it was to get, or a strict front of it if it failed
 abbrev pub SaysAny : {E : Type 0} → (E → Option (List ℕ)) → Held E → Held E → Option (List ℕ) → Type 0
 SaysAny contents old new None = new ≡ old
 SaysAny contents old new (Some line) = Says contents old new line
@@ -121,9 +126,9 @@ abbrev pub decode_status : DecodeEnd → ℕ
 decode_status Clean = 0
 decode_status BadLines = 1
 
--- How a run of an engine ends, whose ends have these statuses, by what its reader gave. Where it refuses, nothing
--- was printed if it writes nothing early, and otherwise what was told until then. The reader failed exactly
--- where X4 is said, or where standard output failed as well.
+-- How a run of an engine ends, whose ends have these statuses, by what its reader gave. After a refusal nothing
+-- was printed if it writes nothing early, and otherwise what was shown until then. The reader failed exactly
+-- if X4 is said, or if standard output failed as well.
 abbrev pub EngineRuns : {R T : Type 0} → Engine T → (T → ℕ) → (R → Option (List ℕ)) → Held R → Held R → End → Type 0
 EngineRuns {T = T} engine status_in remaining old new (Printed status text) = IsFalse new.failed
     × (end : T) × (status ≡ status_in end) × IsMade engine (remaining old.inner) (remaining new.inner) text end
@@ -143,7 +148,7 @@ EngineRuns engine status_in remaining old new (Misused text) = ⊥
 
 -- ---- `decode` with options
 
--- the run of a reader alone
+-- the run of only a reader
 abbrev pub reading : {R : Type 0} → (R → Option (List ℕ)) → Held R → Held R → Run R (Unit {0})
 reading remaining old new = over remaining old new (λ _. None) (record { inner = tt; failed = false })
     (record { inner = tt; failed = false })
@@ -153,11 +158,28 @@ abbrev pub hint_words : Hint → List ℕ
 hint_words (Beyond line) = codes "line " ++ (decimal line ++ codes " orders a voltage beyond 1000 V by --vout: a minus may be missing")
 hint_words NoTimes = codes "no line is a time and a packet: give --times to both ends, or to none"
 hint_words NoGoodPacket = codes "no line is a good packet: where lines begin with times, give --times"
+hint_words NoPec = codes "no line is a good packet: where packets have no PEC, give --all"
 
 -- how a run ends whose text was written whole, by what may be wrong
 abbrev pub told_as : ℕ → List ℕ → Option Hint → End
 told_as status text None = Printed status text
 told_as status text (Some hint) = Hinted status text (hint_words hint)
+
+-- why a trace isn't shown: one that is too long for these options is said so
+abbrev pub untold : Bool → TextFault → Unwritten
+untold false TooLong = OverLong
+untold false (Syntax line) = RefusedBy (Syntax line)
+untold false (BadHex line) = RefusedBy (BadHex line)
+untold false Read = RefusedBy Read
+untold false Write = RefusedBy Write
+untold false Memory = RefusedBy Memory
+untold false (Setup reason) = RefusedBy (Setup reason)
+untold true fault = RefusedBy fault
+
+-- what is said of a text that wasn't written whole
+abbrev pub unwritten_words : Unwritten → List ℕ
+unwritten_words (RefusedBy fault) = text_refusal fault
+unwritten_words OverLong = text_refusal TooLong ++ codes "\npmb: --long reads on"
 
 -- How a telling ends that these options ask for, by what its reader gave: as every engine does that writes early, but
 -- that a trace may have more bytes with `--long`.
@@ -174,24 +196,13 @@ module _ {R : Type 0} (options : TellOptions) (remaining : R → Option (List �
   TellRuns (Hinted status text words) = TellsWhole (Hinted status text words)
   TellRuns (CutShort text) = IsCut (most_bytes options.long) (capture_text options) (said_text options)
       (capture_end options) (reading remaining old new) text
-  TellRuns (Broken text words) = (fault : TextFault) × (words ≡ text_refusal fault)
+  TellRuns (Broken text words) = (fault : TextFault) × (words ≡ unwritten_words (untold options.long fault))
       × (IsTrue new.failed ↔ (fault ≡ Read)) × (front : List ℕ)
       × Breaks (most_bytes options.long) (capture_text options) (said_text options) (capture_end options)
       (reading remaining old new) fault front
       × IsTold (said_text options) fault front text
   TellRuns (Refused status words) = ⊥
   TellRuns (Misused text) = ⊥
-
--- how a run ends that asks for a telling, or for none that can be: then nothing is read
-abbrev pub AskedEnds : {R : Type 0} → (R → Option (List ℕ)) → Held R → Held R → Result TellOptions TellFault → End → Type 0
-AskedEnds remaining old new (Ok options) end = TellRuns options remaining old new end
-AskedEnds remaining old new (Err fault) end = (new ≡ old)
-    × (end ≡ Refused (tell_fault_status fault) (tell_fault_words fault))
-
--- how a run ends whose options were written so
-abbrev pub TellEnds : {R : Type 0} → (R → Option (List ℕ)) → Held R → Held R → TellTexts → End → Type 0
-TellEnds remaining old new given end = (asked : Result TellOptions TellFault) × IsAsked given asked
-    × AskedEnds remaining old new asked end
 
 -- ---- `check`
 
@@ -207,9 +218,30 @@ CheckRuns remaining old new (Refused status words) = (status ≡ 1) × (fault : 
 CheckRuns remaining old new (Broken text words) = ⊥
 CheckRuns remaining old new (Misused text) = ⊥
 
+-- ---- any of these
+
+-- how a command ends that reads one text and writes another, by what its reader gave
+abbrev pub CommandRuns : {R : Type 0} → TextCommand → (R → Option (List ℕ)) → Held R → Held R → End → Type 0
+CommandRuns command.Hear remaining old new end = EngineRuns hearing (λ _. 0) remaining old new end
+CommandRuns command.Replay remaining old new end = EngineRuns replaying replay_status remaining old new end
+CommandRuns command.Decode remaining old new end = EngineRuns decoding decode_status remaining old new end
+CommandRuns (command.Tell options) remaining old new end = TellRuns options remaining old new end
+CommandRuns command.Check remaining old new end = CheckRuns remaining old new end
+
+-- how a run ends that asks for a telling, or for none that can be: then nothing is read
+abbrev pub AskedEnds : {R : Type 0} → (R → Option (List ℕ)) → Held R → Held R → Result TellOptions TellFault → End → Type 0
+AskedEnds remaining old new (Ok options) end = CommandRuns (command.Tell options) remaining old new end
+AskedEnds remaining old new (Err fault) end = (new ≡ old)
+    × (end ≡ Refused (tell_fault_status fault) (tell_fault_words fault))
+
+-- how a run ends whose options were written so
+abbrev pub TellEnds : {R : Type 0} → (R → Option (List ℕ)) → Held R → Held R → TellTexts → End → Type 0
+TellEnds remaining old new given end = (asked : Result TellOptions TellFault) × IsAsked given asked
+    × AskedEnds remaining old new asked end
+
 -- ---- `number`
 
--- why `number` refuses; memory is wanted only for a line to write
+-- why `number` refuses; memory is asked for only for a line to write
 abbrev pub NumberRefuses : Result Question NumberFault → NumberFault → Type 0
 NumberRefuses asked (Num fault) = RefusesNumber asked fault
 NumberRefuses asked (OfText Memory) = (text : List ℕ) × IsNumberText asked text
@@ -230,10 +262,10 @@ NumberEnds asked (Misused text) = ⊥
 
 -- how the command that was chosen ends; `number` reads nothing
 abbrev pub ChoiceEnds : {R : Type 0} → (R → Option (List ℕ)) → Held R → Held R → Chosen → End → Type 0
-ChoiceEnds remaining old new Hear end = EngineRuns hearing (λ _. 0) remaining old new end
-ChoiceEnds remaining old new Replay end = EngineRuns replaying replay_status remaining old new end
-ChoiceEnds remaining old new Decode end = EngineRuns decoding decode_status remaining old new end
-ChoiceEnds remaining old new Check end = CheckRuns remaining old new end
+ChoiceEnds remaining old new Hear end = CommandRuns command.Hear remaining old new end
+ChoiceEnds remaining old new Replay end = CommandRuns command.Replay remaining old new end
+ChoiceEnds remaining old new Decode end = CommandRuns command.Decode remaining old new end
+ChoiceEnds remaining old new Check end = CommandRuns command.Check remaining old new end
 ChoiceEnds remaining old new (NumberChosen format word micro) end = (new ≡ old)
     × NumberEnds (asked_by format word micro) end
 
@@ -257,7 +289,7 @@ abbrev pub ParserEnds : {R : Type 0} → Held R → Held R → Kinds → End →
 ParserEnds old new faults end = ((new ≡ old) × (kind : ErrorKind) × IsAmong kind faults × UsageEnds kind end)
     ⊎ ((new ≡ old) × (end ≡ wants_memory))
 
--- how a run ends: where the parser finds no fault, as what it found to be chosen; otherwise as `ParserEnds` says
+-- how a run ends: if the parser finds no fault, as what it found to be chosen; otherwise as `ParserEnds` says
 abbrev pub WordsEnd : {R : Type 0} → (R → Option (List ℕ)) → Held R → Held R → List Text → End → Type 0
 WordsEnd remaining old new words end =
     ((fault_of pmb words ≡ []) × (chosen : Chosen)
@@ -265,7 +297,7 @@ WordsEnd remaining old new words end =
     × ChoiceEnds remaining old new chosen end)
     ⊎ ParserEnds old new (fault_of pmb words) end
 
--- how a run of `decode` with options ends, by the words from `decode` on: where the parser finds no fault, as the options that it found
+-- how a run of `decode` with options ends, by the words from `decode` on: if the parser finds no fault, as the options that it found
 -- say; otherwise as `ParserEnds` says
 abbrev pub OptionsEnd : {R : Type 0} → (R → Option (List ℕ)) → Held R → Held R → List Text → End → Type 0
 OptionsEnd remaining old new words end =
@@ -273,7 +305,7 @@ OptionsEnd remaining old new words end =
     × TellEnds remaining old new given end)
     ⊎ ParserEnds old new (fault_of tell_app words) end
 
--- how a run ends with these words, where those that are read for the options of `decode` stand apart
+-- how a run ends with these words, if those that are read for the options of `decode` stand apart
 abbrev pub LineEnds : {R : Type 0} → (R → Option (List ℕ)) → Held R → Held R → List Text → Option (List Text) → End → Type 0
 LineEnds remaining old new words None end = WordsEnd remaining old new words end
 LineEnds remaining old new words (Some options) end = OptionsEnd remaining old new options end
@@ -313,3 +345,12 @@ IsToldDone err output errors errors' wanted hint status =
     ((IsFalse output.failed) × (status ≡ wanted) × SaysHint err errors errors' hint)
     ⊎ ((IsTrue output.failed) × (status ≡ 1)
     × Says err errors errors' (refusal_line (fault_words Write)))
+
+-- How a command ran that may end so: its text was written whole, to be printed or cut short if it isn't handed on; or why it
+-- wasn't, and how the command then ends, of which standard error doesn't know yet.
+abbrev pub Runs : {W : Type 0} → (End → Type 0) → (W → Option (List ℕ)) → Held W → Held W → Result Written Unwritten → Type 0
+Runs ends contents old new (Ok written) = (IsFalse new.failed) × (text : List ℕ)
+    × Appends (contents old.inner) (contents new.inner) text
+    × ends (told_as written.status text written.hint) × ends (CutShort text)
+Runs ends contents old new (Err refusal) = (end : End) × ends end × (status_of end ≡ 1) × Prints contents old new end
+    × (said_by end ≡ Some (refusal_line (unwritten_words refusal)))

@@ -1,4 +1,4 @@
--- What a converter answers, in words, where its frames come in lines. This project's own choice.
+-- What a converter answers, in words, if its frames come in lines. This project's own choice.
 use Rattle.std.specs.Prelude.{ℕ, List, ◌++◌, codes}
 use Rattle.pm_lines.specs.Numbers.{spaced_bytes}
 use Rattle.pm_device.specs.FaultWords.{device_fault_text}

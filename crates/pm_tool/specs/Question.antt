@@ -45,7 +45,7 @@ is_comma c = c == 44
 abbrev pub items : Text → List Text
 items = parts_by is_comma
 
--- ULINEAR16, where the exponent is -16 to 15
+-- ULINEAR16, if the exponent is -16 to 15
 abbrev pub exponent_format : ℤ → Option FormatText
 exponent_format n =
     if int_le (negsuc 15) n && int_le n (pos 15) then Some (Ulinear16 n) else None

@@ -24,12 +24,12 @@ pub record Entry : Type 0 where
 abbrev pub entry_seen : GivenFormat → Entry
 entry_seen made = record { addr = made.addr; code = made.code; shape = shape_of made.format }
 
--- an entry, where there is one
+-- an entry, if there is one
 abbrev pub if_any : Option GivenFormat → List Entry
 if_any None = []
 if_any (Some made) = entry_seen made ∷ []
 
--- the format that a text names, where it can be: a DIRECT one has a slope other than 0 and an exponent in its range
+-- the format that a text names, if it can be: a DIRECT one has a slope other than 0 and an exponent in its range
 abbrev pub shape_named : FormatText → Option Shape
 shape_named Linear11 = Some InLinear11
 shape_named (Ulinear16 n) = Some (InUlinear16 n)
@@ -55,12 +55,12 @@ is_asked_for (Some code) = is_reading code
 abbrev pub entry_at : Option ℕ → Option ℕ → Shape → Entry
 entry_at addr code shape = record { addr = addr; code = code; shape = shape }
 
--- the entry of a format that is for an address and a code, where all three can be
+-- the entry of a format that is for an address and a code, if all three can be
 abbrev pub entry_for : Listed → Option ℕ → Option ℕ → Option FormatText → Option Entry
 entry_for listed addr code format = if is_place addr && is_asked_for code
     then option_map (entry_at addr code) (option_and_then (listed_shape listed) format) else None
 
--- behind a first part in two hexadecimal digits: of voltages the address; of readings the code, or the address and then the code
+-- the entry after a first part in two hexadecimal digits: of voltages the address; of readings the code, or the address and then the code
 abbrev pub entry_behind : ℕ → Option ℕ → Text → List Text → Option Entry
 entry_behind first None second more = entry_for Readings None (Some first) (format_by (second ∷ more))
 entry_behind first (Some code) second more = entry_for Readings (Some first) (Some code) (format_by more)

@@ -15,13 +15,13 @@ use Rattle.pm_setup.specs.declared.setup_fault.SetupFault.{SetupFault}
 abbrev pub program_line : List ℕ → List ℕ → List ℕ
 program_line program words = program ++ (codes ": " ++ (words ++ codes "\n"))
 
--- standard error got the text, or a strict front of it where it failed
+-- standard error got the text, or a strict front of it if it failed
 abbrev pub Says : {E : Type 0} → (E → Option (List ℕ)) → Held E → Held E → List ℕ → Type 0
 Says contents old new text =
     (IsFalse new.failed × Appends (contents old.inner) (contents new.inner) text)
     ⊎ (IsTrue new.failed × AppendsFront (contents old.inner) (contents new.inner) text)
 
--- the words for a text's fault, and its line where it has one
+-- the words for a text's fault, and its line if it has one
 abbrev pub line_words : Option ℕ → List ℕ
 line_words None = []
 line_words (Some line) = codes " line " ++ decimal line
@@ -35,7 +35,7 @@ abbrev pub text_refusal : TextFault → List ℕ
 text_refusal fault =
     fault_words fault ++ (line_words (fault_line fault) ++ reason_words (fault_setup fault))
 
--- the status where the arguments can't be had as words, and what is said
+-- the status if the arguments can't be had as words, and what is said
 abbrev pub no_words_status : ErrorKind → ℕ
 no_words_status OutOfMemory = 1
 no_words_status _ = 2

@@ -28,11 +28,11 @@ abbrev pub begins_with : List ℕ → List (List ℕ) → Bool
 begins_with name [] = false
 begins_with name (word ∷ words) = bytes_eq word name
 
--- `restart` stands alone: more words are X1
+-- `restart` is the only word of its line: more words are X1
 abbrev pub restart_event : ℕ → List (List ℕ) → Result Event TextFault
 restart_event number words = if length words == 1 then Ok Restarted else Err (Syntax number)
 
--- A frame is ended by a stop, or by a repeated start where a `/` follows it. Anything but spaces
+-- A frame is ended by a stop, or by a repeated start if a `/` follows it. Anything but spaces
 -- after the `/` is X1.
 abbrev pub ended_event : Numbered → List ℕ → Result Event TextFault
 ended_event line frame =

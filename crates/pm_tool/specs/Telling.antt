@@ -6,7 +6,7 @@ use Rattle.std.specs.Result.{result_map_both, result_ok}
 use Rattle.std.specs.Str.{bytes_eq}
 use Rattle.clap.specs.Words.{App, Row, Rule, Text, first_of, new_app, new_rule, one_of, with_rule}
 use Rattle.clap.specs.declared.builder.action.ArgAction.TheVariants.{SetTrue}
-use Rattle.pm_decode.specs.declared.options.TellOptions.{TellOptions}
+use Rattle.pm_capture.specs.declared.options.TellOptions.{TellOptions}
 use Rattle.pm_tool.specs.Options.{option_rule}
 use Rattle.pm_lines.specs.Digits.{natural_of}
 use Rattle.pm_tool.specs.Question.{text_at}
@@ -18,7 +18,7 @@ use Rattle.pm_tool.specs.declared.commandline.tell_fault.TellFault.TheVariants.{
 
 -- ---- the words
 
--- the words from `decode` on of a command line that names `decode` with more words after it; `decode` stands where the parser wants the
+-- the words from `decode` on of a command line that names `decode` with more words after it; `decode` stands at the place of the
 -- program's name
 abbrev pub tell_words : List Text → Option (List Text)
 tell_words (program ∷ name ∷ option ∷ options) =
@@ -37,7 +37,7 @@ tell_app = with_rule (with_rule (with_rule (with_rule (with_rule (with_rule (wit
     (flag_rule (codes "pages"))) (option_rule (codes "gap"))) (flag_rule (codes "long"))) (flag_rule (codes "times")))
     (flag_rule (codes "json"))
 
--- Whether a flag is given, by the text that the parser has for it: `true` where it is among the words, and otherwise
+-- Whether a flag is given, by the text that the parser has for it: `true` if it is among the words, and otherwise
 -- `false`.
 abbrev pub IsFlag : Option Text → Bool → Type 0
 IsFlag None given = given ≡ false
@@ -91,7 +91,7 @@ abbrev pub micros_or_fault : Option ℕ → Result ℕ TellFault
 micros_or_fault (Some pause) = Ok (pause * 1000)
 micros_or_fault None = Err Gap
 
--- the microseconds of the pause that the three options ask for, 1000 ms where none is given, or the first fault
+-- the microseconds of the pause that the three options ask for, 1000 ms if none is given, or the first fault
 abbrev pub gap_of : Bool → Bool → Option Text → Result ℕ TellFault
 gap_of pages times None = Ok 1000000
 gap_of false times (Some text) = Err GapAlone
@@ -114,7 +114,7 @@ pub record IsTelling (given : TellTexts) (options : TellOptions) : Type 0 where
   pub pages : options.pages ≡ given.pages
   pub gap : gap_asked given ≡ Ok options.gap
 
--- the first fault of three options, one behind the other
+-- the first fault of three options, one after the other
 abbrev pub first_fault : {A B C : Type 0} → Result A TellFault → Result B TellFault → Result C TellFault → Option TellFault
 first_fault (Err fault) second third = Some fault
 first_fault (Ok first) (Err fault) third = Some fault

@@ -45,7 +45,7 @@ pub fn chosen<'a>(alloc: Global, words: &'a [&'a str]) -> Result<Chosen<'a>, Err
     // What is chosen is what the parser's walk over the words found.
     ensures named { IfOk result (λ chosen.
         IsSomeAnd (subcommand_of pmb (texts words.entry.now)) (λ met. Asks met.0 met.1 chosen)) }
-    // There is an answer only where the parser finds no fault, and a refusal is one that it names.
+    // There is an answer only if the parser finds no fault, and a refusal is one that it names.
     ensures kinds { FailsBy (fault_of pmb (texts words.entry.now)) result }
     ensures passes { IfErr result (λ error. takes pmb (texts words.entry.now) ≡ true
         → kind_of error ≡ ErrorKind.OutOfMemory) }

@@ -6,22 +6,21 @@ ghost use Rattle.std.specs.Vec.Iter.{into_iter_items};
 ghost use Rattle.clap.specs.Walk.{texts};
 ghost use Rattle.clap.specs.Words.{kind_of};
 ghost use Rattle.pm_tool.specs.Arguments.{arguments_of};
-ghost use Rattle.pm_tool.specs.Refusals.{Says, text_refusal};
+ghost use Rattle.pm_tool.specs.Refusals.{Says};
 ghost use Rattle.pm_decode.specs.declared.hints.Hint.TheVariants.{Beyond};
-ghost use Rattle.pm_tool.specs.Execution.{End, EngineRuns, IsDone, IsEnd, NumberEnds, RunEnds, UsageEnds};
-ghost use Rattle.pm_tool.specs.Execution.{CheckRuns, OptionsEnd, TellEnds, TellRuns};
-ghost use Rattle.pm_tool.specs.Execution.{CutShort, IsToldDone, Printed, hint_words, log_status, refusal_line, wants_memory};
+ghost use Rattle.pm_tool.specs.Execution.{CommandRuns, End, IsDone, IsEnd, NumberEnds, RunEnds, UsageEnds};
+ghost use Rattle.pm_tool.specs.Execution.{OptionsEnd, TellEnds};
+ghost use Rattle.pm_tool.specs.Execution.{CutShort, IsToldDone, Printed, hint_words, refusal_line, unwritten_words, wants_memory};
 ghost use Rattle.pm_tool.specs.Question.{asked_by};
 
 use crate::arguments::{texts_of, words_of};
 use crate::commandline::{Chosen, TellTexts, chosen, option_words};
 use crate::numbers::number;
 use crate::refusals::{misuse, refuse_arguments, refuse_memory, say};
-use crate::text_commands::{Decoding, Hearing, Replaying, TextCommand};
+use crate::text_commands::{TextCommand, Unwritten};
 use crate::text_faults::say_fault;
 use crate::usage::{Usage, usage_of};
-use pm_decode::{Hint, TellOptions, tell};
-use pm_log::{LogEnd, check_log};
+use pm_decode::Hint;
 use pm_text::{Sink, Source, TextFault};
 use std::alloc::Global;
 use std::env::Args;
@@ -66,14 +65,15 @@ pub fn program<R: Read, W: Write, E: Write>(
 
 /// Runs the program: does what the words of the command line ask, over any reader and any two
 /// writers, and answers the exit status. The words are those of the arguments, the program's name
-/// first, or the error's kind where they couldn't be had as texts. None of the streams may have
+/// first, or the error's kind if they couldn't be had as texts. None of the streams may have
 /// failed before.
 ///
 /// Status 0: the text was written to the output, or help or the version that was asked for. Status 1:
 /// a stopped replay or a trace with a bad line. In both cases the third stream gets nothing but what may be
-/// wrong with a trace that was told with options, in one line. Status 1 too: a refused input, a
+/// wrong with a trace that was shown with options, in one line. Status 1 too: a refused input, a
 /// failed stream or want of memory, and 2: a faulty command line; each of these with one line on the
-/// third stream, where that can be written, but for the parser's own texts.
+/// third stream, if that can be written, but for the parser's own texts. X3 of `decode` with options
+/// has a second line, unless `--long` is given.
 ///
 /// Takes memory for what the parser makes of the words, and then as the command that they name.
 pub fn run<R: Read, W: Write, E: Write>(
@@ -97,10 +97,10 @@ pub fn run<R: Read, W: Write, E: Write>(
         return run_decode(alloc, words, input, output, errors);
     }
     match chosen(alloc, words) {
-        Ok(Chosen::Hear) => run_engine(&Hearing, alloc, input, output, errors),
-        Ok(Chosen::Replay) => run_engine(&Replaying, alloc, input, output, errors),
-        Ok(Chosen::Decode) => run_engine(&Decoding, alloc, input, output, errors),
-        Ok(Chosen::Check) => run_check(alloc, input, output, errors),
+        Ok(Chosen::Hear) => run_engine(TextCommand::Hear, alloc, input, output, errors),
+        Ok(Chosen::Replay) => run_engine(TextCommand::Replay, alloc, input, output, errors),
+        Ok(Chosen::Decode) => run_engine(TextCommand::Decode, alloc, input, output, errors),
+        Ok(Chosen::Check) => run_engine(TextCommand::Check, alloc, input, output, errors),
         Ok(
             Chosen::Number {
                 format,
@@ -113,8 +113,8 @@ pub fn run<R: Read, W: Write, E: Write>(
 }
 
 // A command that reads one text and writes another.
-fn run_engine<G: TextCommand, R: Read, W: Write, E: Write>(
-    engine: &G,
+fn run_engine<R: Read, W: Write, E: Write>(
+    command: TextCommand,
     alloc: Global,
     input: &mut Source<R>,
     output: &mut Sink<W>,
@@ -123,41 +123,12 @@ fn run_engine<G: TextCommand, R: Read, W: Write, E: Write>(
     requires input { IsFalse input.old.failed }
     requires output { IsFalse output.old.failed }
     requires errors { IsFalse errors.old.failed }
-    ensures { (end : End) × EngineRuns G.engine G.status R.remaining input.old input.new end
+    ensures { (end : End) × CommandRuns command R.remaining input.old input.new end
         × IsEnd W.contents E.contents output.old output.new errors.old errors.new result end }
 {
-    match engine.run(alloc, input, output) {
-        Ok(end) => done(output, errors, engine.status_of(end)),
-        Err(fault) => refuse_text(errors, &fault),
-    }
-}
-
-// `pmb check`: status 1 where a line of the log isn't accepted.
-fn run_check<R: Read, W: Write, E: Write>(
-    alloc: Global,
-    input: &mut Source<R>,
-    output: &mut Sink<W>,
-    errors: &mut Sink<E>,
-) -> u8
-    requires input { IsFalse input.old.failed }
-    requires output { IsFalse output.old.failed }
-    requires errors { IsFalse errors.old.failed }
-    ensures { (end : End) × CheckRuns R.remaining input.old input.new end
-        × IsEnd W.contents E.contents output.old output.new errors.old errors.new result end }
-{
-    match check_log(alloc, input, output) {
-        Ok(end) => done(output, errors, status_of_log(end)),
-        Err(fault) => refuse_text(errors, &fault),
-    }
-}
-
-// The status of a log whose verdict was printed.
-fn status_of_log(end: LogEnd) -> u8
-    ensures { result ≡ log_status end }
-{
-    match end {
-        LogEnd::Accepted => 0,
-        LogEnd::Refused => 1,
+    match command.run(alloc, input, output) {
+        Ok(written) => done_with(output, errors, written.status, written.hint),
+        Err(refusal) => refuse_text(errors, &refusal),
     }
 }
 
@@ -196,7 +167,7 @@ fn tell_given<R: Read, W: Write, E: Write>(
         × IsEnd W.contents E.contents output.old output.new errors.old errors.new result end }
 {
     match given.options() {
-        Ok(options) => run_telling(alloc, &options, input, output, errors),
+        Ok(options) => run_engine(TextCommand::Tell(options), alloc, input, output, errors),
         Err(fault) => {
             say(errors, NAME, fault.words());
             fault.status()
@@ -204,34 +175,37 @@ fn tell_given<R: Read, W: Write, E: Write>(
     }
 }
 
-// Tells the trace that is read, as the options have it.
-fn run_telling<R: Read, W: Write, E: Write>(
-    alloc: Global,
-    options: &TellOptions,
-    input: &mut Source<R>,
-    output: &mut Sink<W>,
-    errors: &mut Sink<E>,
-) -> u8
-    requires input { IsFalse input.old.failed }
-    requires output { IsFalse output.old.failed }
-    requires errors { IsFalse errors.old.failed }
-    ensures { (end : End) × TellRuns options.now R.remaining input.old input.new end
-        × IsEnd W.contents E.contents output.old output.new errors.old errors.new result end }
-{
-    match tell(alloc, input, output, options) {
-        Ok(told) => done_with(output, errors, Decoding.status_of(told.end), told.hint),
-        Err(fault) => refuse_text(errors, &fault),
-    }
-}
-
-// Says why a text is refused.
-fn refuse_text<E: Write>(errors: &mut Sink<E>, fault: &TextFault) -> u8
+// Says why a text wasn't written whole.
+fn refuse_text<E: Write>(errors: &mut Sink<E>, refusal: &Unwritten) -> u8
     requires { IsFalse errors.old.failed }
     ensures status { result ≡ 1 }
-    ensures said { Says E.contents errors.old errors.new (refusal_line (text_refusal fault.now)) }
+    ensures said { Says E.contents errors.old errors.new (refusal_line (unwritten_words refusal.now)) }
 {
-    say_fault(errors, NAME, fault);
+    match refusal {
+        Unwritten::Refused(fault) => say_fault(errors, NAME, fault),
+        Unwritten::TooLong => say_too_long(errors),
+    }
     1
+}
+
+// Says that a trace is too long, and what reads it.
+fn say_too_long<E: Write>(errors: &mut Sink<E>)
+    requires { IsFalse errors.old.failed }
+    ensures { Says E.contents errors.old errors.new (refusal_line (unwritten_words Unwritten.TooLong)) }
+{
+    say_pieces(
+        errors,
+        &[
+            NAME.as_bytes(),
+            b": ",
+            TextFault::TooLong.words().as_bytes(),
+            b"\n",
+            NAME.as_bytes(),
+            b": ",
+            b"--long reads on",
+            b"\n",
+        ],
+    );
 }
 
 // The status of a run whose text was written whole: as wanted, once the writer handed the text on.
@@ -287,6 +261,11 @@ fn say_hint<E: Write>(errors: &mut Sink<E>, hint: Hint)
             errors,
             NAME,
             "no line is a good packet: where lines begin with times, give --times",
+        ),
+        Hint::NoPec => say(
+            errors,
+            NAME,
+            "no line is a good packet: where packets have no PEC, give --all",
         ),
     }
 }

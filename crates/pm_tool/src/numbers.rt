@@ -34,7 +34,7 @@ use std::io::Write;
 ///
 /// In this order: not exactly one of word and micro, a bad format, a bad word or micro, N1 or N2
 /// for the parameters of DIRECT, N5, N3 or N4 for the millionths, and X6 or X5. Nothing is written
-/// but at X5, where it is a prefix of the line and not all of it.
+/// but at X5: then it is a prefix of the line and not all of it.
 pub fn number<W: Write>(
     alloc: Global,
     writer: &mut Sink<W>,
@@ -47,13 +47,13 @@ pub fn number<W: Write>(
         × IsNumberText (asked_by format.entry word.entry micro.entry) text
         × Appends (W.contents writer.old.inner) (W.contents writer.new.inner) text) }
 
-    // The faults of the command line, and those of the numbers, come exactly where they are found.
+    // The faults of the command line, and those of the numbers, come exactly if they are found.
     ensures command_line { (fault : NumberFault) → IsCommandLineFault fault → IsErrOf result fault
         ↔ (asked_by format.entry word.entry micro.entry ≡ Err fault) }
     ensures numbers { (fault : NumFault) → IsErrOf result (NumberFault.Num fault)
         ↔ RefusesNumber (asked_by format.entry word.entry micro.entry) fault }
 
-    // X5 comes exactly where the writer failed, and X6 only where there was a line to write.
+    // X5 comes exactly if the writer failed, and X6 only if there was a line to write.
     ensures write { IsErrOf result (NumberFault.Text TextFault.Write) ↔ IsTrue writer.new.failed }
     ensures cut_short { IsErrOf result (NumberFault.Text TextFault.Write) → (text : List ℕ)
         × IsNumberText (asked_by format.entry word.entry micro.entry) text

@@ -1,5 +1,5 @@
-//! What a program says on standard error, and the status with which it then ends. Where that fails too, the
-//! status alone tells. Nothing here takes memory, and none of the writers may have failed before.
+//! What a program says on standard error, and the status with which it then ends. If that fails too, only
+//! the status says it. Nothing here takes memory, and none of the writers may have failed before.
 ghost use Rattle.std.specs.Prelude.{◌≡◌, IsFalse};
 ghost use Rattle.pm_lines.specs.Faults.{fault_words};
 ghost use Rattle.pm_lines.specs.declared.fault.TextFault.TheVariants.{Memory};

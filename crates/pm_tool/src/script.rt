@@ -30,16 +30,16 @@ use std::io::{Read, Write};
 /// Reads a text, lets a fresh converter of the base configuration hear its frames, and writes a line
 /// for each answer and then each output's word of VOUT_COMMAND.
 ///
-/// A line of the text is a frame in hexadecimal, which a stop ends; a frame and `/`, where a
+/// A line of the text is a frame in hexadecimal, which a stop ends; a frame and `/`, if a
 /// repeated start follows it; or `restart`, at which the converter starts again. The whole text is
 /// read and checked before anything is written. Neither stream may have failed before. Takes memory
 /// for the text, for the bytes of the longest frame and for the lines of the answers, as these grow.
 ///
 /// # Errors
 ///
-/// X3 where the text has more than 1,048,576 bytes; X4 where the reader failed; X1 or X2 for the
-/// text's first faulty line; X5 where the writer failed, and then only a prefix of the text is
-/// written; X6 where memory was refused. On any other refusal than X5 nothing was written.
+/// X3 if the text has more than 1,048,576 bytes; X4 if the reader failed; X1 or X2 for the
+/// text's first faulty line; X5 if the writer failed, and then only a prefix of the text is
+/// written; X6 if memory was refused. On any other refusal than X5 nothing was written.
 pub fn hear<R: Read, W: Write>(
     alloc: Global,
     reader: &mut Source<R>,

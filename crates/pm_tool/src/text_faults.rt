@@ -20,7 +20,7 @@ pub fn say_fault<E: Write>(errors: &mut Sink<E>, program: &'static str, fault: &
     }
 }
 
-// Says a refusal as the one line `PROGRAM: WORDS`, with ` line N` after the words where the refusal has
+// Says a refusal as the one line `PROGRAM: WORDS`, with ` line N` after the words if the refusal has
 // a line.
 fn say_line<E: Write>(
     errors: &mut Sink<E>,
@@ -76,7 +76,7 @@ fn say_host<E: Write>(errors: &mut Sink<E>, program: &'static str, fault: HostFa
 }
 
 // Says why the converter's configuration is none: the words, and then the output and the detail,
-// where there are such.
+// if there are such.
 fn say_config<E: Write>(errors: &mut Sink<E>, program: &'static str, fault: ConfigFault)
     requires { IsFalse errors.old.failed }
     ensures { Says E.contents errors.old errors.new
@@ -112,7 +112,7 @@ fn say_config<E: Write>(errors: &mut Sink<E>, program: &'static str, fault: Conf
     };
 }
 
-// A text and the space before it, where there is a text.
+// A text and the space before it, if there is a text.
 fn spaced(text: Option<&'static str>) -> (&'static str, &'static str)
     ensures { result.0.now ++ result.1.now
         ≡ option_map_or (λ t. codes " " ++ t) (option_map (λ t. t.now) text.entry) [] }

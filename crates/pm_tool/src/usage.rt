@@ -34,7 +34,7 @@ pub fn usage_of(alloc: Global, error: &clap::Error) -> Usage
     }
 }
 
-// The parser's text, which ends its line; None where memory for it was refused, so that nothing of it is seen.
+// The parser's text, which ends its line; None if memory for it was refused, so that nothing of it is seen.
 fn text_of(alloc: Global, error: &clap::Error) -> Option<String>
     ensures { IfSome result (λ text. IsSaid (string_bytes text)) }
 {

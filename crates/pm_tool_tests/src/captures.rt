@@ -1,31 +1,18 @@
-//! What captures are told as, written out by hand.
+//! What captures are shown as, written out by hand.
 
 use crate::checks::equal;
 use pm_decode::{TellEnd, TellOptions, tell};
 use pm_lines::{Sink, Source, TextFault};
-use pm_values::GivenFormats;
 use std::alloc::Global;
 use std::process::Abort;
 
-// How a row is told: nothing beside the packets.
-const PLAIN: TellOptions = TellOptions {
-    values: false,
-    formats: GivenFormats {
-        vout: [None; 8],
-        readings: [None; 8],
-    },
-    all: false,
-    long: false,
-    times: false,
-    json: false,
-    pages: false,
-    gap: 0,
-};
-
-const VALUES: TellOptions = TellOptions {
-    values: true,
-    ..PLAIN
-};
+// Packets are shown with what they mean.
+fn values() -> TellOptions {
+    TellOptions {
+        values: true,
+        ..TellOptions::none()
+    }
+}
 
 // What is written of a capture, and how it ends.
 fn told(
@@ -39,7 +26,7 @@ fn told(
     (end, writer.into_inner())
 }
 
-// Rows of captures and their texts, told with these options.
+// Rows of captures and their texts, shown with these options.
 fn are_told(rt: &(impl Abort + AllocGlobal), rows: &[(&str, &str)], options: &TellOptions) {
     for (row, (capture, text)) in rows.iter().enumerate() {
         let (_, written) = told(rt.alloc(), capture, options);
@@ -57,7 +44,7 @@ static PACKETS: [(&str, &str); 2] = [
 
 #[test]
 fn without_an_option_packets_are_told_as_before(rt: HostRuntime) {
-    are_told(&rt, &PACKETS, &PLAIN);
+    are_told(&rt, &PACKETS, &TellOptions::none());
 }
 
 static MEANINGS: [(&str, &str); 9] = [
@@ -101,7 +88,7 @@ static MEANINGS: [(&str, &str); 9] = [
 
 #[test]
 fn each_kind_of_value_stands_behind_its_packet(rt: HostRuntime) {
-    are_told(&rt, &MEANINGS, &VALUES);
+    are_told(&rt, &MEANINGS, &values());
 }
 
 static OTHERS: [(&str, &str); 2] = [
@@ -114,7 +101,14 @@ static OTHERS: [(&str, &str); 2] = [
 
 #[test]
 fn packets_of_other_codes_are_told_by_their_bytes(rt: HostRuntime) {
-    are_told(&rt, &OTHERS, &TellOptions { all: true, ..PLAIN });
+    are_told(
+        &rt,
+        &OTHERS,
+        &TellOptions {
+            all: true,
+            ..TellOptions::none()
+        },
+    );
 }
 
 static TIMES: [(&str, &str); 1] = [(
@@ -129,7 +123,7 @@ fn each_line_begins_with_its_time(rt: HostRuntime) {
         &TIMES,
         &TellOptions {
             times: true,
-            ..PLAIN
+            ..TellOptions::none()
         },
     );
 }
@@ -169,7 +163,7 @@ fn each_line_is_an_object_of_json(rt: HostRuntime) {
         &TellOptions {
             all: true,
             json: true,
-            ..VALUES
+            ..values()
         },
     );
 }
@@ -196,7 +190,7 @@ fn a_plain_packet_is_told_with_the_output_that_it_reaches(rt: HostRuntime) {
         &PAGES,
         &TellOptions {
             pages: true,
-            ..VALUES
+            ..values()
         },
     );
 }
@@ -226,7 +220,7 @@ fn behind_a_pause_a_page_is_not_known(rt: HostRuntime) {
             json: true,
             pages: true,
             gap: 2000,
-            ..PLAIN
+            ..TellOptions::none()
         },
     );
 }

@@ -1,13 +1,34 @@
-//! The examples of the roots of `pm_values`, `pm_decode` and `pm_tool`, word for word.
+//! The examples of the roots of `pm_values`, `pm_packets`, `pm_capture`, `pm_json`, `pm_decode` and `pm_tool`, word for word.
 
 use crate::checks::equal;
+use pm_capture::TimedLine;
 use pm_decode::{TellOptions, tell};
+use pm_json::push_number_field;
+use pm_packets::{Ones, Otherwise, Packet, push_otherwise};
 use pm_test_streams::{blank_paper, in_pieces};
 use pm_tool::{Sink, Source, TextFault, run};
-use pm_values::{Ones, Otherwise, Packet, push_otherwise};
+use pm_values::{other_value, push_known};
 use std::alloc::{AllocError, Global};
 use std::io::{Read, Write};
 use std::test::Fail;
+
+fn input_faults(alloc: Global, byte: u8) -> Result<String, AllocError> {
+    let mut text = String::new(alloc);
+    push_known(&mut text, other_value(0x7C, &[byte]))?;
+    Ok(text)
+}
+
+fn time_of(line: &[u8]) -> Option<u64> {
+    let mut open = TimedLine::new(true);
+    open.take_line(line);
+    open.reading().time
+}
+
+fn bad_lines(alloc: Global, count: u64) -> Result<String, AllocError> {
+    let mut text = String::new(alloc);
+    push_number_field(&mut text, "bad", count)?;
+    Ok(text)
+}
 
 fn told_by_bytes(alloc: Global, write: &[u8]) -> Result<String, AllocError> {
     let mut text = String::new(alloc);
@@ -46,8 +67,13 @@ fn number<W: Write + Drop, E: Write + Drop>(alloc: Global, output: W, errors: E)
 
 #[test]
 fn the_examples_of_the_roots_run(rt: HostRuntime) -> Result<(), Fail> {
-    let packet = told_by_bytes(rt.alloc(), &[0xB0, 0xD4, 0x01, 0x02])?;
-    equal(&rt, &packet.as_str(), &"58 code D4 write 01 02, no PEC", &1);
+    let packet = told_by_bytes(rt.alloc(), &[0xB0, 0xFD, 0x01, 0x02])?;
+    equal(&rt, &packet.as_str(), &"58 code FD write 01 02, no PEC", &1);
+    let faults = input_faults(rt.alloc(), 0x10)?;
+    equal(&rt, &faults.as_str(), &" VIN_UV_FAULT", &5);
+    equal(&rt, &time_of(b"1250 B0 03 46"), &Some(1250), &6);
+    let field = bad_lines(rt.alloc(), 0)?;
+    equal(&rt, &field.as_str(), &",\"bad\":0", &7);
 
     let trace = b"B0 06 02 00 20 / B1 01 14 4E\nB0 05 04 00 21 CD 34 5A\n";
     let said =

@@ -16,11 +16,11 @@ use std::process::Abort;
 use std::test::Fail;
 use values::VALUES;
 
-/// The words, the status, and the lines that are read, with what is told of each behind ` -> `; a line without that is told
-/// at the end, or on standard error where it begins with `? `.
+/// The words, the status, and the lines that are read, with what is shown of each after ` -> `; a line without that is shown
+/// at the end, or on standard error if it begins with `? `.
 pub(super) type Row = (&'static [&'static str], u8, &'static str);
 
-/// What a row has read, what it has told, and what it has said on standard error.
+/// What a row has read, what it has shown, and what it has said on standard error.
 #[derive(Drop)]
 struct Texts {
     read: String,
@@ -29,7 +29,7 @@ struct Texts {
 }
 
 impl Texts {
-    // One more line of a row. What is told of it begins with its number, but for an object of JSON, which has it inside.
+    // One more line of a row. What is shown of it begins with its number, but for an object of JSON, which has it inside.
     fn add(&mut self, alloc: Global, number: usize, line: &str) -> Result<(), AllocError> {
         if let Some(words) = line.strip_prefix("? ") {
             self.said.push_str("pmb: ")?;
@@ -65,7 +65,7 @@ fn texts_of(alloc: Global, lines: &str) -> Result<Texts, AllocError> {
     Ok(texts)
 }
 
-// Each line of these rows is told as it says.
+// Each line of these rows is shown as it says.
 fn are_told(rt: &(impl Abort + AllocGlobal), rows: &[Row]) -> Result<(), Fail> {
     for &(words, status, lines) in rows {
         let texts = texts_of(rt.alloc(), lines)?;

@@ -1,10 +1,10 @@
-//! What `decode` with options says of a trace that was told whole, where something may be wrong.
+//! What `decode` with options says of a trace that was shown whole, if something may be wrong.
 
 use crate::checks::is_true;
 use crate::run::run_on;
 
 /// The words, what is read, the status, what is printed and what is said.
-static HINTS: [(&[&str], &str, u8, &str, &str); 11] = [
+static HINTS: [(&[&str], &str, u8, &str, &str); 17] = [
     // The first order beyond 1000 V is named.
     (
         &["pmb", "decode", "--values", "--vout=ulinear16:0"],
@@ -44,7 +44,7 @@ static HINTS: [(&[&str], &str, u8, &str, &str); 11] = [
         "1 58 PAGE write 01\n2 58 page 1? VOUT_MODE read 00 ULINEAR16 0\n3 58 page 1? VOUT_COMMAND write 03E9 1001 V\n4 58 PAGE write 00\n5 58 page 0? VOUT_COMMAND write 03E9 1001 V\ncount PAGE 2\ncount VOUT_MODE 1\ncount VOUT_COMMAND 2\nlines 5 accepted 5 faults 0 bad 0\n",
         "pmb: line 5 orders a voltage beyond 1000 V by --vout: a minus may be missing\n",
     ),
-    // Times at one end alone. Where a packet was read, nothing is said.
+    // Times at one end only. If a packet was read, nothing is said.
     (
         &["pmb", "decode", "--times"],
         "B0 05 04 00 21 CD 34 5A\n",
@@ -79,6 +79,51 @@ static HINTS: [(&[&str], &str, u8, &str, &str); 11] = [
         1,
         "1 X2 BadHex\n2 58 code D0 write 01, no PEC\ncount code D0 1\nlines 2 accepted 0 other 1 faults 0 bad 1\n",
         "",
+    ),
+    // Each packet lacks nothing but its PEC.
+    (
+        &["pmb", "decode", "--values"],
+        "B0 21 CD 34\nB0 88 / B1 00 D3\n",
+        0,
+        "1 58 write F2 Short 4 bytes B0 21 CD 34\n2 58 read F2 Short 3 bytes B0 88 / B1 00 D3\nlines 2 accepted 0 faults 2 bad 0\n",
+        "pmb: no line is a good packet: where packets have no PEC, give --all\n",
+    ),
+    (
+        &["pmb", "decode", "--times"],
+        "7 B0 21 CD 34\nB0 03 46\n",
+        1,
+        "1 7 us 58 write F2 Short 4\n2 X1 Syntax\nlines 2 accepted 0 faults 1 bad 1\n",
+        "pmb: no line is a good packet: where packets have no PEC, give --all\n",
+    ),
+    // One of them is good, has another fault, or is too short for more than its PEC.
+    (
+        &["pmb", "decode", "--values"],
+        "B0 21 CD 34\nB0 03 46\n",
+        0,
+        "1 58 write F2 Short 4 bytes B0 21 CD 34\n2 58 CLEAR_FAULTS send\ncount CLEAR_FAULTS 1\nlines 2 accepted 1 faults 1 bad 0\n",
+        "",
+    ),
+    (
+        &["pmb", "decode", "--pages"],
+        "B0 03 00\nB0 21 CD 34\n",
+        0,
+        "1 58 write F5 WrongPec 2\n2 58 write F2 Short 4\nlines 2 accepted 0 faults 2 bad 0\n",
+        "",
+    ),
+    (
+        &["pmb", "decode", "--values"],
+        "B0 21 CD\nB0 21 CD 34\n",
+        0,
+        "1 58 write F2 Short 3 bytes B0 21 CD\n2 58 write F2 Short 4 bytes B0 21 CD 34\nlines 2 accepted 0 faults 2 bad 0\n",
+        "",
+    ),
+    // A bad line says first that lines may begin with times.
+    (
+        &["pmb", "decode", "--values"],
+        "B0 21 CD 34\nB0 9\n",
+        1,
+        "1 58 write F2 Short 4 bytes B0 21 CD 34\n2 X2 BadHex\nlines 2 accepted 0 faults 1 bad 1\n",
+        "pmb: no line is a good packet: where lines begin with times, give --times\n",
     ),
     (
         &["pmb", "decode", "--long"],

@@ -1,14 +1,17 @@
-//! A caller for each law of values and captures: a function that has what the law says.
+//! A caller for each law of values, captures and numbers: a function that has what the law says.
 
-ghost use Rattle.std.specs.Prelude.{◌≡◌, ◌<◌, ℕ, Bool};
+ghost use Rattle.std.specs.Prelude.{◌≡◌, ◌<◌, ℕ, Bool, List, Ok};
 ghost use Rattle.pm_num.specs.Ratio.{IsMicroFloor};
 ghost use Rattle.pm_values.specs.declared.formats.GivenFormats.{GivenFormats};
 ghost use Rattle.pm_decode.specs.CaptureText.{capture_text};
-ghost use Rattle.pm_decode.specs.Laws.{plain_options};
+ghost use Rattle.pm_capture.specs.Options.{plain_options};
 ghost use Rattle.pm_trace.specs.TraceText.{trace_text};
+ghost use Rattle.pm_tool.specs.declared.numbers.question.Question.{Question};
+ghost use Rattle.pm_tool.specs.NumberText.{IsFormat, IsNumberText};
 
 use pm_decode::plain_captures_are_traces;
 use pm_num::Frac;
+use pm_tool::number_has_one_text;
 use pm_values::{microvolts_are_the_floor, millionths};
 
 /// The microvolts that are shown of a voltage are the most whole ones that aren't above it.
@@ -19,10 +22,18 @@ pub fn microvolts_of(voltage: Frac) -> i128
     millionths(voltage)
 }
 
-/// A capture that is told without options is told as a trace.
+/// A capture that is shown without options is shown as a trace.
 pub fn a_capture_without_options(text: &[u8])
     ensures { (formats : GivenFormats) (long : Bool) (gap : ℕ) →
         capture_text (plain_options formats long gap) text.now ≡ trace_text text.now }
 {
     plain_captures_are_traces();
+}
+
+/// Two runs of `number` that are asked the same print the same line.
+pub fn one_question_has_one_line()
+    ensures { (asked : Question) → IsFormat asked.format → (first second : List ℕ) →
+        IsNumberText (Ok asked) first → IsNumberText (Ok asked) second → first ≡ second }
+{
+    number_has_one_text();
 }

@@ -1,4 +1,4 @@
-//! The calls of a command that take memory, where it is refused: want of memory or the right answer, and nothing else.
+//! The calls of a command that take memory, which is refused: want of memory or the right answer, and nothing else.
 //! Each test holds with ample memory too, and whichever allocation is refused: `rt try --test --fail-alloc N`.
 
 use crate::checks::{equal, is_true};
@@ -7,7 +7,7 @@ use pm_test_streams::Sheet;
 use pm_tool::{Chosen, NumberFault, Sink, TextFault, chosen, number};
 use std::process::Abort;
 
-// A number's line is written whole, or memory was wanted.
+// A number's line is written whole, or memory was lacking.
 fn expect_number(
     rt: &(impl Abort + AllocGlobal),
     format: &str,
@@ -42,7 +42,7 @@ fn a_number_is_written_whole_or_wants_memory(rt: HostRuntime) {
     );
 }
 
-// The words choose this, or are refused so, or memory was wanted.
+// The words choose this, or are refused like this, or memory was lacking.
 fn expect_chosen<'a>(
     rt: &(impl Abort + AllocGlobal),
     words: &'a [&'a str],

@@ -98,7 +98,7 @@ static ENDS: [(&[&[u8]], u8, &str, &str); 7] = [
         "",
         "pmb: give one of --word and --micro\n",
     ),
-    // Arguments that are no text are told apart from want of memory, which has status 1.
+    // Arguments that are no text aren't taken for want of memory, which has status 1.
     (&[b"pmb", b"h\xFFar"], 2, "", "pmb: bad arguments\n"),
     (&[b"\x80", b"hear"], 2, "", "pmb: bad arguments\n"),
 ];

@@ -132,20 +132,19 @@ fn every_status_of_number_has_its_texts(rt: HostRuntime) {
 // A run over such a reader ends with these words on standard error, after so many calls.
 fn ends_reading(
     rt: &(impl Abort + AllocGlobal),
-    command: &str,
+    words: &[&str],
     reader: Pieces<'_>,
     errors: &str,
 ) -> usize {
     let mut input = Source::new(reader);
-    let words = ["pmb", command];
     let found = run_with(
         rt.alloc(),
-        Ok(&words),
+        Ok(words),
         &mut input,
         blank_paper(rt.alloc(), 1),
         blank_paper(rt.alloc(), 1),
     );
-    is_true(rt, found.is(1, "", errors), &command);
+    is_true(rt, found.is(1, "", errors), &words);
     input.into_inner().calls
 }
 
@@ -154,7 +153,7 @@ fn ends_at_read(rt: &(impl Abort + AllocGlobal), command: &str, fails_at: usize)
         fails_at,
         ..in_pieces(FRAME.as_bytes(), 7)
     };
-    let calls = ends_reading(rt, command, reader, "pmb: X4 Read\n");
+    let calls = ends_reading(rt, &["pmb", command], reader, "pmb: X4 Read\n");
     equal(rt, &calls, &fails_at, &command);
 }
 
@@ -165,8 +164,12 @@ fn a_failed_reader_and_a_long_text_are_told(rt: HostRuntime) -> Result<(), Fail>
         for fails_at in 1..=5 {
             ends_at_read(&rt, command, fails_at);
         }
-        ends_reading(&rt, command, in_pieces(&long, 4096), "pmb: X3 TooLong\n");
+        let words = ["pmb", command];
+        ends_reading(&rt, &words, in_pieces(&long, 4096), "pmb: X3 TooLong\n");
     }
+    let words = ["pmb", "decode", "--values"];
+    let errors = "pmb: X3 TooLong\npmb: --long reads on\n";
+    ends_reading(&rt, &words, in_pieces(&long, 4096), errors);
     for fails_at in 1..=5 {
         ends_at_read(&rt, "check", fails_at);
     }
@@ -185,7 +188,7 @@ fn run_into(alloc: Global, words: &[&str], output: Paper) -> Ran {
     )
 }
 
-// An output that fails at this call has a front of the text, and the failure is told.
+// An output that fails at this call has a front of the text, and the failure is said.
 fn ends_at_write(
     rt: &(impl Abort + AllocGlobal),
     words: &[&str],
@@ -308,7 +311,7 @@ fn what_is_printed_is_handed_on_once_whatever_the_status(rt: HostRuntime) {
     is_handed_on(&rt, "decode", TRACE, 1, (LINES, ""));
 }
 
-// What is printed is flushed once, and a flush that fails is told.
+// What is printed is flushed once, and a flush that fails is said.
 fn is_handed_on(
     rt: &(impl Abort + AllocGlobal),
     command: &str,

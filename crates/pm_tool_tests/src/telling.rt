@@ -38,7 +38,7 @@ static TOLD: [(&[&str], &str, u8, &str, &str); 40] = [
         "1 1234 us 58 CLEAR_FAULTS send\n2 5 us 58 code D4 send, no PEC\ncount CLEAR_FAULTS 1\ncount code D4 1\nlines 2 accepted 1 other 1 faults 0 bad 0\n",
         "",
     ),
-    // Each of these flags alone. A time may have zeros before it.
+    // Each of these flags by itself. A time may have zeros before it.
     (
         &["pmb", "decode", "--times"],
         "01234 B0 03 46\n5 B0 D4\n",
@@ -341,7 +341,7 @@ fn options_decide_what_is_told(rt: HostRuntime) {
     }
 }
 
-/// The words, lines of one length, how long they are, and by how many writes they are told: one for each, as soon as it came,
+/// The words, lines of one length, how long they are, and by how many writes they are shown: one for each, as soon as it came,
 /// and one for the counts.
 static LIVE: [(&[&str], &str, usize, usize); 6] = [
     (&["pmb", "decode"], LIVE_LINES, 9, 4),
@@ -372,7 +372,7 @@ fn each_line_is_told_before_the_next_one_is_read(rt: HostRuntime) {
     }
 }
 
-/// Counts of lines that are there at once, and of the writes by which they are told: 16 KiB and what a piece
+/// Counts of lines that are there at once, and of the writes by which they are shown: 16 KiB and what a piece
 /// says at a time, and what is left.
 static GATHERED: [(usize, usize); 2] = [(64, 2), (2000, 4)];
 

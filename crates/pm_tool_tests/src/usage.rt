@@ -3,8 +3,9 @@
 use crate::checks::is_true;
 use crate::run::{run_on, run_with};
 use pm_test_streams::{blank_paper, in_pieces};
-use pm_tool::Source;
+use pm_tool::{Source, chosen};
 use std::process::Abort;
+use std::test::Fail;
 
 static MISSING: &str = "error: 'pmb' requires a subcommand but one was not provided
   [subcommands: hear, replay, decode, check, number]
@@ -161,6 +162,9 @@ static DECODE_HELP: &str = "Tells what the packets of a bus trace say
 Usage: pmb decode [OPTIONS] < TRACE
 
 Options:
+  -h, --help  Print help
+
+Further options:
       --values        Tell what payloads mean, and the bytes of faulty packets
       --vout <F>      The formats of voltages that the trace teaches none of; with --values
       --readings <L>  The formats of READ_VIN, READ_IOUT and READ_TEMPERATURE_1; with --values
@@ -170,7 +174,6 @@ Options:
       --long          Take a trace of more than 1 MiB
       --times         Each line begins with its time in microseconds
       --json          Print each line as an object of JSON
-  -h, --help          Print help
 
 A line is one of
 
@@ -218,8 +221,9 @@ A packet may be faulty; N counts bytes from 0, the address is byte 0:
   F8 Nested N         PAGE_PLUS doesn't carry the code
 
 Status 1 where a line is bad, X1 Syntax or X2 BadHex, or with a line on standard error: X3 TooLong,
-X4 Read, X5 Write, X6 Memory. Status 2: give --vout with --values, bad vout, and the same of
---readings; give --gap with --pages and --times, bad gap.
+X4 Read, X5 Write, X6 Memory. With an option a second line behind X3 says that --long reads on.
+Status 2: give --vout with --values, bad vout, and the same of --readings; give --gap with --pages
+and --times, bad gap.
 ";
 
 static NUMBER_HELP: &str =
@@ -278,6 +282,20 @@ fn help_is_printed(rt: HostRuntime) {
     is_help(&rt, &["pmb", "replay", "--help"], REPLAY_HELP);
     is_help(&rt, &["pmb", "decode", "--help"], DECODE_HELP);
     is_help(&rt, &["pmb", "number", "--help"], NUMBER_HELP);
+}
+
+#[test]
+fn decode_without_options_has_the_help_of_its_options(rt: HostRuntime) -> Result<(), Fail> {
+    let words = ["pmb", "decode", "--help"];
+    match chosen(rt.alloc(), &words) {
+        Ok(_) => is_true(&rt, false, &1),
+        Err(help) => {
+            let text = format!(in rt.alloc(); "{help}")?;
+            is_true(&rt, DECODE_HELP.starts_with(text.as_str()), &2);
+            is_true(&rt, text.len() + 1 >= DECODE_HELP.len(), &3);
+        }
+    }
+    Ok(())
 }
 
 #[test]

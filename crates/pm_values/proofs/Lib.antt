@@ -1,2 +1,2 @@
-pub mod LetterLemmas
+pub mod ModeLemmas
 pub mod ValueLemmas

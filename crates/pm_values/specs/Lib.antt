@@ -1,10 +1,6 @@
 -- What the crate promises.
-pub mod Answers
-pub mod CodeNames
-pub mod Contents
 pub mod Laws
 pub mod Modes
-pub mod Otherwise
 pub mod Statuses
 pub mod Taught
 pub mod Values

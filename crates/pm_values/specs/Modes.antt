@@ -30,25 +30,25 @@ key_of addr number = addr * 256 + number
 abbrev pub is_restore : ℕ → Bool
 is_restore code = code == command.restore_user_all || (code == 0x12 || (code == 0x14 || code == 0x18))
 
--- a write of VOUT_MODE to a page: FFh is all of them, and so is one that isn't known
+-- a write of VOUT_MODE to a page: FFh, and one that isn't known, are all of them
 abbrev pub mode_change : Option ℕ → ModeChange
 mode_change None = OfAll
 mode_change (Some page) = if page == 0xFF then OfAll else OfOutput page
 
--- what a code that is written changes, at a page if that is known; `has_data` is whether a byte stands behind the code
+-- what a code that is written changes, at a page if that is known; `has_data` is whether a byte follows the code
 abbrev pub code_change : Option ℕ → ℕ → Bool → ModeChange
 code_change page code has_data = if is_restore code then OfAll
     else (if code == command.vout_mode && has_data then mode_change page else OfNone)
 
--- What a write part changes, by its bytes alone, whatever fault it has: the code that PAGE_PLUS_WRITE carries, or its own.
--- `page` is the one that plain packets reach, where that is sure.
+-- What a write part changes, by nothing but its bytes, whatever fault it has: the code that PAGE_PLUS_WRITE carries, or its own.
+-- `page` is the one that plain packets reach, if that is sure.
 abbrev pub written_change : Option ℕ → List ℕ → ModeChange
 written_change page (addr ∷ code ∷ rest) = if code == command.page_plus_write
     then code_change (Some (slice_index rest 1)) (slice_index rest 2) (nat_lt 3 (length rest))
     else code_change page code (nat_lt 0 (length rest))
 written_change page _ = OfNone
 
--- the modes that a packet may change: none where it has a read part
+-- the modes that a packet may change: none if it has a read part
 abbrev pub change_of : List ℕ → Bool → Option ℕ → ModeChange
 change_of write is_read page = if is_read then OfNone else written_change page write
 
@@ -59,7 +59,7 @@ is_paging write = nat_le 2 (length write) && (slice_index write 1 == command.pag
 
 -- ---- what a line says
 
--- a mode that a line says, or that isn't known any more behind it
+-- a mode that a line says, or that isn't known any more after it
 abbrev pub said_in : ℕ → Option ℕ → ModeLine
 said_in line byte = record { byte = byte; line = line }
 
@@ -68,7 +68,7 @@ abbrev pub output_said : ℕ → ℕ → ℕ → Option ℕ → Modes → Modes
 output_said line addr page byte modes =
     record modes { said = insert_entry nat_eq modes.said (key_of addr page) (said_in line byte) }
 
--- the plain mode of an address, behind what is known of that
+-- the plain mode of an address, after what is known of that
 abbrev pub plain_over : Option (Option ModeLine) → ModeLine → Option ModeLine
 plain_over (Some None) said = None
 plain_over (Some (Some before)) said = Some said
@@ -134,7 +134,7 @@ agreed_from addr changed agreed entries = fold (entry_agreed addr changed) agree
 abbrev pub agreed_mode : Modes → ℕ → Option (Option ℕ)
 agreed_mode modes addr = agreed_from addr (changed_at modes addr) None modes.said
 
--- what is known of a plain packet's mode whose output isn't known: that of the last plain read, where the address has no pages, or
+-- what is known of a plain packet's mode whose output isn't known: that of the last plain read, if the address has no pages, or
 -- what its outputs agree on
 abbrev pub plain_or : Option (Option ModeLine) → Option ℕ → Option (Option ℕ) → Option (Option ℕ)
 plain_or (Some (Some said)) changed agreed = Some (mode_since changed said)
@@ -144,7 +144,7 @@ plain_or None changed agreed = agreed
 abbrev pub unpaged_mode : Modes → ℕ → Option (Option ℕ)
 unpaged_mode modes addr = plain_or (lookup (nat_eq addr) modes.plain) (changed_at modes addr) (agreed_mode modes addr)
 
--- what is known of the mode of a packet that reaches this page, where it is known; FFh is all of them
+-- what is known of the mode of a packet that reaches this page, if anything is; FFh is all of them
 abbrev pub page_mode : Modes → ℕ → Option ℕ → Option (Option ℕ)
 page_mode modes addr None = unpaged_mode modes addr
 page_mode modes addr (Some page) =

@@ -1,4 +1,4 @@
--- The bits of the status registers by name (PMBus 1.3 Part II), each as the number that has this bit alone, and the
+-- The bits of the status registers by name (PMBus 1.3 Part II), each as the number that has only this bit, and the
 -- names of those that are set. How a reserved bit is named is this project's own choice.
 use Rattle.std.specs.Prelude.{ℕ, Bool, false, ◌==◌, if◌then◌else◌, List, [], ◌∷◌, ◌++◌, codes, bit_and}
 use Rattle.pm_values.specs.declared.status.Status.{Status}

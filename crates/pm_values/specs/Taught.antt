@@ -71,7 +71,7 @@ abbrev pub coefficients_taught : Taught → ℕ → ℕ → ℕ → List ℕ →
 coefficients_taught taught addr code side answer = if is_voltage code
     then side_taught taught side (key_of addr code) (coefficients_of answer) else taught
 
--- a good answer to a request; `reached` is the output that a plain packet reaches, where it is known
+-- a good answer to a request; `reached` is the output that a plain packet reaches, if it is known
 abbrev pub answer_taught : ℕ → Taught → ℕ → Option ℕ → Message → List ℕ → Taught
 answer_taught line taught addr reached (PagePlusRead page code) answer = mode_taught line
     (linear_taught taught addr code (slice_index answer 0)) addr (Some page) code (slice_index answer 0)
@@ -83,7 +83,7 @@ answer_taught line taught addr reached (WriteByte code byte) answer = taught
 answer_taught line taught addr reached (WriteWord code word) answer = taught
 answer_taught line taught addr reached (PagePlusWrite page code payload) answer = taught
 
--- what is known behind a line: a write teaches nothing
+-- what is known after a line: a write teaches nothing
 abbrev pub taught_by : ℕ → Option ℕ → Taught → Judged → Taught
 taught_by line reached taught (Accepted addr message None) = taught
 taught_by line reached taught (Accepted addr message (Some answer)) = answer_taught line taught addr reached message answer
@@ -103,7 +103,7 @@ abbrev pub paged_if : Bool → Option ℕ → Taught → Taught
 paged_if is None taught = taught
 paged_if is (Some addr) taught = if is then paged_at addr taught else taught
 
--- behind a packet at an address, if it has one, by its write part
+-- what is known after a packet at an address, if it has one, by its write part
 abbrev pub paged_by : Option ℕ → List ℕ → Taught → Taught
 paged_by addr write taught = paged_if (is_paging write) addr taught
 
@@ -144,26 +144,26 @@ abbrev pub shape_of_byte : Option Shape → ℕ → ℕ → Option Coefficients 
 shape_of_byte given code byte coefficients =
     if is_relative byte then relative_shape given code byte else shape_by given (mode_of byte) coefficients
 
--- the format that was given holds where the trace taught no mode, and none where the mode may have changed
+-- the format that was given holds if the trace taught no mode; no format holds if the mode may have changed
 abbrev pub shape_of_mode : Option Shape → ℕ → Option (Option ℕ) → Option Coefficients → Option Shape
 shape_of_mode given code None coefficients = given
 shape_of_mode given code (Some None) coefficients = None
 shape_of_mode given code (Some (Some byte)) coefficients = shape_of_byte given code byte coefficients
 
--- the coefficients of a code of an address, by its key: those of the packet's own side, or where it was taught none of the other
+-- the coefficients of a code of an address, by its key: those of the packet's own side, or of the other if its own wasn't taught
 abbrev pub coefficients_known : Taught → Bool → ℕ → Option Coefficients
 coefficients_known taught is_read key =
     if is_read then option_or (lookup (nat_eq key) taught.to_read) (lookup (nat_eq key) taught.to_write)
     else option_or (lookup (nat_eq key) taught.to_write) (lookup (nat_eq key) taught.to_read)
 
--- the format of a voltage, where it is known
+-- the format of a voltage, if it is known
 abbrev pub voltage_shape : Option Shape → Taught → Asked → Option Shape
 voltage_shape given taught asked = shape_of_mode given asked.code (page_mode taught.modes asked.addr asked.page)
     (coefficients_known taught asked.is_read (key_of asked.addr asked.code))
 
 -- ---- the formats that are given
 
--- what is named, or each where nothing is
+-- whether a number is the one that is named; each is if none is named
 abbrev pub is_met : Option ℕ → ℕ → Bool
 is_met None number = true
 is_met (Some wanted) number = wanted == number
@@ -177,7 +177,7 @@ format_given (Some entry ∷ entries) addr code = if is_met entry.addr addr && i
 
 -- ---- the format of a reading
 
--- LINEAR11 where a mode of ULINEAR16 was seen
+-- LINEAR11 if a mode of ULINEAR16 was seen
 abbrev pub linear_if : Option Bool → Option Shape
 linear_if None = None
 linear_if (Some seen) = Some InLinear11

@@ -1,4 +1,4 @@
--- Values as they are told to a person. The forms are this project's own choice.
+-- Values as they are shown to a person. The forms are this project's own choice.
 use Rattle.std.specs.Prelude.{ℕ, ℤ, pos, negsuc, zero, suc, ◌+◌, ◌*◌, ◌/◌, ◌%◌, true, false, ◌||◌, ◌==◌, bit_and, if◌then◌else◌, List, [], ◌++◌, codes, decimal, Option, Some, None}
 use Rattle.std.specs.Fmt.{signed_decimal}
 use Rattle.pm_table.specs.declared.vout_mode.VoutMode.{VoutMode}
@@ -43,12 +43,12 @@ mode_text Direct = codes "DIRECT"
 unfoldable pub relative_text : ℤ → List ℕ
 relative_text n = codes "ULINEAR16 " ++ (signed_decimal n ++ codes " relative")
 
--- the digits behind the point of so many millionths, fewer than a million: at most this many, and no zero at their end
+-- the digits after the point of so many millionths, fewer than a million: at most this many, and no zero at their end
 abbrev pub places : ℕ → ℕ → List ℕ
 places zero part = []
 places (suc n) part = if part == 0 then [] else decimal (part * 10 / 1000000) ++ places n (part * 10 % 1000000)
 
--- the point, and what is behind it, where that isn't 0
+-- the point and what follows it, if that isn't 0
 abbrev pub point_text : ℕ → List ℕ
 point_text part = if part == 0 then [] else codes "." ++ places 6 part
 
@@ -125,7 +125,7 @@ value_text (Capable byte) = capability_text byte
 value_text (Controls byte) = on_off_text byte
 value_text (Revises byte) = revision_text byte
 
--- behind a packet's text
+-- what follows a packet's text
 abbrev pub known_text : Option Value → List ℕ
 known_text None = []
 known_text (Some value) = codes " " ++ value_text value

@@ -1,4 +1,4 @@
--- What a code's payload means (PMBus 1.3 Part II): which codes are told with a value is this project's own choice.
+-- What a code's payload means (PMBus 1.3 Part II): which codes are shown with a value is this project's own choice.
 use Rattle.std.specs.Prelude.{ℕ, ℤ, pos, ◌+◌, ◌*◌, ◌*ℤ◌, Bool, ◌&&◌, ◌||◌, ◌==◌, ◌/◌, ◌%◌, nat_lt, if◌then◌else◌, List, [], ◌∷◌, slice_index, unwrap_or, is_some, option_map, Option, Some, None}
 use Rattle.std.specs.Option.{option_or}
 use Rattle.std.specs.Result.{result_ok}
@@ -54,12 +54,12 @@ mode_value byte = if is_relative byte then Some (Relative (exponent_of byte))
 abbrev pub revises : ℕ → Option Value
 revises byte = if nat_lt (byte / 16) 4 && nat_lt (byte % 16) 4 then Some (Revises byte) else None
 
--- a number, where its format is known
+-- a number, if its format is known
 abbrev pub measured : Option Shape → ℕ → MeasureUnit → Option Value
 measured None word unit = None
 measured (Some shape) word unit = Some (Measured (shape_value shape word) unit)
 
--- the value of a code's payload, with the format of its word where that is a number
+-- the value of a code's payload, with the format of its word if that is a number
 abbrev pub code_value : Option Shape → ℕ → List ℕ → Option Value
 code_value shape code bytes =
     if is_voltage code then measured shape (word_in bytes) unit.Volt
@@ -81,7 +81,7 @@ code_value shape code bytes =
 abbrev pub carried : Message → Option (List ℕ) → List ℕ
 carried message answer = unwrap_or answer (message_payload message)
 
--- the output of a packet: the one that it names, or that a plain one reaches, where it is known
+-- the output of a packet: the one that it names, or that a plain one reaches, if it is known
 abbrev pub output_of : Option ℕ → Message → Option ℕ
 output_of reached message = option_or (message_page message) reached
 
@@ -94,7 +94,7 @@ asked_by addr reached message answer = record {
   is_read = is_some answer;
 }
 
--- the value of a packet at an address; `reached` is the output that a plain packet reaches, where it is known
+-- the value of a packet at an address; `reached` is the output that a plain packet reaches, if it is known
 abbrev pub packet_value : GivenFormats → Taught → ℕ → Option ℕ → Message → Option (List ℕ) → Option Value
 packet_value given taught addr reached message answer =
     code_value (packet_shape given taught (asked_by addr reached message answer)) (message_code message) (carried message answer)

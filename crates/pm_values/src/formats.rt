@@ -39,7 +39,7 @@ pub(crate) fn format_given(entries: &[Option<GivenFormat>], addr: u8, code: u8) 
     }
 }
 
-// What is named, or each number where nothing is.
+// Whether a number is the one that is named; each is if none is named.
 fn is_met(wanted: Option<u8>, number: u8) -> bool
     ensures { result ≡ spec_is_met wanted number }
 {

@@ -2,6 +2,7 @@
 ghost use Rattle.std.specs.Prelude.{◌≡◌, Some, option_map, slice_index};
 ghost use Rattle.pm_num.specs.AnyFormat.{InUlinear16, shape_of};
 ghost use Rattle.pm_num.specs.Formats.{IsExponent};
+ghost use Rattle.pm_table.specs.Codes as command;
 ghost use Rattle.pm_values.specs.Taught.{format_given as spec_format_given, is_never_relative as spec_is_never_relative, is_reading as spec_is_reading, is_voltage as spec_is_voltage, relative_shape};
 ghost use Rattle.pm_values.specs.Modes.{key_of as spec_key_of};
 
@@ -22,7 +23,7 @@ use std::marker::Model;
 pub(crate) struct Asked {
     /// The address of its packet.
     pub(crate) addr: u8,
-    /// The output that the packet reaches, where it is known.
+    /// The output that the packet reaches, if it is known.
     pub(crate) page: Option<u8>,
     /// The code of the word.
     pub(crate) code: u8,
@@ -81,7 +82,7 @@ impl Lessons {
         self.modes.change(line, addr, change)
     }
 
-    /// Learns that an address has pages, where a packet of PAGE or PAGE_PLUS comes: its plain modes say nothing any more.
+    /// Learns that an address has pages, when a packet of PAGE or PAGE_PLUS comes: its plain modes say nothing any more.
     /// Takes memory for an address that is new.
     pub fn see_pages(&mut self, addr: Option<u8>, write: &[u8]) -> Result<(), AllocError>
         ensures { OnOk result (self.new ≡ paged_by addr write.now self.old) }
@@ -100,7 +101,7 @@ impl Lessons {
     }
 
     /// Learns what the packet of a line says: a good answer to a read of VOUT_MODE, or to COEFFICIENTS of a code that has a
-    /// voltage; every other packet teaches nothing. `reached` is the output that a packet reaches which names none, where
+    /// voltage; every other packet teaches nothing. `reached` is the output that a packet reaches which names none, if
     /// that is known. Takes memory for an output, a code and an address that is new.
     pub fn learn(
         &mut self,
@@ -142,14 +143,20 @@ impl Lessons {
         match packet.view.message() {
             Message::PagePlusRead { page, code } => {
                 self.learn_linear(addr, code, byte)?;
-                self.learn_mode(line, addr, Some(page), code, byte)
+                if Code(code) == Code::VOUT_MODE {
+                    self.learn_mode(line, addr, Some(page), byte)?;
+                }
+                Ok(())
             }
             Message::ReadCoefficients { code, side } => {
                 self.learn_coefficients(addr, code, side, answer)
             }
             Message::ReadCommand { code } => {
                 self.learn_linear(addr, code, byte)?;
-                self.learn_mode(line, addr, packet.reached, code, byte)
+                if Code(code) == Code::VOUT_MODE {
+                    self.learn_mode(line, addr, packet.reached, byte)?;
+                }
+                Ok(())
             }
             _ => Ok(()),
         }
@@ -171,14 +178,10 @@ impl Lessons {
         line: u64,
         addr: u8,
         page: Option<u8>,
-        code: u8,
         byte: u8,
     ) -> Result<(), AllocError>
-        ensures { OnOk result (self.new ≡ mode_taught line self.old addr page code byte) }
+        ensures { OnOk result (self.new ≡ mode_taught line self.old addr page command.vout_mode byte) }
     {
-        if Code(code) != Code::VOUT_MODE {
-            return Ok(());
-        }
         match page {
             Some(page) => self.modes.say(line, addr, page, Some(byte)),
             None => self.modes.say_plain(line, addr, byte),
@@ -282,7 +285,7 @@ impl Lessons {
         }
     }
 
-    // The coefficients of a word: those of its own side, or where it was taught none of the other.
+    // The coefficients of a word: those of its own side, or those of the other side if its own wasn't taught.
     fn coefficients(&self, asked: Asked) -> Option<Coefficients>
         ensures { result ≡ coefficients_known self.now asked.is_read (spec_key_of asked.addr asked.code) }
     {
@@ -300,7 +303,7 @@ impl Lessons {
         }
     }
 
-    // The format of a reading: the one that is given, otherwise LINEAR11 where a mode of ULINEAR16 was seen.
+    // The format of a reading: the one that is given, otherwise LINEAR11 if a mode of ULINEAR16 was seen.
     fn reading_format(&self, given: &GivenFormats, addr: u8, code: u8) -> Option<AnyFormat>
         ensures { option_map shape_of result ≡ reading_shape given.now.readings self.now addr code }
     {
@@ -350,7 +353,7 @@ fn is_never_relative(code: u8) -> bool
         || code == Code::READ_VOUT
 }
 
-// The first byte of an answer, 0 where it has none.
+// The first byte of an answer, 0 if it has none.
 fn byte_in(answer: &[u8]) -> u8
     ensures { result ≡ slice_index answer.now 0 }
 {

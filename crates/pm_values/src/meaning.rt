@@ -18,7 +18,7 @@ use pm_table::{Code, VoutMode};
 pub struct GoodPacket<'a> {
     /// The device's address.
     pub addr: u8,
-    /// The output that it reaches if it names none, where that is known.
+    /// The output that it reaches if it names none, if that is known.
     pub reached: Option<u8>,
     /// What was written, or what was asked for.
     pub view: &'a FrameView<'a>,
@@ -26,8 +26,8 @@ pub struct GoodPacket<'a> {
     pub answer: Option<&'a [u8]>,
 }
 
-/// What a good packet means, by its payload, or by what was answered; `None` where its code is told without a value, or
-/// where no format of its number is known.
+/// What a good packet means, by its payload, or by what was answered; `None` if its code is shown without a value, or
+/// no format of its number is known.
 pub fn packet_value(
     given: &GivenFormats,
     lessons: &Lessons,
@@ -54,7 +54,7 @@ pub fn packet_value(
     }
 }
 
-// The value of a code's payload, with the format of its word where that is a number.
+// The value of a code's payload, with the format of its word if that is a number.
 fn code_value(format: Option<AnyFormat>, code: u8, bytes: &[u8]) -> Option<Value>
     ensures { result ≡ spec_code_value (option_map shape_of format) code bytes.now }
 {
@@ -80,7 +80,7 @@ fn code_value(format: Option<AnyFormat>, code: u8, bytes: &[u8]) -> Option<Value
     }
 }
 
-// A number, where its format is known.
+// A number, if its format is known.
 fn measured(format: Option<AnyFormat>, word: u16, unit: Unit) -> Option<Value>
     ensures { result ≡ spec_measured (option_map shape_of format) word unit }
 {
@@ -169,7 +169,7 @@ fn protection(byte: u8) -> Option<Value>
     }
 }
 
-// The first byte of a payload, 0 where it has none.
+// The first byte of a payload, 0 if it has none.
 fn byte_in(bytes: &[u8]) -> u8
     ensures { result ≡ spec_byte_in bytes.now }
 {

@@ -16,7 +16,7 @@ pub enum ModeChange {
 }
 
 /// The modes that a packet may change by its write part, whatever fault it has: a write of VOUT_MODE, or RESTORE. `page` is
-/// the one that plain packets reach, where that is sure.
+/// the one that plain packets reach, if that is sure.
 pub fn mode_change(write: &[u8], is_read: bool, page: Option<u8>) -> ModeChange
     ensures { result ≡ change_of write.now is_read page }
 {
@@ -34,7 +34,7 @@ pub fn mode_change(write: &[u8], is_read: bool, page: Option<u8>) -> ModeChange
     }
 }
 
-// What a code that is written changes, at a page if that is known; `has_data` is whether a byte stands behind the code.
+// What a code that is written changes, at a page if that is known; `has_data` is whether a byte follows the code.
 fn code_change(page: Option<u8>, code: u8, has_data: bool) -> ModeChange
     ensures { result ≡ spec_code_change page code has_data }
 {

@@ -10,7 +10,7 @@ use std::marker::Model;
 /// What a line said of an output's VOUT_MODE.
 #[derive(Clone, Copy, Debug)]
 pub(crate) struct ModeLine {
-    // Not known where it was written over.
+    // Not known if it was written over.
     byte: Option<u8>,
     line: u64,
 }
@@ -35,7 +35,8 @@ impl Model for Modes {
 }
 
 impl Modes {
-    ghost use Rattle.std.specs.Prelude.{OnOk, Some, None};
+    ghost use Rattle.std.specs.Map.{lookup};
+    ghost use Rattle.std.specs.Prelude.{OnOk, Some, None, nat_eq, true};
     ghost use Rattle.pm_values.specs.Modes.{agreed_mode, all_changed, changed_at, mode_known, modes_changed, no_modes, output_said, page_mode, paged, plain_said, unpaged_mode};
 
     /// Nothing yet. Takes no memory.
@@ -104,13 +105,23 @@ impl Modes {
     pub(crate) fn page(&mut self, addr: u8) -> Result<(), AllocError>
         ensures { OnOk result (self.new ≡ paged addr self.old) }
     {
-        if !matches!(self.plain.get(&addr).copied(), Some(None)) {
+        if !self.is_first_paged(addr) && !matches!(self.plain.get(&addr).copied(), Some(None)) {
             self.plain.insert(addr, None)?;
         }
         Ok(())
     }
 
-    /// What is known of the mode of a packet that reaches this page, where it is known: nothing was said of it, or the byte
+    // Whether the first address is this one, and has pages. Most captures have one address, which needs no look-up then.
+    fn is_first_paged(&self, addr: u8) -> bool
+        ensures { result ≡ true → lookup (nat_eq addr) self.now.plain ≡ Some None }
+    {
+        match self.plain.get_index(0) {
+            Some((first, plain)) => *first == addr && plain.is_none(),
+            None => false,
+        }
+    }
+
+    /// What is known of the mode of a packet that reaches this page, if anything is: nothing was said of it, or the byte
     /// if that is still known. FFh is all pages.
     pub(crate) fn of_page(&self, addr: u8, page: Option<u8>) -> Option<Option<u8>>
         ensures { result ≡ page_mode self.now addr page }
@@ -124,10 +135,14 @@ impl Modes {
         }
     }
 
-    // What is known of an output's mode.
+    // What is known of an output's mode. If nothing was said of any, it needs no look-up.
+    #[tactic(auto, using(crate::proofs::ModeLemmas::none_said))]
     fn of_output(&self, addr: u8, page: u8) -> Option<Option<u8>>
         ensures { result ≡ mode_known self.now addr page }
     {
+        if self.said.is_empty() {
+            return None;
+        }
         match self.said.get(&key_of(addr, page)).copied() {
             Some(said) => Some(mode_since(self.changed_at(addr), said)),
             None => None,
@@ -210,7 +225,7 @@ fn agree(agreed: Option<Option<u8>>, mode: Option<u8>) -> Option<Option<u8>>
     }
 }
 
-// Two modes, where they are known and the same.
+// Two modes, if they are known and the same.
 fn same_mode(one: Option<u8>, other: Option<u8>) -> Option<u8>
     ensures { result ≡ spec_same_mode one other }
 {
@@ -221,7 +236,7 @@ fn same_mode(one: Option<u8>, other: Option<u8>) -> Option<u8>
 }
 
 /// The output of a page at an address, or the code of an address.
-pub(crate) fn key_of(addr: u8, number: u8) -> u16
+pub fn key_of(addr: u8, number: u8) -> u16
     ensures { result ≡ spec_key_of addr number }
 {
     u16::from(addr) * 256 + u16::from(number)

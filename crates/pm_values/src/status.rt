@@ -29,7 +29,7 @@ pub enum Status {
     Fans34,
 }
 
-/// A bit of a register, as the number that has this bit alone, and its name.
+/// A bit of a register, as the number that has only this bit, and its name.
 pub type Row = (u16, &'static str);
 
 // STATUS_WORD; its lower byte is STATUS_BYTE.

@@ -4,14 +4,16 @@ ghost use Rattle.pm_values.specs.Statuses.{names_from};
 ghost use Rattle.pm_values.specs.ValueText.{capability_text, control_text, decimal_of, delay_text, flags_text, known_text, minus as minus_text, mode_text, on_off_text, operation_text, part_text, pec_text, places, point_text, polarity_text, protection_text, relative_text, revision_text, size_text, speed_text, switch_text, unit_text, value_text};
 ghost use Rattle.pm_values.specs.Values.{millionths as spec_millionths};
 
-use crate::status::{Row, Status, capability_rows, on_off_rows};
+use crate::decimals::push_millionths;
+use crate::names::{NameMarks, push_names};
+use crate::status::{Status, capability_rows, on_off_rows};
 use crate::value::{Unit, Value};
 use pm_lines::{push_decimal, push_signed};
 use pm_num::Frac;
 use pm_table::VoutMode;
 use std::alloc::AllocError;
 
-/// Appends a space and a value to a text, where there is a value, as ` 3.300048 V`.
+/// Appends a space and a value to a text, if there is a value, as ` 3.300048 V`.
 #[tactic(auto, using(pm_lines::specs::Lemmas::Joins::joins))]
 pub fn push_known(text: &mut String, value: Option<Value>) -> Result<(), AllocError>
     ensures { OnOk result (string_bytes text.new ≡ string_bytes text.old ++ known_text value) }
@@ -44,7 +46,7 @@ fn push_value(text: &mut String, value: Value) -> Result<(), AllocError>
 }
 
 impl Unit {
-    /// The unit as it is told: `V`, `A` or `C`.
+    /// The unit as it is shown: `V`, `A` or `C`.
     pub fn text(self) -> &'static str
         ensures { result.now ≡ unit_text self }
     {
@@ -118,118 +120,11 @@ fn push_measured(text: &mut String, ratio: Frac, unit: Unit) -> Result<(), Alloc
     text.push_str(unit.text())
 }
 
-/// Appends a fraction to a text as a decimal number, rounded down to a millionth and without zeros at its end, as
-/// `3.300048`.
-#[tactic(auto, using(pm_lines::specs::Lemmas::Joins::joins))]
-pub fn push_millionths(text: &mut String, ratio: Frac) -> Result<(), AllocError>
-    ensures { OnOk result (string_bytes text.new ≡ string_bytes text.old ++ decimal_of (spec_millionths ratio)) }
-{
-    push_decimal_number(text, millionths(ratio))
-}
-
-// Appends millionths as a decimal number.
-#[tactic(auto, using(crate::proofs::ValueLemmas::negative_text, crate::proofs::ValueLemmas::positive_text))]
-fn push_decimal_number(text: &mut String, size: i128) -> Result<(), AllocError>
-    requires least { neg_ℤ (pos (2 ^ 55 * 1000000)) ≤ℤ size }
-    requires most { size ≤ℤ pos (2 ^ 55 * 1000000) }
-    ensures { OnOk result (string_bytes text.new ≡ string_bytes text.old ++ decimal_of size) }
-{
-    if size < 0 {
-        push_negative(text, size)
-    } else {
-        push_size(text, size)
-    }
-}
-
-// Appends millionths below 0, with their sign.
-#[tactic(auto, using(pm_lines::specs::Lemmas::Joins::joins))]
-fn push_negative(text: &mut String, size: i128) -> Result<(), AllocError>
-    requires least { neg_ℤ (pos (2 ^ 55 * 1000000)) ≤ℤ size }
-    requires below { size <ℤ pos 0 }
-    ensures { OnOk result (string_bytes text.new
-        ≡ string_bytes text.old ++ (minus_text ++ size_text (unsigned_abs (neg_ℤ size)))) }
-{
-    let (whole, part) = negative_parts(size);
-    text.push_str(minus())?;
-    push_decimal(text, whole)?;
-    push_point(text, part)
-}
-
-// The whole part of so many millionths below 0, without the sign, and what is left.
-fn negative_parts(size: i128) -> (u64, u64)
-    requires least { neg_ℤ (pos (2 ^ 55 * 1000000)) ≤ℤ size }
-    requires below { size <ℤ pos 0 }
-    ensures whole { result.0 ≡ unsigned_abs (neg_ℤ size) / 1000000 }
-    ensures part { result.1 ≡ unsigned_abs (neg_ℤ size) % 1000000 }
-{
-    let opposite = -size;
-    ((opposite / 1_000_000) as u64, (opposite % 1_000_000) as u64)
-}
-
-// The sign of a number below 0.
-#[tactic(auto, unfolding(crate::specs::ValueText::minus))]
-fn minus() -> &'static str
-    ensures { result.now ≡ minus_text }
-{
-    "-"
-}
-
-// Appends millionths without a sign.
-#[tactic(auto, using(pm_lines::specs::Lemmas::Joins::joins))]
-fn push_size(text: &mut String, size: i128) -> Result<(), AllocError>
-    requires above { pos 0 ≤ℤ size }
-    requires below { size ≤ℤ pos (2 ^ 55 * 1000000) }
-    ensures { OnOk result (string_bytes text.new ≡ string_bytes text.old ++ size_text (unsigned_abs size)) }
-{
-    let (whole, part) = parts_of(size);
-    push_decimal(text, whole)?;
-    push_point(text, part)
-}
-
-// The whole part of so many millionths, and what is left.
-fn parts_of(size: i128) -> (u64, u64)
-    requires above { pos 0 ≤ℤ size }
-    requires below { size ≤ℤ pos (2 ^ 55 * 1000000) }
-    ensures whole { result.0 ≡ unsigned_abs size / 1000000 }
-    ensures part { result.1 ≡ unsigned_abs size % 1000000 }
-{
-    ((size / 1_000_000) as u64, (size % 1_000_000) as u64)
-}
-
-// The point, and the digits behind it, where there are some.
-#[tactic(auto, using(pm_lines::specs::Lemmas::Joins::joins))]
-fn push_point(text: &mut String, part: u64) -> Result<(), AllocError>
-    requires { part < 1000000 }
-    ensures { OnOk result (string_bytes text.new ≡ string_bytes text.old ++ point_text part) }
-{
-    if part == 0 {
-        return Ok(());
-    }
-    text.push_str(".")?;
-    push_places(text, 6, part)
-}
-
-// The digits behind the point, at most this many.
-#[tactic(auto, using(pm_lines::specs::Lemmas::Joins::joins))]
-fn push_places(text: &mut String, most: u32, part: u64) -> Result<(), AllocError>
-    requires { part < 1000000 }
-    ensures { OnOk result (string_bytes text.new ≡ string_bytes text.old ++ places most part) }
-{
-    if most == 0 || part == 0 {
-        return Ok(());
-    }
-    push_decimal(text, part * 10 / 1_000_000)?;
-    push_places(text, most - 1, part * 10 % 1_000_000)
-}
-
-/// The whole millionths of a fraction, rounded down.
-pub fn millionths(ratio: Frac) -> i128
-    ensures value { result ≡ spec_millionths ratio }
-    ensures least { neg_ℤ (pos (2 ^ 55 * 1000000)) ≤ℤ result }
-    ensures most { result ≤ℤ pos (2 ^ 55 * 1000000) }
-{
-    (ratio.num() * 1_000_000).div_euclid(ratio.den())
-}
+/// As names are shown to a person.
+const PLAIN: NameMarks<'static> = NameMarks {
+    around: "",
+    between: ", ",
+};
 
 // The names of the bits that are set.
 fn push_flags(text: &mut String, status: Status, bits: u16) -> Result<(), AllocError>
@@ -326,7 +221,7 @@ fn switch_words(byte: u8) -> &'static str
     }
 }
 
-// How CONTROL does, where it does.
+// How CONTROL turns the output on, if it does.
 #[tactic(auto, using(pm_lines::specs::Lemmas::Joins::joins))]
 fn push_control(text: &mut String, byte: u8) -> Result<(), AllocError>
     ensures { OnOk result (string_bytes text.new ≡ string_bytes text.old ++ control_text byte) }
@@ -358,58 +253,4 @@ fn delay_words(byte: u8) -> &'static str
     } else {
         ", off at once"
     }
-}
-
-/// What stands around each of several names, and between two of them.
-#[derive(Clone, Copy, Debug)]
-pub struct NameMarks<'a> {
-    /// Before and behind each name.
-    pub around: &'a str,
-    /// Between two names.
-    pub between: &'a str,
-}
-
-/// As names are told to a person.
-const PLAIN: NameMarks<'static> = NameMarks {
-    around: "",
-    between: ", ",
-};
-
-/// Appends the names of the bits that are set to a text; `is_first` is whether none stands before them.
-#[tactic(auto, using(pm_lines::specs::Lemmas::Joins::joins))]
-pub fn push_names(
-    text: &mut String,
-    marks: &NameMarks<'_>,
-    rows: &[Row],
-    bits: u16,
-    is_first: bool,
-) -> Result<(), AllocError>
-    ensures { OnOk result (string_bytes text.new ≡ string_bytes text.old
-        ++ names_from marks.now.between.now marks.now.around.now is_first (map (λ row. (row.0, row.1.now)) rows.now) bits) }
-{
-    let [(bit, name), rest @ ..] = rows else {
-        return Ok(());
-    };
-    if bits & *bit == 0 {
-        return push_names(text, marks, rest, bits, is_first);
-    }
-    push_name(
-        text,
-        if is_first { "" } else { marks.between },
-        marks.around,
-        name,
-    )?;
-    push_names(text, marks, rest, bits, false)
-}
-
-// Appends a name with a text around it, and another text before both.
-#[tactic(auto, using(pm_lines::specs::Lemmas::Joins::joins))]
-fn push_name(text: &mut String, before: &str, around: &str, name: &str) -> Result<(), AllocError>
-    ensures { OnOk result (string_bytes text.new ≡ string_bytes text.old
-        ++ (before.now ++ (around.now ++ (name.now ++ around.now)))) }
-{
-    text.push_str(before)?;
-    text.push_str(around)?;
-    text.push_str(name)?;
-    text.push_str(around)
 }

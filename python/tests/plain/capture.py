@@ -6,7 +6,7 @@ from .following import Pages, is_good_page
 from .lines import MOST_BYTES, TextFault, decimal, is_skipped, lines_of
 from .numbers import coefficients_fault
 from .packets import VOUT_CODES, name_of
-from .telling import DOUBTFUL, Answers, fields_of, object_text, of_all, text_of
+from .telling import ANSWER, DOUBTFUL, Answers, fields_of, object_text, of_all, text_of
 from .trace import judged, parts_of
 from .values import READINGS, Formats, value_fields, words_of_value
 
@@ -111,7 +111,7 @@ class Telling:
         self.answers = Answers()
         self.pages = Pages(1000 * options.get("--gap", GAP)) if "--pages" in options else None
         self.said, self.counts, self.codes = [], {}, {}
-        self.faults = self.bad = self.others = 0
+        self.faults = self.bad = self.others = self.others_faulty = 0  # the last: faults that a PEC wouldn't mend
         self.beyond = None  # the first line that orders a voltage beyond 1000 V by --vout
 
     def line(self, number, line):
@@ -143,7 +143,7 @@ class Telling:
             self.pages.come(packet, time)
             wrong = self.pages.contradiction(number, packet)
             packet = self.pages.followed(packet)
-        self.count(packet)
+        self.count(packet, (frame, read))
         self.say(number, time, packet, (frame, read), wrong)
         if self.beyond is None and self.is_beyond(packet):
             self.beyond = number
@@ -170,9 +170,10 @@ class Telling:
             self.pages.lose()
         self.said.append(object_text({"line": number, "fault": words}) if "--json" in self.options else f"{number} {words}")
 
-    def count(self, packet):
+    def count(self, packet, parts):
         if packet["kind"] == "fault":
             self.faults += 1
+            self.others_faulty += of_all(packet, *parts, ANSWER)["kind"] in ("fault", "other")
         elif packet["kind"] == "other":
             self.others += 1
             self.codes[packet["code"]] = self.codes.get(packet["code"], 0) + 1
@@ -193,11 +194,15 @@ class Telling:
         """What may be wrong, or None."""
         if self.beyond is not None:
             return f"line {self.beyond} orders a voltage beyond 1000 V by --vout: a minus may be missing"
-        if self.counts or self.codes or not self.bad:
+        if self.counts or self.codes:
             return None
-        if "--times" not in self.options:
+        if self.bad and "--times" not in self.options:
             return "no line is a good packet: where lines begin with times, give --times"
-        return None if self.faults else "no line is a time and a packet: give --times to both ends, or to none"
+        if self.bad and not self.faults:
+            return "no line is a time and a packet: give --times to both ends, or to none"
+        if "--all" not in self.options and self.faults and not self.others_faulty:
+            return "no line is a good packet: where packets have no PEC, give --all"
+        return None
 
     def ends(self):
         """The lines of the counts."""
@@ -235,6 +240,6 @@ def decode(text, words):
         told.ends()
     said = "".join(line + "\n" for line in told.said)
     if not is_whole:
-        return 1, said, "pmb: X3 TooLong\n"
+        return 1, said, "pmb: X3 TooLong\npmb: --long reads on\n"
     hint = told.hint()
     return int(told.bad > 0), said, f"pmb: {hint}\n" if hint else ""

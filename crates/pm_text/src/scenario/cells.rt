@@ -36,7 +36,7 @@ pub(crate) fn register(form: Form, fields: &mut Fields<'_>) -> Result<Reg, Scena
     }
 }
 
-/// A word of the cell, with two digits where it is a byte and four otherwise: X2 where it isn't so.
+/// A word of the cell, with two digits if it is a byte and four otherwise; X2 for any other text.
 pub(crate) fn cell_word(fields: &mut Fields<'_>, cell: Cell) -> Result<u16, ScenarioFault>
     ensures { Reads result fields.new (field BadHex (kinds.cell_word cell) fields.old) }
 {

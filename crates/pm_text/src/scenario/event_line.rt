@@ -1,4 +1,4 @@
-//! The event lines of a scenario. Each reader makes the event where it stays: handed up as a result
+//! The event lines of a scenario. Each reader makes the event in its final place: handed up as a result
 //! through the readers, an event would be copied at each of them.
 ghost use Rattle.std.specs.Prelude.{◌≡◌, Ok, Err};
 ghost use Rattle.pm_world.specs.Job.{event_of};

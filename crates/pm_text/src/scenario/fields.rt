@@ -10,7 +10,7 @@ use crate::scenario::fault::ScenarioFault;
 use pm_lines::{Line, Words, read_byte, read_i8, read_i16, read_i64, read_u8, read_word};
 use std::marker::Model;
 
-/// The words that are left of a line. A call takes the next one, and answers X1 where there is none.
+/// The words that are left of a line. A call takes the next one, and answers X1 if there is none.
 #[derive(Debug, Drop)]
 pub struct Fields<'a> {
     words: Words<'a>,
@@ -49,7 +49,7 @@ impl<'a> Fields<'a> {
         }
     }
 
-    /// The next word, where there is one.
+    /// The next word, if there is one.
     pub fn next_word(&mut self) -> Option<&'a [u8]>
         ensures words { MatchOption result (self.old.words ≡ [])
             (λ word. self.old.words ≡ word.now ∷ self.new.words) }
@@ -59,7 +59,7 @@ impl<'a> Fields<'a> {
         self.words.next_word()
     }
 
-    /// Takes the next word where it is this one, and says whether it was. Any other stays.
+    /// Takes the next word if it is this one, and says whether it was. Any other stays.
     pub fn takes(&mut self, name: &str) -> bool
         requires { is_one_word name.now ≡ true }
         ensures taken { result ≡ true → next_word self.old ≡ Ok (name.now, self.new) }
@@ -175,7 +175,7 @@ impl<'a> Fields<'a> {
         }
     }
 
-    /// The line's end: X1 where a word is left.
+    /// The line's end: X1 if a word is left.
     pub fn end(mut self) -> Result<(), ScenarioFault>
         ensures { MatchResult result (λ _. self.entry.words ≡ [])
             (λ fault. (fault ≡ Syntax self.entry.line) × (word : List ℕ) × (words : List (List ℕ))

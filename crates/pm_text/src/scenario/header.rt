@@ -180,7 +180,7 @@ fn output_or_begin(
     }
 }
 
-// MODE, a byte, and a word for each register that the form names. Where it doesn't name VOUT_MIN, that
+// MODE, a byte, and a word for each register that the form names. If it doesn't name VOUT_MIN, that
 // is a word of the least value that the output's voltages have.
 #[tactic(auto, unfolding(crate::specs::ScenarioText::output_rest))]
 fn output_start(

@@ -11,7 +11,7 @@ use pm_host::{Command, Job};
 use pm_table::Cell;
 
 /// The words of a line that asks for a job, of which the first decides.
-/// X1 where the first word names no job that texts of this form may ask for. It isn't inlined: it would weigh on
+/// X1 if the first word names no job that texts of this form may ask for. It isn't inlined: it would weigh on
 /// each line of a scenario, of which most ask for no job.
 #[tactic(auto, unfolding(crate::specs::EventLines::job_line))]
 #[inline(never)]

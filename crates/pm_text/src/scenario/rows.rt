@@ -49,7 +49,7 @@ impl<'a> Rows<'a> {
         self.lines.next_line()
     }
 
-    /// The next line. Where there is none, X1 with the number after the last.
+    /// The next line. If there is none, X1 with the number after the last.
     #[tactic(auto, unfolding(crate::specs::Readers::row))]
     pub(crate) fn row(&mut self) -> Result<Line<'a>, ScenarioFault>
         ensures read { MatchResult result

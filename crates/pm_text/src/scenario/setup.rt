@@ -12,7 +12,7 @@ use pm_lines::{MAX_TEXT, TextFault};
 ///
 /// # Errors
 ///
-/// X3 where the text has more than 1,048,576 bytes; otherwise the fault of the first faulty line: X2 for a
+/// X3 if the text has more than 1,048,576 bytes; otherwise the fault of the first faulty line: X2 for a
 /// word that should be hexadecimal of a stated length, X1 for every other, also for a line that is missing,
 /// which has the number after the last.
 #[tactic(auto, unfolding(crate::specs::ScenarioText::setup_of))]

@@ -68,7 +68,7 @@ fn is_exchange_whole(text: &[u8]) -> bool
     }
 }
 
-// What stands behind the eight bytes of this number at the front of a text.
+// What follows the eight bytes of this number at the front of a text.
 #[inline]
 fn behind_eight(text: &[u8], number: u64) -> Option<&[u8]>
     ensures { IfSome result (λ rest. text.now ≡ to_be_bytes w64 number ++ rest.now) }

@@ -136,7 +136,7 @@ fn ends_at_write(
     );
 }
 
-// Each way in which a write fails at this call; if each byte is written alone, one kind of error at each place.
+// Each way in which a write fails at this call; if each byte is written by itself, one kind of error at each place.
 fn ends_at_each_write(
     rt: &(impl Abort + AllocGlobal),
     worked: (Engine, &str, &str),

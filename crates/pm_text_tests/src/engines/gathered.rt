@@ -1,4 +1,4 @@
-//! What `decode` gathers before it writes, where a read brings as many bytes as it asks for.
+//! What `decode` gathers before it writes, if a read brings as many bytes as it asks for.
 use crate::checks::{equal, printed};
 use pm_test_streams::{Engine, Engines, blank_paper, in_pieces};
 use std::alloc::Global;
@@ -14,7 +14,7 @@ fn clears(alloc: Global, lines: usize) -> Result<Vec<u8>, Fail> {
     Ok(text)
 }
 
-// What is told of them.
+// What is shown of them.
 fn told(alloc: Global, lines: usize) -> Result<String, Fail> {
     let mut text = String::new(alloc);
     for number in 1..lines.saturating_add(1) {

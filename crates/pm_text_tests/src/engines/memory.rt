@@ -1,4 +1,4 @@
-//! The calls that take memory, where it is refused: want of memory or the right answer, and nothing else.
+//! The calls that take memory, which is refused: want of memory or the right answer, and nothing else.
 //! Each test holds with ample memory too, and whichever allocation is refused: `rt try --test --fail-alloc N`.
 
 use crate::checks::{equal, is_true};
@@ -13,7 +13,7 @@ use std::alloc::Global;
 use std::process::Abort;
 use std::test::Fail;
 
-// An engine writes this text, or wants memory: then nothing of it, or by `decode` a prefix.
+// An engine writes this text, or lacks memory: then nothing of it, or by `decode` a prefix.
 fn expect_text(rt: &(impl Abort + AllocGlobal), engine: Engine, input: &str, text: &str) {
     let (end, sheet) = engine.sheet_of(rt.alloc(), in_pieces(input.as_bytes(), 512));
     let written = sheet.text();
@@ -81,7 +81,7 @@ fn is_counted(rt: &(impl Abort + AllocGlobal), lines: usize) {
     }
 }
 
-// A decoder that wanted memory shows no line, counts nothing more and refuses all.
+// A decoder that lacked memory shows no line, counts nothing more and refuses all.
 fn is_failed(rt: &impl Abort, decoder: &mut Decoder, accepted: u64) {
     is_true(rt, decoder.line().is_none(), &4);
     equal(rt, &decoder.feed(b"x").err(), &Some(TextFault::Memory), &5);
@@ -135,7 +135,7 @@ fn report_of(alloc: Global, text: &str) -> Result<String, TextFault> {
     )
 }
 
-// A text is this one, or memory was wanted.
+// A text is this one, or memory was lacking.
 fn expect(rt: &impl Abort, found: Result<String, TextFault>, wanted: &str) {
     match found {
         Ok(text) => is_true(rt, text.as_str() == wanted, &wanted),

@@ -45,7 +45,7 @@ restart seen no
 job done
 ",
     ),
-    // DIRECT with a falling slope, where a lesser voltage has a greater word; damage of a write that the PEC betrays.
+    // DIRECT with a falling slope, by which a lesser voltage has a greater word; damage of a write that the PEC betrays.
     (
         "scenario 1
 address 10

@@ -119,7 +119,7 @@ fn long_scenarios_are_replayed(rt: HostRuntime) -> Result<(), Fail> {
     Ok(())
 }
 
-// An engine ends so and writes this; as a scenario the text is too long where it is for the engine.
+// An engine ends like this and writes this; as a scenario the text is too long if it is for the engine.
 fn is_taken(
     rt: &(impl Abort + AllocGlobal),
     engine: Engine,
@@ -134,7 +134,7 @@ fn is_taken(
     equal(rt, &is_too_long, &wanted.is_err(), &engine);
 }
 
-// What stands before spaces, what is written of it, and of that where there is a byte too many.
+// What stands before spaces, what is written of it, and of that if there is a byte too many.
 fn is_taken_to_the_end(
     rt: &(impl Abort + AllocGlobal),
     engine: Engine,

@@ -7,13 +7,13 @@ pub enum Chosen<'a> {
     Hear,
     /// `replay`: the events of the scenario on standard input happen, and are reported.
     Replay,
-    /// `decode`: the trace on standard input is told line by line.
+    /// `decode`: the trace on standard input is shown line by line.
     Decode,
     /// `check`: the log on standard input is checked.
     Check,
     /// `number`: one word of a number format, as an exact value.
     Number {
-        /// The text of `--format`, empty where the option is absent.
+        /// The text of `--format`, empty if the option is absent.
         format: &'a str,
         /// The text of `--word`.
         word: Option<&'a str>,

@@ -13,6 +13,9 @@ use std::alloc::{AllocError, Global};
 /// What `decode` does.
 const DECODES: &str = "Tells what the packets of a bus trace say";
 
+/// How `decode` is called.
+const DECODE_USAGE: &str = "pmb decode [OPTIONS] < TRACE";
+
 /// The whole command line. A further subcommand is one more line here.
 pub(super) fn pmb_command<'a>(alloc: Global) -> Result<Command<'a>, AllocError>
     ensures { IfOk result (λ command. app_of command ≡ pmb) }
@@ -37,12 +40,7 @@ pub(super) fn pmb_command<'a>(alloc: Global) -> Result<Command<'a>, AllocError>
         helps::REPLAY,
     );
     let with_replay = with_hear.subcommand(replaying)?;
-    let decoding = text_command(
-        alloc,
-        ("decode", DECODES),
-        "pmb decode < TRACE",
-        helps::DECODE,
-    );
+    let decoding = text_command(alloc, ("decode", DECODES), DECODE_USAGE, helps::DECODE);
     let with_decode = with_replay.subcommand(decoding)?;
     let checking = text_command(
         alloc,
@@ -118,23 +116,14 @@ fn number_command<'a>(alloc: Global) -> Result<Command<'a>, AllocError>
     )
 }
 
-/// `decode` with its options, whose words are read apart: with none of them `decode` is a command as the others are.
+/// `decode` with its options, whose words are read apart: with none of them `decode` is a command as the others are. The end of
+/// its help lists them, for both.
 pub(super) fn tell_command<'a>(alloc: Global) -> Result<Command<'a>, AllocError>
     ensures { IfOk result (λ command. app_of command ≡ tell_app) }
 {
-    let decode = text_command(
-        alloc,
-        ("pmb decode", DECODES),
-        "pmb decode [OPTIONS] < TRACE",
-        helps::DECODE,
-    );
+    let decode = text_command(alloc, ("pmb decode", DECODES), DECODE_USAGE, helps::DECODE);
     let formatted = with_formats(decode, alloc)?;
-    let full = with_flag(
-        formatted,
-        alloc,
-        "all",
-        "Tell packets without PEC, and those that the command table doesn't have",
-    )?;
+    let full = with_flag(formatted, alloc, "all")?;
     let paged = with_pages(full, alloc)?;
     with_lines(paged, alloc)
 }
@@ -145,24 +134,9 @@ fn with_formats<'a>(command: Command<'a>, alloc: Global) -> Result<Command<'a>, 
         ≡ with_rule (with_rule (with_rule (app_of command.entry) (flag_rule (codes "values"))) (option_rule (codes "vout")))
         (option_rule (codes "readings"))) }
 {
-    let valued = with_flag(
-        command,
-        alloc,
-        "values",
-        "Tell what payloads mean, and the bytes of faulty packets",
-    )?;
-    let formatted = with_option(
-        valued,
-        alloc,
-        ("vout", "F"),
-        "The formats of voltages that the trace teaches none of; with --values",
-    )?;
-    with_option(
-        formatted,
-        alloc,
-        ("readings", "L"),
-        "The formats of READ_VIN, READ_IOUT and READ_TEMPERATURE_1; with --values",
-    )
+    let valued = with_flag(command, alloc, "values")?;
+    let formatted = with_value(valued, alloc, ("vout", "F"))?;
+    with_value(formatted, alloc, ("readings", "L"))
 }
 
 // The command with `--long`, `--times` and `--json`.
@@ -171,14 +145,9 @@ fn with_lines<'a>(command: Command<'a>, alloc: Global) -> Result<Command<'a>, Al
         ≡ with_rule (with_rule (with_rule (app_of command.entry) (flag_rule (codes "long"))) (flag_rule (codes "times")))
         (flag_rule (codes "json"))) }
 {
-    let long = with_flag(command, alloc, "long", "Take a trace of more than 1 MiB")?;
-    let timed = with_flag(
-        long,
-        alloc,
-        "times",
-        "Each line begins with its time in microseconds",
-    )?;
-    with_flag(timed, alloc, "json", "Print each line as an object of JSON")
+    let long = with_flag(command, alloc, "long")?;
+    let timed = with_flag(long, alloc, "times")?;
+    with_flag(timed, alloc, "json")
 }
 
 // The command with `--pages` and `--gap`.
@@ -186,18 +155,8 @@ fn with_pages<'a>(command: Command<'a>, alloc: Global) -> Result<Command<'a>, Al
     ensures { IfOk result (λ with_them.
         app_of with_them ≡ with_rule (with_rule (app_of command.entry) (flag_rule (codes "pages"))) (option_rule (codes "gap"))) }
 {
-    let paged = with_flag(
-        command,
-        alloc,
-        "pages",
-        "Follow PAGE: tell plain packets with the output that they reach",
-    )?;
-    with_option(
-        paged,
-        alloc,
-        ("gap", "MS"),
-        "The pause that ends a page, in milliseconds; with --pages and --times",
-    )
+    let paged = with_flag(command, alloc, "pages")?;
+    with_value(paged, alloc, ("gap", "MS"))
 }
 
 // The command with one more option `--NAME`, which has no value. Takes memory for the option.
@@ -205,7 +164,6 @@ fn with_flag<'a>(
     command: Command<'a>,
     alloc: Global,
     name: &'a str,
-    help: &'a str,
 ) -> Result<Command<'a>, AllocError>
     ensures { IfOk result (λ with_it.
         app_of with_it ≡ with_rule (app_of command.entry) (flag_rule name.entry.now)) }
@@ -213,6 +171,24 @@ fn with_flag<'a>(
     let flag = Arg::new(alloc, name)
         .long(name)
         .action(ArgAction::SetTrue)
-        .help(help);
+        .hide(true);
     command.arg(flag)
+}
+
+// The command with one more option `--NAME=VALUE`, of which `names` has the name and what its refusals call the value. Takes memory
+// for the option.
+fn with_value<'a>(
+    command: Command<'a>,
+    alloc: Global,
+    names: (&'a str, &'a str),
+) -> Result<Command<'a>, AllocError>
+    ensures { IfOk result (λ with_it.
+        app_of with_it ≡ with_rule (app_of command.entry) (option_rule names.entry.0.now)) }
+{
+    let option = Arg::new(alloc, names.0)
+        .long(names.0)
+        .value_name(names.1)
+        .action(ArgAction::Set)
+        .hide(true);
+    command.arg(option)
 }

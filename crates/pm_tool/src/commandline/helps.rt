@@ -84,8 +84,19 @@ X5 Write, X6 Memory, and X7 Setup with
   V2 BadStart      a start word isn't taken      V5 BadCoefficients   M is 0, or R beyond 12 in size
   V3 Address       outside 08 to 77              H2 Passes            passes outside 1 to 15";
 
-/// What the help of `decode` shows at its end.
+/// What the help of `decode` shows at its end, with its options, by whichever command it is read.
 pub(super) const DECODE: &str = "\
+Further options:
+      --values        Tell what payloads mean, and the bytes of faulty packets
+      --vout <F>      The formats of voltages that the trace teaches none of; with --values
+      --readings <L>  The formats of READ_VIN, READ_IOUT and READ_TEMPERATURE_1; with --values
+      --all           Tell packets without PEC, and those that the command table doesn't have
+      --pages         Follow PAGE: tell plain packets with the output that they reach
+      --gap <MS>      The pause that ends a page, in milliseconds; with --pages and --times
+      --long          Take a trace of more than 1 MiB
+      --times         Each line begins with its time in microseconds
+      --json          Print each line as an object of JSON
+
 A line is one of
 
   B0 05 04 00 21 CD 34 5A           a write, in hexadecimal
@@ -132,8 +143,9 @@ A packet may be faulty; N counts bytes from 0, the address is byte 0:
   F8 Nested N         PAGE_PLUS doesn't carry the code
 
 Status 1 where a line is bad, X1 Syntax or X2 BadHex, or with a line on standard error: X3 TooLong,
-X4 Read, X5 Write, X6 Memory. Status 2: give --vout with --values, bad vout, and the same of
---readings; give --gap with --pages and --times, bad gap.";
+X4 Read, X5 Write, X6 Memory. With an option a second line behind X3 says that --long reads on.
+Status 2: give --vout with --values, bad vout, and the same of --readings; give --gap with --pages
+and --times, bad gap.";
 
 /// What the help of `check` shows at its end.
 pub(super) const CHECK: &str = "\

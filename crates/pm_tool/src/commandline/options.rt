@@ -28,14 +28,14 @@ pub fn with_option<'a>(
     command.arg(option)
 }
 
-/// The text of an option, empty where it isn't used.
+/// The text of an option, empty if it isn't used.
 pub fn text_of<'a>(matches: &ArgMatches<'a>, name: &str) -> &'a str
     ensures { result.now ≡ unwrap_or (first_of name.now (rows_of (found_of matches.now))) [] }
 {
     matches.get_str(name).unwrap_or("")
 }
 
-/// The text of an option, where it is used.
+/// The text of an option, if it is used.
 pub fn given_text<'a>(matches: &ArgMatches<'a>, name: &str) -> Option<&'a str>
     ensures { option_map (λ text. text.now) result ≡ first_of name.now (rows_of (found_of matches.now)) }
 {

@@ -20,14 +20,14 @@ pub(super) enum Listed {
     Readings,
 }
 
-/// What was read of a text: an entry, where any text was left, and what is left of it.
+/// What was read of a text: an entry, if any text was left, and what is left of it.
 #[derive(Clone, Copy)]
 struct One<'a> {
     first: Option<GivenFormat>,
     left: Option<&'a str>,
 }
 
-/// What was read of a text: two entries, each where any text was left, and what is left of it.
+/// What was read of a text: two entries, each if any text was left, and what is left of it.
 #[derive(Clone, Copy)]
 struct Two<'a> {
     first: Option<GivenFormat>,
@@ -35,7 +35,7 @@ struct Two<'a> {
     left: Option<&'a str>,
 }
 
-/// What was read of a text: four entries, each where any text was left, and what is left of it.
+/// What was read of a text: four entries, each if any text was left, and what is left of it.
 #[derive(Clone, Copy)]
 struct Four<'a> {
     first: Option<GivenFormat>,
@@ -45,7 +45,7 @@ struct Four<'a> {
     left: Option<&'a str>,
 }
 
-/// The entries of a text, one to eight with commas between them; None where one can't be, or there are more.
+/// The entries of a text, one to eight with commas between them; None if one can't be, or there are more.
 pub(super) fn read_list(listed: Listed, text: &str) -> Option<[Option<GivenFormat>; 8]>
     ensures { option_map (λ made. flat_map if_any made) result ≡ entries_of listed text.now }
 {
@@ -168,7 +168,7 @@ fn read_behind(number: u8, text: &str) -> Option<GivenFormat>
     }
 }
 
-// The entry of a format, where it can be.
+// The entry of a format, if it can be.
 fn entry_in(
     listed: Listed,
     addr: Option<u8>,
@@ -210,7 +210,7 @@ fn is_asked_for(code: Option<u8>) -> bool
     }
 }
 
-// The format of a voltage or of a reading, where it can be one.
+// The format of a voltage or of a reading, if it can be one.
 fn listed_format(listed: Listed, format: FormatText) -> Option<AnyFormat>
     requires { HasExponent format }
     ensures { option_map shape_of result ≡ listed_shape listed format }

@@ -22,23 +22,23 @@ use std::alloc::Global;
 /// The options of `decode`, as they were written.
 #[derive(Clone, Copy, Debug, PartialEq, Eq)]
 pub struct TellTexts<'a> {
-    /// `--values`: what payloads mean is told too.
+    /// `--values`: what payloads mean is shown too.
     pub values: bool,
     /// The text of `--vout`: the formats of voltages whose own format the trace doesn't teach.
     pub vout: Option<&'a str>,
     /// The text of `--readings`: the formats of READ_VIN, READ_IOUT and READ_TEMPERATURE_1.
     pub readings: Option<&'a str>,
-    /// `--all`: packets without PEC, and of codes that the command table doesn't have, are told too.
+    /// `--all`: packets without PEC, and of codes that the command table doesn't have, are shown too.
     pub all: bool,
     /// `--pages`: PAGE is followed.
     pub pages: bool,
-    /// The text of `--gap`: the milliseconds of a pause behind which a page isn't known any more.
+    /// The text of `--gap`: the milliseconds of a pause after which a page isn't known any more.
     pub gap: Option<&'a str>,
     /// `--long`: the trace may have more than 1 MiB.
     pub long: bool,
     /// `--times`: each line begins with the time of its packet.
     pub times: bool,
-    /// `--json`: each line is told as an object of JSON.
+    /// `--json`: each line is shown as an object of JSON.
     pub json: bool,
 }
 
@@ -140,7 +140,7 @@ impl<'a> TellTexts<'a> {
     }
 }
 
-/// The words that are read for the options of `decode`, from `decode` on; None where it isn't what the words
+/// The words that are read for the options of `decode`, from `decode` on; None if it isn't what the words
 /// name, or nothing follows it.
 pub(crate) fn option_words<'a>(words: &'a [&'a str]) -> Option<&'a [&'a str]>
     ensures { option_map (λ left. texts left.now) result ≡ tell_words (texts words.entry.now) }

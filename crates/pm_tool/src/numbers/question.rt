@@ -65,7 +65,7 @@ pub(crate) fn read_question(
     })
 }
 
-// The format that a text names with colons alone.
+// The format that a text names with no mark but colons.
 fn read_plain_format(text: &str) -> Option<FormatText>
     ensures named { result ≡ plain_format_of text.now }
     ensures exponent { IfSome result HasExponent }
@@ -134,7 +134,7 @@ fn direct_of(m: &str, b: &str, r: &str) -> Option<FormatText>
     ))
 }
 
-/// What stands before a text's first colon and after it, or None where it has no colon; `/` counts as one.
+/// What stands before a text's first colon and after it, or None if it has no colon; `/` counts as one.
 pub(crate) fn first_part(text: &str) -> Option<(&str, &str)>
     ensures { MatchOption result (parts text.now ≡ text.now ∷ [])
         (λ found. parts text.now ≡ found.0.now ∷ parts found.1.now) }
@@ -142,7 +142,7 @@ pub(crate) fn first_part(text: &str) -> Option<(&str, &str)>
     text.split_once([':', '/'])
 }
 
-/// What stands before a text's first comma and after it, or None where it has no comma.
+/// What stands before a text's first comma and after it, or None if it has no comma.
 pub(crate) fn first_item(text: &str) -> Option<(&str, &str)>
     ensures { MatchOption result (items text.now ≡ text.now ∷ [])
         (λ found. items text.now ≡ found.0.now ∷ items found.1.now) }

@@ -20,7 +20,7 @@ pub(super) enum LineEvent {
 }
 
 /// What a line that is not skipped asks, with the bytes of its frame, if any. X1 for more words
-/// after `restart` or after a `/`, X2 for a frame that isn't hexadecimal, X6 where memory for the
+/// after `restart` or after a `/`, X2 for a frame that isn't hexadecimal, X6 if memory for the
 /// bytes was refused.
 #[tactic(auto, using(crate::proofs::ScriptLemmas::uncut), unfolding(crate::specs::Script::line_event))]
 pub(super) fn read_event(line: Line<'_>, frame: &mut Vec<u8>) -> Result<LineEvent, TextFault>
@@ -53,7 +53,7 @@ pub(super) fn read_event(line: Line<'_>, frame: &mut Vec<u8>) -> Result<LineEven
     Err(TextFault::Syntax(line.number))
 }
 
-// X1 where more words than one stand in a line that begins with `restart`.
+// X1 if more words than one stand in a line that begins with `restart`.
 fn read_restart(line: Line<'_>) -> Result<(), TextFault>
     ensures event { OnOk result
         (restart_event line.entry.number (words_of line.entry.text.now) ≡ Ok Restarted) }

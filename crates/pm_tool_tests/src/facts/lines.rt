@@ -1,4 +1,4 @@
-//! What is told of lines: faults, codes that the command table doesn't have, times, and the keys and places of JSON.
+//! What is shown of lines: faults, codes that the command table doesn't have, times, and the keys and places of JSON.
 
 use super::Row;
 

@@ -1,4 +1,4 @@
-//! What payloads are told to mean: each bit of the status registers, units, OPERATION, WRITE_PROTECT, VOUT_MODE, and whose
+//! What payloads are shown to mean: each bit of the status registers, units, OPERATION, WRITE_PROTECT, VOUT_MODE, and whose
 //! format a voltage has.
 
 use super::Row;

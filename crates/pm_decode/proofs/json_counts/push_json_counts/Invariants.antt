@@ -1,6 +1,6 @@
 use Rattle.std.proofs.Common.{◌≡◌, ◌++◌, string_bytes}
 use Rattle.std.specs.Prelude.{flat_map}
-use Rattle.pm_decode.specs.JsonText.{count_json}
+use Rattle.pm_decode.specs.JsonCounts.{count_json}
 use Rattle.pm_decode.proofs.json_counts.push_json_counts.Given as goal
 
 -- what is written and what is left are the whole

@@ -1,5 +1,5 @@
 use Rattle.std.proofs.Common.{◌≡◌, ◌++◌, string_bytes}
-use Rattle.pm_decode.specs.JsonText.{other_jsons}
+use Rattle.pm_decode.specs.JsonCounts.{other_jsons}
 use Rattle.pm_decode.proofs.json_counts.push_others.Given as goal
 
 -- the objects of the codes so far were appended

@@ -1,4 +1,4 @@
--- A word that is taken where it is the next one.
+-- A word that is taken if it is the next one.
 use Rattle.std.proofs.Common.{◌≡◌, ◌∙◌, ℕ, Bool, true, false, List, [], ◌∷◌, Ok, ap, refl, sym}
 use Rattle.std.specs.Result.{IfOk}
 use Rattle.std.specs.Prelude.{bytes_eq}

@@ -18,7 +18,7 @@ use Rattle.pm_device.specs.Start.{is_direct}
 use Rattle.pm_model.specs.Commanded.{is_above}
 use Rattle.pm_text.proofs.laws.lowest_words_cut_nothing.Goals as goal
 
--- the shape that was made, or another where none was
+-- the shape that was made, or another if none was
 abbrev shape-or : Result Shape NumFault → Shape → Shape
 shape-or (Ok shape) other = shape
 shape-or (Err fault) other = other

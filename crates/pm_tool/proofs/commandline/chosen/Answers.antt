@@ -1,4 +1,4 @@
--- What the parser met is what is chosen, and where it finds a fault the call refuses.
+-- What the parser met is what is chosen, and if it finds a fault the call refuses.
 use Rattle.std.proofs.Common.{◌≡◌, ◌∙◌, ℕ, false, true≢false, eqb, eq-eqb, ap, get_or, refl, sym, subst, [], ◌∷◌, List, Result, Ok, Err}
 use Rattle.std.proofs.Common.{IfOk, IsErrAnd, IsSomeAnd, Option, Some, codes, ⊎_elim, map, unwrap_or}
 use Rattle.clap.specs.Words.{FailsBy, HasKind, Kinds, Row, Text, fault_of, subcommand_of}
@@ -33,23 +33,23 @@ refused (Err e) words kind kinds fails is = subst (λ (k : Kinds). HasKind k e) 
 abbrev first_byte : Text → ℕ
 first_byte text = get_or text 0 0
 
--- two letters that a test tells apart
+-- two letters that a test keeps apart
 apart : {P : Type 0} (a b : ℕ) → a ≡ b → eqb a b ≡ false → P
 apart a b same differs = absurd (true≢false (sym (eq-eqb a b same) ∙ differs))
 
 -- ---- what the parser makes of the words of the laws
 
--- after `hear` alone the parser meets that subcommand, with no options
+-- after `hear` with no more words the parser meets that subcommand, with no options
 hear_met : (program : Text) → subcommand_of pmb (program ∷ codes "hear" ∷ []) ≡ Some (codes "hear", [])
 unfolding clap_on_literals
 hear_met program = refl
 
--- the parser finds no fault in `hear` alone
+-- the parser finds no fault in `hear` with no more words
 hear_passes : (program : Text) → fault_of pmb (program ∷ codes "hear" ∷ []) ≡ []
 unfolding clap_on_literals
 hear_passes program = refl
 
--- `hear` is chosen where its rows are asked for
+-- `hear` is chosen if its rows are asked for
 hear_chosen : (rows : List Row) (chosen : Chosen) → Asks (codes "hear") rows chosen → chosen ≡ Hear
 hear_chosen rows Hear asks = refl
 hear_chosen rows Replay asks = apart 104 114 (ap first_byte asks) refl
@@ -57,17 +57,17 @@ hear_chosen rows Decode asks = apart 104 100 (ap first_byte asks) refl
 hear_chosen rows Check asks = apart 104 99 (ap first_byte asks) refl
 hear_chosen rows (Number format word micro) asks = apart 104 110 (ap first_byte asks.0) refl
 
--- after `replay` alone the parser meets that subcommand, with no options
+-- after `replay` with no more words the parser meets that subcommand, with no options
 replay_met : (program : Text) → subcommand_of pmb (program ∷ codes "replay" ∷ []) ≡ Some (codes "replay", [])
 unfolding clap_on_literals
 replay_met program = refl
 
--- the parser finds no fault in `replay` alone
+-- the parser finds no fault in `replay` with no more words
 replay_passes : (program : Text) → fault_of pmb (program ∷ codes "replay" ∷ []) ≡ []
 unfolding clap_on_literals
 replay_passes program = refl
 
--- `replay` is chosen where its rows are asked for
+-- `replay` is chosen if its rows are asked for
 replay_chosen : (rows : List Row) (chosen : Chosen) → Asks (codes "replay") rows chosen → chosen ≡ Replay
 replay_chosen rows Hear asks = apart 114 104 (ap first_byte asks) refl
 replay_chosen rows Replay asks = refl
@@ -75,17 +75,17 @@ replay_chosen rows Decode asks = apart 114 100 (ap first_byte asks) refl
 replay_chosen rows Check asks = apart 114 99 (ap first_byte asks) refl
 replay_chosen rows (Number format word micro) asks = apart 114 110 (ap first_byte asks.0) refl
 
--- after `decode` alone the parser meets that subcommand, with no options
+-- after `decode` with no more words the parser meets that subcommand, with no options
 decode_met : (program : Text) → subcommand_of pmb (program ∷ codes "decode" ∷ []) ≡ Some (codes "decode", [])
 unfolding clap_on_literals
 decode_met program = refl
 
--- the parser finds no fault in `decode` alone
+-- the parser finds no fault in `decode` with no more words
 decode_passes : (program : Text) → fault_of pmb (program ∷ codes "decode" ∷ []) ≡ []
 unfolding clap_on_literals
 decode_passes program = refl
 
--- `decode` is chosen where its rows are asked for
+-- `decode` is chosen if its rows are asked for
 decode_chosen : (rows : List Row) (chosen : Chosen) → Asks (codes "decode") rows chosen → chosen ≡ Decode
 decode_chosen rows Hear asks = apart 100 104 (ap first_byte asks) refl
 decode_chosen rows Replay asks = apart 100 114 (ap first_byte asks) refl
@@ -93,17 +93,17 @@ decode_chosen rows Decode asks = refl
 decode_chosen rows Check asks = apart 100 99 (ap first_byte asks) refl
 decode_chosen rows (Number format word micro) asks = apart 100 110 (ap first_byte asks.0) refl
 
--- after `check` alone the parser meets that subcommand, with no options
+-- after `check` with no more words the parser meets that subcommand, with no options
 check_met : (program : Text) → subcommand_of pmb (program ∷ codes "check" ∷ []) ≡ Some (codes "check", [])
 unfolding clap_on_literals
 check_met program = refl
 
--- the parser finds no fault in `check` alone
+-- the parser finds no fault in `check` with no more words
 check_passes : (program : Text) → fault_of pmb (program ∷ codes "check" ∷ []) ≡ []
 unfolding clap_on_literals
 check_passes program = refl
 
--- `check` is chosen where its rows are asked for
+-- `check` is chosen if its rows are asked for
 check_chosen : (rows : List Row) (chosen : Chosen) → Asks (codes "check") rows chosen → chosen ≡ Check
 check_chosen rows Hear asks = apart 99 104 (ap first_byte asks) refl
 check_chosen rows Replay asks = apart 99 114 (ap first_byte asks) refl
@@ -123,12 +123,12 @@ given_chosen given (Number format word micro) asks = (
   asks.3 ∙ first_text (codes "micro") given,
 )
 
--- after `--help` alone the parser stops for the help
+-- after `--help` with no more words the parser stops for the help
 help_fault : (program : Text) → fault_of pmb (program ∷ codes "--help" ∷ []) ≡ DisplayHelp ∷ []
 unfolding clap_on_literals
 help_fault program = refl
 
--- after `--version` alone it stops for the version
+-- after `--version` with no more words it stops for the version
 version_fault : (program : Text) → fault_of pmb (program ∷ codes "--version" ∷ []) ≡ DisplayVersion ∷ []
 unfolding clap_on_literals
 version_fault program = refl

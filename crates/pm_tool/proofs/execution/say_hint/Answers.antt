@@ -12,3 +12,8 @@ pub returns-in-NoGoodPacket : goal.returns-in-NoGoodPacket
 returns-in-NoGoodPacket g c =
     subst (λ hint. Says g.E.Write.contents c.args.errors.now c.say-in-NoGoodPacket.new.errors (refusal_line (hint_words hint)))
     (sym c.in-NoGoodPacket.is) c.say-in-NoGoodPacket.ensures
+
+pub returns-in-NoPec : goal.returns-in-NoPec
+returns-in-NoPec g c =
+    subst (λ hint. Says g.E.Write.contents c.args.errors.now c.say-in-NoPec.new.errors (refusal_line (hint_words hint)))
+    (sym c.in-NoPec.is) c.say-in-NoPec.ensures

@@ -10,11 +10,11 @@ use Rattle.pm_lines.specs.declared.fault.TextFault.TheVariants.{Setup}
 use Rattle.pm_setup.specs.declared.setup_fault.SetupFault.TheVariants.{Device}
 use Rattle.pm_tool.proofs.text_faults.say_config.Goals as goal
 
--- the detail of a fault after a space, where it has one
+-- the detail of a fault after a space, if it has one
 abbrev detail_of : ConfigFault → List ℕ
 detail_of fault = option_map_or (λ t. codes " " ++ t) (config_fault_detail fault) []
 
--- the line of a fault with this output, where there is one
+-- the line of a fault with this output, if there is one
 abbrev line_with : List ℕ → ConfigFault → Option ℕ → List ℕ
 line_with program fault output = program_line program (fault_words (Setup (Device fault)) ++ (codes " "
     ++ (config_fault_words fault ++ (place_text output ++ detail_of fault))))

@@ -2,7 +2,7 @@ use Rattle.std.proofs.Common.{◌≡◌, ◌+◌, ◌++◌, ◌≤◌, length}
 use Rattle.pm_decode.specs.Capturing.{most_bytes, next, told}
 use Rattle.pm_decode.proofs.capture.Capture.take.Given as goal
 
--- what is taken and told of the rest is what is left of what was to be
+-- what is taken and said of the rest is what is left of what was to be
 abbrev pub invariant-lines : goal.invariant-lines
 invariant-lines l = record {
   kept : next l.self l.rest ≡ next l.fn.self l.bytes;

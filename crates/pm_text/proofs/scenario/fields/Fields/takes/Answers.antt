@@ -14,7 +14,7 @@ taken before after text true line words is =
     rw words (ap (λ line. Ok (text, record { line = line; words = after.words })) (sym line))
 taken before after text false line words is = absurd (cc)
 
--- the next word, where there is one, is another
+-- the next word, if there is one, is another
 other : (before after : WordsLeft) (text : List ℕ) (result : Bool)
     → MatchBool result (before.words ≡ text ∷ after.words) (is_next text before.words ≡ false)
     → result ≡ false → IsNotNext text before

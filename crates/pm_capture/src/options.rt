@@ -1,0 +1,55 @@
+ghost use Rattle.std.specs.Prelude.{◌≡◌};
+
+use pm_values::GivenFormats;
+
+/// How a capture is shown.
+#[derive(Clone, Copy, Debug)]
+pub struct TellOptions {
+    /// After each packet stands what its payload means, and after one with a fault its bytes.
+    pub values: bool,
+    /// The formats of words whose own format the capture doesn't teach.
+    pub formats: GivenFormats,
+    /// Packets without PEC are shown as good ones, and those that the command table doesn't have by their code and bytes.
+    pub all: bool,
+    /// The capture may have more than 1 MiB.
+    pub long: bool,
+    /// Each line begins with the time of its packet, in microseconds.
+    pub times: bool,
+    /// Each line is shown as an object of JSON.
+    pub json: bool,
+    /// PAGE is followed: a packet that acts on an output and names none is shown with the one that it reaches.
+    pub pages: bool,
+    /// With times and pages: after a pause of an address of more than so many microseconds its page isn't known any more.
+    pub gap: u64,
+}
+
+impl TellOptions {
+    ghost use Rattle.pm_capture.specs.Options.{no_options};
+    ghost use Rattle.pm_capture.specs.Options.{is_plain};
+
+    /// No option: a capture is shown as `decode` of `pm_decode` shows it.
+    pub fn none() -> TellOptions
+        ensures { result ≡ no_options }
+    {
+        TellOptions {
+            values: false,
+            formats: GivenFormats {
+                vout: [None; 8],
+                readings: [None; 8],
+            },
+            all: false,
+            long: false,
+            times: false,
+            json: false,
+            pages: false,
+            gap: 0,
+        }
+    }
+
+    /// Whether no option changes what is shown.
+    pub fn is_plain(&self) -> bool
+        ensures { result ≡ is_plain self.now }
+    {
+        !(self.values | self.all | self.times | self.json | self.pages)
+    }
+}

@@ -1,0 +1,28 @@
+use Rattle.std.proofs.Common.{◌∙◌}
+use Rattle.pm_trace.specs.ShownLines.{judged_in}
+use Rattle.pm_capture.specs.PageSteps.{step_by}
+use Rattle.pm_capture.specs.ShownReadings.{packet_in}
+use Rattle.pm_decode.proofs.HearingLemmas.{page_learned, page_told}
+use Rattle.pm_decode.proofs.known.Known.tell_at_place.Goals as goal
+
+pub returns-clause-known : goal.returns-clause-known
+returns-clause-known c =
+    let options = c.args.options.now in
+    let line = c.args.line.now in
+    let parts = packet_in line.packet in
+    let step_is = c.page_step-step.ensures
+    ∙ (λ i. step_by options.gap line.time (c.self.view_is i).pages line.ones parts (judged_in line.shown.now) line.other) in
+    page_learned options line.number line.time parts c.args.self.now line.ones c.args.lacks (judged_in line.shown.now) line.other
+    c.page_step-step.result c.of-marks.result c.learn.result _ _ c.requires.pages c.requires.ones c.requires.shown c.requires.other
+    c.requires.lacks step_is c.of-marks.ensures (c.self-2.view_is ∙ c.in_ok-tell_packet.ensures.known) c.learn.ensures
+
+pub returns-clause-text : goal.returns-clause-text
+returns-clause-text c =
+    let options = c.args.options.now in
+    let line = c.args.line.now in
+    let parts = packet_in line.packet in
+    let step_is = c.page_step-step.ensures
+    ∙ (λ i. step_by options.gap line.time (c.self.view_is i).pages line.ones parts (judged_in line.shown.now) line.other) in
+    page_told options line.number line.time parts c.args.self.now line.ones c.args.lacks (judged_in line.shown.now) line.other
+    c.page_step-step.result c.of-marks.result c.learn.result _ _ c.requires.pages c.requires.ones c.requires.shown c.requires.other
+    c.requires.lacks step_is c.of-marks.ensures c.in_ok-tell_packet.ensures.text

@@ -1,0 +1,5 @@
+-- What the crate promises.
+pub mod Answers
+pub mod CodeNames
+pub mod Contents
+pub mod Otherwise
