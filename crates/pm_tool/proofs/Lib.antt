@@ -7,4 +7,5 @@ pub mod RangeLemmas
 pub mod RefusalLemmas
 pub mod ScriptLemmas
 pub mod SetupLemmas
+pub mod StatusLemmas
 pub mod TellLemmas

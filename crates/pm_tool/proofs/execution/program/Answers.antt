@@ -1,8 +1,9 @@
-use Rattle.std.proofs.Common.{map, refl, string_bytes}
+use Rattle.std.proofs.Common.{◌∙◌, map, refl, string_bytes}
 use Rattle.std.specs.Vec.Iter.{into_iter_items}
 use Rattle.pm_tool.specs.Execution.{wants_memory}
 use Rattle.pm_tool.specs.Telling.{tell_words}
 use Rattle.pm_tool.proofs.EndLemmas.{memory_ends}
+use Rattle.pm_tool.proofs.StatusLemmas.{at_most_2, kept}
 use Rattle.pm_tool.proofs.execution.program.Goals as goal
 
 pub returns-in_default-clause-ends : goal.returns-in_default-clause-ends
@@ -24,3 +25,8 @@ returns-in_default-words_of-clause-ends g c =
       memory_ends g.R.Read.remaining c.args.input.now words (tell_words words),
       record { status_is = e.status; printed = refl; said = e.said },
     )
+
+pub returns-clause-status : goal.returns-clause-status
+returns-clause-status g c =
+    let (end, runs, is) = c.run-2.ensures in
+    kept _ _ (c.from-2.ensures ∙ is.status_is) (at_most_2 _ _ _ _ end runs)

@@ -6,7 +6,7 @@ use Rattle.pm_tool.proofs.commandline.commands.with_formats.Goals as goal
 
 pub returns : goal.returns
 returns c =
-    IfOk-weaker c.with_option-2.result _ _ (λ command h. h
+    IfOk-weaker c.with_value-2.result _ _ (λ command h. h
     ∙ ap (λ (a : App). with_rule a (option_rule (codes "readings")))
     (c.in_ok-formatted.ensures ∙ ap (λ (a : App). with_rule a (option_rule (codes "vout"))) c.in_ok-valued.ensures))
-    c.with_option-2.ensures
+    c.with_value-2.ensures
