@@ -23,7 +23,8 @@ use pm_host::{JobEnd, Progress, Question, Stage, State, Told};
 use pm_table::Cell;
 
 impl FrameCourse {
-    /// A host's state and the course hear what became of the frame of a stage: if the job still stands.
+    /// A host's state and the course hear what became of the frame of this stage. The progress says whether the job stands or
+    /// has ended.
     pub fn told_with(&mut self, host: &mut State, stage: Stage, told: Told<'_>) -> Progress
         requires sound { IsSound (held (Some stage) host.old) }
         requires awaited { is_awaited stage told ≡ true }

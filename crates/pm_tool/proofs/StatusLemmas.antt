@@ -74,10 +74,12 @@ of_told status text (Some hint) = refl
 engine_ends : {R T : Type 0} (engine : Engine T) (status_in : T → ℕ) → ((end : T) → status_in end ≤ 2)
     → (remaining : R → Option (List ℕ)) (old new : Held R) (end : End)
     → EngineRuns engine status_in remaining old new end → status_of end ≤ 2
-engine_ends e status_in most remaining old new (Printed status text) runs = kept status (status_in runs.1.0) runs.1.1.0 (most runs.1.0)
+engine_ends e status_in most remaining old new (Printed status text) (failed, ended, is, input, whole, made) =
+    kept status (status_in ended) is (most ended)
 engine_ends e status_in most remaining old new (Hinted status text words) runs = absurd runs
 engine_ends e status_in most remaining old new (CutShort text) runs = omega arith
-engine_ends e status_in most remaining old new (Refused status words) runs = kept status 1 runs.0 (omega arith)
+engine_ends e status_in most remaining old new (Refused status words) (is, late, fault, said, reader, front, why) =
+    kept status 1 is (omega arith)
 engine_ends e status_in most remaining old new (Broken text words) runs = omega arith
 engine_ends e status_in most remaining old new (Misused text) runs = absurd runs
 
@@ -88,8 +90,8 @@ whole_ends end read text hint is = kept (status_of end) (decode_status read) (ap
 
 telling_ends : {R : Type 0} (options : TellOptions) (remaining : R → Option (List ℕ)) (old new : Held R) (end : End)
     → TellRuns options remaining old new end → status_of end ≤ 2
-telling_ends options remaining old new (Printed status text) runs = whole_ends (Printed status text) _ _ _ runs.1.1.1
-telling_ends options remaining old new (Hinted status text words) runs = whole_ends (Hinted status text words) _ _ _ runs.1.1.1
+telling_ends options remaining old new (Printed status text) (failed, input, gave, is) = whole_ends (Printed status text) _ _ _ is
+telling_ends options remaining old new (Hinted status text words) (failed, input, gave, is) = whole_ends (Hinted status text words) _ _ _ is
 telling_ends options remaining old new (CutShort text) runs = omega arith
 telling_ends options remaining old new (Broken text words) runs = omega arith
 telling_ends options remaining old new (Refused status words) runs = absurd runs
@@ -97,10 +99,10 @@ telling_ends options remaining old new (Misused text) runs = absurd runs
 
 check_ends : {R : Type 0} (remaining : R → Option (List ℕ)) (old new : Held R) (end : End)
     → CheckRuns remaining old new end → status_of end ≤ 2
-check_ends remaining old new (Printed status text) runs = kept status _ runs.1.1.1.0 (of_log _)
+check_ends remaining old new (Printed status text) (failed, input, gave, is, shown) = kept status _ is (of_log _)
 check_ends remaining old new (Hinted status text words) runs = absurd runs
 check_ends remaining old new (CutShort text) runs = omega arith
-check_ends remaining old new (Refused status words) runs = kept status 1 runs.0 (omega arith)
+check_ends remaining old new (Refused status words) (is, fault, said, reader, why) = kept status 1 is (omega arith)
 check_ends remaining old new (Broken text words) runs = absurd runs
 check_ends remaining old new (Misused text) runs = absurd runs
 
