@@ -55,7 +55,7 @@ Usage: pmb <COMMAND>
 Commands:
   hear    Lets a model converter hear the frames of standard input
   replay  Replays a scenario between a host and a converter, and reports
-  decode  Tells what the packets of a bus trace say
+  decode  Shows what the packets of a bus trace say
   check   Checks a log: whether its transfers make its claims known
   number  Prints a word of a number format, its exact value and its whole millionths
 
@@ -80,7 +80,7 @@ A line is one of
   B0 20 /                   a frame, which a repeated start follows
   restart                   the converter starts again
 
-Spaces alone part bytes, without 0x or h. Empty lines, and lines whose first byte is #, are skipped.
+Only spaces separate bytes, without 0x or h. Empty lines, and lines that begin with #, are skipped.
 A text has at most 1 MiB. The converter has two outputs of 1 V at address 58: B0 writes, B1 reads.
 Printed are its answers, and then each output's VOUT_COMMAND.
 
@@ -140,7 +140,7 @@ converter then holds, commands and shows, and what the host knows.
 
   $ pmb replay < examples/one-order.scenario
 
-Status 1 where `stopped N` says that N events were taken and the next one wasn't:
+Status 1 if `stopped N` says that N events were taken and the next one wasn't:
 
   S1 NotBetrayed   other bytes than were sent, and their PEC is right
   S2 NothingSent   nothing is being sent: begin a job first
@@ -157,7 +157,7 @@ X5 Write, X6 Memory, and X7 Setup with
   V3 Address       outside 08 to 77              H2 Passes            passes outside 1 to 15
 ";
 
-static DECODE_HELP: &str = "Tells what the packets of a bus trace say
+static DECODE_HELP: &str = "Shows what the packets of a bus trace say
 
 Usage: pmb decode [OPTIONS] < TRACE
 
@@ -165,11 +165,11 @@ Options:
   -h, --help  Print help
 
 Further options:
-      --values        Tell what payloads mean, and the bytes of faulty packets
+      --values        Show what payloads mean, and the bytes of faulty packets
       --vout <F>      The formats of voltages that the trace teaches none of; with --values
       --readings <L>  The formats of READ_VIN, READ_IOUT and READ_TEMPERATURE_1; with --values
-      --all           Tell packets without PEC, and those that the command table doesn't have
-      --pages         Follow PAGE: tell plain packets with the output that they reach
+      --all           Show packets without PEC, and those that the command table doesn't have
+      --pages         Follow PAGE: show plain packets with the output that they reach
       --gap <MS>      The pause that ends a page, in milliseconds; with --pages and --times
       --long          Take a trace of more than 1 MiB
       --times         Each line begins with its time in microseconds
@@ -180,7 +180,7 @@ A line is one of
   B0 05 04 00 21 CD 34 5A           a write, in hexadecimal
   B0 06 02 00 21 / B1 02 CD 34 B9   a read: the request, and after / what came back
 
-Spaces alone part bytes, without 0x or h. Empty lines, and lines whose first byte is #, are skipped.
+Only spaces separate bytes, without 0x or h. Empty lines, and lines that begin with #, are skipped.
 A text has at most 1 MiB, or any size with --long; a part has 300 bytes. Printed is a line for each,
 with its number, and then the counts.
 
@@ -189,23 +189,23 @@ with its number, and then the counts.
   count VOUT_COMMAND 1
   lines 1 accepted 1 faults 0 bad 0
 
-With --values a packet's value stands behind it, and behind a faulty one its bytes. A voltage has
+With --values a line ends in the packet's value, or in a faulty packet's bytes. A voltage has
 the format that the lines before taught, by its page's VOUT_MODE and its code's COEFFICIENTS, or
 that of --vout: one to eight of linear11, ulinear16:N and direct:M:B:R, each for all addresses or
 for one, as 58:ulinear16:-12,linear11. READ_VIN, READ_IOUT and READ_TEMPERATURE_1 are LINEAR11
-behind a VOUT_MODE of ULINEAR16, or as --readings says: one to eight entries,
+after a VOUT_MODE of ULINEAR16, or as --readings says: one to eight entries,
 58:8D:direct:1:0:3,8C:linear11,linear11, of which the first holds that fits.
 
   $ printf 'B0 06 02 00 20 / B1 01 14 4E\\nB0 05 04 00 21 CD 34 5A\\n' | pmb decode --values | head -2
   1 58 page 0 VOUT_MODE read 14 ULINEAR16 -12
   2 58 page 0 VOUT_COMMAND write 34CD 3.300048 V
 
-With --all a packet without PEC is told as one that has it, and one that the command table doesn't
-have by its bytes: 1 58 code FD send, no PEC. With --times a line is 1234 B0 03 46, and told so:
+With --all a packet without PEC is shown as one that has it, and one that the command table doesn't
+have by its bytes: 1 58 code FD send, no PEC. With --times a line is 1234 B0 03 46, and is shown as
 1 1234 us 58 CLEAR_FAULTS send.
 
-With --pages a plain packet is told with the output that it reaches, and a question mark, since a
-trace shows no restart: 2 58 page 1? VOUT_COMMAND write 34CD. Where the trace contradicts itself the
+With --pages a plain packet is shown with the output that it reaches, and a question mark, since a
+trace shows no restart: 2 58 page 1? VOUT_COMMAND write 34CD. If the trace contradicts itself, the
 line ends in WRONG PAGE? lines 1 and 4. With --times a page ends at a pause of its address of more
 than --gap, 0 to 1000000 ms, or 1000.
 
@@ -220,8 +220,8 @@ A packet may be faulty; N counts bytes from 0, the address is byte 0:
   F7 WrongDirection N the code is never written, or never read
   F8 Nested N         PAGE_PLUS doesn't carry the code
 
-Status 1 where a line is bad, X1 Syntax or X2 BadHex, or with a line on standard error: X3 TooLong,
-X4 Read, X5 Write, X6 Memory. With an option a second line behind X3 says that --long reads on.
+Status 1 if a line is bad, X1 Syntax or X2 BadHex, or with a line on standard error: X3 TooLong,
+X4 Read, X5 Write, X6 Memory. With an option a second line after X3 says that --long reads on.
 Status 2: give --vout with --values, bad vout, and the same of --readings; give --gap with --pages
 and --times, bad gap.
 ";

@@ -11,7 +11,7 @@ use clap::{Arg, ArgAction, Command};
 use std::alloc::{AllocError, Global};
 
 /// What `decode` does.
-const DECODES: &str = "Tells what the packets of a bus trace say";
+const DECODES: &str = "Shows what the packets of a bus trace say";
 
 /// How `decode` is called.
 const DECODE_USAGE: &str = "pmb decode [OPTIONS] < TRACE";
