@@ -7,15 +7,18 @@ use Rattle.clap.specs.Kinds.{Kinds}
 use Rattle.clap.specs.Words.{Text}
 use Rattle.pm_lines.specs.Engine.{Engine}
 use Rattle.pm_lines.specs.Streams.{Held}
+use Rattle.pm_trace.specs.Outcome.{decoding}
 use Rattle.pm_trace.specs.declared.decode_end.DecodeEnd.{DecodeEnd}
 use Rattle.pm_trace.specs.declared.decode_end.DecodeEnd.TheVariants.{Clean, BadLines}
 use Rattle.pm_decode.specs.declared.hints.Hint.{Hint}
 use Rattle.pm_capture.specs.declared.options.TellOptions.{TellOptions}
 use Rattle.pm_log.specs.declared.checking.LogEnd.{LogEnd}
 use Rattle.pm_log.specs.declared.checking.LogEnd.TheVariants.{Accepted as LogAccepted, Refused as LogRefused}
+use Rattle.pm_text.specs.Replay.{replaying}
 use Rattle.pm_text.specs.declared.replays.ReplayEnd.{ReplayEnd}
 use Rattle.pm_text.specs.declared.replays.ReplayEnd.TheVariants.{Ran as AllTaken, Stopped}
 use Rattle.pm_tool.specs.Commandline.{pmb}
+use Rattle.pm_tool.specs.Outcome.{hearing}
 use Rattle.pm_tool.specs.Refusals.{no_words_status}
 use Rattle.pm_tool.specs.NumberFaults.{refusal_status}
 use Rattle.pm_tool.specs.Telling.{tell_fault_status}
@@ -74,7 +77,7 @@ of_told status text (Some hint) = refl
 engine_ends : {R T : Type 0} (engine : Engine T) (status_in : T → ℕ) → ((end : T) → status_in end ≤ 2)
     → (remaining : R → Option (List ℕ)) (old new : Held R) (end : End)
     → EngineRuns engine status_in remaining old new end → status_of end ≤ 2
-engine_ends e status_in most remaining old new (Printed status text) (failed, ended, is, input, whole, made) =
+engine_ends e status_in most remaining old new (Printed status text) (failed, ended, is, made) =
     kept status (status_in ended) is (most ended)
 engine_ends e status_in most remaining old new (Hinted status text words) runs = absurd runs
 engine_ends e status_in most remaining old new (CutShort text) runs = omega arith
@@ -108,9 +111,9 @@ check_ends remaining old new (Misused text) runs = absurd runs
 
 command_ends : {R : Type 0} (asked : TextCommand) (remaining : R → Option (List ℕ)) (old new : Held R) (end : End)
     → CommandRuns asked remaining old new end → status_of end ≤ 2
-command_ends command.Hear remaining old new end runs = engine_ends _ (λ _. 0) (λ e. omega arith) remaining old new end runs
-command_ends command.Replay remaining old new end runs = engine_ends _ replay_status of_replay remaining old new end runs
-command_ends command.Decode remaining old new end runs = engine_ends _ decode_status of_decode remaining old new end runs
+command_ends command.Hear remaining old new end runs = engine_ends hearing (λ _. 0) (λ e. omega arith) remaining old new end runs
+command_ends command.Replay remaining old new end runs = engine_ends replaying replay_status of_replay remaining old new end runs
+command_ends command.Decode remaining old new end runs = engine_ends decoding decode_status of_decode remaining old new end runs
 command_ends (command.Tell options) remaining old new end runs = telling_ends options remaining old new end runs
 command_ends command.Check remaining old new end runs = check_ends remaining old new end runs
 
@@ -153,7 +156,8 @@ line_ends : {R : Type 0} (remaining : R → Option (List ℕ)) (old new : Held R
     → LineEnds remaining old new words options end → status_of end ≤ 2
 line_ends remaining old new words None end (inl (free, chosen, met, runs)) = choice_ends remaining old new chosen end runs
 line_ends remaining old new words None end (inr runs) = parser_ends old new _ end runs
-line_ends remaining old new words (Some options) end (inl (free, given, has, asks, is, runs)) = asked_ends remaining old new asks end runs
+line_ends remaining old new words (Some options) end (inl (free, given, has, ends)) =
+    let (asks, is, runs) = ends in asked_ends remaining old new asks end runs
 line_ends remaining old new words (Some options) end (inr runs) = parser_ends old new _ end runs
 
 of_none : (kind : IoKind) → no_words_status kind ≤ 2

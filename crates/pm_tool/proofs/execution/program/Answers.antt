@@ -1,5 +1,6 @@
-use Rattle.std.proofs.Common.{◌∙◌, map, refl, string_bytes}
+use Rattle.std.proofs.Common.{◌∙◌, Ok, map, refl, string_bytes}
 use Rattle.std.specs.Vec.Iter.{into_iter_items}
+use Rattle.pm_tool.specs.Arguments.{arguments_of}
 use Rattle.pm_tool.specs.Execution.{wants_memory}
 use Rattle.pm_tool.specs.Telling.{tell_words}
 use Rattle.pm_tool.proofs.EndLemmas.{memory_ends}
@@ -29,4 +30,4 @@ returns-in_default-words_of-clause-ends g c =
 pub returns-clause-status : goal.returns-clause-status
 returns-clause-status g c =
     let (end, runs, is) = c.run-2.ensures in
-    kept _ _ (c.from-2.ensures ∙ is.status_is) (at_most_2 _ _ _ _ end runs)
+    kept _ _ (c.from-2.ensures ∙ is.status_is) (at_most_2 g.R.Read.remaining c.args.input.now c.run-2.new.input (arguments_of (Ok c.as_slice.result)) end runs)
