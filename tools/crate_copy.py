@@ -100,9 +100,9 @@ class CrateCopy:
         return lines, verdicts[-1].split()[0] if verdicts else None
 
     def failed_test(self, first=None):
-        """The first line of a test that fails, if one does: those of the crate `first` are tried before the others. A test has five
-        minutes, since it is run with no optimisation; where tests can't be run, the line says so."""
-        for name in sorted(self.tests, key=lambda name: name != first):
+        """The first line of a test that fails, if one does: those of the crate `first` are tried before the others, also where that is
+        no crate of tests. A test has five minutes, since it is run with no optimisation; where tests can't be run, the line says so."""
+        for name in [*([first] if first else ()), *(it for it in self.tests if it != first)]:
             lines = run(os.path.join(self.top, "crates", name), "rt", "try", "--test", "--seconds", "300")
             for line in lines:
                 if "FAILED" in line or "panicked" in line or (" failed" in line and " 0 failed" not in line):
