@@ -6,7 +6,6 @@ ghost use Rattle.pm_values.specs.declared.formats.GivenFormats.{GivenFormats};
 ghost use Rattle.pm_decode.specs.CaptureText.{capture_text};
 ghost use Rattle.pm_capture.specs.Options.{plain_options};
 ghost use Rattle.pm_trace.specs.TraceText.{trace_text};
-ghost use Rattle.pm_tool.specs.declared.numbers.question.Question.{Question};
 ghost use Rattle.pm_tool.specs.NumberText.{IsFormat, IsNumberText};
 
 use pm_decode::plain_captures_are_traces;
@@ -32,8 +31,8 @@ pub fn a_capture_without_options(text: &[u8])
 
 /// Two runs of `number` that are asked the same print the same line.
 pub fn one_question_has_one_line()
-    ensures { (asked : Question) → IsFormat asked.format → (first second : List ℕ) →
-        IsNumberText (Ok asked) first → IsNumberText (Ok asked) second → first ≡ second }
+    ensures { (asked : _) (first second : List ℕ) → IsNumberText (Ok asked) first → IsNumberText (Ok asked) second →
+        IsFormat asked.format → first ≡ second }
 {
     number_has_one_text();
 }
