@@ -4,13 +4,13 @@ ghost use Rattle.std.specs.Prelude.{◌≡◌, Ok, Err};
 ghost use Rattle.pm_world.specs.Job.{event_of};
 ghost use Rattle.pm_text.specs.EventLines as spec;
 ghost use Rattle.pm_text.specs.EventLines.{job_lines};
-ghost use Rattle.pm_text.specs.Readers.{Reads, ReadsTo, IsRead, line_as, lines_into, one_of};
+ghost use Rattle.pm_text.specs.Readers.{Reads, ReadsTo, IsRead, line_as, lines_into, made_into, one_of};
 
 use crate::form::Form;
 use crate::scenario::fault::ScenarioFault;
 use crate::scenario::fields::Fields;
 use crate::scenario::frames::{arrival, back};
-use crate::scenario::job_line::job_line;
+use crate::scenario::job_line::{job_line, order};
 use crate::scenario::reading::reading;
 use pm_lines::Line;
 use pm_world::Event;
@@ -30,7 +30,9 @@ pub(crate) fn event_line(form: Form, line: Line<'_>, event: &mut Event) -> Resul
 fn read_event(form: Form, fields: &mut Fields<'_>, event: &mut Event) -> Result<(), ScenarioFault>
     ensures { ReadsTo result event.new fields.new (spec.event_line form fields.old) }
 {
-    if fields.takes("deliver") {
+    if fields.takes("order") {
+        ordered(form, fields, event)
+    } else if fields.takes("deliver") {
         deliver(fields, event)
     } else if fields.takes("finish") {
         let acked = finish(fields)?;
@@ -47,6 +49,16 @@ fn read_event(form: Form, fields: &mut Fields<'_>, event: &mut Event) -> Result<
     } else {
         asked(form, fields, event)
     }
+}
+
+// What follows the first word of a line that asks for an order: of the lines that are read here most do.
+#[tactic(auto, using(crate::proofs::LineLemmas::made_of_one))]
+fn ordered(form: Form, fields: &mut Fields<'_>, event: &mut Event) -> Result<(), ScenarioFault>
+    ensures { ReadsTo result event.new fields.new (made_into event_of (spec.order_rest form) fields.old) }
+{
+    let job = order(form, fields)?;
+    *event = Event::of(job);
+    Ok(())
 }
 
 // A line that asks the host for a job.

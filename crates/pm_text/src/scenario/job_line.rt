@@ -49,9 +49,9 @@ fn store_job(form: Form, name: &[u8]) -> Option<Job>
     }
 }
 
-// `order O NAME HEX`, or `order - WRITE_PROTECT HH`.
+/// What follows the first word of `order O NAME HEX`, or of `order - WRITE_PROTECT HH`.
 #[tactic(auto, unfolding(crate::specs::EventLines::order_rest))]
-fn order(form: Form, fields: &mut Fields<'_>) -> Result<Job, ScenarioFault>
+pub(crate) fn order(form: Form, fields: &mut Fields<'_>) -> Result<Job, ScenarioFault>
     ensures { Reads result fields.new (spec.order_rest form fields.old) }
 {
     let cell = cell(form, fields)?;
