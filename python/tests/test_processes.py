@@ -119,6 +119,9 @@ class Processes(unittest.TestCase):
                                env={**os.environ, "PMHOST_LIBRARY": "/nowhere.so"}, stderr=subprocess.PIPE, stdout=subprocess.PIPE)
         self.assertEqual((ended.returncode, ended.stdout), (2, ""))
         self.assertRegex(ended.stderr, r"\Apmhost: /nowhere\.so: .*; `pip install ./python` makes this package's library, .*\n\Z")
+        full = subprocess.run(["bash", "-c", '"$@" 2> /dev/full', "bash", sys.executable, "-B", "-m", "pmhost", "-b", "model", "read", "0"], check=False,
+                              env={**os.environ, "PMHOST_LIBRARY": "/nowhere.so"}, stdout=subprocess.PIPE)
+        self.assertEqual((full.returncode, full.stdout), (2, b""))
 
     def test_help_version_completion_and_captures_need_no_library(self):
         capture = stored(DATA, "captures/sharpest.linux")
@@ -142,26 +145,38 @@ class Processes(unittest.TestCase):
         self.assertEqual((ended.returncode, ended.stdout), (2, ""))
         self.assertRegex(ended.stderr, r"\Apmhost: .*libpmpart\.so is another library than this package is for: it has no pm_\w+\n\Z")
 
+    # What a library of this package answers: its numbers.
+    NUMBERS = {"pm_version": _library.VERSION, "pm_host_version": _library.HOST_VERSION, "pm_host_size": _library.HOST_SIZE,
+               "pm_course_version": _library.COURSE_VERSION, "pm_course_size": _library.COURSE_SIZE, "pm_part_size": _library.PART_SIZE,
+               "pm_delivery_version": _library.DELIVERY_VERSION, "pm_delivery_size": ctypes.sizeof(_library.DeliveryImage),
+               "pm_stairs_version": _library.STAIRS_VERSION, "pm_stairs_size": ctypes.sizeof(_library.StairsImage)}
+
+    def over_another(self, name, number, *words):
+        """A process over a library that has every call of this one, and answers its numbers but for one."""
+        says = {**dict.fromkeys(_library.CALLS, 0), **self.NUMBERS, name: number}
+        with tempfile.TemporaryDirectory() as folder:
+            other = os.path.join(folder, f"{name}.so")
+            subprocess.run(["gcc", "-shared", "-fPIC", "-x", "c", "-", "-o", other], check=True, text=True,
+                           input="".join(f"unsigned long {each}(void) {{ return {it}; }}\n" for each, it in says.items()))
+            return subprocess.run([sys.executable, "-B", *words], check=False, text=True, env={**os.environ, "PMHOST_LIBRARY": other},
+                                  stderr=subprocess.PIPE, stdout=subprocess.PIPE)
+
     @needs_tool("gcc")
     def test_a_library_of_another_size_is_refused(self):
-        """A library that has every call of this one, and answers its numbers but for one."""
-        numbers = {"pm_version": _library.VERSION, "pm_host_version": _library.HOST_VERSION, "pm_host_size": _library.HOST_SIZE,
-                   "pm_course_version": _library.COURSE_VERSION, "pm_course_size": _library.COURSE_SIZE, "pm_part_size": _library.PART_SIZE,
-                   "pm_delivery_version": _library.DELIVERY_VERSION, "pm_delivery_size": ctypes.sizeof(_library.DeliveryImage),
-                   "pm_stairs_version": _library.STAIRS_VERSION, "pm_stairs_size": ctypes.sizeof(_library.StairsImage)}
+        """Larger or smaller numbers, each by itself."""
         self.assertEqual([ctypes.sizeof(it) for it in (_library.HostImage, _library.CourseImage, _library.PartImage)],
                          [_library.HOST_SIZE, _library.COURSE_SIZE, _library.PART_SIZE])
-        with tempfile.TemporaryDirectory() as folder:
-            for name, number in numbers.items():
-                with self.subTest(name=name):
-                    says = {**dict.fromkeys(_library.CALLS, 0), **numbers, name: number + 0x100}
-                    other = os.path.join(folder, f"{name}.so")
-                    subprocess.run(["gcc", "-shared", "-fPIC", "-x", "c", "-", "-o", other], check=True, text=True,
-                                   input="".join(f"unsigned long {each}(void) {{ return {it}; }}\n" for each, it in says.items()))
-                    ended = subprocess.run([sys.executable, "-B", "-m", "pmhost", "-b", "model", "read", "0"], check=False, text=True,
-                                           env={**os.environ, "PMHOST_LIBRARY": other}, stderr=subprocess.PIPE, stdout=subprocess.PIPE)
+        for name, number in self.NUMBERS.items():
+            for other in [number + 0x100] + [number - 1] * (name != "pm_version"):
+                with self.subTest(name=name, other=other):
+                    ended = self.over_another(name, other, "-m", "pmhost", "-b", "model", "read", "0")
                     self.assertEqual((ended.returncode, ended.stdout), (2, ""))
                     self.assertRegex(ended.stderr, rf"\Apmhost: .*{name}\.so is another library than this package is for: it says .*\n\Z")
+
+    @needs_tool("gcc")
+    def test_a_library_of_another_minor_version_is_taken(self):
+        ended = self.over_another("pm_version", _library.VERSION ^ 0xFF, "-c", "from pmhost._library import library; print(library.pm_version())")
+        self.assertEqual((ended.stdout, ended.stderr), (f"{_library.VERSION ^ 0xFF}\n", ""))
 
     def test_an_interruption_before_the_command_begins_tells_no_traceback(self):
         """A module that is imported while the package is interrupts the process."""
