@@ -361,23 +361,27 @@ class NewFaults(unittest.TestCase):
 
 @needs_tool("gcc")
 class Preloading(unittest.TestCase):
+    @classmethod
+    def setUpClass(cls):
+        cls.below = cls.enterClassContext(preload())
+
     def test_a_program_that_closes_and_opens_again_is_on_the_same_part(self):
         script = HOST + "write(0x05, 0x04, 0, 0x21, 0x34, 0x12)\nos.close(file)\nfile = os.open('/dev/i2c-7', os.O_RDWR)\nprint(read([0x06, 2, 0, 0x21], 3).hex())\n"
-        with tempfile.TemporaryDirectory() as folder, preload() as below:
+        with tempfile.TemporaryDirectory() as folder:
             path = os.path.join(folder, "host.py")
             with open(path, "w", encoding="utf-8") as file:
                 file.write(script)
-            found = Program([sys.executable, "-S", "-E", path], 2, said="^023412$").run(below)
+            found = Program([sys.executable, "-S", "-E", path], 2, said="^023412$").run(self.below)
         self.assertTrue(found.is_success)
         self.assertEqual((found.status, [each.word for each in found.took], found.named), (0, [0x1234], {ONE: 2}))
 
     def ran(self, script, said=None, seconds=10):
         """The run of a script without a fault, and what it prints, to which its standard error belongs."""
-        with tempfile.TemporaryDirectory() as folder, preload() as below:
+        with tempfile.TemporaryDirectory() as folder:
             path = os.path.join(folder, "host.py")
             with open(path, "w", encoding="utf-8") as file:
                 file.write(script)
-            return Program([sys.executable, "-S", "-E", path], 2, seconds, said).run(below)
+            return Program([sys.executable, "-S", "-E", path], 2, seconds, said).run(self.below)
 
     def test_what_a_program_hears_of_a_part_that_is_not_there(self):
         """Messages and SMBus, each with the kernel's error, and what is read then."""
@@ -405,12 +409,12 @@ try:
 except OSError as fault:
     print(fault.errno)
 """
-        with tempfile.TemporaryDirectory() as folder, preload() as below:
+        with tempfile.TemporaryDirectory() as folder:
             path = os.path.join(folder, "host.py")
             with open(path, "w", encoding="utf-8") as file:
                 file.write(script)
             for fault, said in (("ok", f"^{start_of(2)[0].command:#x}$"), ("garbled:1:0", "^74$")):
-                self.assertTrue(Program([sys.executable, "-S", "-E", path], 2, said=said).run(below, 1, fault).is_success, fault)
+                self.assertTrue(Program([sys.executable, "-S", "-E", path], 2, said=said).run(self.below, 1, fault).is_success, fault)
 
     def test_a_program_that_breaks_off_in_a_call(self):
         """The next one is served all the same."""
