@@ -64,7 +64,10 @@ def planted(folder, bug):
 
 
 def look_at_tests(folders, tests):
-    """Ends the script where a test fails with no bug, or can't be run here. They run in one process for each copy."""
+    """Ends the script where a test fails with no bug, or can't be run here. They run in one process for each copy, each of them once."""
+    named = set(tests)
+    tests = [it for it in tests if not any(it[:at] in named for at, each in enumerate(it) if each == ".")]
+
     def look(number):
         mine = tests[number::len(folders)]
         ran = tried(folders[number], "--verbose", *(f"tests.{it}" for it in mine)) if mine else None

@@ -204,6 +204,11 @@ class Edges(unittest.TestCase):
             host.no_limits(0)
         host.set_limits(0, "1V", "1.5V")
 
+    def test_limits_beyond_32_bits_are_kept(self):
+        host = Host(0x58)
+        host.set_limits(0, "-3000V", "2147483648uV")
+        self.assertEqual(host.limits(0), Limits(Voltage("-3000V"), Voltage("2147483648uV")))
+
     def test_an_open_order_of_another_output_is_in_no_limit_s_way(self):
         host = self.host()
         host.order(1, "VOUT_COMMAND", 0x3000)

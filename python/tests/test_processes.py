@@ -1,5 +1,6 @@
 """`pmhost` as a process over the stand-in for the kernel: streams that are closed, full or left, signals, colours, the library."""
 import _ctypes
+import contextlib
 import ctypes
 import os
 import pty
@@ -119,6 +120,9 @@ class Processes(unittest.TestCase):
                                env={**os.environ, "PMHOST_LIBRARY": "/nowhere.so"}, stderr=subprocess.PIPE, stdout=subprocess.PIPE)
         self.assertEqual((ended.returncode, ended.stdout), (2, ""))
         self.assertRegex(ended.stderr, r"\Apmhost: /nowhere\.so: .*; `pip install ./python` makes this package's library, .*\n\Z")
+        full = subprocess.run(["bash", "-c", '"$@" 2> /dev/full', "bash", sys.executable, "-B", "-m", "pmhost", "-b", "model", "read", "0"], check=False,
+                              env={**os.environ, "PMHOST_LIBRARY": "/nowhere.so"}, stdout=subprocess.PIPE)
+        self.assertEqual((full.returncode, full.stdout), (2, b""))
 
     def test_help_version_completion_and_captures_need_no_library(self):
         capture = stored(DATA, "captures/sharpest.linux")
@@ -142,26 +146,48 @@ class Processes(unittest.TestCase):
         self.assertEqual((ended.returncode, ended.stdout), (2, ""))
         self.assertRegex(ended.stderr, r"\Apmhost: .*libpmpart\.so is another library than this package is for: it has no pm_\w+\n\Z")
 
+    # What a library of this package answers: its numbers.
+    NUMBERS = {"pm_version": _library.VERSION, "pm_host_version": _library.HOST_VERSION, "pm_host_size": _library.HOST_SIZE,
+               "pm_course_version": _library.COURSE_VERSION, "pm_course_size": _library.COURSE_SIZE, "pm_part_size": _library.PART_SIZE,
+               "pm_delivery_version": _library.DELIVERY_VERSION, "pm_delivery_size": ctypes.sizeof(_library.DeliveryImage),
+               "pm_stairs_version": _library.STAIRS_VERSION, "pm_stairs_size": ctypes.sizeof(_library.StairsImage)}
+
+    @contextlib.contextmanager
+    def another(self):
+        """Runs a process over a library that has every call of this one, and answers its numbers but for one."""
+        answers = "".join(f'unsigned long {each}(void) {{ return answer("{each}", {it}); }}\n'
+                          for each, it in {**dict.fromkeys(_library.CALLS, 0), **self.NUMBERS}.items())
+        with tempfile.TemporaryDirectory() as folder:
+            other = os.path.join(folder, "other.so")
+            subprocess.run(["gcc", "-shared", "-fPIC", "-x", "c", "-", "-o", other], check=True, text=True, input=f"""
+#include <stdlib.h>
+#include <string.h>
+static unsigned long answer(const char *name, unsigned long number) {{
+    return strcmp(getenv("NAME"), name) == 0 ? strtoul(getenv("NUMBER"), 0, 10) : number;
+}}
+{answers}""")
+            yield lambda name, number, *words: subprocess.run(
+                [sys.executable, "-B", *words], check=False, text=True, stderr=subprocess.PIPE, stdout=subprocess.PIPE,
+                env={**os.environ, "PMHOST_LIBRARY": other, "NAME": name, "NUMBER": str(number)})
+
     @needs_tool("gcc")
     def test_a_library_of_another_size_is_refused(self):
-        """A library that has every call of this one, and answers its numbers but for one."""
-        numbers = {"pm_version": _library.VERSION, "pm_host_version": _library.HOST_VERSION, "pm_host_size": _library.HOST_SIZE,
-                   "pm_course_version": _library.COURSE_VERSION, "pm_course_size": _library.COURSE_SIZE, "pm_part_size": _library.PART_SIZE,
-                   "pm_delivery_version": _library.DELIVERY_VERSION, "pm_delivery_size": ctypes.sizeof(_library.DeliveryImage),
-                   "pm_stairs_version": _library.STAIRS_VERSION, "pm_stairs_size": ctypes.sizeof(_library.StairsImage)}
+        """Larger or smaller numbers, each by itself."""
         self.assertEqual([ctypes.sizeof(it) for it in (_library.HostImage, _library.CourseImage, _library.PartImage)],
                          [_library.HOST_SIZE, _library.COURSE_SIZE, _library.PART_SIZE])
-        with tempfile.TemporaryDirectory() as folder:
-            for name, number in numbers.items():
-                with self.subTest(name=name):
-                    says = {**dict.fromkeys(_library.CALLS, 0), **numbers, name: number + 0x100}
-                    other = os.path.join(folder, f"{name}.so")
-                    subprocess.run(["gcc", "-shared", "-fPIC", "-x", "c", "-", "-o", other], check=True, text=True,
-                                   input="".join(f"unsigned long {each}(void) {{ return {it}; }}\n" for each, it in says.items()))
-                    ended = subprocess.run([sys.executable, "-B", "-m", "pmhost", "-b", "model", "read", "0"], check=False, text=True,
-                                           env={**os.environ, "PMHOST_LIBRARY": other}, stderr=subprocess.PIPE, stdout=subprocess.PIPE)
+        with self.another() as run:
+            for name, other in [*((name, number + 0x100) for name, number in self.NUMBERS.items()),
+                                *((name, number - 1) for name, number in self.NUMBERS.items() if name != "pm_version")]:
+                with self.subTest(name=name, other=other):
+                    ended = run(name, other, "-m", "pmhost", "-b", "model", "read", "0")
                     self.assertEqual((ended.returncode, ended.stdout), (2, ""))
-                    self.assertRegex(ended.stderr, rf"\Apmhost: .*{name}\.so is another library than this package is for: it says .*\n\Z")
+                    self.assertRegex(ended.stderr, r"\Apmhost: .*other\.so is another library than this package is for: it says .*\n\Z")
+
+    @needs_tool("gcc")
+    def test_a_library_of_another_minor_version_is_taken(self):
+        with self.another() as run:
+            ended = run("pm_version", _library.VERSION ^ 0xFF, "-c", "from pmhost._library import library; print(library.pm_version())")
+        self.assertEqual((ended.stdout, ended.stderr), (f"{_library.VERSION ^ 0xFF}\n", ""))
 
     def test_an_interruption_before_the_command_begins_tells_no_traceback(self):
         """A module that is imported while the package is interrupts the process."""

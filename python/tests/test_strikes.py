@@ -114,6 +114,48 @@ class Faults(unittest.TestCase):
                                                 "1 times wrongly")
 
 
+class Hosts(unittest.TestCase):
+    """The two hosts that are compared: what each sends, and of what it says that the register has the word."""
+
+    def over(self, *strikes, passes=2):
+        """Both over a bus of their own, with what befalls its transfers, and the lines of these."""
+        seen = []
+        bench = faults.Bench(2, passes, lambda transfer: seen.append(transfer.line))
+        bench.bus.faults = list(strikes)
+        return bench, seen
+
+    def test_the_proved_host_reports_what_is_read_back(self):
+        for strikes, is_reported, transfers in (((), True, 2), (("lost", "ok", "ok", "ok"), True, 4), (("ok", "mute") * 2, False, 4),
+                                                (("lost", "ok") * 2, False, 4)):
+            bench, seen = self.over(*strikes)
+            self.assertEqual((bench.proved.order(1, "VOUT_COMMAND", 0x34CD), len(seen)), (is_reported, transfers), strikes)
+        self.assertEqual(bench.words(), [0x1000, 0x1000])
+
+    def test_what_the_proved_host_refuses_is_not_reported(self):
+        """An order while another one is open."""
+        bench, seen = self.over()
+        bench.proved.host.order(0, "VOUT_COMMAND", 0x2345)
+        self.assertEqual((bench.proved.order(1, "VOUT_COMMAND", 0x34CD), seen), (False, []))
+
+    def test_a_restart_of_the_proved_host_forgets_all(self):
+        bench, _ = self.over()
+        self.assertTrue(bench.proved.order(1, "VOUT_COMMAND", 0x34CD))
+        bench.proved.restart()
+        self.assertEqual(bench.proved.host.confirmed_word(1, "VOUT_COMMAND"), None)
+
+    def test_the_plain_host_selects_first_and_takes_an_acknowledgement_for_success(self):
+        for strikes, is_reported, words in (((), True, [0x1000, 0x34CD]), (("lost",), True, [0x1000, 0x34CD]), (("lost", "lost"), False, [0x1000] * 2),
+                                            (("ok", "lost", "lost"), False, [0x1000] * 2), (("false",), True, [0x34CD, 0x1000])):
+            bench, seen = self.over(*strikes)
+            self.assertEqual((bench.plain.order(1, "VOUT_COMMAND", 0x34CD), bench.words()), (is_reported, words), strikes)
+            self.assertTrue(seen[0].startswith("B0 00 01 ED  "), seen)
+        bench, seen = self.over()
+        bench.plain.restart()
+        for register, frame in (("OPERATION", "B0 01 40 38"), ("VOUT_MAX", "B0 24 40 00 2B"), ("WRITE_PROTECT", "B0 10 40 7A")):
+            self.assertTrue(bench.plain.order(0, register, 0x40))
+            self.assertEqual(seen[-2:], ["B0 00 00 EA  ok: part taken, acknowledged", f"{frame}  ok: part taken, acknowledged"])
+
+
 class Signals(unittest.TestCase):
     def test_an_interrupt_ends_it_in_one_line(self):
         with subprocess.Popen(running.command("faults", "part", "restart", "+", "store", "+", *ORDER, "--passes=15",

@@ -1,5 +1,6 @@
 """The bench for anybody's host: what it says of programs whose faults are known, and each part of its verdict by itself."""
 import contextlib
+import fcntl
 import io
 import json
 import os
@@ -7,15 +8,17 @@ import re
 import sys
 import tempfile
 import textwrap
+import time
 import unittest
+import unittest.mock
 
 from pmhost import cli
-from pmhost.faults import FaultyBus, Struck
+from pmhost.faults import FaultyBus, Struck, read_faults
 from pmhost.packets import pec
 from pmhost.part import ModelPart
-from pmhost.torture import Judge, Program, Run, Unjudged, drawn_faults
+from pmhost.torture import KINDS, Judge, Program, Run, Unjudged, drawn_faults
 from pmhost.torture.i2c_dev import Message
-from pmhost.torture.below import preload
+from pmhost.torture.below import NoBench, preload
 from pmhost.torture.server import Server
 from pmhost.torture.verdict import Verdict
 from pmhost.torture.watched import Took, WatchedPart, read_meant, start_of
@@ -48,6 +51,17 @@ def read(request, count):
     if pec([0xB0, *request, 0xB1, *came[:-1]]) != came[-1]:
         raise OSError("wrong packet error code")
     return came[:-1]
+'''
+# The kernel's own calls of SMBus.
+SMBUS = '''
+class Data(ctypes.Union):
+    _fields_ = [("byte", ctypes.c_uint8), ("word", ctypes.c_uint16), ("block", ctypes.c_uint8 * 34)]
+class Asked(ctypes.Structure):
+    _fields_ = [("is_read", ctypes.c_uint8), ("code", ctypes.c_uint8), ("size", ctypes.c_uint32), ("data", ctypes.POINTER(Data))]
+def smbus(is_read, code, size, word=0):
+    data = Data(word=word)
+    fcntl.ioctl(file, 0x0720, Asked(is_read, code, size, ctypes.pointer(data)))
+    return data
 '''
 # It selects by PAGE, reads back, and takes what it reads for what it wrote.
 BY_PAGE = HOST + '''
@@ -115,6 +129,8 @@ class Programs(unittest.TestCase):
         self.assertIn("--said '^rails: all' --again 4:false --", out)
         _, out, _ = tortured(said, "--said", "^rails: all", "--seconds", "60", "--meant", "1:21=2346", "--again", "4:false")
         self.assertIn("pmhost torture --said '^rails: all' --seconds 60 --meant 1:VOUT_COMMAND=2346 --again 4:false --", out)
+        _, out, _ = tortured(said, "--outputs", "3", "--said", "all well$", "--again", "4:false")
+        self.assertIn("pmhost torture --outputs 3 --said 'all well$' --again 4:false --", out)
         status, _, err = tortured(said, "--again", "4:false")
         self.assertEqual((status, err), (2, "pmhost: torture: without a fault the program didn't end well (status 3): nothing can be judged\n"))
 
@@ -125,6 +141,10 @@ class Programs(unittest.TestCase):
         self.assertEqual(tortured("")[::2], (2, "pmhost: torture: without a fault no register took a word: nothing can be judged\n"))
         self.assertEqual(tortured("import time; time.sleep(60)", "--seconds", "1")[::2],
                          (2, "pmhost: torture: without a fault the program didn't end in its seconds: nothing can be judged\n"))
+
+    def test_an_interrupt_is_one_line(self):
+        with unittest.mock.patch.object(Program, "run", side_effect=KeyboardInterrupt):
+            self.assertEqual(tortured(BY_PAGE), (130, "", "pmhost: torture: interrupted\n"))
 
     def test_a_run_that_does_not_end(self):
         stuck = BY_PAGE_PLUS.replace("sys.exit(1)", "import time; time.sleep(60)")
@@ -146,15 +166,7 @@ class Programs(unittest.TestCase):
 
     def test_the_kernels_own_smbus_calls(self):
         """I2C_SMBUS with I2C_PEC, as i2c-tools and smbus2 use it: a byte, a word and a read of a word."""
-        script = HOST + '''
-class Data(ctypes.Union):
-    _fields_ = [("byte", ctypes.c_uint8), ("word", ctypes.c_uint16), ("block", ctypes.c_uint8 * 34)]
-class Asked(ctypes.Structure):
-    _fields_ = [("is_read", ctypes.c_uint8), ("code", ctypes.c_uint8), ("size", ctypes.c_uint32), ("data", ctypes.POINTER(Data))]
-def smbus(is_read, code, size, word=0):
-    data = Data(word=word)
-    fcntl.ioctl(file, 0x0720, Asked(is_read, code, size, ctypes.pointer(data)))
-    return data
+        script = HOST + SMBUS + '''
 fcntl.ioctl(file, 0x0703, 0x58)
 fcntl.ioctl(file, 0x0708, 1)
 for output, word in ((0, 0x1234), (1, 0x2345)):
@@ -278,6 +290,10 @@ class Watching(unittest.TestCase):
         self.assertEqual([(number, fault.split(":")[0]) for number, fault in drawn],
                          [(1, "cut"), (1, "restarted"), (2, "cut"), (2, "garbled"), (2, "ones"), (2, "restarted")])
         self.assertEqual(drawn, drawn_faults([write, request], ("cut", "garbled", "ones", "restarted"), 0))
+        self.assertNotEqual(drawn, drawn_faults([write, request], ("cut", "garbled", "ones", "restarted"), 1))
+        # Each is one that the bus with faults takes.
+        every = [fault for _, fault in drawn_faults([write, request], KINDS, 0)]
+        self.assertEqual(read_faults(" ".join(every)), every)
 
 
 class Answers(unittest.TestCase):
@@ -345,12 +361,101 @@ class NewFaults(unittest.TestCase):
 
 @needs_tool("gcc")
 class Preloading(unittest.TestCase):
+    @classmethod
+    def setUpClass(cls):
+        cls.below = cls.enterClassContext(preload())
+
     def test_a_program_that_closes_and_opens_again_is_on_the_same_part(self):
         script = HOST + "write(0x05, 0x04, 0, 0x21, 0x34, 0x12)\nos.close(file)\nfile = os.open('/dev/i2c-7', os.O_RDWR)\nprint(read([0x06, 2, 0, 0x21], 3).hex())\n"
-        with tempfile.TemporaryDirectory() as folder, preload() as below:
+        with tempfile.TemporaryDirectory() as folder:
             path = os.path.join(folder, "host.py")
             with open(path, "w", encoding="utf-8") as file:
                 file.write(script)
-            found = Program([sys.executable, "-S", "-E", path], 2, said="^023412$").run(below)
+            found = Program([sys.executable, "-S", "-E", path], 2, said="^023412$").run(self.below)
         self.assertTrue(found.is_success)
         self.assertEqual((found.status, [each.word for each in found.took], found.named), (0, [0x1234], {ONE: 2}))
+
+    def ran(self, script, said=None, seconds=10):
+        """The run of a script without a fault, and what it prints, to which its standard error belongs."""
+        with tempfile.TemporaryDirectory() as folder:
+            path = os.path.join(folder, "host.py")
+            with open(path, "w", encoding="utf-8") as file:
+                file.write(script)
+            return Program([sys.executable, "-S", "-E", path], 2, seconds, said).run(self.below)
+
+    def test_what_a_program_hears_of_a_part_that_is_not_there(self):
+        """Messages and SMBus, each with the kernel's error, and what is read then."""
+        elsewhere = HOST.replace("Message(0x58,", "Message(0x57,") + SMBUS + """
+import errno
+fcntl.ioctl(file, 0x0703, 0x57)
+for call in (lambda: write(0x03), lambda: read([0x19], 1), lambda: smbus(0, 0x03, 1), lambda: smbus(1, 0x21, 3)):
+    try:
+        call()
+    except OSError as fault:
+        print(errno.errorcode[fault.errno], end=" ", flush=True)
+print("all told", file=sys.stderr)
+"""
+        found = self.ran(elsewhere, "^ENXIO ENXIO ENXIO ENXIO all told$")
+        self.assertTrue(found.is_success)
+        self.assertEqual((found.status, found.transfers), (0, []))
+
+    def test_a_wrong_packet_error_code_is_the_kernels_error(self):
+        """EBADMSG of a call of SMBus, and not the word."""
+        script = HOST + SMBUS + """
+fcntl.ioctl(file, 0x0703, 0x58)
+fcntl.ioctl(file, 0x0708, 1)
+try:
+    print(hex(smbus(1, 0x21, 3).word))
+except OSError as fault:
+    print(fault.errno)
+"""
+        with tempfile.TemporaryDirectory() as folder:
+            path = os.path.join(folder, "host.py")
+            with open(path, "w", encoding="utf-8") as file:
+                file.write(script)
+            for fault, said in (("ok", f"^{start_of(2)[0].command:#x}$"), ("garbled:1:0", "^74$")):
+                self.assertTrue(Program([sys.executable, "-S", "-E", path], 2, said=said).run(self.below, 1, fault).is_success, fault)
+
+    def test_a_program_that_breaks_off_in_a_call(self):
+        """The next one is served all the same."""
+        script = HOST + """
+import socket
+broken = socket.socket(socket.AF_UNIX)
+broken.connect(os.environ["PMHOST_TORTURE"])
+broken.sendall(bytes([1, 0x58, 0]))
+broken.close()
+write(0x05, 0x04, 0, 0x21, 0x34, 0x12)
+"""
+        found = self.ran(script)
+        self.assertEqual((found.status, [each.word for each in found.took]), (0, [0x1234]))
+
+    def test_what_a_program_has_started_ends_with_it(self):
+        with tempfile.NamedTemporaryFile() as held:
+            script = f"""
+import fcntl, os, time
+file = open({held.name!r})
+fcntl.flock(file, fcntl.LOCK_EX)
+if os.fork() == 0:
+    time.sleep(120)
+"""
+            self.assertEqual(self.ran(script).status, 0)
+            for _ in range(100):
+                with contextlib.suppress(OSError):
+                    fcntl.flock(held, fcntl.LOCK_EX | fcntl.LOCK_NB)
+                    return
+                time.sleep(0.05)
+            self.fail("the program's child goes on")
+
+    def test_the_compiler_is_the_one_that_is_named(self):
+        """One that isn't there, and one that takes nothing; an empty name is none. No object was built before."""
+        self.enterContext(unittest.mock.patch("pmhost.torture.below.os.path.isfile", return_value=False))
+        for named, words in (("/no/such/cc -O2", "no C compiler '/no/such/cc': install gcc, or give CC"),
+                             ("false", "the C compiler 'false' didn't take preload.c: it says nothing"),
+                             ("gcc --no-such-option", "the C compiler 'gcc' didn't take preload.c: ")):
+            with self.subTest(named), unittest.mock.patch.dict(os.environ, CC=named):
+                with self.assertRaises(NoBench) as it, preload():
+                    pass
+                self.assertTrue(str(it.exception).startswith(words), it.exception)
+                self.assertNotIn("[", str(it.exception))
+        with unittest.mock.patch.dict(os.environ, CC=" "), preload() as below:
+            self.assertGreater(os.path.getsize(below.path), 0)

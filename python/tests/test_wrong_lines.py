@@ -6,6 +6,8 @@ import shlex
 import tempfile
 import unittest
 
+from pmhost.cli.parser import bus_of, lacks_of, limit_of, percent_of, time_of, whole
+
 from . import kernel
 from .runs import DATA, called
 from .test_runs import Blocks
@@ -57,6 +59,20 @@ class WrongLines(unittest.TestCase):
         status, out, err = called(["--json", "-b", "7", "-a", "B0", "learn", "0"], None)
         self.assertEqual((status, err), (2, "pmhost: address B0: give one from 08 to 77, in hexadecimal: on the wire B0 is 58h\n"))
         self.assertIn('"end": "bad call", "status": 2, "why": "address B0: ', out)
+
+
+class Taken(unittest.TestCase):
+    """What isn't refused."""
+
+    def test_the_ends_of_each_range_are_taken(self):
+        outputs, settle = whole(1, 8, "outputs"), time_of(60, "settle")
+        for judge, word, taken in ((outputs, "1", 1), (outputs, "8", 8), (settle, "0ms", 0), (settle, "5ms", 5), (settle, "2s", 2000),
+                                   (settle, "60s", 60_000), (settle, "60000ms", 60_000), (percent_of, "0%", 0), (percent_of, "2.5%", 25),
+                                   (percent_of, "100%", 1000), (limit_of, "0:1V:1V", (0, 1_000_000, 1_000_000)),
+                                   (limit_of, "7:-1000V:1000V", (7, -10**9, 10**9)), (bus_of, "7", "7"),
+                                   (bus_of, "/dev/i2c-07", "7"), (bus_of, "i2c-0", "0"), (bus_of, "model", "model"),
+                                   (lacks_of, "VOUT_MAX,VOUT_MIN", ("VOUT_MAX", "VOUT_MIN"))):
+            self.assertEqual(judge(word), taken, word)
 
 
 class WrongFiles(Blocks):

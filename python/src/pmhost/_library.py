@@ -1,4 +1,5 @@
 """The calls of the two libraries, as their headers pmhost.h and pmpart.h have them; one shared object has both."""
+import contextlib
 import ctypes as c
 import os
 import sys
@@ -26,7 +27,8 @@ def _stop(why: str) -> NoReturn:
     """Says why there is no library: in a line to the user of the command, and else as an ImportError."""
     if not OF_COMMAND:
         raise ImportError(why) from None
-    sys.stderr.write(f"pmhost: {why}\n")
+    with contextlib.suppress(OSError):
+        sys.stderr.write(f"pmhost: {why}\n")
     sys.exit(2)
 
 

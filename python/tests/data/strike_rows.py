@@ -113,6 +113,7 @@ REFUSED = [
     (["part"], "faults: part: give restart, or a frame in hexadecimal digits, as part B0 00 01 ED"),
     (["part", "B0", "0"], "faults: part B0 0: give restart, or a frame in hexadecimal digits, as part B0 00 01 ED"),
     (["known", "-b", "1"], f"faults: --bus: {NO_OPTION}"), (["known", "--trace=it"], f"faults: --trace: {NO_OPTION}"),
+    (["--pass=2", "known"], "--pass: no such option here; pmhost --help shows those of a bus, and COMMAND --help those of a command"),
     (["--outputs=2", "known", "--outputs=2"], "faults: --outputs: it is given twice"),
     (["--passes=2", "known", "--passes=2"], "faults: --passes: it is given twice"),
 ]

@@ -3,7 +3,6 @@ from __future__ import annotations
 
 import os
 import sys
-from typing import Iterable
 
 INTERRUPTED = 130
 
@@ -44,23 +43,3 @@ def drop(number: int) -> None:
     nothing = os.open(os.devnull, os.O_WRONLY)
     os.dup2(nothing, number)
     os.close(nothing)
-
-
-def read() -> bytes:
-    """All bytes of standard input."""
-    try:
-        return sys.stdin.buffer.read()
-    except OSError as fault:
-        raise NoStream(f"standard input: {fault.strerror}") from fault
-
-
-def write_all(texts: Iterable[str]) -> None:
-    """Texts, each as it comes, on standard output. If that fails, or the script is interrupted, it ends: without a
-    word if the reader of a pipe left, otherwise with one line."""
-    try:
-        for text in texts:
-            write(text)
-    except NoStream as fault:
-        sys.exit(1 if isinstance(fault.__cause__, BrokenPipeError) else f"{os.path.basename(sys.argv[0])}: {fault}")
-    except KeyboardInterrupt:
-        sys.exit(INTERRUPTED)

@@ -34,7 +34,7 @@ def preload() -> Iterator[Preload]:
     if os.path.isfile(built):
         yield Preload(built)
         return
-    compiler = shlex.split(os.environ.get("CC", "cc"))
+    compiler = shlex.split(os.environ.get("CC", "")) or ["cc"]
     with tempfile.TemporaryDirectory() as folder:
         path = os.path.join(folder, "preload.so")
         try:
@@ -43,7 +43,7 @@ def preload() -> Iterator[Preload]:
         except OSError:
             raise NoBench(f"no C compiler '{compiler[0]}': install gcc, or give CC") from None
         if made.returncode:
-            raise NoBench(f"the C compiler didn't take preload.c: {made.stderr.strip().splitlines()[-1:]}")
+            raise NoBench(f"the C compiler '{compiler[0]}' didn't take preload.c: {(made.stderr.strip() or 'it says nothing').splitlines()[-1]}")
         yield Preload(path)
 
 
