@@ -2,13 +2,14 @@
 from __future__ import annotations
 
 import ctypes
+import functools
 from dataclasses import dataclass
-from typing import TYPE_CHECKING, Any, Mapping, NoReturn, Optional, Union
+from typing import TYPE_CHECKING, Any, Iterable, Mapping, NoReturn, Optional, Union
 
 from . import _library as at
 from ._library import library
 from .errors import Differs, NoFormat, OtherSource, Spent, accepted, name_of, refusal
-from .values import NAMES, code_of, frame_bytes, whole
+from .values import CODES, NAMES, code_of, frame_bytes, whole
 from .voltages import GivenVoltage, given_microvolts
 
 if TYPE_CHECKING:
@@ -28,6 +29,9 @@ NO_ANSWER, NO_ACKNOWLEDGEMENT = 1, 2
 FAULTS = {NO_ANSWER: "no answer", NO_ACKNOWLEDGEMENT: "no acknowledgement"}
 # The registers of jobs; that of a learn is no cell.
 REGISTERS = {**NAMES, 0x20: "VOUT_MODE"}
+
+# The registers by which an output may command a voltage.
+GOALS = ("VOUT_COMMAND", "VOUT_MARGIN_HIGH", "VOUT_MARGIN_LOW")
 
 # The words that are wanted, by the names of registers or their codes: {"VOUT_COMMAND": 0x34CD}.
 Wanted = Mapping[Union[str, int], int]
@@ -98,8 +102,8 @@ class Course:
     def __init__(self, output: int, tries: int) -> None:
         self._image = at.CourseImage()
         self.output, self.tries = whole(output, 0, 7, "output"), whole(tries, 0, 0xFFFF, "tries")
-        # Whether it brings OPERATION to a byte that turns the output off.
-        self.turns_off = False
+        # Whether it brings OPERATION to a byte that turns the output off, and by which registers it may command a voltage.
+        self.turns_off, self.goals = False, GOALS
 
     @classmethod
     def survey(cls, output: int, tries: int = SURVEY_TRIES) -> Course:
@@ -113,6 +117,7 @@ class Course:
         """To words of voltages, as {"VOUT_COMMAND": 0x34CD, "VOUT_MAX": 0x3770}."""
         made, image = cls(output, tries), wanted_image(wanted)
         accepted(library.pm_course_words(REFERENCE(made._image), output, REFERENCE(image), tries))
+        made._aims_at(wanted)
         return made
 
     @classmethod
@@ -121,6 +126,7 @@ class Course:
         isn't below it. H5 of a register that is no voltage."""
         made, microvolts, code = cls(output, tries), given_microvolts(voltage), code_of(register)
         accepted(library.pm_course_microvolts(REFERENCE(made._image), output, code, microvolts, tries))
+        made._aims_at([code])
         return made
 
     @classmethod
@@ -131,10 +137,15 @@ class Course:
         made.turns_off = byte < 0x80
         return made
 
+    def _aims_at(self, registers: Iterable[str | int]) -> None:
+        """It is to words or voltages of these registers only."""
+        self.goals = tuple(name for name in GOALS if CODES[name] in map(code_of, registers))
+
     def want(self, register: str | int, voltage: GivenVoltage) -> None:
         """A voltage is wanted of a register of a course to words or voltages, in the place of what was wanted of it. H5 of a register that
         is no voltage."""
         accepted(library.pm_course_want(REFERENCE(self._image), code_of(register), given_microvolts(voltage)))
+        self._aims_at([*self.goals, register])
 
     def accept(self, host: Host, voltage: GivenVoltage) -> None:
         """For parts that round: the word that a register holds is wanted in the place of what was, and the course begins anew, by the tries
@@ -202,6 +213,10 @@ class Course:
         step = host.step_of(library.pm_course_after_read(REFERENCE(self._image), host.reference, taken, len(taken), bool(stops), REFERENCE(found)))
         return step, host.sending_of(found)
 
+    def after(self, host: Host, came: bytes | bool, stops: bool = False) -> tuple[Step, Optional[Sending]]:
+        """What came of a frame, an answer or whether a write was acknowledged; and what to send next."""
+        return self.after_write(host, came, stops) if isinstance(came, bool) else self.after_read(host, came, stops)
+
     # ---- Its memory ----
 
     def save(self) -> bytes:
@@ -210,13 +225,13 @@ class Course:
 
     def load(self, memory: bytes) -> None:
         """It is what it was when these bytes were saved."""
-        self._image = at.CourseImage.from_buffer_copy(memory)
+        self._image, self.goals = at.CourseImage.from_buffer_copy(memory), GOALS
 
     def copy(self) -> Course:
         """Another course, which stands if this one does."""
         other = Course(self.output, self.tries)
         other.load(self.save())
-        other.turns_off = self.turns_off
+        other.turns_off, other.goals = self.turns_off, self.goals
         return other
 
     # ---- Its end ----
@@ -224,14 +239,7 @@ class Course:
     @property
     def ended(self) -> Optional[CourseEnd]:
         """How it ended, None if it goes on."""
-        found = at.CourseEndImage()
-        accepted(library.pm_course_ended(REFERENCE(self._image), REFERENCE(found)))
-        if found.kind == 0:
-            return None
-        kind, number = ENDS[found.kind], found.fault
-        register = {"format": "VOUT_MODE", "source": "OPERATION"}.get(kind, REGISTERS.get(found.code))
-        word = found.word if kind in ("differs", "format", "source") else None
-        return CourseEnd(kind, register, found.number, word, FAULTS.get(number) or (name_of(number) if number else ""))
+        return end_in(self.save())
 
     def end(self) -> None:
         """Nothing if it has reached what is wanted. Raises a Refused, Differs, NoFormat, OtherSource or Spent, with the register that this
@@ -258,6 +266,19 @@ class Course:
         why = f"with the last answer this was wrong: {found.fault}: look at the bus" if found.fault else \
             "all answers were good: give more tries, or look why the part changes"
         raise Spent(f"{register}: none of {self.tries} tries is left, {why}", "spent", None, None, register)
+
+
+@functools.lru_cache(maxsize=64)
+def end_in(memory: bytes) -> Optional[CourseEnd]:
+    """How a course ended that was saved so, None if it goes on."""
+    image, found = at.CourseImage.from_buffer_copy(memory), at.CourseEndImage()
+    accepted(library.pm_course_ended(REFERENCE(image), REFERENCE(found)))
+    if found.kind == 0:
+        return None
+    kind, number = ENDS[found.kind], found.fault
+    register = {"format": "VOUT_MODE", "source": "OPERATION"}.get(kind, REGISTERS.get(found.code))
+    word = found.word if kind in ("differs", "format", "source") else None
+    return CourseEnd(kind, register, found.number, word, FAULTS.get(number) or (name_of(number) if number else ""))
 
 
 def in_hexadecimal(register: Optional[str], word: int) -> str:

@@ -244,42 +244,47 @@ class Host:
         `before_order` hears of each order before its first frame: if it raises, the order hasn't begun, and the host is free.
         `after_order` hears how it ended. Whatever is raised meanwhile goes on to the caller, with the job that was under way ended as
         unknown; another call goes on from there. `transfers` has those of the last job."""
-        kept, order, is_open, sending, has_hooks = Transfers() if transfers is None else transfers, None, False, None, before_order or after_order
+        kept, order, is_open, has_hooks = Transfers() if transfers is None else transfers, None, False, before_order or after_order
+
+        def saved(came: bytes | bool | None = None) -> tuple[bytes, bytes, bytes | bool | None]:
+            """What `before_order` goes back to: both memories, and what they are to hear of the frame that was sent."""
+            return (self.save(), course.save(), came) if before_order else (b"", b"", None)
+
         try:
-            while True:
-                if sending is None:
-                    memory = (self.save(), course.save()) if before_order and not is_open else (b"", b"")
-                    sending = course.frame(self)
-                    if sending is None:
-                        return
+            memory, sending = saved(), course.frame(self)
+            while sending is not None:
                 if not is_open:
                     kept.begin()
                     order = None if sending.is_request or not has_hooks else course.job()
                     if order and before_order:
                         self._tell(before_order, order, course, *memory)
                 came = self.came(bus, sending, kept)
-                if order and after_order and sending.is_request:
+                is_last = order is not None and after_order is not None and sending.is_request
+                if is_last:
                     # Nothing begins before the hook has heard how the order ended: a read may be its last frame.
-                    step, sending = self._hear(sending, came, course), None
+                    step = self._hear(sending, came, course)
                 else:
-                    step, sending = self._hear_on(sending, came, course, bool(before_order))
+                    memory = saved(came)
+                    step, sending = self._hear_on(sending, came, course)
                 is_open = not step.is_over
                 if step.is_over and order and after_order:
                     after_order(order, step)
-                if sending is None and not has_hooks:
-                    return
+                if is_last:
+                    memory, sending = saved(), course.frame(self)
         except BaseException:
             if course.job() is not None:
                 self.give_up(course)
             raise
 
-    def _tell(self, before_order: Callable[[Job], None], order: Job, course: Course, host: bytes, way: bytes) -> None:
+    def _tell(self, before_order: Callable[[Job], None], order: Job, course: Course, host: bytes, way: bytes, came: bytes | bool | None) -> None:
         """Says of an order that has begun; if that raises, host and course hold what they did before it."""
         try:
             before_order(order)
         except BaseException:
             self.load(host)
             course.load(way)
+            if came is not None:
+                course.after(self, came, True)
             raise
 
     def give_up(self, course: Course | None = None) -> None:
@@ -295,11 +300,11 @@ class Host:
             return self.write_ended(came) if course is None else course.write_ended(self, came)
         return self.read_ended(came) if course is None else course.read_ended(self, came)
 
-    def _hear_on(self, sending: Sending, came: bytes | bool, course: Course, stops: bool) -> tuple[Step, Sending | None]:
-        """The same, and what to send next; None before an order if it `stops` there."""
+    def _hear_on(self, sending: Sending, came: bytes | bool, course: Course) -> tuple[Step, Sending | None]:
+        """The same, and what to send next."""
         if self.listener is not None:
             self.listener.told(sending, came)
-        return course.after_write(self, came, stops) if isinstance(came, bool) else course.after_read(self, came, stops)
+        return course.after(self, came)
 
     def came(self, bus: Bus, sending: Sending, transfers: Transfers) -> bytes | bool:
         """What came of a frame: the answer to a request, or whether a write was acknowledged."""

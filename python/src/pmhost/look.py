@@ -9,7 +9,7 @@ from .bus.ones import is_ones
 from .delivery import FAULT_LIMITS, LIMITS, NAMES, Delivery, Verdict, goal_of
 from .errors import NotDone, PlanRefused
 from .status import BITS, names_of
-from .values import CODES, Format, whole
+from .values import CODES, whole
 
 if TYPE_CHECKING:
     from .course import Course, Job
@@ -22,7 +22,6 @@ FIRST_WAIT = 10
 WELL = ("delivers", "commanded off", "not known to be on", "went off")
 # The status registers that STATUS_WORD may point to, by their fields.
 STATUS = {"status_vout": 0x7A, "status_iout": 0x7B, "status_input": 0x7C, "status_temperature": 0x7D}
-GOALS = ("VOUT_COMMAND", "VOUT_MARGIN_HIGH", "VOUT_MARGIN_LOW")
 # The bits of STATUS_WORD that say a fault or point to one.
 FAULTS = {"VOUT", "IOUT_POUT", "INPUT", "VOUT_OV_FAULT", "IOUT_OC_FAULT", "VIN_UV_FAULT", "TEMPERATURE"}
 
@@ -69,8 +68,8 @@ class NotDelivered(NotDone):
 @dataclass
 class Delivered:
     """What a rail does, by its last answers. `is_absent` says that the part has no STATUS_WORD, and `is_told` that this was said before;
-    `status` is STATUS_WORD, `before` what it was before the first order; `registers` has the status registers that were read, `notes`
-    what is said of limits."""
+    `limits` are those that it is outside of; `status` is STATUS_WORD, `before` what it was before the first order; `registers` has the
+    status registers that were read, `notes` what is said of limits."""
 
     output: int
     verdict: Verdict
@@ -194,26 +193,31 @@ class Look:
         if silent and "limits" not in self.part.absent:
             self.notes.append(f"{', '.join(silent)} gave no good answer, and {'is' if len(silent) == 1 else 'are'}n't judged")
             self.part.absent.add("limits")
-        self.judge(course)
+        self.judge(course, order)
 
-    def judge(self, course: Course) -> None:
-        """P8 if the course's goal is at or beyond a fault limit, by what was read before."""
-        for register in GOALS:
-            word = goal_of(course, self.part.host, CODES[register])
+    def judge(self, course: Course, order: Job | None = None) -> None:
+        """P8 if the course's goal is at or beyond a fault limit, by what was read before. The goal of a register whose order is due is
+        that order's word."""
+        for register in course.goals:
+            word = order.word if order and order.register == register else goal_of(course, self.part.host, CODES[register])
             if word is not None:
                 self._judge(register, word)
 
     def _judge(self, register: str, word: int) -> None:
         """P8, or a note."""
-        form = self.part.host.format(self.output)
         try:
             found = self.delivery.judge(self.part.host, word)
         except PlanRefused as fault:
-            fault.say(f"{register} {told(form, word)} is at or beyond {fault.register}, which is {told(form, fault.word)}")
+            fault.say(f"{register} {self._told(word)} is at or beyond {fault.register}, which is {self._told(fault.word)}")
             raise
         for limit in (found.fault, found.warning):
             if limit is not None:
-                self.notes.append(f"{register} {told(form, word)} is at or beyond {limit[0]} {told(form, limit[1])}")
+                self.notes.append(f"{register} {self._told(word)} is at or beyond {limit[0]} {self._told(limit[1])}")
+
+    def _told(self, word: int) -> str:
+        """A word's volts, or its digits."""
+        form = self.part.host.format(self.output)
+        return f"{word:04X}" if form is None else voltages.shown(form.told(word))
 
     def after(self, is_off: bool = False) -> Delivered:
         """Reads what the rail does."""
@@ -221,13 +225,14 @@ class Look:
         self.delivery.look_after(is_off)
         if not is_told:
             self._ask()
-        host, form, found = self.part.host, self.part.host.format(self.output), self.delivery.verdict(self.part.host)
+        host, found = self.part.host, self.delivery.verdict(self.part.host)
         is_absent = found.kind in ("not yet", "not known") and "STATUS_WORD" in self.part.absent
         if is_absent:
             found = Verdict("not known", "STATUS_WORD")
-        limits = host.limits(self.output)
+        limits = host.limits(self.output) if found.kind == "outside" else None
         registers = {NAMES[code]: word for name, code in STATUS.items() if (word := self.delivery.heard(name).word) is not None}
         begins = self.delivery.heard("power_good_on").word
+        form = None if begins is None else host.format(self.output)
         return Delivered(self.output, found, self.how, None if limits is None else (limits.least.microvolts, limits.most.microvolts),
                          is_absent, is_told, self.delivery.heard("status_word").word, self.delivery.heard("before").word, registers,
                          None if form is None else form.told(begins), self.notes)
@@ -272,11 +277,6 @@ class Look:
         except OSError:
             return b""
         return b"" if not came or is_ones(came) else bytes([self.part.host.address << 1 | 1]) + came
-
-
-def told(form: Optional[Format], word: int) -> str:
-    """A word's volts, or its digits."""
-    return f"{word:04X}" if form is None else voltages.shown(form.told(word))
 
 
 assert FAULTS <= {name for _, name in BITS["STATUS_WORD"]}

@@ -5,7 +5,6 @@ import ctypes
 import functools
 from dataclasses import dataclass
 from decimal import Decimal
-from typing import Callable
 
 from ._library import FormatImage, library
 from .errors import NumberRefused, accepted
@@ -116,21 +115,15 @@ class Format:
 
     def nearest(self, microvolts: int) -> int:
         """The word nearest to so many millionths. N3, N4, N5."""
-        return self._found(library.pm_nearest_word, microvolts)
+        return word_of(self, "pm_nearest_word", whole(microvolts, -(2**63), 2**63 - 1, "microvolts"))
 
     def at_most(self, microvolts: int) -> int:
         """The word of the greatest value that isn't above so many millionths. N3, N5."""
-        return self._found(library.pm_at_most, microvolts)
+        return word_of(self, "pm_at_most", whole(microvolts, -(2**63), 2**63 - 1, "microvolts"))
 
     def at_least(self, microvolts: int) -> int:
         """The word of the least value that isn't below so many millionths. N4, N5."""
-        return self._found(library.pm_at_least, microvolts)
-
-    def _found(self, call: Callable[..., int], microvolts: int) -> int:
-        found = ctypes.c_uint16()
-        taken = whole(microvolts, -(2**63), 2**63 - 1, "microvolts")
-        accepted(call(self.image(), taken, ctypes.byref(found)))
-        return found.value
+        return word_of(self, "pm_at_least", whole(microvolts, -(2**63), 2**63 - 1, "microvolts"))
 
 
 @functools.lru_cache(maxsize=1024)
@@ -138,6 +131,14 @@ def microvolts_of(form: Format, word: int) -> int:
     """The whole millionths of a word's value."""
     found = ctypes.c_int64()
     accepted(library.pm_microvolts(form.image(), word, ctypes.byref(found)))
+    return found.value
+
+
+@functools.lru_cache(maxsize=1024)
+def word_of(form: Format, call: str, microvolts: int) -> int:
+    """The word that a call of the library finds for so many millionths."""
+    found = ctypes.c_uint16()
+    accepted(getattr(library, call)(form.image(), microvolts, ctypes.byref(found)))
     return found.value
 
 
