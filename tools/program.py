@@ -19,11 +19,11 @@ def needed():
 
 
 def kept_files():
-    """The repository's files from its top: those that git knows, or, where this tree is no repository, those that stand there."""
+    """The repository's files from its top: those that git knows and that stand there, or all if this tree is no repository."""
     if os.path.exists(os.path.join(ROOT, ".git")):
         listed = subprocess.run(["git", "ls-files", "-z"], cwd=ROOT, capture_output=True, text=True)
         if listed.returncode == 0:
-            return listed.stdout.split("\0")[:-1]
+            return [it for it in listed.stdout.split("\0")[:-1] if os.path.lexists(os.path.join(ROOT, it))]
     return sorted(found_files())
 
 
