@@ -59,7 +59,8 @@ class Bus:
     answered: dict[tuple[int, int, int], set[int]] = field(default_factory=dict)
     came: dict[tuple[int, int, int], int] = field(default_factory=dict)
     gone: tuple[int, int] = (0, 0)
-    # The transfers while a rail was on a margin.
+    # The frame under way, and the transfers by which STATUS_WORD was asked for while a rail was on a margin.
+    frame: bytes = b""
     on_margin: list[int] = field(default_factory=list)
 
     def transfer(self, messages: Sequence[Message]) -> tuple[int, list[bytes]]:
@@ -72,7 +73,7 @@ class Bus:
             return 1, [b"\xFF" * messages[0].length]
         if kinds not in ([False], [False, True]):
             return -errno.EOPNOTSUPP, []
-        frame = bytes([address << 1]) + messages[0].data
+        frame = self.frame = bytes([address << 1]) + messages[0].data
         self.are_reads.append(len(kinds) == 2)
         kind, numbers = self._fate(address)
         if kinds == [False] and len(frame) > 5 and frame[1] == PAGE_PLUS_WRITE:
@@ -161,7 +162,7 @@ class Watch:
 
     def look(self) -> None:
         """After a transfer."""
-        if any(self.held[cell] in MARGINS for cell in self.cells):
+        if self.bus.frame[4:5] == bytes([STATUS_WORD]) and any(self.held[cell] in MARGINS for cell in self.cells):
             self.bus.on_margin.append(len(self.bus.are_reads))
         images, self.images = self.images, self.bus.images()
         if images == self.images:

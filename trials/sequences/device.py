@@ -63,6 +63,7 @@ class Device:
 
     def __init__(self, cuse: Cuse) -> None:
         self.cuse, self.starts_programs = cuse, False
+        cli.parser()
 
     def run(self, words: Sequence[str], bus: Any, seconds: float) -> tuple[Optional[int], list[str]]:
         """The status of a call, None if it was ended since its seconds were over, and its lines."""

@@ -4,9 +4,9 @@ guest, whose CUSE makes the bus.
 
     runs.py [--here] [--seed N] [--sequences N] [--margins N] [--show]
 
-A run of a sequence is `on`, again where that failed, and `off`, again where that failed, with one drawn fault in one of them. A run of
-margin tests is one call of `margin-test`, with the bus away. With --here all is one process, over no kernel and by a clock that nobody waits
-for. The last line is an object with the counts.
+A run of a sequence is one call of `on` or `off` with a drawn fault, and where that failed a second call without one. A run of margin tests is a
+call of `margin-test`, with the bus away. With --here all is one process, over no kernel and by a clock that nobody waits for. The last line
+is an object with the counts.
 """
 from __future__ import annotations
 
@@ -27,7 +27,11 @@ from device import Device
 from here import Here
 
 # How many runs a board has, for how long a call may last, and for how many transfers the bus is away in a margin test.
-RUNS_OF_A_BOARD, SECONDS, AWAY = 25, 900, 30
+RUNS_OF_A_BOARD, TESTS_OF_A_BOARD, SECONDS, AWAY = 50, 25, 900, 30
+# What makes one transfer that fails an end of the test.
+HASTY = ["--passes=1", "--settle=0ms", "--busy-timeout=0ms"]
+# At which byte of OPERATION the rails start.
+STARTS = {"on": OFF, "off": ON}
 
 
 class Runs:
@@ -36,6 +40,7 @@ class Runs:
     def __init__(self, bench: Bench, seed: int, shows: bool) -> None:
         self.bench, self.seed, self.shows = bench, seed, shows
         self.counts: collections.Counter[str] = collections.Counter()
+        self.started: set[str] = set()
 
     def call(self, words, board: Board, bus: Bus, faults: list[str]) -> Call:
         """A call, with what isn't so of it among the faults."""
@@ -52,6 +57,8 @@ class Runs:
     def tell(self, name: str, faults: list[str]) -> None:
         """What became of a run."""
         self.counts["failed" if faults else "passed"] += 1
+        if (self.counts["failed"] + self.counts["passed"]) % 10 == 0:
+            print(f"{self.counts['passed']} runs passed, {self.counts['failed']} not", flush=True)
         for fault in faults:
             print(f"{name}: {fault}", flush=True)
 
@@ -62,58 +69,46 @@ class Runs:
             dice = random.Random(f"sequence {self.seed} {number}")
             board = Board(random.Random(f"board {self.seed} {number // RUNS_OF_A_BOARD}"))
             if number % RUNS_OF_A_BOARD == 0:
-                plain = self.plain(board, {"on": OFF, "off": ON}, f"board {number // RUNS_OF_A_BOARD}")
+                plain = {command: self.plain([command], board, byte, f"board {number // RUNS_OF_A_BOARD}").are_reads for command, byte in STARTS.items()}
             self.tell(f"sequence {number}", self.sequence(board, dice, plain))
 
-    def plain(self, board: Board, starts: dict[str, int], name: str) -> dict[str, list[bool]]:
-        """Each command without a fault, which has to end well: whether each of its transfers is a read."""
-        found = {}
-        for command, byte in starts.items():
-            bus, faults = Bus(board.parts(byte)), list[str]()
-            self.started([command], board, bus, faults)
-            self.tell_plain(name, faults)
-            found[command] = bus.are_reads
-        return found
+    def sequence(self, board: Board, dice: random.Random, plain: dict[str, list[bool]]) -> list[str]:
+        """One run: what isn't so of it."""
+        command, faults = dice.choice(list(STARTS)), list[str]()
+        parts, fault = board.parts(STARTS[command]), drawn_fault(dice, dice.choice(DRAWN), plain[command])
+        options = ["--json"] * (dice.randrange(4) == 0)
+        self.counts[f"fault {fault.kind}"] += 1
+        if self.call([command, *options], board, Bus(parts, fault), faults).status:
+            self.call([dice.choice(("off", command)), *options], board, Bus(parts), faults)
+        return faults
 
-    def started(self, words, board: Board, bus: Bus, faults: list[str]) -> None:
-        """A call by a program that is started anew, where there is a kernel."""
-        self.bench.way.starts_programs = True
+    def plain(self, words: list[str], board: Board, byte: int, name: str) -> Bus:
+        """A call without a fault, which has to end well, on a board whose rails are at a byte of OPERATION: its bus. The first one of each
+        command is a program that is started anew, where there is a kernel."""
+        bus, faults = Bus(board.parts(byte)), list[str]()
+        self.bench.way.starts_programs = words[0] not in self.started
+        self.started.add(words[0])
         self.call(words, board, bus, faults)
         self.bench.way.starts_programs = False
-
-    def tell_plain(self, name: str, faults: list[str]) -> None:
-        """What became of a call without a fault, which is no run of its own."""
         if faults:
             self.tell(f"{name}, no fault", faults)
-
-    def sequence(self, board: Board, dice: random.Random, plain: dict[str, list[bool]]) -> list[str]:
-        """One run."""
-        parts, faults, struck = board.parts(OFF), list[str](), dice.choice(("on", "off"))
-        fault = drawn_fault(dice, dice.choice(DRAWN), plain[struck])
-        options = ["--json"] if dice.randrange(4) == 0 else []
-        self.counts[f"fault {fault.kind}"] += 1
-        for command in ("on", "off"):
-            call = self.call([command, *options], board, Bus(parts, fault if command == struck else None), faults)
-            if call.status:
-                self.call([command, *options], board, Bus(parts), faults)
-        return faults
+        return bus
 
     def margins(self, count: int) -> None:
         """Runs of `margin-test` of two rails, the bus away for 1 to 30 transfers: at places as far from one another as they can be, and, of every
-        second run, for long while a rail is on a margin."""
+        second run, which is one without patience, as a rail is looked at on a margin."""
         for number in range(count):
             dice = random.Random(f"margins {self.seed} {number}")
-            board = Board(random.Random(f"margin board {self.seed} {number // RUNS_OF_A_BOARD}"))
+            board = Board(random.Random(f"margin board {self.seed} {number // TESTS_OF_A_BOARD}"))
             words = ["margin-test", *[rail.name for rail in board.rails][:2]]
-            if number % RUNS_OF_A_BOARD == 0:
-                bus, faults = Bus(board.parts(ON)), list[str]()
-                self.started(words, board, bus, faults)
-                self.tell_plain(f"margin board {number // RUNS_OF_A_BOARD}", faults)
-            share, half = len(bus.are_reads) / RUNS_OF_A_BOARD, number % 2
-            fault = (Fault(dice.choice(bus.on_margin), "away", (dice.randint(AWAY * 2 // 3, AWAY),)) if half and bus.on_margin else
-                     Fault(1 + int((number % RUNS_OF_A_BOARD + dice.random()) * share), "away", (1 + number * 7 % AWAY,)))
+            if number % TESTS_OF_A_BOARD == 0:
+                bus = self.plain(words, board, ON, f"margin board {number // TESTS_OF_A_BOARD}")
+            share = len(bus.are_reads) / TESTS_OF_A_BOARD
+            fault = (Fault(dice.choice(bus.on_margin), "away", (1 + number * 7 % AWAY,)) if number % 2 else
+                     Fault(1 + int((number % TESTS_OF_A_BOARD + dice.random()) * share), "away", (1 + number * 7 % AWAY,)))
             found: list[str] = []
-            self.call([*words, *["--json"] * (dice.randrange(4) == 0)], board, Bus(board.parts(ON), fault), found)
+            options = [*["--json"] * (dice.randrange(4) == 0), *HASTY * (number % 2)]
+            self.call([*words, *options], board, Bus(board.parts(ON), fault), found)
             self.tell(f"margins {number}", found)
 
 
