@@ -267,7 +267,7 @@ class Look:
             self.answered.add(place[0])
 
     def _is_there(self) -> bool:
-        """Whether the part answers a check of OPERATION, by a host of its own: where it doesn't, silence says nothing of what it lacks."""
+        """Whether the part answers a check of OPERATION, by a host of its own: if it doesn't, silence says nothing of what it lacks."""
         host = Host(self.part.host.address, 1, self.part.host.passes)
         host.check(0, "OPERATION")
         return host.run(self.part.bus).kind == "done"

@@ -1,5 +1,5 @@
 """The way of a board's rails as they are turned on or off one after another: what the host knows of each at the start and after each step, and
-what READ_VOUT was where it was read. Nothing is sent for it."""
+READ_VOUT as it was read. Nothing is sent for it."""
 from __future__ import annotations
 
 from dataclasses import dataclass, field
@@ -36,7 +36,7 @@ def known_of(part: Device | None, output: int) -> Knowledge:
 
 
 class StepWay:
-    """Of these rails, in the order of their steps; `part_of` has the part of a rail, None where its bus wasn't opened."""
+    """Of these rails, in the order of their steps; `part_of` has the part of a rail, None if its bus wasn't opened."""
 
     def __init__(self, rails: Iterable[Rail], part_of: Callable[[Rail], Device | None]) -> None:
         self.rails, self.part_of, self.since = list(rails), part_of, clock.until()

@@ -126,7 +126,7 @@ margin 0: OPERATION A8 on, margin high confirmed; the output commands 3.399902V,
     "verify": About("compares a part, or the parts of a board, with a file, and orders nothing", "pmhost verify board.toml"),
     "margin-test": About(
         "measures rails of a file at their margins, one after another, and brings each back to its voltage", "pmhost margin-test board.toml core",
-        """All rails are read and judged before the first order. Whatever ends it, the last act is the way back."""),
+        """Whatever ends it, the last act is the way back."""),
     "faults": About("carries commands out on a model part over a bus with faults", "pmhost faults --seed=7 word 1 VOUT_COMMAND 34CD"),
     "torture": About("tries any program that opens a bus, over a model part with one fault in each run",
                      "pmhost torture --runs 20 -- pmhost -b 1 -a 58 --outputs 2 --no-limit set 0 1.3V"),

@@ -139,7 +139,7 @@ def add(commands: Any) -> None:
         found = command(name, operate, judge)
         found.add_argument("output", **output)
         found.set_defaults(byte=byte)
-        way.add(found, way.STAIRS)
+        way.add(found, way.STAIRS[name])
         bus_options(found)
     found = command("margin", operate, judge_order)
     found.add_argument("output", **output)

@@ -25,9 +25,9 @@ from .completion import FILES, completed_by
 from .parser import BadCall, file_of, shown
 from .signals import Interrupted
 
-HELP = ("draws into this file (SVG) the way of each rail, order by order: what its output commands, by what the host knows; with "
-        "--dry-run what the plan would order")
-STAIRS = ("draws into this file (SVG) a board file's rails step by step: what each output commands, by what the host knows, and READ_VOUT")
+HELP = ("draws into this file (SVG) what each rail commands, order by order, by what the host knows; with --dry-run what the plan would "
+        "order")
+STAIRS = {"on": "draws into this file (SVG) step by step what the rails of a board file command, and READ_VOUT", "off": "draws as `on` does"}
 MEASURED = f"Nothing is measured: it is {COMMANDED}."
 UNWRITTEN = "Nothing was written: these are the plan's orders, if each is confirmed."
 

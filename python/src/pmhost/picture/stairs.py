@@ -105,7 +105,7 @@ class Row:
                 yield from self.circle(self.lefts[at + 1], column.measured[self.rail.name])
 
     def height(self, known: Knowledge) -> float | None:
-        """At what height the line stands, None where there is none."""
+        """At what height the line stands, None if there is none."""
         micro = 0 if is_off(known) else known.value
         return None if micro is None else self.y_of(micro)
 
