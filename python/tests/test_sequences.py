@@ -240,6 +240,8 @@ class Silence(unittest.TestCase):
                     if status == 0:
                         self.assertIn((1, "seen"), orders[orders.index((1, 0x80)):])
                     self.assertEqual(status == 0, err == "")
+                    # The part has it: no call says that it doesn't.
+                    self.assertNotIn("STATUS_WORD gives no answer", err)
                     statuses.add(status)
         self.assertEqual(statuses, {0, 1})
 

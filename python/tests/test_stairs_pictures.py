@@ -43,6 +43,14 @@ class Row:
         return level
 
 
+def crossed(drawn):
+    """The labels that a limit's line crosses."""
+    for it in drawn.texts:
+        left, top, right, end = it.box()
+        if any(top < y < end and x < right and left < x2 for x, y, x2, _ in drawn.paths(drawing.RAIL, 1.2)):
+            yield f"{it.words!r} is crossed"
+
+
 class Pictures(unittest.TestCase):
     def setUp(self):
         folder = tempfile.TemporaryDirectory()
@@ -66,7 +74,7 @@ class Pictures(unittest.TestCase):
         self.assertEqual(self.called(command, self.file, "--picture", self.picture, **more), plain)
         with open(self.picture, encoding="utf-8") as file:
             drawn = Drawn(file.read())
-        self.assertEqual([*layout_faults(drawn)], [])
+        self.assertEqual([*layout_faults(drawn), *crossed(drawn)], [])
         bold = [it for it in drawn.texts if it.is_bold]
         rows = {it.words: Row(drawn, it) for it in bold if it.size == 15}
         return [it.words for it in bold if it.size != 15], rows, plain[0][0], drawn

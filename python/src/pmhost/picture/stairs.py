@@ -15,6 +15,8 @@ from .way import BOLD, HATCH, LIMITED, PITCH, STRIPES, known_in_words
 
 # How high a rail's row is, and the room above its highest voltage and below 0 V; the room around words, and that of a circle with its words.
 HIGH, ABOVE, BELOW, ROOM, CIRCLE = 128, 30, 30, 8, 14
+# How far from a line its words reach.
+WORDS = 24
 HEADS, LEAST_WIDTH = 44, 700
 GRID, DASHED = "#dcdfe3", ' stroke-dasharray="4 4"'
 ENTRIES: Sequence[tuple[str | None, str, str]] = (
@@ -125,14 +127,26 @@ class Row:
         height = self.height(run.known)
         if height is None:
             height = self.top + HIGH / 2 + 10 if run.known.band is None else self.y_of(run.known.band[1])
-        return text(run.left + ROOM, height - 7, words_of(run.known), 12, LINE if run.known.band or is_off(run.known) else INK)
+        return text(run.left + ROOM, self.above(height), words_of(run.known), 12, LINE if run.known.band or is_off(run.known) else INK)
+
+    def above(self, height: float) -> float:
+        """The place of words above a height: above a limit, too, that would cross them."""
+        for at in sorted(map(self.y_of, self.rail.limits), reverse=True):
+            height = at if height - WORDS < at < height else height
+        return height - 7
+
+    def below(self, height: float) -> float:
+        """The place of words below the circle at a height, and below a limit that would cross them."""
+        for at in sorted(map(self.y_of, self.rail.limits)):
+            height = at if height < at < height + WORDS else height
+        return height + 20
 
     def circle(self, right: float, micro: int) -> Iterator[str]:
         """READ_VOUT at the end of a step, with its words below."""
         y, words = self.y_of(micro), in_volts(micro)
         x = right - ROOM - width_of(words, 12) / 2
         yield f'<circle cx="{x:.1f}" cy="{y:.1f}" r="5" stroke="{GOOD}" stroke-width="2.2" fill="none"/>'
-        yield text(x, y + 20, words, 12, GOOD, anchor="middle")
+        yield text(x, self.below(y), words, 12, GOOD, anchor="middle")
 
 
 class StairsPicture:
