@@ -59,11 +59,11 @@ class Pictures(unittest.TestCase):
         with open(self.file, "w", encoding="utf-8") as file:
             file.write(BOARD)
 
-    def called(self, *words, starts=(0, 0), mishaps=(), trip=False):
+    def called(self, *words, starts=(0, 0), mishaps=(), word=None):
         """What a call ends in and says, and the orders that the part took."""
         part, mishaps = Watched(starts), list(mishaps)
-        if trip:
-            part.bus.part.set_reading(0, "READ_VOUT", 0)
+        if word is not None:
+            part.bus.part.set_reading(0, "READ_VOUT", word)
         over = BoardKernel({7: {0x58: part}}, mishaps)
         over.strikes_looks = True
         return called(list(words), over), part.orders, over.transfers
@@ -93,11 +93,16 @@ class Pictures(unittest.TestCase):
         self.assertEqual([(row.labels, row.volts, row.measured) for row in rows.values()], [([NOT_KNOWN, OFF], [0], [])] * 2)
 
     def test_what_is_measured_stands_apart_from_what_is_commanded(self):
-        heads, rows, status, drawn = self.drawn("on", trip=True)
+        heads, rows, status, drawn = self.drawn("on", word=0)
         self.assertEqual((status, heads[0]), (1, "on board.toml: stopped"))
         self.assertIn(("not as wanted: core", drawing.FAULT), [(it.words, it.colour) for it in drawn.texts])
         self.assertEqual((rows["core"].volts, rows["core"].measured, rows["core"].circles), ([0, 1], ["0 V"], [0]))
         self.assertEqual((rows["io"].labels, rows["io"].volts, rows["io"].measured), ([NOT_KNOWN, OFF], [0], []))
+
+    def test_what_is_measured_far_above_has_its_label_beside_its_circle(self):
+        """2 V, whose label reaches down to that of the line."""
+        _, rows, status, _ = self.drawn("on", word=0x2000)
+        self.assertEqual((status, rows["core"].volts, rows["core"].measured, rows["core"].circles), (1, [0, 1], ["2 V"], [2.0]))
 
     def test_an_output_that_may_be_on_or_off(self):
         """The bus goes away as core is ordered, and stays away."""
