@@ -88,7 +88,7 @@ class Claims:
         if self.watch.command == "off":
             named = [name for line in self.call.lines if (found := NOT_OFF.fullmatch(line)) for name in found[1].split(", ")]
             for rail in self.watch.order:
-                if (self.held(rail) != OFF or rail.name in self.watch.passed_by) and rail.name not in named and not self.is_json:
+                if (self.held(rail) != OFF or rail.name in self.watch.passed_by) and rail.name not in named:
                     yield f"{rail.name} is on, or was as one before it went off, and isn't named"
         if not self.is_json and self.watch.command == "on" and self.call.status == 0:
             if sorted(self.said) != sorted(self.rails):
