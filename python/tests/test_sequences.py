@@ -22,6 +22,7 @@ from .test_runs import Blocks
 
 # PAGE_PLUS_WRITE of OPERATION: its output and its byte.
 ORDER = re.compile(r"B0 05 03 0(\d) 01 (\w\w) ")
+STATUS_WORD = 0x79
 TIMES = {"0ms": 0, "5ms": 5, " 5 ms": 5, "12s": 12_000, "5": None, "ms": None, "5us": None, "1.5s": None, "-5ms": None}
 
 
@@ -198,3 +199,57 @@ class Gates(unittest.TestCase):
                     self.assertEqual(status, 1)
                     self.assertIn("core has to deliver first: ", err)
 
+
+class Seen(Watched):
+    """A part that keeps among its orders, too, of which output it answered STATUS_WORD; or that has none."""
+
+    lacks = False
+
+    def hear(self, frame, ending):
+        is_status = ending == "restart" and bytes(frame[1:3]) == b"\x06\x02" and frame[4] == STATUS_WORD
+        if is_status and self.lacks:
+            return None
+        if is_status:
+            self.orders.append((frame[3], "seen"))
+        return super().hear(frame, ending)
+
+
+class Silence(unittest.TestCase):
+    """A lost answer is never read as a rail that delivers."""
+
+    board = "\n".join([table_of("u1", 7, 0x58, 2), rail_of("core", 0), rail_of("io", 1, 'after = ["core"]', "delivers = true")])
+
+    def run_board(self, board, mishaps, lacks=False):
+        part = Seen((0, 0))
+        part.lacks, over = lacks, BoardKernel({7: {0x58: part}}, mishaps)
+        over.strikes_looks = True
+        with tempfile.NamedTemporaryFile("w", suffix=".toml") as file:
+            file.write(board)
+            file.flush()
+            status, out, err = called(["on", file.name], over)
+        return status, part.orders, out, err
+
+    def test_a_rail_is_seen_to_deliver_before_the_next_one_also_where_the_bus_was_away(self):
+        statuses = set()
+        for place in range(50):
+            for length in (9, 40):
+                status, orders, _, err = self.run_board(self.board, ["ok"] * place + ["deaf"] * length)
+                with self.subTest(place=place, length=length):
+                    if (1, 0x80) in orders:
+                        self.assertIn((0, "seen"), orders[orders.index((0, 0x80)):orders.index((1, 0x80))])
+                    if status == 0:
+                        self.assertIn((1, "seen"), orders[orders.index((1, 0x80)):])
+                    self.assertEqual(status == 0, err == "")
+                    # The part has it: no call says that it doesn't.
+                    self.assertNotIn("STATUS_WORD gives no answer", err)
+                    statuses.add(status)
+        self.assertEqual(statuses, {0, 1})
+
+    def test_a_part_without_status_word(self):
+        status, orders, _, err = self.run_board(self.board, [], lacks=True)
+        self.assertEqual((status, orders), (1, [(0, 0x80)]))
+        self.assertIn("core has to deliver first, which isn't known: STATUS_WORD gives no answer", err)
+        status, orders, out, _ = self.run_board(self.board.replace("delivers = true", ""), [], lacks=True)
+        self.assertEqual((status, orders), (0, [(0, 0x80), (1, 0x80)]))
+        self.assertIn("on core: OPERATION 80 on confirmed; the output commands 1V, within 0.9V to 1.1V; delivery not known: "
+                      "STATUS_WORD gave no good answer", out)

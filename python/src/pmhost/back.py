@@ -32,7 +32,8 @@ class Held:
     def course(self, tries: int = TRIES) -> Course:
         """The course back."""
         byte = self.words.get(OPERATION)
-        return Course.words(self.output, self.words, tries) if byte is None else Course.power(self.output, byte, tries)
+        words: dict[str | int, int] = {register: word for register, word in self.words.items()}
+        return Course.words(self.output, words, tries) if byte is None else Course.power(self.output, byte, tries)
 
     @property
     def said(self) -> str:

@@ -8,6 +8,7 @@ from . import clock, voltages
 from .bus.ones import is_ones
 from .delivery import FAULT_LIMITS, LIMITS, NAMES, Delivery, Verdict, goal_of
 from .errors import NotDone, PlanRefused
+from .host import Host
 from .status import BITS, names_of
 from .values import CODES, whole
 
@@ -178,8 +179,8 @@ class Look:
         self.part, self.output, self.how = part, output, how
         self.delivery = Delivery(output, how.fault_limits, "READ_VOUT" not in part.absent, how.within, how.rounds)
         self.has_looked_before, self.notes = False, list[str]()
-        # The registers that gave any answer, and the rounds in which one gave none at all.
-        self.answered, self.silent = set[str](), set[tuple[str, int]]()
+        # The registers that gave any answer, and the rounds in which one gave none at all, with whether the part answered after it.
+        self.answered, self.silent = set[str](), dict[tuple[str, int], bool]()
 
     def before(self, course: Course, order: Job) -> None:
         """Reads what stands before the first order, unless that turns the output off. P8 if the course's goal is at or beyond a fault
@@ -240,7 +241,7 @@ class Look:
     # ---- Frames ----
 
     def _ask(self) -> None:
-        """Asks all that is due. A register that gives no answer at all in twice as many tries as others is one that the part lacks."""
+        """Asks all that is due. A register that gives no answer at all in two rounds, after each of which the part answers, is one that it lacks."""
         turn, wait = self.delivery.round, FIRST_WAIT
         while (sending := self.delivery.frame(self.part.host)) is not None:
             if self.delivery.round != turn:
@@ -256,19 +257,25 @@ class Look:
 
     def _is_silent(self, question: str) -> bool:
         """Whether a register that is asked after an order gave no answer at all in two rounds, that before the order among them."""
-        heard, rounds = self.delivery.heard(question), [(question, self.delivery.round)]
         if question == "status_word":
-            self._hear("before", [(question, -1)])
-        self._hear(question, rounds)
-        return question not in self.answered and heard.is_silence and sum(each == question for each, _ in self.silent) > 1
+            self._hear("before", (question, -1))
+        self._hear(question, (question, self.delivery.round))
+        silent = [is_there for (name, _), is_there in self.silent.items() if name == question]
+        return question not in self.answered and self.delivery.heard(question).is_silence and sum(silent) > 1
 
-    def _hear(self, question: str, rounds: list[tuple[str, int]]) -> None:
-        """What came of a question, in a round."""
+    def _hear(self, question: str, place: tuple[str, int]) -> None:
+        """What came of a question: its register, in a round."""
         heard = self.delivery.heard(question)
-        if heard.is_silence and heard.asked >= self.part.host.passes:
-            self.silent.update(rounds)
+        if heard.is_silence and heard.asked >= self.part.host.passes and place not in self.silent:
+            self.silent[place] = self._is_there()
         elif heard.asked and not heard.is_silence:
-            self.answered.update(name for name, _ in rounds)
+            self.answered.add(place[0])
+
+    def _is_there(self) -> bool:
+        """Whether the part answers a check of OPERATION, by a host of its own: if it doesn't, silence says nothing of what it lacks."""
+        host = Host(self.part.host.address, 1, self.part.host.passes)
+        host.check(0, "OPERATION")
+        return host.run(self.part.bus).kind == "done"
 
     def _read(self, sending: Sending) -> bytes:
         """What came back, the read address first; nothing if nobody answered."""

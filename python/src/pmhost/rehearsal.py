@@ -61,7 +61,7 @@ def modelled(part: Device, output: int, is_lifted: bool = False) -> Device:
     """A device whose host knows what that of a part does, over a model part whose output holds what is known of this one; what isn't known is
     as a model starts. With `is_lifted` WRITE_PROTECT is 00. A Refused if no model starts so."""
     host, form = part.host, part.host.format(output)
-    known = {register: found[0] for register in NAMES.values() if (found := host.possible_words(0 if register == PROTECT else output, register))}
+    known = {register: held[0] for register in NAMES.values() if (held := host.possible_words(0 if register == PROTECT else output, register))}
     words = {name: known[register] for name, register in REGISTERS.items() if register in known}
     is_direct = form is not None and form.kind == "DIRECT"
     mode = 0x40 if is_direct or form is None else form.exponent & 0x1F

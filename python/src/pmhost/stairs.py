@@ -74,7 +74,7 @@ class StairsStep:
     @classmethod
     def of(cls, image: at.StairsStepImage) -> StairsStep:
         """A step as the library says it, in words."""
-        wishes = {name: int(wish.word) for name, place in FIELDS.items() if (wish := getattr(image, place)).kind == WORD}
+        wishes: dict[str | int, int | GivenVoltage] = {name: int(wish.word) for name, place in FIELDS.items() if (wish := getattr(image, place)).kind == WORD}
         return cls(image.host, image.output, wishes, image.byte if image.kind == TURNS else None)
 
 
@@ -138,7 +138,7 @@ class Stairs:
     @property
     def host(self) -> Host:
         """The host of the frame that is under way."""
-        return self.hosts[self._image.host]
+        return self.hosts[int(self._image.host)]
 
     @property
     def ended(self) -> Optional[StairsEnd]:

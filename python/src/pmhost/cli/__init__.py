@@ -100,7 +100,7 @@ def read_command(part: list[str], named: names.Named | None) -> argparse.Namespa
     if named is not None:
         names.attach(arguments, named)
         if named.rail is None:
-            sequence.attach(arguments)
+            sequence.attach(arguments, named.file)
     return arguments
 
 

@@ -18,7 +18,7 @@ from ..states import Step
 from ..stores import too_hot
 from ..survey import OFF_TRIES, TRIES, Nobody, complete, holds_zeros, survey
 from ..zeros import NotBelieved, guard
-from . import readings
+from . import readings, way
 from .about import described
 from .answer import Answer, in_digits
 from .call import Call, said
@@ -135,14 +135,12 @@ def add(commands: Any) -> None:
     found.add_argument("digits", metavar="WORD", type=digits_of, help="two hexadecimal digits of a byte, four of a word, as 80 or 34CD")
     found.add_argument("--accept", **ACCEPT)
     bus_options(found)
-    found = command("on", operate, judge_order)
-    found.add_argument("output", **output)
-    found.set_defaults(byte=ON)
-    bus_options(found)
-    found = command("off", operate, judge_write)
-    found.add_argument("output", **output)
-    found.set_defaults(byte=OFF)
-    bus_options(found)
+    for name, judge, byte in ("on", judge_order, ON), ("off", judge_write, OFF):
+        found = command(name, operate, judge)
+        found.add_argument("output", **output)
+        found.set_defaults(byte=byte)
+        way.add(found, way.STAIRS[name])
+        bus_options(found)
     found = command("margin", operate, judge_order)
     found.add_argument("output", **output)
     completed_by(found.add_argument("byte", metavar="high|low", type=margin_of, help="VOUT_MARGIN_HIGH or VOUT_MARGIN_LOW"), ("high", "low"))
@@ -167,6 +165,7 @@ def margin_of(word: str) -> int:
 
 
 def judge_write(arguments: argparse.Namespace) -> None:
+    way.judge_none(arguments)
     arguments.call.judge_write(arguments)
 
 
@@ -177,6 +176,7 @@ def judge_restore(arguments: argparse.Namespace) -> None:
 
 
 def judge_order(arguments: argparse.Namespace) -> None:
+    way.judge_none(arguments)
     arguments.call.judge_order(arguments)
 
 

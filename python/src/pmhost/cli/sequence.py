@@ -14,23 +14,27 @@ from ..stairs import StairsStep
 from ..step_run import StepCourse, StepRun
 from ..steps import why_not_before
 from ..survey import OFF_TRIES, TRIES
-from . import orders, streams
+from . import orders, streams, way
 from .answer import Answer
 from .call import Call, said
+from .way import StairsFile
 
 
-def attach(arguments: argparse.Namespace) -> None:
+def attach(arguments: argparse.Namespace, file: str) -> None:
     """The command is about all rails of its file."""
-    arguments.run, arguments.judge, arguments.output, arguments.goes_on = turn_all, lambda _: None, None, False
+    arguments.run, arguments.judge, arguments.output, arguments.goes_on = turn_all, way.judge, None, False
+    arguments.file = file
 
 
 def turn_all(arguments: argparse.Namespace) -> int:
     """Turns the rails of a file on, those that are to be on, or all of them off. The status."""
-    rails = arguments.rails.rails
-    status = turn_off(arguments, rails[::-1]) if arguments.command == "off" else turn_on(arguments, [rail for rail in rails if rail.is_on])
-    call: Call = arguments.call
-    call.begin(arguments)
-    return status or call.ordered.look(call)
+    is_down, call = arguments.command == "off", arguments.call
+    rails = arguments.rails.rails[::-1] if is_down else [rail for rail in arguments.rails.rails if rail.is_on]
+    file = StairsFile(arguments, rails)
+    with file.drawn():
+        status: int = turn_off(arguments, rails, file) if is_down else turn_on(arguments, rails, file)
+        call.begin(arguments)
+        return status or call.ordered.look(call)
 
 
 def run_of(arguments: argparse.Namespace, rails: list[Rail]) -> StepRun:
@@ -50,7 +54,7 @@ def of_rail(arguments: argparse.Namespace, rail: Rail, run: StepRun, place: int)
     return one
 
 
-def turn_on(arguments: argparse.Namespace, rails: list[Rail]) -> int:
+def turn_on(arguments: argparse.Namespace, rails: list[Rail], file: StairsFile) -> int:
     """In their order, up to the first that doesn't come to its end. The status."""
     call: Call = arguments.call
     run = run_of(arguments, rails)
@@ -58,10 +62,12 @@ def turn_on(arguments: argparse.Namespace, rails: list[Rail]) -> int:
         one = of_rail(arguments, rail, run, place)
         if rail.wait or rail.delivers:
             run.read_anew()
-        if why := before(call, rail, rails[:place]):
-            status = call.say(Answer(one.said, "not begun", "not begun, nothing was ordered", 1, why, rail.output))
-        else:
-            status = call.other_model(one) or orders.operate(one)
+        with file.step(one, rail):
+            if why := before(call, rail, rails[:place], file):
+                status = call.say(Answer(one.said, "not begun", "not begun, nothing was ordered", 1, why, rail.output))
+            else:
+                status = call.other_model(one) or orders.operate(one)
+        file.ended(rail, status)
         if status:
             left = ", ".join(it.name for it in rails[place + 1:])
             call.begin(arguments)
@@ -69,18 +75,20 @@ def turn_on(arguments: argparse.Namespace, rails: list[Rail]) -> int:
     return 0
 
 
-def before(call: Call, rail: Rail, begun: list[Rail]) -> str:
+def before(call: Call, rail: Rail, begun: list[Rail], file: StairsFile) -> str:
     """Waits as the file has it, and looks at the rails before: why the next one doesn't begin, nothing if it does."""
     clock.wait(rail.wait / 1000)
     for each in begun if rail.delivers else ():
         if each.name in rail.after:
             look = Look(call.places()[each.part].pmbus(), each.output, call.looks or Looks())
-            if why := why_not_before(each.name, look.after()):
+            found = look.after()
+            file.measure(each, found.verdict.microvolts)
+            if why := why_not_before(each.name, found):
                 return why
     return ""
 
 
-def turn_off(arguments: argparse.Namespace, rails: list[Rail]) -> int:
+def turn_off(arguments: argparse.Namespace, rails: list[Rail], file: StairsFile) -> int:
     """In reverse. One that isn't known to be off is left, which its line says, and the next one is turned off all the same. The status."""
     call: Call = arguments.call
     status, fault, silent = 0, None, list[str]()
@@ -90,10 +98,12 @@ def turn_off(arguments: argparse.Namespace, rails: list[Rail]) -> int:
         clock.wait(max([0, *(it.wait for it in rails[:place] if rail.name in it.after)]) / 1000)
         one = of_rail(arguments, rail, run, opened.index(rail) if rail in opened else -1)
         try:
-            found = turn_one_off(call, one)
+            with file.step(one, rail):
+                found = turn_one_off(call, one)
         except streams.NoStream as closed:
             # Nobody is left to read it: the rails behind it are turned off all the same.
             found, fault = 1, closed
+        file.ended(rail, found)
         if found:
             silent.append(rail.name)
         status = max(status, found)

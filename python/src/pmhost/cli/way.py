@@ -1,16 +1,23 @@
-"""The picture of a way, in the file that `apply --picture` names."""
+"""The picture of a way, in the file that `--picture` of `apply`, `on` and `off` names."""
 from __future__ import annotations
 
 import argparse
 import contextlib
+import functools
 import os
 import stat
 from typing import Any, Callable, Iterator
 
 from ..apply import Board
+from ..course import Course, Job
+from ..device import Device
+from ..look import Look
 from ..picture.drawing import FAULT, INK, PALE
+from ..picture.stairs import RailStairs, StairsPicture
 from ..picture.way import COMMANDED, RailWay, WayPicture
 from ..rails import Rail
+from ..states import Step
+from ..step_way import StepWay
 from ..way import Way
 from . import streams
 from .call import Call
@@ -18,8 +25,9 @@ from .completion import FILES, completed_by
 from .parser import BadCall, file_of, shown
 from .signals import Interrupted
 
-HELP = ("draws into this file (SVG) the way of each rail, order by order: what its output commands, by what the host knows; with "
-        "--dry-run what the plan would order")
+HELP = ("draws into this file (SVG) what each rail commands, order by order, by what the host knows; with --dry-run what the plan would "
+        "order")
+STAIRS = {"on": "draws into this file (SVG) step by step what the rails of a board file command, and READ_VOUT", "off": "draws as `on` does"}
 MEASURED = f"Nothing is measured: it is {COMMANDED}."
 UNWRITTEN = "Nothing was written: these are the plan's orders, if each is confirmed."
 
@@ -27,9 +35,9 @@ UNWRITTEN = "Nothing was written: these are the plan's orders, if each is confir
 End = tuple[str, str]
 
 
-def add(parser: argparse.ArgumentParser) -> None:
+def add(parser: argparse.ArgumentParser, words: str = HELP) -> None:
     """Adds the option."""
-    added: Any = parser.add_argument("--picture", type=file_of, metavar="SVG", help=HELP)
+    added: Any = parser.add_argument("--picture", type=file_of, metavar="SVG", help=words)
     completed_by(added, FILES)
 
 
@@ -54,6 +62,12 @@ def judge(arguments: argparse.Namespace) -> None:
             os.remove(real)
     except OSError as fault:
         raise BadCall(f"--picture {shown(path)}: {fault.strerror}") from None
+
+
+def judge_none(arguments: argparse.Namespace) -> None:
+    """No picture of one output is drawn. BadCall."""
+    if getattr(arguments, "picture", None) is not None:
+        raise BadCall(f"{arguments.said}: --picture draws the rails of a board file: give one, without the name of a rail")
 
 
 def judge_trace(arguments: argparse.Namespace) -> None:
@@ -105,11 +119,7 @@ class WayFile:
         said = [(MEASURED, PALE), *([(UNWRITTEN, INK)] if self.arguments.dry_run else []), *([(why, FAULT)] if why else [])]
         title = f"{self.arguments.command} {shown(os.path.basename(self.arguments.file))}: {end}"
         svg = WayPicture(title, said, [self.drawn(self.way, rail) for rail in self.board.rails]).svg()
-        try:
-            with open(self.arguments.picture, "w", encoding="utf-8") as file:
-                file.write(svg)
-        except OSError as fault:
-            self.fault = f"--picture {shown(self.arguments.picture)}: {fault.strerror}"
+        self.fault = put(self.arguments.picture, svg)
 
     def drawn(self, way: Way, rail: Rail) -> RailWay:
         """A rail, with its wanted voltage as the format has it, if that is known."""
@@ -131,6 +141,90 @@ class WayFile:
         """A NoStream if the file has failed."""
         if self.fault:
             raise streams.NoStream(self.fault)
+
+
+def put(path: str, svg: str) -> str:
+    """Writes a picture: why that failed, nothing if it didn't."""
+    try:
+        with open(path, "w", encoding="utf-8") as file:
+            file.write(svg)
+    except OSError as fault:
+        return f"--picture {shown(path)}: {fault.strerror}"
+    return ""
+
+
+class StairsFile:
+    """What `on` or `off` of a board file draws, if it draws: written after what it says, whatever came."""
+
+    def __init__(self, arguments: argparse.Namespace, rails: list[Rail]) -> None:
+        self.arguments, self.rails, self.status = arguments, rails, dict[str, int]()
+        self.way = None if arguments.picture is None else StepWay(rails, self.part_of)
+
+    def part_of(self, rail: Rail) -> Device | None:
+        """The part of a rail whose bus was opened."""
+        call: Call = self.arguments.call
+        place = call.places()[rail.part]
+        return place.pmbus() if place.is_begun else None
+
+    @contextlib.contextmanager
+    def drawn(self) -> Iterator[None]:
+        """Draws after what is done in it. NoStream if the file fails."""
+        end = "broken off"
+        try:
+            yield
+            end = "done" if len(self.status) == len(self.rails) and not any(self.status.values()) else "stopped"
+        except Interrupted:
+            end = "interrupted"
+            raise
+        finally:
+            fault = "" if self.way is None else self.write(self.way, end)
+        if fault:
+            raise streams.NoStream(fault)
+
+    @contextlib.contextmanager
+    def step(self, one: argparse.Namespace, rail: Rail) -> Iterator[None]:
+        """Within it the step of a rail is under way, by the words of its own command."""
+        way = self.way
+        if way is None:
+            yield
+            return
+        way.begin(one.said, rail)
+        one.carry_out = functools.partial(self.carried, way, rail, one.carry_out)
+        try:
+            yield
+        finally:
+            look: Look | None = getattr(one, "look", None)
+            if look is not None:
+                way.measure(rail, look.delivery.verdict(look.part.host).microvolts)
+            way.end()
+
+    @staticmethod
+    def carried(way: StepWay, rail: Rail, carry_out: Callable[..., None], part: Device, course: Course, before_order: Callable[[Job], None],
+                after_order: Callable[[Job, Step], None], ask: Callable[[], str]) -> None:
+        """Carries the step out, and notes what is known before its order."""
+        def before(order: Job) -> None:
+            before_order(order)
+            way.order(rail, order.word)
+
+        carry_out(part, course, before, after_order, ask)
+
+    def ended(self, rail: Rail, status: int) -> None:
+        """How the step of a rail ended."""
+        self.status[rail.name] = status
+
+    def measure(self, rail: Rail, microvolts: int | None) -> None:
+        """READ_VOUT of a rail before the one whose step is under way."""
+        if self.way is not None:
+            self.way.measure(rail, microvolts)
+
+    def write(self, way: StepWay, end: str) -> str:
+        """Draws it: why the file failed, nothing if it didn't."""
+        marks = {rail.name: {None: "none", 0: "good"}.get(self.status.get(rail.name), "fault") for rail in self.rails}
+        rails = [RailStairs(rail.name, output_of(rail), rail.limits, marks[rail.name]) for rail in self.rails]
+        title = f"{self.arguments.command} {shown(os.path.basename(self.arguments.file))}: {end}"
+        bad = [name for name, mark in marks.items() if mark == "fault"]
+        said = [(f"not as wanted: {', '.join(bad)}", FAULT)] * bool(bad)
+        return put(self.arguments.picture, StairsPicture(title, said, rails, way.columns).svg())
 
 
 def output_of(rail: Rail) -> str:
