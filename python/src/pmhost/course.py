@@ -103,7 +103,8 @@ class Course:
         self._image = at.CourseImage()
         self.output, self.tries = whole(output, 0, 7, "output"), whole(tries, 0, 0xFFFF, "tries")
         # Whether it brings OPERATION to a byte that turns the output off, and by which registers it may command a voltage.
-        self.turns_off, self.goals = False, GOALS
+        self.turns_off = False
+        self.goals: tuple[str, ...] = GOALS
 
     @classmethod
     def survey(cls, output: int, tries: int = SURVEY_TRIES) -> Course:
