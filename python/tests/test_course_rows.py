@@ -277,7 +277,7 @@ class Costs(unittest.TestCase):
             self.assertEqual([frame[4] for frame in frames[-2:]], [0x79, 0x8B])
             self.assertEqual([frame[4] for frame in frames[written - (wanted - 16):written]], [0x79, 0x40, 0x42, 0x43, 0x44][:wanted - 16])
 
-    def test_a_voltage_costs_seventy_five_calls_of_the_library(self):
+    def test_a_voltage_costs_sixty_eight_calls_of_the_library(self):
         """Of the library's calls those of the model part are its transfers, and what its rail delivers."""
         counted = collections.Counter()
 
@@ -297,7 +297,7 @@ class Costs(unittest.TestCase):
                 with contextlib.redirect_stdout(io.StringIO()) as out:
                     status = cli.main(["-b", "model", "--outputs", "2", *options, "set", "0", "3.3V"])
             self.assertEqual((status, counted["pm_part_hear"]), (0, 16), out.getvalue())
-            self.assertLessEqual(counted.total(), 75, counted)
+            self.assertLessEqual(counted.total(), 68, counted)
 
 
 if __name__ == "__main__":

@@ -10,6 +10,7 @@ use crate::host::{Cell, Host, Register, Sending};
 use crate::jobs::Job;
 use crate::loops::{is_order, Failures, Frames};
 use crate::refusal::{accepted, Refusal};
+use crate::stairs::ENDED;
 use crate::verdict::Verdict;
 
 /// How far READ_VOUT may be from what the output commands, in thousandths of that, if a caller has no number of his own: 5 %.
@@ -188,6 +189,15 @@ impl Delivery {
     /// A request was sent, and these bytes came back, the read address first; none if there was no answer.
     pub fn read_ended(&mut self, host: &Host, bytes: &[u8]) -> Result<(), Refusal> {
         accepted(unsafe { ffi::pm_delivery_read_ended(&mut self.image, &host.image, bytes.as_ptr(), bytes.len() as u64) })
+    }
+
+    /// The same, and what is to be sent next, by one call: `Sending::Nothing` if a further round is due, which [`Delivery::frame`] begins,
+    /// or if nothing is left to ask.
+    pub fn after_read(&mut self, host: &Host, bytes: &[u8]) -> Result<Sending, Refusal> {
+        let (mut next, from, count) = (ffi::SendingImage::default(), bytes.as_ptr(), bytes.len() as u64);
+        let number = unsafe { ffi::pm_delivery_after_read(&mut self.image, &host.image, from, count, &mut next) };
+        accepted(if number == ENDED { 0 } else { number })?;
+        Ok(Sending::of(next))
     }
 
     /// What the output does: `NotYet` until nothing is left to ask.

@@ -404,6 +404,13 @@ extern "C" {
     pub fn pm_delivery_after(delivery: &mut DeliveryImage, off: u8) -> u8;
     pub fn pm_delivery_frame(delivery: &mut DeliveryImage, host: &HostImage, sending: &mut SendingImage) -> u8;
     pub fn pm_delivery_read_ended(delivery: &mut DeliveryImage, host: &HostImage, bytes: *const u8, count: u64) -> u8;
+    pub fn pm_delivery_after_read(
+        delivery: &mut DeliveryImage,
+        host: &HostImage,
+        bytes: *const u8,
+        count: u64,
+        sending: &mut SendingImage,
+    ) -> u8;
     pub fn pm_delivery_verdict(delivery: &DeliveryImage, host: &HostImage, delivered: &mut DeliveredImage) -> u8;
     pub fn pm_delivery_judge(delivery: &DeliveryImage, host: &HostImage, word: u16, judgement: &mut JudgementImage) -> u8;
     pub fn pm_stairs_size() -> u64;

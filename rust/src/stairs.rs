@@ -8,7 +8,7 @@ use crate::host::{step_of, Cell, Host, Sending, Step};
 use crate::refusal::{accepted, Refusal};
 use crate::stairs_step::StairsStep;
 
-const ENDED: u8 = 0x95;
+pub(crate) const ENDED: u8 = 0x95;
 const AGAIN: u8 = 0x96;
 const NO_WAY_BACK: u8 = 0x97;
 

@@ -42,7 +42,7 @@ uint32_t wide_word(const pm_format *format, int64_t microvolts, uint16_t *word) 
 #define wide_word pm_nearest_word
 #endif
 
-enum { HOSTS = 4, HALVES = PM_HOST_SIZE / 2, GUARD = 4, ROOM = 320, EXPORTS = 86, STEPS_OF_STAIRS = 4 };
+enum { HOSTS = 4, HALVES = PM_HOST_SIZE / 2, GUARD = 4, ROOM = 320, EXPORTS = 87, STEPS_OF_STAIRS = 4 };
 
 /* Hosts at addresses that eight divides, with guards around them: the last is damaged. */
 static uint64_t memory[HOSTS][(GUARD + HALVES + GUARD) / 4];
@@ -415,7 +415,10 @@ static void look(const pm_host *host) {
         damage(at, count);
     if (fate == 2)
         count = draw(ROOM - 4);
-    heard(72, pm_delivery_read_ended(&looked.delivery, host, at, count), 255);
+    if (draw(2))
+        heard(72, pm_delivery_read_ended(&looked.delivery, host, at, count), 255);
+    else
+        heard(86, pm_delivery_after_read(&looked.delivery, host, at, count, &out.sending), 255);
 }
 
 /* Reads by PAGE_PLUS of any code: a request, and an answer that is right most times. */

@@ -69,8 +69,8 @@ extern "C" {
 #define PM_NAME_STACK 4096
 
 /* What a call answers: 0, or why it is refused. A refused call changes nothing, but for these: pm_host_frame, pm_course_frame,
- * pm_course_after_write, pm_course_after_read and pm_delivery_frame then write PM_NOTHING, and pm_delivery_judge that answers P8 says
- * of which limit. pm_pec, pm_host_restart_seen and pm_host_limits_state answer something else: each says what. Of these numbers the
+ * pm_course_after_write, pm_course_after_read, pm_delivery_frame and pm_delivery_after_read then write PM_NOTHING, and
+ * pm_delivery_judge that answers P8 says of which limit. pm_pec, pm_host_restart_seen and pm_host_limits_state answer something else: each says what. Of these numbers the
  * last answers PM_NO_LIMITS only. PM_ENDED refuses nothing, and is none of them. pm_refusal_name gives the name of each, and of those
  * of pmpart.h. */
 enum {
@@ -633,6 +633,11 @@ uint8_t pm_delivery_frame(pm_delivery *delivery, const pm_host *host, pm_sending
  * one that nobody gave: hand over 0 bytes. PM_NO_HOST, PM_NO_DELIVERY, H4, PM_OTHER_FRAME if no request is to be sent. */
 PM_MUST_USE
 uint8_t pm_delivery_read_ended(pm_delivery *delivery, const pm_host *host, const uint8_t *bytes, uint64_t count);
+
+/* The same, and the request that is to be sent next, by one call. It is PM_NOTHING with 0 if all is to be asked again, which
+ * pm_delivery_frame begins, and with PM_ENDED if nothing is left to ask; and if it refuses. */
+PM_MUST_USE
+uint8_t pm_delivery_after_read(pm_delivery *delivery, const pm_host *host, const uint8_t *bytes, uint64_t count, pm_sending *sending);
 
 /* What the output does: kind PM_NOT_YET until pm_delivery_frame has answered PM_ENDED. PM_NO_HOST, PM_NO_DELIVERY, H4; then nothing is
  * written. */

@@ -8,3 +8,4 @@ mod Courses
 mod Narrows
 mod TellsStairs
 mod HandsStairs
+mod Deliveries

@@ -106,6 +106,12 @@ due_delivery d (Ask question) = d
 due_delivery d Again = again d
 due_delivery d Nothing = d
 
+-- the question of this round; a further one hasn't begun
+abbrev pub asked_question : Due → Option Question
+asked_question (Ask question) = Some question
+asked_question Again = None
+asked_question Nothing = None
+
 -- with a refusal that came first
 abbrev pub frame_number : ℕ → Due → ℕ
 frame_number refusal due = if refusal == accepted then due_number due else refusal
@@ -140,6 +146,10 @@ read_number refusal due = if refusal == accepted then taken_number due else refu
 abbrev pub read_delivery : DeliveryImage → ℕ → ℕ → Due → List ℕ → DeliveryImage
 read_delivery i refusal address due bytes =
     if refusal == accepted then with_delivery i (taken address i.delivery due bytes) else i
+
+-- the request of a question of this round is handed out with it
+abbrev pub round_question : ℕ → Due → Option Question
+round_question refusal due = if refusal == accepted then asked_question due else None
 
 -- a verdict as numbers: its kind, the command code of the register that says so, the number of a bit, and what was wrong with an answer
 abbrev pub said : ℕ → ℕ → ℕ → ℕ → DeliveredImage

@@ -3,8 +3,9 @@
 ghost use Rattle.std.specs.Prelude.{◌≡◌, ◌≢◌, ◌==◌, ◌<◌, not, Some};
 ghost use Rattle.pm_delivery.specs.Deliveries.{looking_after, looking_before, new_delivery};
 ghost use Rattle.pm_table.specs.Address.{IsAddress};
+ghost use Rattle.pm_delivery.specs.declared.due.Due.TheVariants.{Ask};
 ghost use Rattle.pm_host_c.specs.Course.{begun_number};
-ghost use Rattle.pm_host_c.specs.Delivery.{asked_number, delivery_image, due_at, frame_delivery, frame_number, frame_question, looked_number};
+ghost use Rattle.pm_host_c.specs.Delivery.{asked_number, delivery_image, due_at, frame_delivery, frame_number, frame_question, looked_number, round_question, taken};
 ghost use Rattle.pm_host_c.specs.Delivery.{power_at, read_delivery, read_number, reading_at, with_delivery, IsAsking};
 
 use crate::delivery_image::DeliveryImage;
@@ -121,19 +122,81 @@ pub extern "C" fn pm_delivery_read_ended(
     ensures delivery { let refusal = asked_number host.now delivery.old in
         delivery.new ≡ read_delivery delivery.old refusal host.now.host.state.address (due_at host.now delivery.old.delivery) bytes.now }
 {
+    hear(delivery, host, bytes)
+}
+
+/// That request was sent, and these bytes came back, as by `pm_delivery_read_ended`; and the request that is to be sent next. It is nothing
+/// if a further round is due, which `pm_delivery_frame` begins, and 95h says that nothing is to be asked any more. E0h, ECh, H4, E2h; then
+/// it is nothing too.
+#[unsafe(no_mangle)]
+pub extern "C" fn pm_delivery_after_read(
+    delivery: &mut DeliveryImage,
+    host: &GuardImage,
+    bytes: &[u8],
+    sending: &mut SendingImage,
+) -> u8
+    ensures number { let refusal = read_number (asked_number host.now delivery.old) (due_at host.now delivery.old.delivery) in
+        result ≡ frame_number refusal (due_at host.now delivery.new.delivery) }
+    ensures delivery { let refusal = asked_number host.now delivery.old in
+        delivery.new ≡ read_delivery delivery.old refusal host.now.host.state.address (due_at host.now delivery.old.delivery) bytes.now }
+    ensures sending { let refusal = read_number (asked_number host.now delivery.old) (due_at host.now delivery.old.delivery) in
+        IsAsking host.now.host.state.address delivery.new.delivery.output
+        (round_question refusal (due_at host.now delivery.new.delivery)) sending.new }
+{
+    let number = hear(delivery, host, bytes);
+    if number != ACCEPTED {
+        sending.clear();
+        return number;
+    }
+    match due(&delivery.delivery, host) {
+        Due::Ask(question) => put(
+            host.host.state.address,
+            delivery.delivery.output,
+            question,
+            sending,
+        ),
+        Due::Again => {
+            sending.clear();
+            ACCEPTED
+        }
+        Due::Nothing => {
+            sending.clear();
+            ENDED
+        }
+    }
+}
+
+// A delivery hears what came back for the request that was sent.
+fn hear(delivery: &mut DeliveryImage, host: &GuardImage, bytes: &[u8]) -> u8
+    ensures number { let refusal = asked_number host.now delivery.old in
+        result ≡ read_number refusal (due_at host.now delivery.old.delivery) }
+    ensures delivery { let refusal = asked_number host.now delivery.old in
+        delivery.new ≡ read_delivery delivery.old refusal host.now.host.state.address (due_at host.now delivery.old.delivery) bytes.now }
+    ensures output { result ≡ 0 → delivery.new.delivery.output < 8 }
+    ensures address { result ≡ 0 → IsAddress host.now.host.state.address }
+{
     let number = refusal(delivery, host);
     if number != ACCEPTED {
         return number;
     }
     match due(&delivery.delivery, host) {
         Due::Ask(question) => {
-            let output = delivery.delivery.output;
-            let answer = answer_of(host.host.state.address, output, question, bytes);
-            delivery.delivery.hear(question, answer);
+            take_answer(&mut delivery.delivery, host.host.state.address, question, bytes);
             ACCEPTED
         }
         Due::Again | Due::Nothing => OTHER_FRAME,
     }
+}
+
+// What came back for a question is taken.
+#[tactic(auto, using(crate::proofs::Deliveries::output_kept))]
+fn take_answer(delivery: &mut Delivery, address: u8, question: Question, bytes: &[u8])
+    requires { IsAddress address }
+    ensures taken { delivery.new ≡ taken address delivery.old (Ask question) bytes.now }
+    ensures output { delivery.new.output ≡ delivery.old.output }
+{
+    let answer = answer_of(address, delivery.output, question, bytes);
+    delivery.hear(question, answer);
 }
 
 /// Why a call is refused: E0h, ECh, H4.

@@ -238,6 +238,7 @@ CALLS = {
     "pm_delivery_after": (_u8, [_delivery, _u8]),
     "pm_delivery_frame": (_u8, [_delivery, _host, _at(SendingImage)]),
     "pm_delivery_read_ended": (_u8, [_delivery, _host, _bytes, _u64]),
+    "pm_delivery_after_read": (_u8, [_delivery, _host, _bytes, _u64, _at(SendingImage)]),
     "pm_delivery_verdict": (_u8, [_delivery, _host, _at(DeliveredImage)]),
     "pm_delivery_judge": (_u8, [_delivery, _host, _u16, _at(JudgementImage)]),
     "pm_stairs_size": (_u64, []),

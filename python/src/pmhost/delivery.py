@@ -106,6 +106,15 @@ class Delivery:
         taken = frame_bytes(answer, 2**16, "answer")
         accepted(library.pm_delivery_read_ended(REFERENCE(self._image), host.reference, taken, len(taken)))
 
+    def after_read(self, host: Host, answer: bytes) -> tuple[Optional[Sending], bool]:
+        """The same, and what is to be sent now, by one call: None if a further round is due, which `frame` begins, or if nothing is to be
+        asked any more, and whether that is so."""
+        taken, found = frame_bytes(answer, 2**16, "answer"), at.SendingImage()
+        number = library.pm_delivery_after_read(REFERENCE(self._image), host.reference, taken, len(taken), REFERENCE(found))
+        if number != ENDED:
+            accepted(number)
+        return host.sending_of(found), number == ENDED
+
     def heard(self, question: str) -> Heard:
         """What came of a question: a field of the library's `pm_delivery`, as `status_word`."""
         found = getattr(self._image, question)

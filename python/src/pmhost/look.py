@@ -241,18 +241,21 @@ class Look:
 
     def _ask(self) -> None:
         """Asks all that is due. A register that gives no answer at all in twice as many tries as others is one that the part lacks."""
-        turn, wait = self.delivery.round, FIRST_WAIT
-        while (sending := self.delivery.frame(self.part.host)) is not None:
+        turn, wait, sending = self.delivery.round, FIRST_WAIT, self.delivery.frame(self.part.host)
+        while sending is not None:
             if self.delivery.round != turn:
                 clock.wait(wait / 1000)
                 turn, wait = self.delivery.round, 2 * wait
-            self.delivery.read_ended(self.part.host, self._read(sending))
+            sending, is_over = self.delivery.after_read(self.part.host, self._read(sending))
             if self._is_silent("status_word"):
                 self.part.absent.add("STATUS_WORD")
                 return
             if self._is_silent("read_vout"):
                 self.part.absent.add("READ_VOUT")
                 self.delivery.without_read_vout()
+                sending, is_over = None, False
+            if sending is None and not is_over:
+                sending = self.delivery.frame(self.part.host)
 
     def _is_silent(self, question: str) -> bool:
         """Whether a register that is asked after an order gave no answer at all in two rounds, that before the order among them."""

@@ -3,8 +3,8 @@
 use super::checks::equal;
 use crate::delivered::{DeliveredImage, JudgementImage, pm_delivery_judge, pm_delivery_verdict};
 use crate::delivery::{
-    pm_delivery_after, pm_delivery_before, pm_delivery_frame, pm_delivery_new,
-    pm_delivery_read_ended,
+    pm_delivery_after, pm_delivery_after_read, pm_delivery_before, pm_delivery_frame,
+    pm_delivery_new, pm_delivery_read_ended,
 };
 use crate::delivery_image::{DeliveryImage, pm_delivery_size, pm_delivery_version};
 use crate::guard_image::GuardImage;
@@ -93,6 +93,22 @@ fn status_word_is_asked_before_an_order(rt: HostRuntime) {
     equal(&rt, &(told, delivery.delivery.before.fault), &(0, 0x35), &5);
     let told = pm_delivery_read_ended(&mut delivery, &host(), &[]);
     equal(&rt, &told, &0xE2, &6);
+}
+
+#[test]
+fn what_came_back_is_answered_by_the_next_request(rt: HostRuntime) {
+    let mut delivery = blank();
+    let mut frame = sending();
+    let _ = pm_delivery_new(&mut delivery, 0, 2, 1, 50, 1);
+    let told = pm_delivery_after_read(&mut delivery, &host(), &[], &mut frame);
+    equal(&rt, &(told, frame.kind), &(0xE2, 0), &1);
+    let _ = pm_delivery_before(&mut delivery);
+    let told = pm_delivery_after_read(&mut delivery, &host(), &[], &mut frame);
+    let [_, _, _, _, carried, ..] = frame.bytes;
+    equal(&rt, &(told, frame.kind, carried), &(0, 2, 0x79), &2);
+    let told = pm_delivery_after_read(&mut delivery, &host(), &[0xB1, 0x02], &mut frame);
+    equal(&rt, &(told, frame.kind), &(0x95, 0), &3);
+    equal(&rt, &delivery.delivery.before.asked, &2, &4);
 }
 
 #[test]
