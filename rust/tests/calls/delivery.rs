@@ -280,3 +280,17 @@ fn a_read_of_any_code_is_judged() {
     assert_eq!(Block::paged_request(0x58, 0, 0x30, 2), Err(Refusal::NoPacket));
     assert_eq!(Block::paged_request(0x07, 0, 0x40, 2), Err(Refusal::NoAddress));
 }
+
+#[test]
+fn a_look_goes_on_by_one_call() {
+    let (host, mut delivery) = host_and_delivery(1, true);
+    delivery.look_before().unwrap();
+    assert!(matches!(delivery.frame(&host), Sending::Request { .. }));
+    // Five questions of two passes each: no answer comes to any, and after the last one nothing is left to ask.
+    for left in (0..10).rev() {
+        let next = delivery.after_read(&host, &[]).unwrap();
+        assert_eq!(next == Sending::Nothing, left == 0, "{left}");
+        assert_eq!(next, delivery.frame(&host));
+    }
+    assert!(delivery.after_read(&host, &[]).is_err());
+}
