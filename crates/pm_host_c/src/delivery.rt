@@ -144,14 +144,25 @@ pub extern "C" fn pm_delivery_after_read(
         (round_question refusal (due_at host.now delivery.new.delivery)) sending.new }
 {
     let number = hear(delivery, host, bytes);
+    hand_on(number, &delivery.delivery, host, sending)
+}
+
+// The request that is to be sent next, unless what came back was refused, by this number, or a further round is due.
+fn hand_on(number: u8, delivery: &Delivery, host: &GuardImage, sending: &mut SendingImage) -> u8
+    requires output { number ≡ 0 → delivery.now.output < 8 }
+    requires address { number ≡ 0 → IsAddress host.now.host.state.address }
+    ensures number { result ≡ frame_number number (due_at host.now delivery.now) }
+    ensures sending { IsAsking host.now.host.state.address delivery.now.output
+        (round_question number (due_at host.now delivery.now)) sending.new }
+{
     if number != ACCEPTED {
         sending.clear();
         return number;
     }
-    match due(&delivery.delivery, host) {
+    match due(delivery, host) {
         Due::Ask(question) => put(
             host.host.state.address,
-            delivery.delivery.output,
+            delivery.output,
             question,
             sending,
         ),
