@@ -20,7 +20,7 @@ ghost use Rattle.pm_host_c.specs.CourseImage.{course_image, course_in, course_ve
 ghost use Rattle.pm_host_c.specs.Sizes.{course_size};
 
 use crate::course_end_image::CourseEndImage;
-use crate::course_image::{CourseImage, numbers_of};
+use crate::course_image::{CourseImage, NO_WAY, numbers_of};
 use crate::guard_image::GuardImage;
 use crate::host::begin_at;
 use crate::host_step::{HostStep, no_step, step_after};
@@ -410,7 +410,8 @@ fn tell(course: &mut CourseImage, host: &mut GuardImage, told: Told<'_>) -> Host
     if !course.is_course() {
         return no_step(NO_COURSE);
     }
-    let mut asked = course.held();
+    let mut asked = NO_WAY;
+    course.hold(&mut asked);
     match stage {
         Some(stage) if stage.awaits(&told) => {
             let address = host.host.state.address;
@@ -493,7 +494,8 @@ fn tell_and_send(
         sending.clear();
         return no_step(NO_COURSE);
     }
-    let mut asked = course.held();
+    let mut asked = NO_WAY;
+    course.hold(&mut asked);
     match stage {
         Some(stage) if stage.awaits(&told) => {
             let address = host.host.state.address;

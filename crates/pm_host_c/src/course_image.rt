@@ -3,7 +3,7 @@
 ghost use Rattle.std.specs.Prelude.{◌≡◌};
 ghost use Rattle.pm_rail.specs.Survey.{wanted_in};
 ghost use Rattle.pm_host_c.specs.Numbers.{flag as spec_flag};
-ghost use Rattle.pm_host_c.specs.CourseImage.{course_held, course_image, course_in, differed_held, differed_image, end_in, has_image, is_course as spec_is_course, job_code, job_held, job_kind, job_word, plan_held, read_held, read_image, twice_held, voltages_held, voltages_image, way_held};
+ghost use Rattle.pm_host_c.specs.CourseImage.{course_held, course_image, course_in, differed_image, end_in, has_image, is_course as spec_is_course, job_code, job_held, job_kind, job_word, plan_held, read_image, twice_held, voltages_image};
 
 use crate::course_end_image::{EndNumbers, end_held, fault_held, number_of};
 use crate::wanted_image::WantedImage;
@@ -138,6 +138,49 @@ pub struct CourseImage {
     pub end_fault: u8,
 }
 
+/// A course to nothing, of which no try is left.
+pub(crate) const NO_WAY: FrameCourse = FrameCourse {
+    course: Course {
+        survey: Survey {
+            output: 0,
+            plan: None,
+            left: 0,
+            learned: false,
+            read: NO_READS,
+            asked: None,
+        },
+        byte: None,
+        ordered: false,
+        done: false,
+        differed: NO_READS,
+        twice: None,
+    },
+    voltages: Voltages {
+        command: 0,
+        max: 0,
+        margin_high: 0,
+        margin_low: 0,
+        min: 0,
+        has_command: false,
+        has_max: false,
+        has_margin_high: false,
+        has_margin_low: false,
+        has_min: false,
+    },
+    fault: None,
+    end: None,
+};
+
+const NO_READS: Reads = Reads {
+    operation: false,
+    command: false,
+    max: false,
+    margin_high: false,
+    margin_low: false,
+    min: false,
+    protect: false,
+};
+
 impl CourseImage {
     /// The mark of a course.
     pub const MARK: u16 = 0x5043;
@@ -266,38 +309,55 @@ impl CourseImage {
     pub(crate) fn held(&self) -> FrameCourse
         ensures { result ≡ course_held self.now }
     {
-        let end = self.end();
-        FrameCourse {
-            course: self.way(end),
-            voltages: self.wanted_voltages(),
-            fault: fault_held(self.fault),
-            end,
-        }
+        let mut course = NO_WAY;
+        self.hold(&mut course);
+        course
     }
 
-    // The way.
-    fn way(&self, end: Option<CourseEnd>) -> Course
-        ensures { result ≡ way_held self.now end }
+    /// A course is what the numbers mean, whatever it was. Each part is written where it stands, since a copy costs more.
+    pub(crate) fn hold(&self, course: &mut FrameCourse)
+        ensures { course.new ≡ course_held self.now }
     {
-        Course {
-            survey: Survey {
-                output: self.output,
-                plan: self.plan(),
-                left: self.left,
-                learned: self.learned == 1,
-                read: self.read.reads(),
-                asked: self.asked(),
-            },
-            byte: if self.has_byte == 1 {
-                Some(self.byte)
-            } else {
-                None
-            },
-            ordered: self.ordered == 1,
-            done: self.done == 1,
-            differed: self.differed.reads(),
-            twice: twice_of(end),
-        }
+        let end = self.end();
+        course.course.survey.output = self.output;
+        course.course.survey.plan = self.plan();
+        course.course.survey.left = self.left;
+        course.course.survey.learned = self.learned == 1;
+        course.course.survey.read.operation = self.read.operation == 1;
+        course.course.survey.read.command = self.read.command == 1;
+        course.course.survey.read.max = self.read.max == 1;
+        course.course.survey.read.margin_high = self.read.margin_high == 1;
+        course.course.survey.read.margin_low = self.read.margin_low == 1;
+        course.course.survey.read.min = self.read.min == 1;
+        course.course.survey.read.protect = self.read.protect == 1;
+        course.course.survey.asked = self.asked();
+        course.course.byte = if self.has_byte == 1 {
+            Some(self.byte)
+        } else {
+            None
+        };
+        course.course.ordered = self.ordered == 1;
+        course.course.done = self.done == 1;
+        course.course.differed.operation = self.differed.operation == 1;
+        course.course.differed.command = self.differed.command == 1;
+        course.course.differed.max = self.differed.max == 1;
+        course.course.differed.margin_high = self.differed.margin_high == 1;
+        course.course.differed.margin_low = self.differed.margin_low == 1;
+        course.course.differed.min = self.differed.min == 1;
+        course.course.differed.protect = false;
+        course.course.twice = twice_of(end);
+        course.voltages.command = self.voltages.command;
+        course.voltages.max = self.voltages.max;
+        course.voltages.margin_high = self.voltages.margin_high;
+        course.voltages.margin_low = self.voltages.margin_low;
+        course.voltages.min = self.voltages.min;
+        course.voltages.has_command = self.has.command == 1;
+        course.voltages.has_max = self.has.max == 1;
+        course.voltages.has_margin_high = self.has.margin_high == 1;
+        course.voltages.has_margin_low = self.has.margin_low == 1;
+        course.voltages.has_min = self.has.min == 1;
+        course.fault = fault_held(self.fault);
+        course.end = end;
     }
 
     // The words that are wanted as such, of a course to wanted words.
@@ -308,24 +368,6 @@ impl CourseImage {
             Some(self.wanted.wanted())
         } else {
             None
-        }
-    }
-
-    // The voltages that are wanted.
-    fn wanted_voltages(&self) -> Voltages
-        ensures { result ≡ voltages_held self.now }
-    {
-        Voltages {
-            command: self.voltages.command,
-            max: self.voltages.max,
-            margin_high: self.voltages.margin_high,
-            margin_low: self.voltages.margin_low,
-            min: self.voltages.min,
-            has_command: self.has.command == 1,
-            has_max: self.has.max == 1,
-            has_margin_high: self.has.margin_high == 1,
-            has_margin_low: self.has.margin_low == 1,
-            has_min: self.has.min == 1,
         }
     }
 
@@ -448,21 +490,6 @@ impl ReadImage {
             protect: u8::from(read.protect),
         }
     }
-
-    // What the numbers mean.
-    fn reads(&self) -> Reads
-        ensures { result ≡ read_held self.now }
-    {
-        Reads {
-            operation: self.operation == 1,
-            command: self.command == 1,
-            max: self.max == 1,
-            margin_high: self.margin_high == 1,
-            margin_low: self.margin_low == 1,
-            min: self.min == 1,
-            protect: self.protect == 1,
-        }
-    }
 }
 
 impl DifferedImage {
@@ -477,21 +504,6 @@ impl DifferedImage {
             margin_high: u8::from(differed.margin_high),
             margin_low: u8::from(differed.margin_low),
             min: u8::from(differed.min),
-        }
-    }
-
-    // What the numbers mean.
-    fn reads(&self) -> Reads
-        ensures { result ≡ differed_held self.now }
-    {
-        Reads {
-            operation: self.operation == 1,
-            command: self.command == 1,
-            max: self.max == 1,
-            margin_high: self.margin_high == 1,
-            margin_low: self.margin_low == 1,
-            min: self.min == 1,
-            protect: false,
         }
     }
 }
