@@ -53,7 +53,8 @@ extern "C" {
 #define PM_VERSION 0x0001
 
 /* The versions of the layouts of a host, a course and a delivery, and their sizes in bytes. A call takes at most PM_STACK bytes of
- * stack, the three of stairs named above PM_STAIRS_STACK, and pm_refusal_name PM_NAME_STACK, since a loader may bind memmove in it.
+ * stack, and the three of stairs that are named above PM_STAIRS_STACK. pm_refusal_name takes PM_NAME_STACK, since a loader may bind
+ * memmove in it.
  * docs/c.md has what calls take on each processor. An archive says its own bound as stack-bytes in its section .comment. */
 #define PM_HOST_VERSION 6
 #define PM_HOST_SIZE 2064
@@ -68,8 +69,8 @@ extern "C" {
 #define PM_STAIRS_STACK 12288
 #define PM_NAME_STACK 4096
 
-/* What a call answers: 0, or why it is refused. A refused call changes nothing, but for these: pm_host_frame, pm_course_frame,
- * pm_course_after_write, pm_course_after_read and pm_delivery_frame then write PM_NOTHING, and pm_delivery_judge that answers P8 says
+/* What a call answers: 0, or why it is refused. A refused call changes nothing, but for these. pm_host_frame, pm_course_frame,
+ * pm_course_after_write, pm_course_after_read and pm_delivery_frame then write PM_NOTHING. pm_delivery_judge that answers P8 says
  * of which limit. pm_pec, pm_host_restart_seen and pm_host_limits_state answer something else: each says what. Of these numbers the
  * last answers PM_NO_LIMITS only. PM_ENDED refuses nothing, and is none of them. pm_refusal_name gives the name of each, and of those
  * of pmpart.h. */
@@ -424,7 +425,7 @@ uint8_t pm_host_new_with(pm_host *host, uint8_t address, uint8_t outputs, uint8_
 
 /* Gives an output limits, or narrower ones than it has: a least and a most in microvolts. From then on every order for
  * the output is judged by them, however it is asked. A voltage (VOUT_COMMAND, VOUT_MAX, VOUT_MIN, the margins) is judged by the
- * value of the word that would be sent, and a byte of OPERATION that leaves the output on by the band that would then
+ * value of the word that would be sent. A byte of OPERATION that leaves the output on is judged by the band that would then
  * hold. Turning an output off is never refused by a limit. pm_host_restart keeps limits, pm_host_new drops them. A
  * word that was ordered before stays possible, and what the part or its store holds no host knows: check the
  * registers, and ask pm_host_limits_state. PM_NO_HOST, H4, N5 beyond 10^15, L1, L6, and H3 if an order of the output is
@@ -666,9 +667,9 @@ uint8_t pm_microvolts(const pm_format *format, uint16_t word, int64_t *microvolt
 /* The word nearest to a number of microvolts. H7 if the format is none, N5, N3, N4. */
 uint8_t pm_nearest_word(const pm_format *format, int64_t microvolts, uint16_t *word);
 
-/* The word of a bound; of several words the one that pm_nearest_word gives for its value. pm_at_most gives the word of the greatest
- * value that isn't above so many microvolts, and N3 if each value is. pm_at_least gives that of the least value that isn't below
- * them, and N4 if each value is. H7 if the format is none, N5. */
+/* The word of a bound. Of several words it is the one that pm_nearest_word gives for its value. pm_at_most gives the word of the
+ * greatest value that isn't above so many microvolts, and N3 if each value is. pm_at_least gives that of the least value that isn't
+ * below them, and N4 if each value is. H7 if the format is none, N5. */
 uint8_t pm_at_most(const pm_format *format, int64_t microvolts, uint16_t *word);
 uint8_t pm_at_least(const pm_format *format, int64_t microvolts, uint16_t *word);
 
@@ -739,8 +740,8 @@ uint8_t pm_read_paged(uint8_t address, uint8_t page, uint8_t code, uint8_t size,
  * and no restore of these outputs meanwhile. */
 
 /* Makes stairs, whatever stood in the memory: no step has begun, and each has at most this many jobs. If `is_down` isn't 0 it is a way
- * down: it notes no way back, reads nothing before an order that turns an output off, goes on after a restart of a part, and can leave a
- * step that stopped. */
+ * down. It notes no way back, and reads nothing before an order that turns an output off. It goes on after a restart of a part, and
+ * can leave a step that stopped. */
 void pm_stairs_new(pm_stairs *stairs, uint16_t tries, uint8_t is_down);
 
 /* What is to be sent now, by the host at the place stairs->host. `steps` is the whole list, the same each time. As step N begins,
@@ -926,8 +927,8 @@ static inline uint8_t pm_delivery_before_order(pm_delivery *delivery, const pm_c
 /* Carries a course out, or the host's open job if `course` is NULL, frame after frame, and answers the last step; PM_ENDED of a
  * course; or why a call was refused. With a `delivery`, which may be NULL, fault limits are read and judged before the course's first
  * order, and P8 stops it there, with nothing ordered. The loop ends since a job has at most twice as many frames as passes and a course
- * at most its tries of jobs, which is proved. The loop itself is C of this header, and isn't proved: it is tried under rows of each kind
- * of fault (trials/c/rows/run_rows.c, trials/course) and under random ones (examples/c/faults.c, examples/c/rail.c). */
+ * at most its tries of jobs, which is proved. The loop itself is C of this header, and isn't proved. It is tried under rows of each kind
+ * of fault (trials/c/rows/run_rows.c, trials/course), and under random ones (examples/c/faults.c, examples/c/rail.c). */
 static inline pm_step pm_carry_out(pm_host *host, pm_course *course, pm_delivery *delivery, pm_write write, pm_read read,
                                    void *context) {
     pm_step step = {PM_UNKNOWN, 0};
