@@ -8,6 +8,7 @@ import unittest
 
 from .board_kernel import BoardKernel
 from .field import Field
+from .running import is_there, path_of
 from .runs import called
 
 ONE = ["-b", "7", "-a", "58", "--outputs", "2", "--no-limit"]
@@ -61,8 +62,8 @@ class Heads(unittest.TestCase):
         times = [int(re.match(r"(\d{16}) B0 ", line)[1]) for line in lines[1:]]
         self.assertEqual(times, sorted(times))
         self.assertGreater(len(times), 10)
-        if pmb := os.environ.get("PMB"):
-            told = subprocess.run([pmb, "decode", "--times"], input="\n".join(lines) + "\n", capture_output=True, text=True, check=False)
+        if is_there("pmb"):
+            told = subprocess.run([path_of("pmb"), "decode", "--times"], input="\n".join(lines) + "\n", capture_output=True, text=True, check=False)
             self.assertEqual((told.returncode, " us 58 page 0 VOUT_COMMAND write 10CD\n" in told.stdout), (0, True), told.stdout + told.stderr)
 
     def test_transfers_of_a_board_have_theirs(self):

@@ -15,9 +15,8 @@ from pmhost.log import HostLog, Log, note_of
 from pmhost.part import ModelPart, ModelPartBus, Output
 
 from .fixtures import free
+from .running import needs, path_of
 
-# `pmb`, where it is there.
-PMB = os.environ.get("PMB")
 READ = "B0 06 02 00 21 / B1 02 CD 34 B9"
 
 
@@ -150,17 +149,17 @@ class Files(unittest.TestCase):
     def test_a_file_that_fails_is_told(self) -> None:
         self.assertEqual(run("-b", "model", "--log", "/nowhere/a.log", "learn", "0"), 2)
 
-    @unittest.skipIf(PMB is None, "PMB names no pmb")
+    @needs("pmb")
     def test_a_log_is_accepted(self) -> None:
         run("-b", "model", "--outputs", "2", "--no-limit", "--log", self.path, "set", "0", "3.3V", "+", "survey", "1", "+", "store")
-        ran = subprocess.run([PMB or "", "check"], input=self.read(), capture_output=True, text=True, check=False)
+        ran = subprocess.run([path_of("pmb"), "check"], input=self.read(), capture_output=True, text=True, check=False)
         self.assertEqual((ran.returncode, ran.stdout[:10]), (0, "accepted: "), ran.stdout)
 
-    @unittest.skipIf(PMB is None, "PMB names no pmb")
+    @needs("pmb")
     def test_a_claim_without_its_read_is_refused(self) -> None:
         run("-b", "model", "--outputs", "2", "--log", self.path, "read", "0")
         kept = "".join(line for line in self.read().splitlines(True) if "/ B1 02" not in line)
-        ran = subprocess.run([PMB or "", "check"], input=kept, capture_output=True, text=True, check=False)
+        ran = subprocess.run([path_of("pmb"), "check"], input=kept, capture_output=True, text=True, check=False)
         self.assertEqual(ran.returncode, 1)
         self.assertIn("0 VOUT_COMMAND isn't known to hold 1000: possible any", ran.stdout)
 

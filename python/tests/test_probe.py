@@ -1,4 +1,6 @@
-"""`pmhost probe` over parts that are as they should be, and over those that aren't: what it says of each, and what it sends."""
+"""`pmhost probe` over parts that are as they should be, and over those that aren't: what it says of each, and what it sends. PMHOST_EVERY takes each
+so many-th transfer only, where one goes wrong."""
+import os
 import re
 import tempfile
 import unittest
@@ -14,6 +16,7 @@ from .odd_parts import ADDRESS, Late, Proved
 from .kernel import FakeKernel
 from .test_runs import Blocks
 
+EVERY = int(os.environ.get("PMHOST_EVERY", "1"))
 BEFORE = "the part may note in STATUS_CML that it was asked for what it lacks, and pull SMBALERT#"
 
 
@@ -116,8 +119,9 @@ class OneFault(unittest.TestCase):
         folder = self.enterContext(tempfile.TemporaryDirectory())
         for part in self.PARTS:
             whole = probed("-b 7 -a 58 probe --writes", part)
-            for mishap in self.MISHAPS:
-                for at in range(len(whole.trace.splitlines())):
+            for first, mishap in enumerate(self.MISHAPS):
+                # (of each so many transfers another one for each mishap)
+                for at in range(first % EVERY, len(whole.trace.splitlines()), EVERY):
                     run = runs.Run("probe")
                     run.words, run.part, run.mishaps = "-b 7 -a 58 probe --writes", part, " ".join(["ok"] * at + [mishap])
                     with self.subTest(part=part, mishap=mishap, at=at):

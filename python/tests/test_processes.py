@@ -70,6 +70,17 @@ def run(words, redirections="", mishaps="", around=None):
     return subprocess.run(given, capture_output=True, text=True, env=env, start_new_session=True, check=False,
                           preexec_fn=with_signals)
 
+# Loads the library once for each name and number that it is given, and prints why it was refused.
+LOADS = """import os, sys
+from pmhost import _library
+for name, number in zip(sys.argv[1::2], sys.argv[2::2]):
+    os.environ.update(NAME=name, NUMBER=number)
+    try:
+        _library._load()
+        print("loaded")
+    except ImportError as why:
+        print(why)
+"""
 
 class Processes(unittest.TestCase):
     def test_streams_and_a_signal_to_the_group(self):
@@ -172,16 +183,22 @@ static unsigned long answer(const char *name, unsigned long number) {{
 
     @needs_tool("gcc")
     def test_a_library_of_another_size_is_refused(self):
-        """Larger or smaller numbers, each by itself."""
+        """Larger or smaller numbers, each by itself: two as a user meets them, and all of them in one process."""
         self.assertEqual([ctypes.sizeof(it) for it in (_library.HostImage, _library.CourseImage, _library.PartImage)],
                          [_library.HOST_SIZE, _library.COURSE_SIZE, _library.PART_SIZE])
+        refused = r".*other\.so is another library than this package is for: it says .*\n\Z"
+        pairs = [*((name, number + 0x100) for name, number in self.NUMBERS.items()),
+                 *((name, number - 1) for name, number in self.NUMBERS.items() if name != "pm_version")]
         with self.another() as run:
-            for name, other in [*((name, number + 0x100) for name, number in self.NUMBERS.items()),
-                                *((name, number - 1) for name, number in self.NUMBERS.items() if name != "pm_version")]:
-                with self.subTest(name=name, other=other):
-                    ended = run(name, other, "-m", "pmhost", "-b", "model", "read", "0")
-                    self.assertEqual((ended.returncode, ended.stdout), (2, ""))
-                    self.assertRegex(ended.stderr, r"\Apmhost: .*other\.so is another library than this package is for: it says .*\n\Z")
+            for name, other in (pairs[0], pairs[-1]):
+                ended = run(name, other, "-m", "pmhost", "-b", "model", "read", "0")
+                self.assertEqual((ended.returncode, ended.stdout), (2, ""))
+                self.assertRegex(ended.stderr, r"\Apmhost: " + refused)
+            ended = run("", 0, "-c", LOADS, *(str(it) for pair in pairs for it in pair))
+        self.assertEqual((ended.returncode, ended.stderr), (0, ""))
+        for (name, other), line in zip(pairs, ended.stdout.splitlines(True), strict=True):
+            with self.subTest(name=name, other=other):
+                self.assertRegex(line, refused)
 
     @needs_tool("gcc")
     def test_a_library_of_another_minor_version_is_taken(self):
