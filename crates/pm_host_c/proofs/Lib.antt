@@ -3,8 +3,6 @@ mod GoesOn
 mod Tells
 mod Named
 mod Ceils
-mod Kept
-mod Courses
 mod Narrows
 mod TellsStairs
 mod HandsStairs

@@ -8,8 +8,8 @@ use Rattle.pm_limits.specs.declared.fault.LimitFault.{LimitFault}
 use Rattle.pm_limits.specs.declared.output_limits.OutputLimits.TheVariants.{Unlimited}
 use Rattle.pm_limits.specs.FaultWords.{limit_fault_number}
 use Rattle.pm_limits.specs.Guard.{narrower_fault, open_fault}
-use Rattle.pm_host_c.specs.declared.guard_image.GuardImage.{GuardImage}
-use Rattle.pm_host_c.specs.Guard.{guard_of, limits_kept, registers_held}
+use Rattle.pm_memory.specs.declared.guard_image.GuardImage.{GuardImage}
+use Rattle.pm_memory.specs.Guard.{guard_of, limits_kept, registers_held}
 use Rattle.pm_host_c.specs.Limits.{narrow_number}
 use Rattle.pm_host_c.specs.Numbers.{limit_outcome}
 

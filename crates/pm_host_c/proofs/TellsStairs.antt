@@ -8,13 +8,13 @@ use Rattle.pm_host.specs.Transcript.{Entry}
 use Rattle.pm_course.specs.Surprise.{surprises}
 use Rattle.pm_stairs.specs.declared.sequence.Sequence.{Sequence}
 use Rattle.pm_stairs.specs.Frames.{course_open}
-use Rattle.pm_host_c.specs.declared.guard_image.GuardImage.{GuardImage}
+use Rattle.pm_memory.specs.declared.guard_image.GuardImage.{GuardImage}
 use Rattle.pm_host_c.specs.declared.host_step.HostStep.{HostStep}
-use Rattle.pm_host_c.specs.declared.stairs_image.StairsImage.{StairsImage}
+use Rattle.pm_memory.specs.declared.stairs_image.StairsImage.{StairsImage}
 use Rattle.pm_host_c.specs.Host.{refused_step, told_answer, TellsHost}
 use Rattle.pm_host_c.specs.Numbers.{other_frame}
 use Rattle.pm_host_c.specs.Stairs.{heard_course, heard_stage, TellsStairs}
-use Rattle.pm_host_c.specs.StairsImage.{stairs_image, stairs_in}
+use Rattle.pm_memory.specs.StairsImage.{stairs_image, stairs_in}
 
 pub tells-stairs : (old new : GuardImage) (was is : StairsImage) (s : Summary) (q : Sequence) (stage : Stage) (e : Entry)
     (result : HostStep) → host_of old.host ≡ Some s → stairs_in was ≡ Some q → s.stage ≡ Some stage → may_come s e ≡ true

@@ -28,17 +28,17 @@ use Rattle.pm_course.specs.Surprise.{surprises}
 use Rattle.pm_course.specs.Wishes.{no_voltages}
 use Rattle.pm_rail.specs.Registers.{nothing}
 use Rattle.pm_host_c.specs.declared.course.CourseJobImage.{CourseJobImage}
-use Rattle.pm_host_c.specs.declared.course_image.CourseImage.{CourseImage}
-use Rattle.pm_host_c.specs.declared.guard_image.GuardImage.{GuardImage}
+use Rattle.pm_memory.specs.declared.course_image.CourseImage.{CourseImage}
+use Rattle.pm_memory.specs.declared.guard_image.GuardImage.{GuardImage}
 use Rattle.pm_host_c.specs.declared.host_step.HostStep.{HostStep}
 use Rattle.pm_host_c.specs.declared.sending_image.SendingImage.{SendingImage}
-use Rattle.pm_host_c.specs.declared.wanted_image.WantedImage.{WantedImage}
-use Rattle.pm_host_c.specs.CourseImage.{course_image, course_in, job_image}
-use Rattle.pm_host_c.specs.Guard.{guard_of, limits_kept, registers_held}
+use Rattle.pm_memory.specs.declared.wanted_image.WantedImage.{WantedImage}
+use Rattle.pm_memory.specs.CourseImage.{course_image, course_in, job_code, job_kind, job_word}
+use Rattle.pm_memory.specs.Guard.{guard_of, limits_kept, registers_held}
 use Rattle.pm_host_c.specs.Host.{after, is_told, job_begun, job_number, refused_step, told_answer, IsNothing, IsSent}
-use Rattle.pm_host_c.specs.Memory.{IsMemory}
+use Rattle.pm_memory.specs.Memory.{IsMemory}
 use Rattle.pm_host_c.specs.Numbers.{accepted, ended, no_course, no_host}
-use Rattle.pm_host_c.specs.Wanted.{wanted_meant}
+use Rattle.pm_memory.specs.Wanted.{wanted_meant}
 
 -- a course is made: H4 for an output that no device has, then H5 for a code that is no voltage
 abbrev pub begun_number : ℕ → ℕ
@@ -80,6 +80,10 @@ wanted_more was code x = wanted_by was x (course_in was) (voltage_register code)
 -- the memory holds a course
 abbrev pub kept_number : Option FrameCourse → ℕ
 kept_number course = if is_some course then accepted else no_course
+
+-- a job, or none
+abbrev pub job_image : Option Asked → CourseJobImage
+job_image job = record { kind = job_kind job; code = job_code job; word = job_word job }
 
 abbrev pub job_answer : Option FrameCourse → CourseJobImage → CourseJobImage
 job_answer course was = option_map_or (λ c. job_image c.course.survey.asked) course was

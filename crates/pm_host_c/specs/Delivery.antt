@@ -34,9 +34,9 @@ use Rattle.pm_delivery.specs.Reading.{reading_in}
 use Rattle.pm_host_c.specs.declared.delivered.DeliveredImage.{DeliveredImage}
 use Rattle.pm_host_c.specs.declared.delivered.JudgementImage.{JudgementImage}
 use Rattle.pm_host_c.specs.declared.delivery_image.DeliveryImage.{DeliveryImage}
-use Rattle.pm_host_c.specs.declared.guard_image.GuardImage.{GuardImage}
+use Rattle.pm_memory.specs.declared.guard_image.GuardImage.{GuardImage}
 use Rattle.pm_host_c.specs.declared.sending_image.SendingImage.{SendingImage}
-use Rattle.pm_host_c.specs.Guard.{limits_kept, registers_held}
+use Rattle.pm_memory.specs.Guard.{limits_kept, registers_held}
 use Rattle.pm_host_c.specs.Host.{IsNothing}
 use Rattle.pm_host_c.specs.Numbers.{accepted, ended, no_delivery, no_host, other_frame}
 use Rattle.pm_host_c.specs.Paged.{IsPagedSending}

@@ -11,8 +11,8 @@ use Rattle.pm_frame.specs.Layout.{is_read_message}
 use Rattle.pm_limits.specs.declared.fault.LimitFault.{LimitFault}
 use Rattle.pm_limits.specs.FaultWords.{limit_fault_number}
 use Rattle.pm_limits.specs.Guard.{Guarded, guard_fault}
-use Rattle.pm_host_c.specs.declared.guard_image.GuardImage.{GuardImage}
-use Rattle.pm_host_c.specs.Guard.{guard_of}
+use Rattle.pm_memory.specs.declared.guard_image.GuardImage.{GuardImage}
+use Rattle.pm_memory.specs.Guard.{guard_of}
 use Rattle.pm_host.specs.declared.job.Job.{Job}
 use Rattle.pm_host.specs.declared.job.JobEnd.TheVariants.{Done, Differs, Unknown, Learned}
 use Rattle.pm_host.specs.declared.host.Step.{Step}
@@ -30,7 +30,7 @@ use Rattle.pm_host.specs.Summary.{Summary, next, step_of, sending_in, possible_a
 use Rattle.pm_host.specs.Transcript.{Entry, Accepted, Got}
 use Rattle.pm_host_c.specs.declared.host_step.HostStep.{HostStep}
 use Rattle.pm_host_c.specs.declared.sending_image.SendingImage.{SendingImage}
-use Rattle.pm_host_c.specs.Memory.{IsMemory}
+use Rattle.pm_memory.specs.Memory.{IsMemory}
 use Rattle.pm_host_c.specs.Numbers.{accepted, no_host, no_cell, other_frame, no_address, outcome, limit_outcome}
 use Rattle.pm_host.specs.FaultWords.{host_fault_number}
 

@@ -1,14 +1,10 @@
 -- What the crate promises.
 pub mod Course
-pub mod CourseEnd
-pub mod CourseImage
 pub mod Delivery
 pub mod Goal
-pub mod Guard
 pub mod Host
 pub mod Known
 pub mod Limits
-pub mod Memory
 pub mod Names
 pub mod Numbers
 pub mod Packets
@@ -16,6 +12,5 @@ pub mod Paged
 pub mod Rail
 pub mod Sizes
 pub mod Stairs
-pub mod StairsImage
+pub mod StairsStep
 pub mod Voltages
-pub mod Wanted

@@ -1,7 +1,7 @@
 -- The numbers that calls answer, of which no two mean two things: 0 where nothing is refused; a refusal's own,
 -- which stands beside its words; E0h to E4h, E6h, E7h, E9h to EFh for what only a caller in C can ask wrongly; 91h
 -- to 93h for where a voltage lies; 95h for a course that has ended; and 96h and 97h for stairs. This project's own choice.
-use Rattle.std.specs.Prelude.{ℕ, Bool, if◌then◌else◌, Option, Some, None}
+use Rattle.std.specs.Prelude.{ℕ, Option, Some, None}
 use Rattle.pm_host.specs.declared.fault.HostFault.{HostFault}
 use Rattle.pm_host.specs.FaultWords.{host_fault_number}
 use Rattle.pm_limits.specs.declared.fault.LimitFault.{LimitFault}
@@ -87,10 +87,6 @@ again = 0x96
 
 abbrev pub no_way_back : ℕ
 no_way_back = 0x97
-
--- a flag is 1 or 0
-abbrev pub flag : Bool → ℕ
-flag b = if b then 1 else 0
 
 -- what a call answers that is refused with this, or accepted
 abbrev pub outcome : Option HostFault → ℕ

@@ -25,19 +25,21 @@ use Rattle.pm_stairs.specs.declared.way_back.StepCheck.TheVariants as check
 use Rattle.pm_stairs.specs.Frames.{course_open, is_job_at}
 use Rattle.pm_stairs.specs.WayBack.{Checks}
 use Rattle.pm_stairs.specs.Sequence.{heard_with, refused_in, sequence_new, skipped, Turns}
-use Rattle.pm_host_c.specs.declared.guard_image.GuardImage.{GuardImage}
+use Rattle.pm_memory.specs.declared.guard_image.GuardImage.{GuardImage}
 use Rattle.pm_host_c.specs.declared.host_step.HostStep.{HostStep}
 use Rattle.pm_host_c.specs.declared.sending_image.SendingImage.{SendingImage}
-use Rattle.pm_host_c.specs.declared.stairs_end.StairsEndImage.{StairsEndImage}
-use Rattle.pm_host_c.specs.declared.stairs_image.StairsImage.{StairsImage}
+use Rattle.pm_memory.specs.declared.stairs_end.StairsEndImage.{StairsEndImage}
+use Rattle.pm_memory.specs.declared.stairs_image.StairsImage.{StairsImage}
 use Rattle.pm_host_c.specs.declared.stairs_step.StairsStepImage.{StairsStepImage}
 use Rattle.pm_host_c.specs.Course.{BeginsIn}
-use Rattle.pm_host_c.specs.Guard.{guard_of}
+use Rattle.pm_memory.specs.Guard.{guard_of}
 use Rattle.pm_host_c.specs.Host.{after, is_told, job_number, refused_step, told_answer, IsNothing, IsSent}
-use Rattle.pm_host_c.specs.Memory.{IsMemory}
+use Rattle.pm_memory.specs.Memory.{IsMemory}
 use Rattle.pm_host_c.specs.Numbers.{accepted, again, ended, no_host, no_room, no_stairs, no_step, no_way_back}
-use Rattle.pm_host_c.specs.StairsImage.{end_no_way_back, end_none, end_reached, end_refused, end_stopped, is_stopped, placed_in}
-use Rattle.pm_host_c.specs.StairsImage.{stairs_image, stairs_in, step_image}
+use Rattle.pm_memory.specs.StairsImage.{end_no_way_back, end_none, end_reached, end_refused, end_stopped, is_stopped}
+use Rattle.pm_host_c.specs.StairsStep.{placed_in}
+use Rattle.pm_memory.specs.StairsImage.{stairs_image, stairs_in}
+use Rattle.pm_host_c.specs.StairsStep.{step_image}
 
 -- stairs are made
 abbrev pub stairs_begun : ℕ → ℕ → StairsImage

@@ -9,28 +9,25 @@ ghost use Rattle.pm_host.specs.Transcript.{Finished, Got};
 ghost use Rattle.pm_host.specs.Told.{entry_told, is_awaited};
 ghost use Rattle.pm_course.specs.Heard.{heard_by};
 ghost use Rattle.pm_course.specs.Surprise.{surprises as surprises_by};
-ghost use Rattle.pm_host_c.specs.Memory.{IsMemory};
+ghost use Rattle.pm_memory.specs.Memory.{IsMemory};
 ghost use Rattle.pm_rail.specs.Course.{is_order};
 ghost use Rattle.pm_limits.specs.FaultWords.{limit_fault_number};
 ghost use Rattle.pm_course.specs.FrameCourse.{refused_by, to_byte, to_survey};
-ghost use Rattle.pm_host_c.specs.Course.{begun_number, guard_at, job_answer, kept_number, own_stage as spec_own_stage, voltage_begun, voltage_number, voltage_register, want_number, wanted_more, words_course, AcceptsIn, GoesOn, HandsOut, SaysIn, TellsAndSends, TellsCourse, WouldBegin};
-ghost use Rattle.pm_host_c.specs.CourseEnd.{end_answer};
-ghost use Rattle.pm_host_c.specs.Guard.{guard_of};
-ghost use Rattle.pm_host_c.specs.CourseImage.{course_image, course_in, course_version, job_image};
+ghost use Rattle.pm_host_c.specs.Course.{begun_number, guard_at, job_answer, job_image, kept_number, own_stage as spec_own_stage, voltage_begun, voltage_number, voltage_register, want_number, wanted_more, words_course, AcceptsIn, GoesOn, HandsOut, SaysIn, TellsAndSends, TellsCourse, WouldBegin};
+ghost use Rattle.pm_memory.specs.CourseEnd.{end_answer};
+ghost use Rattle.pm_memory.specs.Guard.{guard_of};
+ghost use Rattle.pm_memory.specs.CourseImage.{course_image, course_in, course_version};
 ghost use Rattle.pm_host_c.specs.Sizes.{course_size};
 
-use crate::course_end_image::CourseEndImage;
-use crate::course_image::{CourseImage, numbers_of};
-use crate::guard_image::GuardImage;
 use crate::host::begin_at;
 use crate::host_step::{HostStep, no_step, step_after};
 use crate::numbers::{ACCEPTED, ENDED, NO_COURSE, NO_HOST, OTHER_FRAME};
 use crate::sending_image::SendingImage;
 use crate::told::send;
-use crate::wanted_image::WantedImage;
 use pm_course::{CourseEnd, CourseNext, FrameCourse, Refusal, Wishes};
 use pm_host::{HostFault, Job, Progress, Stage, Told};
 use pm_limits::LimitFault;
+use pm_memory::{CourseEndImage, CourseImage, GuardImage, WantedImage, job_numbers};
 use pm_table::{Cell, Code, Reg, cell_of};
 use std::mem::size_of;
 
@@ -51,7 +48,7 @@ impl CourseJobImage {
     fn of(job: Option<Job>) -> CourseJobImage
         ensures { result ≡ job_image job }
     {
-        let (kind, code, word) = numbers_of(job);
+        let (kind, code, word) = job_numbers(job);
         CourseJobImage { kind, code, word }
     }
 }

@@ -10,11 +10,11 @@ ghost use Rattle.pm_host_c.specs.Delivery.{limit_word, said as spec_said, said_b
 
 use crate::delivery::{power, reading, refusal};
 use crate::delivery_image::DeliveryImage;
-use crate::guard_image::GuardImage;
 use crate::numbers::ACCEPTED;
 use crate::voltages::put_floor;
 use pm_delivery::{Delivery, Judgement, Limit, Question, Verdict};
 use pm_host::{HostFault, State};
+use pm_memory::GuardImage;
 use pm_num::{AnyFormat, NumFormat};
 
 /// What a rail does, as plain numbers. It has no padding.

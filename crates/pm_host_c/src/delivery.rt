@@ -8,11 +8,11 @@ ghost use Rattle.pm_host_c.specs.Delivery.{asked_number, delivery_image, due_at,
 ghost use Rattle.pm_host_c.specs.Delivery.{power_at, read_delivery, read_number, reading_at, with_delivery, IsAsking};
 
 use crate::delivery_image::DeliveryImage;
-use crate::guard_image::GuardImage;
 use crate::numbers::{ACCEPTED, ENDED, NO_DELIVERY, NO_HOST, OTHER_FRAME};
 use crate::sending_image::SendingImage;
 use pm_delivery::{Delivery, Due, Question, Reading, answer_of, request};
 use pm_host::HostFault;
+use pm_memory::GuardImage;
 use pm_rail::{Power, power_in};
 
 /// Makes a delivery of an output, of which nothing was asked. H4 for an output above 7.

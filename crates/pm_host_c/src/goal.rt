@@ -8,15 +8,14 @@ ghost use Rattle.pm_rail.specs.Registers.{wants_of};
 ghost use Rattle.pm_rail.specs.Survey.{wanted_in};
 ghost use Rattle.pm_course.specs.Wishes.{voltage_of};
 ghost use Rattle.pm_table.specs.Cell.{register_of, IsCell};
-ghost use Rattle.pm_host_c.specs.CourseImage.{course_in};
+ghost use Rattle.pm_memory.specs.CourseImage.{course_in};
 ghost use Rattle.pm_host_c.specs.Delivery.{idle};
 ghost use Rattle.pm_host_c.specs.Goal.{course_number, goal_number, has_goal, has_goal_by, has_wanted, is_commanding as spec_is_commanding, register_number, selected_goal as spec_selected_goal, IsGoalBy, IsWanted};
 
-use crate::course_image::CourseImage;
-use crate::guard_image::GuardImage;
 use crate::numbers::{ACCEPTED, NO_CELL, NO_COURSE, NO_GOAL, NO_HOST};
 use pm_course::FrameCourse;
 use pm_host::{HostFault, State, nearest_word};
+use pm_memory::{CourseImage, GuardImage};
 use pm_table::{Cell, Code, Operation, Reg, cell_of};
 
 /// The word that a course wants of VOUT_COMMAND or of a margin; of a course to a byte that leaves the output on the word that the

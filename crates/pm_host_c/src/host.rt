@@ -11,15 +11,15 @@ ghost use Rattle.pm_host.specs.Summary.{start};
 ghost use Rattle.pm_host.specs.Transcript.{Setup, Restarted};
 ghost use Rattle.pm_limits.specs.Guard.{limited_fault, of_host};
 ghost use Rattle.pm_limits.specs.Part.{all_registers};
-ghost use Rattle.pm_host_c.specs.Guard.{guard_of, registers_held, unknown_limits};
-ghost use Rattle.pm_host_c.specs.Memory.{IsMemory};
+ghost use Rattle.pm_memory.specs.Guard.{guard_of, registers_held, unknown_limits};
+ghost use Rattle.pm_memory.specs.Memory.{IsMemory};
 ghost use Rattle.pm_host_c.specs.Sizes.{host_size, library_version};
 ghost use Rattle.pm_host_c.specs.Host.{begun_answer, new_number, memory_number, after, job_begun, BeginsJob};
 
-use crate::guard_image::{GuardImage, RegistersImage};
 use crate::numbers::{ACCEPTED, NO_ADDRESS, NO_CELL, NO_HOST};
 use pm_host::{Command, HostImage, Job, Stage, State};
 use pm_limits::{LimitFault, OutputLimits, PartRegisters, judge};
+use pm_memory::{GuardImage, RegistersImage};
 use pm_table::{Code, address_ok, cell_of};
 use std::mem::size_of;
 

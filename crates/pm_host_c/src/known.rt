@@ -5,9 +5,9 @@ ghost use Rattle.pm_table.specs.Cell.{cell_at};
 ghost use Rattle.pm_host.specs.Image.{host_of, standing_held, words_held};
 ghost use Rattle.pm_host_c.specs.Host.{cell_number, IsStanding, IsPossible, seen_number};
 
-use crate::guard_image::GuardImage;
 use crate::numbers::{ACCEPTED, NO_CELL, NO_HOST};
 use pm_host::{HostFault, StandingImage, WordsImage};
+use pm_memory::GuardImage;
 use pm_table::{Code, cell_of};
 
 /// What is known of a cell's word. E0h, E1h, H4.

@@ -6,10 +6,10 @@ ghost use Rattle.pm_host.specs.Image.{held, host_of};
 ghost use Rattle.pm_host_c.specs.Host.{memory_number};
 ghost use Rattle.pm_host_c.specs.Known.{cell_count, AreKnown, IsKnown, IsKnownOf};
 
-use crate::guard_image::GuardImage;
 use crate::known::{counted, flagged};
 use crate::numbers::{ACCEPTED, NO_HOST};
 use pm_host::{StandingImage, State, WordsImage};
+use pm_memory::GuardImage;
 use pm_table::{Cell, Reg};
 
 /// What is known of one cell, which its output and its command code name.

@@ -25,14 +25,11 @@
 
 mod answer;
 mod course;
-mod course_end_image;
-mod course_image;
 mod delivered;
 mod delivery;
 mod delivery_image;
 mod format_numbers;
 mod goal;
-mod guard_image;
 mod host;
 mod host_step;
 mod known;
@@ -47,11 +44,8 @@ mod rail;
 mod seen;
 mod sending_image;
 mod stairs;
-mod stairs_end;
-mod stairs_image;
 mod stairs_step;
 #[cfg(test)]
 mod tests;
 mod told;
 mod voltages;
-mod wanted_image;

@@ -6,11 +6,10 @@ ghost use Rattle.pm_host.specs.Summary.{format_at};
 ghost use Rattle.pm_limits.specs.Band.{band_at, within_of};
 ghost use Rattle.pm_limits.specs.declared.output_limits.OutputLimits.TheVariants.{Unlimited};
 ghost use Rattle.pm_limits.specs.Guard.{limits_at, narrowed, unlimited};
-ghost use Rattle.pm_host_c.specs.Guard.{guard_of, limits_held, limits_kept, registers_held};
-ghost use Rattle.pm_host_c.specs.Memory.{IsMemory};
+ghost use Rattle.pm_memory.specs.Guard.{guard_of, limits_held, limits_kept, registers_held};
+ghost use Rattle.pm_memory.specs.Memory.{IsMemory};
 ghost use Rattle.pm_host_c.specs.Limits.{band_number, ends_in, ends_number, limits_number, narrow_number, no_band_number, unlimited_number, within_number, within_word, IsBand, IsEnds};
 
-use crate::guard_image::{GuardImage, LimitsImage};
 use crate::numbers::{
     ACCEPTED, NO_BAND, NO_HOST, NO_LIMITS, WITHIN_NO, WITHIN_NOT_KNOWN, WITHIN_YES,
 };
@@ -19,6 +18,7 @@ use pm_host::{HostFault, State};
 use pm_limits::{
     Band, LimitFault, NewLimits, OutputLimits, Within, band_in, narrower_limits, within_limits,
 };
+use pm_memory::{GuardImage, LimitsImage};
 
 /// The ends of the band of an output's voltage, in whole microvolts, as plain numbers.
 #[repr(C)]

@@ -2,15 +2,15 @@
 
 ghost use Rattle.std.specs.Prelude.{◌≡◌, ◌≢◌, ◌<◌, None, IsSomeAnd};
 ghost use Rattle.pm_host.specs.Image.{held, host_of};
-ghost use Rattle.pm_host_c.specs.Guard.{guard_of, limits_kept, registers_held};
+ghost use Rattle.pm_memory.specs.Guard.{guard_of, limits_kept, registers_held};
 ghost use Rattle.pm_host_c.specs.Rail.{power_word, selected_word, IsRail};
 ghost use Rattle.pm_host_c.specs.Voltages.{output_number};
 
-use crate::guard_image::GuardImage;
 use crate::limits::{BandImage, of_within, put_known};
 use crate::numbers::{ACCEPTED, NO_HOST};
 use pm_host::HostFault;
 use pm_limits::{band_in, within_limits};
+use pm_memory::GuardImage;
 use pm_rail::{Power, Selected, power_in, selected_in};
 
 /// What an output commands, by what is known, as plain numbers. It has no padding.

@@ -5,9 +5,9 @@ ghost use Rattle.pm_host.specs.Image.{held};
 ghost use Rattle.pm_host.specs.Sound.{IsSound};
 ghost use Rattle.pm_host_c.specs.Course.{guard_at};
 
-use crate::guard_image::GuardImage;
 use pm_host::{Stage, State};
 use pm_limits::{OutputLimits, PartRegisters};
+use pm_memory::GuardImage;
 use pm_stairs::Sight;
 use std::marker::Model;
 

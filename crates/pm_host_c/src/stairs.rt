@@ -11,10 +11,10 @@ ghost use Rattle.pm_stairs.specs.Frames.{course_open};
 ghost use Rattle.pm_stairs.specs.Sequence.{Turns};
 ghost use Rattle.pm_host_c.specs.Sizes.{stairs_size};
 ghost use Rattle.pm_host_c.specs.Stairs.{Asks, HandsOut as HandsOutStairs, ChecksStep, TellsStairs, back_said as spec_back_said, backs_with, check_end, check_number, end_said as spec_end_said, heard_course, first_ahead as spec_first_ahead, job_said as spec_job_said, kept_at, lacks_room as spec_lacks_room, number_said as spec_number_said, skip_image, skip_number, stairs_begun, stopped_by};
-ghost use Rattle.pm_host_c.specs.Guard.{guard_of};
-ghost use Rattle.pm_host_c.specs.StairsImage.{placed_in, stairs_in, stairs_version};
+ghost use Rattle.pm_memory.specs.Guard.{guard_of};
+ghost use Rattle.pm_memory.specs.StairsImage.{stairs_in, stairs_version};
+ghost use Rattle.pm_host_c.specs.StairsStep.{placed_in};
 
-use crate::guard_image::GuardImage;
 use crate::host::begin;
 use crate::host_step::{HostStep, no_step, step_after};
 use crate::numbers::{
@@ -22,12 +22,11 @@ use crate::numbers::{
 };
 use crate::seen::Seen;
 use crate::sending_image::SendingImage;
-use crate::stairs_end::StairsEndImage;
-use crate::stairs_image::StairsImage;
 use crate::stairs_step::StairsStepImage;
 use crate::told::pm_host_frame;
 use pm_course::{CourseEnd, Refusal, surprises};
 use pm_host::{Job, Stage, Step, Told};
+use pm_memory::{GuardImage, StairsEndImage, StairsImage};
 use pm_stairs::{Placed, Sequence, StepCheck, StepEnd, Turn, WordStep, check};
 use std::mem::size_of;
 

@@ -1,7 +1,7 @@
 //! The steps of stairs in a caller's memory: plain numbers, and what they mean.
 
 ghost use Rattle.std.specs.Prelude.{◌≡◌};
-ghost use Rattle.pm_host_c.specs.StairsImage.{act_asked, are_wishes as spec_are_wishes, is_wish as spec_is_wish, placed_in, step_image, step_numbers, wish_asked, wishes_asked, word_image};
+ghost use Rattle.pm_host_c.specs.StairsStep.{act_asked, are_wishes as spec_are_wishes, is_wish as spec_is_wish, placed_in, step_image, step_numbers, wish_asked, wishes_asked, word_image};
 
 use crate::numbers::NO_STEP;
 use pm_course::{Wish, Wishes};

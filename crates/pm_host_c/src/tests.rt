@@ -11,14 +11,14 @@ mod stairs;
 
 use self::calls::{
     at_least, at_most, band, check, clear, finished, format, got, host, kept, learn, limits,
-    microvolts, narrow, nearest, new, no_limits, order, order_micro, possible, restart,
+    microvolts, narrow, nearest, new, no_host, no_limits, order, order_micro, possible, restart,
     restart_seen, restore, shown, standing, store, within,
 };
 use self::checks::{equal, is_true};
 use crate::format_numbers::FormatNumbers;
-use crate::guard_image::GuardImage;
 use crate::host::{pm_host_size, pm_host_version, pm_version};
 use pm_host::WordsImage;
+use pm_memory::GuardImage;
 
 #[test]
 fn sizes_are_those_of_the_header(rt: HostRuntime) {
@@ -148,7 +148,7 @@ fn a_restore_leaves_no_word_of_an_output_confirmed(rt: HostRuntime) {
 
 #[test]
 fn a_refusal_has_its_number(rt: HostRuntime) {
-    let mut image = GuardImage::blank();
+    let mut image = no_host();
     equal(&rt, &new(&mut image, 0x07, 2, 2), &0xE3, &1);
     equal(&rt, &new(&mut image, 0x78, 2, 2), &0xE3, &2);
     equal(&rt, &new(&mut image, 0x58, 0, 2), &1, &3);
@@ -225,7 +225,7 @@ fn changed(change: u8) -> GuardImage {
 
 #[test]
 fn memory_that_holds_no_host_is_refused(rt: HostRuntime) {
-    is_true(&rt, is_refused(&mut GuardImage::blank()), &"zeros");
+    is_true(&rt, is_refused(&mut no_host()), &"zeros");
     for change in 0..13 {
         is_true(&rt, is_refused(&mut changed(change)), &change);
     }

@@ -3,7 +3,6 @@
 
 use crate::answer::{PayloadImage, pm_packet_read_answer};
 use crate::format_numbers::FormatNumbers;
-use crate::guard_image::{GuardImage, LimitsImage, RegistersImage};
 use crate::host::{
     pm_host_check, pm_host_clear, pm_host_learn, pm_host_new, pm_host_new_with, pm_host_order,
     pm_host_order_microvolts, pm_host_restart, pm_host_restore, pm_host_store,
@@ -21,7 +20,8 @@ use crate::rail::{RailImage, pm_host_rail};
 use crate::sending_image::SendingImage;
 use crate::told::{pm_host_frame, pm_host_read_ended, pm_host_write_ended};
 use crate::voltages::{pm_at_least, pm_at_most, pm_host_format, pm_microvolts, pm_nearest_word};
-use pm_host::{StandingImage, WordsImage};
+use pm_host::{HostImage, StandingImage, WordsImage};
+use pm_memory::{GuardImage, LimitsImage, RegistersImage};
 use pm_table::Cell;
 
 pub(super) const NOTHING: SendingImage = SendingImage {
@@ -40,9 +40,24 @@ pub(super) const PACKET: PacketImage = PacketImage {
     word: 9,
 };
 
+// Zeros, which are no host.
+pub(super) fn no_host() -> GuardImage {
+    GuardImage {
+        host: HostImage::blank(),
+        registers: RegistersImage {
+            vout_max: 0,
+            vout_margin_high: 0,
+            vout_margin_low: 0,
+            vout_min: 0,
+        },
+        unused: [0; 3],
+        limits: [LimitsImage { least: 0, most: 0 }; 8],
+    }
+}
+
 // A host with two outputs and at most this many passes, of which no limits are known.
 pub(super) fn bare(passes: u8) -> GuardImage {
-    let mut image = GuardImage::blank();
+    let mut image = no_host();
     let _ = pm_host_new(&mut image, 0x58, 2, passes);
     image
 }
@@ -57,7 +72,7 @@ pub(super) fn host(passes: u8) -> GuardImage {
 
 // A host of a part that has these of VOUT_MAX, both margins and VOUT_MIN.
 pub(super) fn host_with(passes: u8, has: [u8; 4]) -> GuardImage {
-    let mut image = GuardImage::blank();
+    let mut image = no_host();
     let registers = RegistersImage {
         vout_max: has[0],
         vout_margin_high: has[1],

@@ -1,6 +1,6 @@
 //! Courses: what they begin, and how they end.
 
-use super::calls::{NOTHING, host};
+use super::calls::{NOTHING, host, no_host};
 use super::checks::equal;
 use crate::course::{
     CourseJobImage, pm_course_accept, pm_course_after_read, pm_course_after_write, pm_course_ended,
@@ -8,11 +8,9 @@ use crate::course::{
     pm_course_read_ended, pm_course_size, pm_course_survey, pm_course_version, pm_course_want,
     pm_course_words, pm_course_write_ended,
 };
-use crate::course_end_image::CourseEndImage;
-use crate::course_image::CourseImage;
-use crate::guard_image::GuardImage;
 use crate::sending_image::SendingImage;
 use pm_course::FrameCourse;
+use pm_memory::{CourseEndImage, CourseImage, GuardImage};
 
 // A course of no meaning.
 fn blank() -> CourseImage {
@@ -143,7 +141,7 @@ fn a_held_word_is_taken_or_refused(rt: HostRuntime) {
     let _ = pm_course_microvolts(&mut course, 0, 0x21, 1_003_000, 9);
     equal(
         &rt,
-        &pm_course_accept(&mut course, &GuardImage::blank(), 3000),
+        &pm_course_accept(&mut course, &no_host(), 3000),
         &0xE0,
         &3,
     );
@@ -172,7 +170,7 @@ fn a_course_needs_its_memory_and_a_host(rt: HostRuntime) {
     let step = pm_course_write_ended(&mut course, &mut image, 1);
     equal(&rt, &(step.kind, step.word), &(0xE9, 0), &4);
     equal(&rt, &pm_course_survey(&mut course, 0, 9), &0, &5);
-    let mut none = GuardImage::blank();
+    let mut none = no_host();
     equal(&rt, &frame(&mut course, &mut none), &(0xE0, 0, 0), &6);
     equal(&rt, &next(&course, &none), &(0xE0, 9, 9, 9), &7);
     let step = pm_course_read_ended(&mut course, &mut none, &[]);
@@ -259,7 +257,7 @@ fn a_course_is_told_and_hands_out_what_is_next(rt: HostRuntime) {
         &1,
     );
     equal(&rt, &pm_course_power(&mut course, 0, 0x00, 3), &0, &2);
-    let mut none = GuardImage::blank();
+    let mut none = no_host();
     equal(
         &rt,
         &after_read(&mut course, &mut none, &[]),

@@ -1,5 +1,6 @@
 //! Deliveries in a caller's memory, by rows written by hand.
 
+use super::calls::no_host;
 use super::checks::equal;
 use crate::delivered::{DeliveredImage, JudgementImage, pm_delivery_judge, pm_delivery_verdict};
 use crate::delivery::{
@@ -7,10 +8,10 @@ use crate::delivery::{
     pm_delivery_read_ended,
 };
 use crate::delivery_image::{DeliveryImage, pm_delivery_size, pm_delivery_version};
-use crate::guard_image::GuardImage;
 use crate::host::pm_host_new;
 use crate::sending_image::SendingImage;
 use pm_delivery::Delivery;
+use pm_memory::GuardImage;
 
 // Memory of zeros.
 fn blank() -> DeliveryImage {
@@ -23,7 +24,7 @@ fn blank() -> DeliveryImage {
 
 // A host of a part at 58h with one output, whose jobs have two passes.
 fn host() -> GuardImage {
-    let mut host = GuardImage::blank();
+    let mut host = no_host();
     let _ = pm_host_new(&mut host, 0x58, 1, 2);
     host
 }
@@ -61,7 +62,7 @@ fn memory_without_a_delivery_is_refused(rt: HostRuntime) {
     equal(&rt, &pm_delivery_new(&mut delivery, 1, 0, 1, 50, 1), &0, &5);
     let asked = pm_delivery_frame(&mut delivery, &host(), &mut frame);
     equal(&rt, &(asked, frame.kind), &(0x04, 0), &6);
-    let asked = pm_delivery_frame(&mut delivery, &GuardImage::blank(), &mut frame);
+    let asked = pm_delivery_frame(&mut delivery, &no_host(), &mut frame);
     equal(&rt, &(asked, frame.kind), &(0xE0, 0), &7);
 }
 

@@ -1,13 +1,13 @@
 //! The example of the root.
 
-use super::calls::NOTHING;
+use super::calls::{NOTHING, no_host};
 use super::checks::equal;
-use crate::guard_image::GuardImage;
 use crate::host::{pm_host_new, pm_host_order};
 use crate::host_step::HostStep;
 use crate::limits::pm_host_no_limits;
 use crate::sending_image::SendingImage;
 use crate::told::{pm_host_frame, pm_host_read_ended, pm_host_write_ended};
+use pm_memory::GuardImage;
 
 // 3.3 V for VOUT_COMMAND of output 0, by a host of a part at address 58h with two outputs.
 fn ordered(host: &mut GuardImage, frame: &mut SendingImage) -> HostStep {
@@ -22,7 +22,7 @@ fn ordered(host: &mut GuardImage, frame: &mut SendingImage) -> HostStep {
 
 #[test]
 fn the_example_of_the_root_runs(rt: HostRuntime) {
-    let mut host = GuardImage::blank();
+    let mut host = no_host();
     let mut frame = NOTHING;
     let step = ordered(&mut host, &mut frame);
     equal(&rt, &(step.kind, step.word), &(1, 0), &1);

@@ -3,16 +3,15 @@
 ghost use Rattle.std.specs.Prelude.{◌≡◌, Some, true};
 ghost use Rattle.pm_course.specs.FrameCourse.{to_survey};
 ghost use Rattle.pm_limits.specs.FaultWords.{limit_fault_words};
-ghost use Rattle.pm_host_c.specs.CourseImage.{course_in};
+ghost use Rattle.pm_memory.specs.CourseImage.{course_in};
 ghost use Rattle.pm_host_c.specs.Names.{HasText};
 
 use crate::course::pm_course_survey;
-use crate::course_image::CourseImage;
-use crate::guard_image::GuardImage;
 use crate::host::pm_host_new;
-use crate::laws::{courses_are_kept, memories_are_meanings, refusals_are_named};
+use crate::laws::refusals_are_named;
 use crate::names::{NameImage, pm_refusal_name};
 use pm_limits::LimitFault;
+use pm_memory::{CourseImage, GuardImage, courses_are_kept, memories_are_meanings};
 
 /// Each refusal of limits, and of a host by them, has a name, which is its own words.
 pub fn a_refusal_by_name(fault: LimitFault, name: &mut NameImage) -> u8

@@ -1,11 +1,11 @@
 //! Limits, the band, names, and what is known of every cell.
 
 use super::calls::{
-    band, bare, check, end_name, got, host, known, learn, limits, narrow, no_limits, order,
-    order_micro, refusal_name, within,
+    band, bare, check, end_name, got, host, known, learn, limits, narrow, no_host, no_limits,
+    order, order_micro, refusal_name, within,
 };
 use super::checks::{equal, is_true};
-use crate::guard_image::GuardImage;
+use pm_memory::GuardImage;
 
 // A host of two outputs, which learned that output 0 has ULINEAR16 with the exponent -12.
 fn learned() -> GuardImage {
@@ -250,5 +250,5 @@ fn every_cell_is_known(rt: HostRuntime) {
         &3,
     );
     equal(&rt, &(last.output, last.code), &(0, 0x10), &4);
-    equal(&rt, &super::calls::known(&GuardImage::blank()).0, &0xE0, &5);
+    equal(&rt, &super::calls::known(&no_host()).0, &0xE0, &5);
 }

@@ -1,10 +1,11 @@
 //! What an output commands. Answers are of output 0 at 58h.
 
 use super::calls::{
-    band, check, got, host, host_with, learn, narrow, order, order_micro, rail, restart, within,
+    band, check, got, host, host_with, learn, narrow, no_host, order, order_micro, rail, restart,
+    within,
 };
 use super::checks::equal;
-use crate::guard_image::GuardImage;
+use pm_memory::GuardImage;
 
 // What is read of an output, by its code, and what comes: VOUT_MODE 14h, OPERATION 80h, VOUT_COMMAND 34CDh, VOUT_MAX 3770h and
 // VOUT_MIN 3334h.
@@ -65,7 +66,7 @@ fn a_rail_says_which_register_has_its_voltage(rt: HostRuntime) {
 #[test]
 fn a_rail_says_what_its_output_commands(rt: HostRuntime) {
     let sevens = (7, 7, 7, 7, [7; 4], 7, 7);
-    equal(&rt, &rail(&GuardImage::blank(), 0), &(0xE0, sevens), &1);
+    equal(&rt, &rail(&no_host(), 0), &(0xE0, sevens), &1);
     let mut image = host(2);
     equal(&rt, &rail(&image, 2), &(4, sevens), &2);
     equal(

@@ -1,16 +1,14 @@
 //! Stairs: what they hand out, and how they end.
 
-use super::calls::{NOTHING, host};
+use super::calls::{NOTHING, host, no_host};
 use super::checks::equal;
-use crate::guard_image::GuardImage;
 use crate::sending_image::SendingImage;
 use crate::stairs::{
     pm_stairs_ask, pm_stairs_check, pm_stairs_new, pm_stairs_read_ended, pm_stairs_size,
     pm_stairs_skip, pm_stairs_version, pm_stairs_write_ended,
 };
-use crate::stairs_end::StairsEndImage;
-use crate::stairs_image::StairsImage;
 use crate::stairs_step::StairsStepImage;
+use pm_memory::{GuardImage, StairsEndImage, StairsImage};
 use pm_stairs::{Sequence, WordAct, WordStep};
 use std::mem::size_of;
 
@@ -127,7 +125,7 @@ fn wrong_memory_and_wrong_steps_are_refused(rt: HostRuntime) {
     let mut image = host(1);
     let steps = [turns(0, 0, 0)];
     let mut stairs = begun(5, 1);
-    let mut none = GuardImage::blank();
+    let mut none = no_host();
     equal(
         &rt,
         &ask(&mut stairs, &mut none, &steps, &mut []),

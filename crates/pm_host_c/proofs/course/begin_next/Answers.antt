@@ -8,11 +8,11 @@ use Rattle.pm_rail.specs.Course.{is_order}
 use Rattle.pm_course.specs.declared.course_end.CourseNext.{CourseNext}
 use Rattle.pm_course.specs.declared.course_end.CourseNext.TheVariants.{Job, Ended}
 use Rattle.pm_course.specs.FrameCourse.{refused_by}
-use Rattle.pm_host_c.specs.declared.course_image.CourseImage.{CourseImage}
-use Rattle.pm_host_c.specs.declared.guard_image.GuardImage.{GuardImage}
+use Rattle.pm_memory.specs.declared.course_image.CourseImage.{CourseImage}
+use Rattle.pm_memory.specs.declared.guard_image.GuardImage.{GuardImage}
 use Rattle.pm_host_c.specs.Course.{BeginsIn, GoesOn, SaysIn, begun, guard_at, over, refused, waits}
-use Rattle.pm_host_c.specs.CourseImage.{course_image}
-use Rattle.pm_host_c.specs.Guard.{guard_of}
+use Rattle.pm_memory.specs.CourseImage.{course_image}
+use Rattle.pm_memory.specs.Guard.{guard_of}
 use Rattle.pm_host_c.specs.Host.{begun_answer, job_begun, job_number, IsSent}
 use Rattle.pm_host_c.specs.Numbers.{accepted}
 use Rattle.pm_host_c.proofs.GoesOn.{number-some}

@@ -3,9 +3,9 @@ use Rattle.std.specs.Prelude.{nat_lt}
 use Rattle.pm_limits.specs.declared.output_limits.OutputLimits.{OutputLimits}
 use Rattle.pm_limits.specs.Guard.{limits_at}
 use Rattle.pm_course.specs.Accept.{Accepts}
-use Rattle.pm_host_c.specs.declared.course_image.CourseImage.{CourseImage}
+use Rattle.pm_memory.specs.declared.course_image.CourseImage.{CourseImage}
 use Rattle.pm_host_c.specs.Course.{accept_image, accept_number, guard_at, judged, no_course_to, no_host_to, no_output}
-use Rattle.pm_host_c.specs.Guard.{guard_of}
+use Rattle.pm_memory.specs.Guard.{guard_of}
 use Rattle.pm_host_c.proofs.course.pm_course_accept.Goals as goal
 
 pub returns-in_default : goal.returns-in_default

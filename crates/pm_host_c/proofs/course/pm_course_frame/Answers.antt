@@ -4,8 +4,8 @@ use Rattle.pm_host.specs.Image.{held, host_of}
 use Rattle.pm_host.specs.Summary.{Summary}
 use Rattle.pm_course.specs.declared.frame_course.FrameCourse.{FrameCourse}
 use Rattle.pm_host_c.specs.Course.{again, goes_on, guard_at, no_course_there, no_host_there, own_stage}
-use Rattle.pm_host_c.specs.CourseImage.{course_held, course_image, course_in}
-use Rattle.pm_host_c.specs.Guard.{guard_of}
+use Rattle.pm_memory.specs.CourseImage.{course_held, course_image, course_in}
+use Rattle.pm_memory.specs.Guard.{guard_of}
 use Rattle.pm_host_c.specs.Host.{IsSent}
 use Rattle.pm_host_c.proofs.GoesOn.{whatever}
 use Rattle.pm_host_c.proofs.course.pm_course_frame.Goals as goal

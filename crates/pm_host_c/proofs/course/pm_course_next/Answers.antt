@@ -3,8 +3,8 @@ use Rattle.pm_course.specs.declared.course_end.CourseNext.{CourseNext}
 use Rattle.pm_course.specs.declared.course_end.CourseNext.TheVariants.{Job, Ended}
 use Rattle.pm_host_c.specs.declared.course.CourseJobImage.{CourseJobImage}
 use Rattle.pm_host_c.specs.Course.{SaysIn, WouldBegin, guard_at, no_course_for, no_host_for, said}
-use Rattle.pm_host_c.specs.CourseImage.{course_in}
-use Rattle.pm_host_c.specs.Guard.{guard_of}
+use Rattle.pm_memory.specs.CourseImage.{course_in}
+use Rattle.pm_memory.specs.Guard.{guard_of}
 use Rattle.pm_host_c.proofs.course.pm_course_next.Goals as goal
 
 pub returns-in_default : goal.returns-in_default

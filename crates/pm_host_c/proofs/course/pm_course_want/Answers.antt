@@ -1,7 +1,7 @@
 use Rattle.std.proofs.Common.{◌≡◌, ◌∙◌, ℤ, ap, of_z, rules, sym, to_z, w64}
 use Rattle.pm_course.specs.declared.frame_course.FrameCourse.{FrameCourse}
 use Rattle.pm_course.specs.FrameCourse.{wanting}
-use Rattle.pm_host_c.specs.CourseImage.{course_image}
+use Rattle.pm_memory.specs.CourseImage.{course_image}
 use Rattle.pm_host_c.proofs.course.pm_course_want.Goals as goal
 
 pub returns-clause-wanted : goal.returns-clause-wanted

@@ -2,9 +2,9 @@ use Rattle.std.proofs.Common.{◌≡◌, ◌∙◌, Option, Some, None, ap, refl
 use Rattle.pm_host.specs.declared.stage.Stage.{Stage}
 use Rattle.pm_host.specs.Image.{held, host_of}
 use Rattle.pm_host.specs.Summary.{Summary}
-use Rattle.pm_host_c.specs.declared.course_image.CourseImage.{CourseImage}
+use Rattle.pm_memory.specs.declared.course_image.CourseImage.{CourseImage}
 use Rattle.pm_host_c.specs.Course.{GoesOn, again, guard_at, own_stage}
-use Rattle.pm_host_c.specs.CourseImage.{course_image}
+use Rattle.pm_memory.specs.CourseImage.{course_image}
 use Rattle.pm_host_c.specs.Host.{IsSent}
 use Rattle.pm_host_c.proofs.course.send_next.Goals as goal
 

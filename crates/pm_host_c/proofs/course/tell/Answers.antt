@@ -8,7 +8,7 @@ use Rattle.pm_host.specs.Told.{entry_told}
 use Rattle.pm_course.specs.declared.frame_course.FrameCourse.{FrameCourse}
 use Rattle.pm_course.specs.Heard.{heard_by}
 use Rattle.pm_course.specs.Surprise.{surprises}
-use Rattle.pm_host_c.specs.CourseImage.{course_held, course_image, course_in}
+use Rattle.pm_memory.specs.CourseImage.{course_held, course_image, course_in}
 use Rattle.pm_host_c.specs.Host.{fault_in, host_step}
 use Rattle.pm_host_c.proofs.Tells.{awaited, idle, not_awaited, refuses-course, tells, tells-course}
 use Rattle.pm_host_c.proofs.course.tell.Goals.{in_default-stage-via-in-Some+else-awaits, in_default-stage-via-in_default-stage}

@@ -8,8 +8,8 @@ use Rattle.pm_course.specs.declared.frame_course.FrameCourse.{FrameCourse}
 use Rattle.pm_course.specs.Heard.{heard_by}
 use Rattle.pm_course.specs.Surprise.{surprises}
 use Rattle.pm_host_c.specs.Course.{guard_at, GoesOn}
-use Rattle.pm_host_c.specs.CourseImage.{course_held, course_image, course_in}
-use Rattle.pm_host_c.specs.Guard.{guard_of}
+use Rattle.pm_memory.specs.CourseImage.{course_held, course_image, course_in}
+use Rattle.pm_memory.specs.Guard.{guard_of}
 use Rattle.pm_host_c.specs.Host.{fault_in, host_step}
 use Rattle.pm_host_c.proofs.Tells.{awaited, hears-on, idle, no-course, no-frame, no-host, not_awaited, tells}
 use Rattle.pm_host_c.proofs.course.tell_and_send.Goals.{in_default-stage-via-in-Some+else-awaits, in_default-stage-via-in_default-stage}

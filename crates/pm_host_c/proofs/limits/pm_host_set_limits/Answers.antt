@@ -8,7 +8,7 @@ use Rattle.pm_limits.specs.declared.part_registers.PartRegisters.{PartRegisters}
 use Rattle.pm_limits.specs.declared.output_limits.OutputLimits.{OutputLimits}
 use Rattle.pm_limits.specs.declared.output_limits.OutputLimits.TheVariants.{Unlimited}
 use Rattle.pm_limits.specs.Guard.{narrower_fault, open_fault}
-use Rattle.pm_host_c.specs.Guard.{limits_kept}
+use Rattle.pm_memory.specs.Guard.{limits_kept}
 use Rattle.pm_host_c.proofs.Narrows.{refused}
 use Rattle.pm_host_c.proofs.limits.pm_host_set_limits.Goals as goal
 

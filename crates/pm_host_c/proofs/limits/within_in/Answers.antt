@@ -2,7 +2,7 @@ use Rattle.std.proofs.Common.{◌∙◌, None, ap}
 use Rattle.pm_host.specs.Image.{held}
 use Rattle.pm_limits.specs.Band.{band_at, within_of}
 use Rattle.pm_limits.specs.declared.output_limits.OutputLimits.{OutputLimits}
-use Rattle.pm_host_c.specs.Guard.{registers_held}
+use Rattle.pm_memory.specs.Guard.{registers_held}
 use Rattle.pm_host_c.proofs.limits.within_in.Goals as goal
 
 pub returns : goal.returns

@@ -5,7 +5,7 @@ use Rattle.pm_limits.specs.declared.band.Band.{Band}
 use Rattle.pm_limits.specs.Band.{band_at, within_of}
 use Rattle.pm_host.specs.Summary.{format_at}
 use Rattle.pm_limits.specs.declared.part_registers.PartRegisters.{PartRegisters}
-use Rattle.pm_host_c.specs.Guard.{registers_held}
+use Rattle.pm_memory.specs.Guard.{registers_held}
 use Rattle.pm_host_c.specs.Limits.{ends_in, within_word, IsEnds}
 use Rattle.pm_host_c.specs.Rail.{power_word, selected_word}
 use Rattle.pm_host_c.proofs.rail.rail_in.Goals as goal

@@ -3,10 +3,10 @@ use Rattle.std.specs.Prelude.{is_some}
 use Rattle.pm_stairs.specs.declared.sequence.Sequence.{Sequence}
 use Rattle.pm_stairs.specs.declared.step.WordStep.{WordStep}
 use Rattle.pm_stairs.specs.Sequence.{refused_in}
-use Rattle.pm_host_c.specs.declared.stairs_end.StairsEndImage.{StairsEndImage}
+use Rattle.pm_memory.specs.declared.stairs_end.StairsEndImage.{StairsEndImage}
 use Rattle.pm_host_c.specs.Course.{BeginsIn, guard_at}
 use Rattle.pm_host_c.specs.Stairs.{same_frame, stopped_by}
-use Rattle.pm_host_c.specs.StairsImage.{stairs_image}
+use Rattle.pm_memory.specs.StairsImage.{stairs_image}
 use Rattle.pm_host_c.proofs.HandsStairs.{begins, refuses, says}
 use Rattle.pm_host_c.proofs.stairs.hand_out.Goals as goal
 

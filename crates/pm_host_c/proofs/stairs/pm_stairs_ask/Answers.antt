@@ -1,6 +1,6 @@
 use Rattle.std.proofs.Common.{◌≡◌, ◌∙◌, None, Some, sym, refl}
 use Rattle.pm_host_c.specs.Course.{guard_at}
-use Rattle.pm_host_c.specs.Guard.{guard_of}
+use Rattle.pm_memory.specs.Guard.{guard_of}
 use Rattle.pm_host_c.specs.Stairs.{asked_stairs, no_host_asked, no_room_asked, no_stairs_asked, no_step_asked}
 use Rattle.pm_host_c.proofs.stairs.pm_stairs_ask.Goals as goal
 

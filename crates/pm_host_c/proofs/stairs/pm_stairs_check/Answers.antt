@@ -1,11 +1,11 @@
 use Rattle.std.proofs.Common.{◌≡◌, ◌∙◌, ℕ, None, Some, sym, subst, refl}
 use Rattle.pm_limits.specs.Guard.{Guarded}
 use Rattle.pm_stairs.specs.WayBack.{Checks}
-use Rattle.pm_host_c.specs.declared.stairs_end.StairsEndImage.{StairsEndImage}
+use Rattle.pm_memory.specs.declared.stairs_end.StairsEndImage.{StairsEndImage}
 use Rattle.pm_host_c.specs.Course.{guard_at}
-use Rattle.pm_host_c.specs.Guard.{guard_of}
+use Rattle.pm_memory.specs.Guard.{guard_of}
 use Rattle.pm_host_c.specs.Stairs.{ChecksStep, check_number, checked_step, no_host_checked, no_step_checked}
-use Rattle.pm_host_c.specs.StairsImage.{placed_in}
+use Rattle.pm_host_c.specs.StairsStep.{placed_in}
 use Rattle.pm_host_c.proofs.stairs.pm_stairs_check.Goals as goal
 
 pub returns-in_default : goal.returns-in_default

@@ -8,7 +8,7 @@ use Rattle.pm_course.specs.Surprise.{surprises}
 use Rattle.pm_stairs.specs.Frames.{course_open}
 use Rattle.pm_host_c.specs.Host.{fault_in, host_step}
 use Rattle.pm_host_c.specs.Stairs.{heard_course}
-use Rattle.pm_host_c.specs.StairsImage.{stairs_image}
+use Rattle.pm_memory.specs.StairsImage.{stairs_image}
 use Rattle.pm_host_c.proofs.Tells.{awaited, idle, not_awaited, tells}
 use Rattle.pm_host_c.proofs.TellsStairs.{refuses-stairs, tells-stairs}
 use Rattle.pm_host_c.proofs.stairs.tell.Goals.{in_default-stage-via-in-Some-stage+else-awaits, in_default-stage-via-in_default-stage}

@@ -1,0 +1,5 @@
+use Rattle.pm_memory.proofs.Courses.{courses}
+use Rattle.pm_memory.proofs.laws.courses_are_kept.Goals as goal
+
+pub returns : goal.returns
+returns c = courses

@@ -1,0 +1,20 @@
+//! What is said of memory: the contract of a function that does nothing.
+
+ghost use Rattle.pm_memory.specs.CourseImage.{CoursesAreKept};
+ghost use Rattle.pm_memory.specs.Memory.{MemoriesAreMeanings};
+
+use pm_host::images_are_meanings;
+
+/// What the calls of a host leave in its memory is a function of what that means, so that the memories of two hosts that mean
+/// the same are equal byte for byte.
+pub fn memories_are_meanings()
+    ensures { MemoriesAreMeanings }
+{
+    // law: an image of a host is that of what it means
+    images_are_meanings();
+}
+
+/// What the calls of a course leave in its memory reads as the course that they speak of.
+pub fn courses_are_kept()
+    ensures { CoursesAreKept }
+{}

@@ -1,0 +1,24 @@
+//! What callers in C keep in their memory: a host with its limits, a course and stairs as plain numbers, each with what the
+//! numbers mean. `pm_host_c` has the calls that work on them. A number without a meaning is read as one that has one, so that
+//! memory of any bytes is safe to read.
+//!
+//! Tests: crates/pm_host_c/src/tests.rt, trials/c
+#![tactic(auto)]
+
+mod course_end_image;
+mod course_image;
+mod guard_image;
+mod laws;
+mod stairs_end;
+mod stairs_image;
+mod wanted_image;
+
+pub use course_end_image::{CourseEndImage, EndNumbers};
+pub use course_image::{
+    CourseImage, DifferedImage, HasImage, ReadImage, VoltagesImage, job_numbers,
+};
+pub use guard_image::{GuardImage, LimitsImage, OUTPUTS, RegistersImage};
+pub use laws::{courses_are_kept, memories_are_meanings};
+pub use stairs_end::StairsEndImage;
+pub use stairs_image::{StairsImage, UnderImage};
+pub use wanted_image::{WantedImage, WishImage};

@@ -1,0 +1,223 @@
+//! Stairs in a caller's memory: plain numbers, and what they mean.
+
+ghost use Rattle.std.specs.Prelude.{◌≡◌, option_map};
+ghost use Rattle.pm_memory.specs.StairsImage.{course_written, held_with, sequence_held, stairs_image, stairs_in, under_image, under_numbers, under_words};
+
+use crate::course_image::{CourseImage, flag};
+use crate::stairs_end::StairsEndImage;
+use crate::wanted_image::WantedImage;
+use pm_course::FrameCourse;
+use pm_rail::Wanted;
+use pm_stairs::{Sequence, Stairs, Under, WordAct, WordStep};
+
+/// The words of a step that has begun, and the marks of stairs, as plain numbers.
+#[repr(C)]
+#[derive(Clone, Copy, Debug)]
+pub struct UnderImage {
+    /// 0 if none has begun, 1 if registers get words, 2 if OPERATION gets a byte.
+    pub kind: u8,
+    /// The place of its host.
+    pub host: u8,
+    /// Its output.
+    pub output: u8,
+    /// 1 if it was over just now, otherwise 0.
+    pub is_free: u8,
+    /// 1 if it was said that the next one has no way back, otherwise 0.
+    pub is_warned: u8,
+    /// 1 if what was said last is of the first step ahead, otherwise 0.
+    pub is_reading: u8,
+    /// 1 if a restart was seen, otherwise 0.
+    pub is_restarted: u8,
+    /// 1 if the course of the first step ahead has begun to read, otherwise 0.
+    pub has_coming: u8,
+    /// The byte.
+    pub byte: u16,
+    /// No meaning.
+    pub unused: u16,
+    /// The words.
+    pub words: WantedImage,
+}
+
+/// Stairs in memory that a caller keeps. It has no padding, holds no address of memory, and may be copied.
+#[repr(C)]
+#[derive(Clone, Copy, Debug)]
+pub struct StairsImage {
+    /// 5253h, the bytes 'SR'.
+    pub mark: u16,
+    /// The number of this layout.
+    pub version: u16,
+    /// How many jobs each step has at most.
+    pub tries: u16,
+    /// How many steps have begun.
+    pub begun: u16,
+    /// The place of the host that the next call takes.
+    pub host: u8,
+    /// 1 of a way down, otherwise 0.
+    pub is_down: u8,
+    /// No meaning.
+    pub unused: [u8; 6],
+    /// How they ended.
+    pub end: StairsEndImage,
+    /// The step under way, and marks.
+    pub under: UnderImage,
+    /// The course of the step under way.
+    pub course: CourseImage,
+    /// The course of the first step ahead.
+    pub coming: CourseImage,
+}
+
+// The kinds of steps.
+const SETS: u8 = 1;
+
+const TURNS: u8 = 2;
+
+impl StairsImage {
+    /// The mark of stairs.
+    pub const MARK: u16 = 0x5253;
+
+    /// The number of the layout.
+    pub const VERSION: u16 = 1;
+
+    /// The image of stairs, with how they ended.
+    pub fn of(stairs: &Sequence, end: StairsEndImage) -> StairsImage
+        ensures { result ≡ stairs_image stairs.now end }
+    {
+        StairsImage {
+            mark: StairsImage::MARK,
+            version: StairsImage::VERSION,
+            tries: stairs.tries,
+            begun: stairs.begun,
+            host: stairs.host,
+            is_down: flag(stairs.is_down),
+            unused: [0; 6],
+            end,
+            under: UnderImage::of(stairs),
+            course: course_of(course_under(stairs)),
+            coming: course_of(stairs.stairs.coming),
+        }
+    }
+
+    /// The stairs; `None` if the memory holds none.
+    pub fn stairs(&self) -> Option<Sequence>
+        ensures { result ≡ stairs_in self.now }
+    {
+        if self.mark != StairsImage::MARK || self.version != StairsImage::VERSION {
+            return None;
+        }
+        self.held(self.course.course(), self.coming.course())
+    }
+
+    // The stairs with these courses.
+    fn held(&self, course: Option<FrameCourse>, coming: Option<FrameCourse>) -> Option<Sequence>
+        ensures { result ≡ held_with self.now course coming }
+    {
+        match (course, coming) {
+            (Some(course), Some(coming)) => Some(self.sequence(course, coming)),
+            _ => None,
+        }
+    }
+
+    // The stairs with the courses that are there.
+    fn sequence(&self, course: FrameCourse, coming: FrameCourse) -> Sequence
+        ensures { result ≡ sequence_held self.now course coming }
+    {
+        Sequence {
+            stairs: Stairs {
+                under: match self.under.step() {
+                    Some(step) => Some(Under { step, course }),
+                    None => None,
+                },
+                coming: if self.under.has_coming == 1 {
+                    Some(coming)
+                } else {
+                    None
+                },
+                reading: self.under.is_reading == 1,
+                restarted: self.under.is_restarted == 1,
+            },
+            tries: self.tries,
+            begun: self.begun,
+            host: self.host,
+            under_host: self.under.host,
+            is_free: self.under.is_free == 1,
+            is_warned: self.under.is_warned == 1,
+            is_down: self.is_down == 1,
+        }
+    }
+}
+
+// The course of the step under way.
+fn course_under(stairs: &Sequence) -> Option<FrameCourse>
+    ensures { result ≡ option_map (λ under. under.course) stairs.now.stairs.under }
+{
+    match stairs.stairs.under {
+        Some(under) => Some(under.course),
+        None => None,
+    }
+}
+
+// The image of a course; that of a survey of nothing if there is none.
+fn course_of(course: Option<FrameCourse>) -> CourseImage
+    ensures { result ≡ course_written course }
+{
+    match course {
+        Some(course) => CourseImage::of(&course),
+        None => CourseImage::of(&FrameCourse::survey(0, 0)),
+    }
+}
+
+impl UnderImage {
+    // The step under way and the marks of stairs.
+    fn of(stairs: &Sequence) -> UnderImage
+        ensures { result ≡ under_image stairs.now stairs.now.stairs.under }
+    {
+        match stairs.stairs.under {
+            None => UnderImage::numbers(stairs, 0, 0, 0, &Wanted::nothing()),
+            Some(under) => match under.step.act {
+                WordAct::Sets(wanted) => {
+                    UnderImage::numbers(stairs, SETS, under.step.output, 0, &wanted)
+                }
+                WordAct::Turns(byte) => {
+                    UnderImage::numbers(stairs, TURNS, under.step.output, byte, &Wanted::nothing())
+                }
+            },
+        }
+    }
+
+    // The numbers of a step and the marks of stairs.
+    fn numbers(stairs: &Sequence, kind: u8, output: u8, byte: u16, wanted: &Wanted) -> UnderImage
+        ensures { result ≡ under_numbers stairs.now kind output byte wanted.now }
+    {
+        UnderImage {
+            kind,
+            host: stairs.under_host,
+            output,
+            is_free: u8::from(stairs.is_free),
+            is_warned: u8::from(stairs.is_warned),
+            is_reading: u8::from(stairs.stairs.reading),
+            is_restarted: u8::from(stairs.stairs.restarted),
+            has_coming: u8::from(stairs.stairs.coming.is_some()),
+            byte,
+            unused: 0,
+            words: WantedImage::of(wanted),
+        }
+    }
+
+    // The step under way.
+    fn step(&self) -> Option<WordStep>
+        ensures { result ≡ under_words self.now }
+    {
+        let output = self.output;
+        match self.kind {
+            SETS => Some(WordStep {
+                output,
+                act: WordAct::Sets(self.words.wanted()),
+            }),
+            TURNS => Some(WordStep {
+                output,
+                act: WordAct::Turns(self.byte),
+            }),
+            _ => None,
+        }
+    }
+}
