@@ -20,15 +20,15 @@ WIDTHS = {"uint8_t": "u8", "int8_t": "i8", "uint16_t": "u16", "int16_t": "i16", 
           "c_uint8": "u8", "c_int8": "i8", "c_uint16": "u16", "c_int16": "i16", "c_int64": "i64", "c_uint64": "u64", "c_char": "u8"}
 # The structs, by their names in C; with Rattle's, and the file. Python's and Rust's are called as Rattle's images are.
 STRUCTS = {
-    "sending": ("SendingImage", "pm_host_c/src/sending_image.rt"), "step": ("HostStep", "pm_host_c/src/host_step.rt"),
+    "sending": ("SendingImage", "pm_memory/src/sending_image.rt"), "step": ("HostStep", "pm_host_c/src/host_step.rt"),
     "words": ("WordsImage", "pm_host/src/words_image.rt"), "standing": ("StandingImage", "pm_host/src/standing_image.rt"),
     "cell": ("KnownCell", "pm_host_c/src/known_cells.rt"), "known": ("KnownCells", "pm_host_c/src/known_cells.rt"),
-    "registers": ("RegistersImage", "pm_host_c/src/guard_image.rt"),
-    "limits": ("LimitsImage", "pm_host_c/src/guard_image.rt"), "band": ("BandImage", "pm_host_c/src/limits.rt"),
-    "rail": ("RailImage", "pm_host_c/src/rail.rt"), "course_end": ("CourseEndImage", "pm_host_c/src/course_end_image.rt"),
+    "registers": ("RegistersImage", "pm_memory/src/guard_image.rt"),
+    "limits": ("LimitsImage", "pm_memory/src/guard_image.rt"), "band": ("BandImage", "pm_host_c/src/limits.rt"),
+    "rail": ("RailImage", "pm_host_c/src/rail.rt"), "course_end": ("CourseEndImage", "pm_memory/src/course_end_image.rt"),
     "course_job": ("CourseJobImage", "pm_host_c/src/course.rt"),
-    "wish": ("WishImage", "pm_host_c/src/wanted_image.rt"), "wanted": ("WantedImage", "pm_host_c/src/wanted_image.rt"),
-    "format": ("FormatNumbers", "pm_host_c/src/format_numbers.rt"), "name": ("NameImage", "pm_host_c/src/names.rt"),
+    "wish": ("WishImage", "pm_memory/src/wanted_image.rt"), "wanted": ("WantedImage", "pm_memory/src/wanted_image.rt"),
+    "format": ("FormatNumbers", "pm_memory/src/format_numbers.rt"), "name": ("NameImage", "pm_host_c/src/names.rt"),
     "packet": ("PacketImage", "pm_host_c/src/packet.rt"), "payload": ("PayloadImage", "pm_host_c/src/answer.rt"),
     "block": ("BlockImage", "pm_host_c/src/other_read.rt"),
     "part_output": ("OutputImage", "pm_device/src/image.rt"), "part_config": ("ConfigImage", "pm_device/src/image.rt"),
@@ -163,7 +163,7 @@ def sizes():
     tests = {"pm_host_size": read("crates/pm_host_c/src/tests.rt"), "pm_course_size": read("crates/pm_host_c/src/tests/courses.rt"),
              "pm_part_size": CRATES["pm_device_c"]["tests.rt"]}
     size = {name: int(re.search(rf"{name}\(\), &(\d+)", text)[1]) for name, text in tests.items()}
-    course = int(re.search(r"VERSION: u16 = (\d+);", CRATES["pm_host_c"]["course_image.rt"])[1])
+    course = int(re.search(r"VERSION: u16 = (\d+);", read("crates/pm_memory/src/course_image.rt"))[1])
     layout = {crate: int(re.search(r"VERSION: u16 = (\d+);", read("crates", crate, "src/image.rt"))[1]) for crate in ("pm_host", "pm_device")}
     host = {"VERSION": int(re.search(r"const VERSION: u16 = (\w+);", CRATES["pm_host_c"]["host.rt"])[1], 0), "HOST_VERSION": layout["pm_host"],
             "HOST_SIZE": size["pm_host_size"], "COURSE_VERSION": course, "COURSE_SIZE": size["pm_course_size"],

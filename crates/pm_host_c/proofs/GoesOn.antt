@@ -13,7 +13,7 @@ use Rattle.pm_num.specs.FaultWords.{num_fault_number}
 use Rattle.pm_course.specs.declared.frame_course.FrameCourse.{FrameCourse}
 use Rattle.pm_memory.specs.declared.course_image.CourseImage.{CourseImage}
 use Rattle.pm_memory.specs.declared.guard_image.GuardImage.{GuardImage}
-use Rattle.pm_host_c.specs.declared.sending_image.SendingImage.{SendingImage}
+use Rattle.pm_memory.specs.declared.sending_image.SendingImage.{SendingImage}
 use Rattle.pm_host_c.specs.Course.{GoesOn, again, begun, over, own_stage, refused, waits}
 
 -- what stood in its memory doesn't matter, unless it stops

@@ -8,12 +8,13 @@ use Rattle.pm_stairs.specs.declared.sequence.Sequence.{Sequence}
 use Rattle.pm_stairs.specs.declared.sequence.Turn.{Turn}
 use Rattle.pm_stairs.specs.Sequence.{Turns}
 use Rattle.pm_memory.specs.declared.guard_image.GuardImage.{GuardImage}
-use Rattle.pm_host_c.specs.declared.sending_image.SendingImage.{SendingImage}
+use Rattle.pm_memory.specs.declared.sending_image.SendingImage.{SendingImage}
 use Rattle.pm_memory.specs.declared.stairs_image.StairsImage.{StairsImage}
 use Rattle.pm_host_c.specs.declared.stairs_step.StairsStepImage.{StairsStepImage}
 use Rattle.pm_host_c.specs.Course.{BeginsIn}
 use Rattle.pm_memory.specs.Guard.{guard_of}
-use Rattle.pm_host_c.specs.Host.{job_number, IsNothing, IsSent}
+use Rattle.pm_memory.specs.Sending.{IsNothing}
+use Rattle.pm_host_c.specs.Host.{job_number, IsSent}
 use Rattle.pm_host_c.specs.Numbers.{accepted, ended}
 use Rattle.pm_host_c.specs.Stairs.{backs_after, end_said, job_said, number_said, refused_with, HandsOut}
 use Rattle.pm_host_c.specs.Stairs.{begun_job, no_job, refused_job}

@@ -7,7 +7,7 @@ use Rattle.pm_course.specs.Heard.{heard_by}
 use Rattle.pm_course.specs.Surprise.{surprises}
 use Rattle.pm_memory.specs.declared.course_image.CourseImage.{CourseImage}
 use Rattle.pm_limits.specs.Guard.{Guarded}
-use Rattle.pm_host_c.specs.declared.sending_image.SendingImage.{SendingImage}
+use Rattle.pm_memory.specs.declared.sending_image.SendingImage.{SendingImage}
 use Rattle.pm_host_c.specs.Course.{heard_at, is_heard, nothing_told, told_on, GoesOn, TellsAndSends, TellsCourse}
 use Rattle.pm_memory.specs.Guard.{guard_of}
 use Rattle.pm_memory.specs.CourseImage.{course_image, course_in}
@@ -21,7 +21,8 @@ use Rattle.pm_host.specs.Told.{entry_told, is_awaited}
 use Rattle.pm_host.specs.Transcript.{Entry}
 use Rattle.pm_memory.specs.declared.guard_image.GuardImage.{GuardImage}
 use Rattle.pm_host_c.specs.declared.host_step.HostStep.{HostStep}
-use Rattle.pm_host_c.specs.Host.{fault_in, host_step, refused_step, told_answer, IsNothing, TellsHost}
+use Rattle.pm_memory.specs.Sending.{IsNothing}
+use Rattle.pm_host_c.specs.Host.{fault_in, host_step, refused_step, told_answer, TellsHost}
 use Rattle.pm_memory.specs.Memory.{IsMemory}
 
 -- what is of the kind of the open stage's frame may come

@@ -31,11 +31,12 @@ use Rattle.pm_host_c.specs.declared.course.CourseJobImage.{CourseJobImage}
 use Rattle.pm_memory.specs.declared.course_image.CourseImage.{CourseImage}
 use Rattle.pm_memory.specs.declared.guard_image.GuardImage.{GuardImage}
 use Rattle.pm_host_c.specs.declared.host_step.HostStep.{HostStep}
-use Rattle.pm_host_c.specs.declared.sending_image.SendingImage.{SendingImage}
+use Rattle.pm_memory.specs.declared.sending_image.SendingImage.{SendingImage}
 use Rattle.pm_memory.specs.declared.wanted_image.WantedImage.{WantedImage}
 use Rattle.pm_memory.specs.CourseImage.{course_image, course_in, job_code, job_kind, job_word}
 use Rattle.pm_memory.specs.Guard.{guard_of, limits_kept, registers_held}
-use Rattle.pm_host_c.specs.Host.{after, is_told, job_begun, job_number, refused_step, told_answer, IsNothing, IsSent}
+use Rattle.pm_memory.specs.Sending.{IsNothing}
+use Rattle.pm_host_c.specs.Host.{after, is_told, job_begun, job_number, refused_step, told_answer, IsSent}
 use Rattle.pm_memory.specs.Memory.{IsMemory}
 use Rattle.pm_host_c.specs.Numbers.{accepted, ended, no_course, no_host}
 use Rattle.pm_memory.specs.Wanted.{wanted_meant}

@@ -33,28 +33,15 @@ use Rattle.pm_delivery.specs.Questions.{answer_in, question_code, question_size}
 use Rattle.pm_delivery.specs.Reading.{reading_in}
 use Rattle.pm_host_c.specs.declared.delivered.DeliveredImage.{DeliveredImage}
 use Rattle.pm_host_c.specs.declared.delivered.JudgementImage.{JudgementImage}
-use Rattle.pm_host_c.specs.declared.delivery_image.DeliveryImage.{DeliveryImage}
+use Rattle.pm_memory.specs.declared.delivery_image.DeliveryImage.{DeliveryImage}
 use Rattle.pm_memory.specs.declared.guard_image.GuardImage.{GuardImage}
-use Rattle.pm_host_c.specs.declared.sending_image.SendingImage.{SendingImage}
+use Rattle.pm_memory.specs.declared.sending_image.SendingImage.{SendingImage}
 use Rattle.pm_memory.specs.Guard.{limits_kept, registers_held}
-use Rattle.pm_host_c.specs.Host.{IsNothing}
+use Rattle.pm_memory.specs.Sending.{IsNothing}
 use Rattle.pm_host_c.specs.Numbers.{accepted, ended, no_delivery, no_host, other_frame}
 use Rattle.pm_host_c.specs.Paged.{IsPagedSending}
 use Rattle.pm_host_c.specs.Voltages.{floor_number, IsFloor}
-
--- a delivery in memory: the bytes 'DP', and the number of the layout
-abbrev pub delivery_mark : ℕ
-delivery_mark = 0x5044
-
-abbrev pub delivery_version : ℕ
-delivery_version = 1
-
-abbrev pub delivery_image : Delivery → DeliveryImage
-delivery_image d = record { mark = delivery_mark; version = delivery_version; delivery = d }
-
--- the memory holds a delivery of this version, of an output that there can be
-abbrev pub is_delivery : DeliveryImage → Bool
-is_delivery i = i.mark == delivery_mark && (i.version == delivery_version && nat_lt i.delivery.output 8)
+use Rattle.pm_memory.specs.DeliveryImage.{is_delivery}
 
 -- the delivery that is there is another now
 abbrev pub with_delivery : DeliveryImage → Delivery → DeliveryImage

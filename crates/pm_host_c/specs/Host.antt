@@ -29,10 +29,11 @@ use Rattle.pm_host.specs.Refusals.{is_within, setup_fault, may_come}
 use Rattle.pm_host.specs.Summary.{Summary, next, step_of, sending_in, possible_at, standing_at}
 use Rattle.pm_host.specs.Transcript.{Entry, Accepted, Got}
 use Rattle.pm_host_c.specs.declared.host_step.HostStep.{HostStep}
-use Rattle.pm_host_c.specs.declared.sending_image.SendingImage.{SendingImage}
+use Rattle.pm_memory.specs.declared.sending_image.SendingImage.{SendingImage}
 use Rattle.pm_memory.specs.Memory.{IsMemory}
 use Rattle.pm_host_c.specs.Numbers.{accepted, no_host, no_cell, other_frame, no_address, outcome, limit_outcome}
 use Rattle.pm_host.specs.FaultWords.{host_fault_number}
+use Rattle.pm_memory.specs.Sending.{IsNothing, IsSending}
 
 -- a host is made
 abbrev pub new_number : ℕ → ℕ → ℕ → ℕ
@@ -69,25 +70,7 @@ abbrev pub memory_number : Option Summary → ℕ
 memory_number None = no_host
 memory_number (Some s) = accepted
 
--- what is being sent: nothing, a write or a request, with the bytes before the stop or the repeated
--- start, and how many bytes a whole answer has
-abbrev pub idle_kind : ℕ
-idle_kind = 0
-
-abbrev pub write_kind : ℕ
-write_kind = 1
-
-abbrev pub request_kind : ℕ
-request_kind = 2
-
-abbrev pub IsNothing : SendingImage → Type 0
-IsNothing sending = (sending.kind ≡ idle_kind) × (sending.length ≡ 0) × (sending.answer ≡ 0)
-
-pub record IsSending (addr : ℕ) (message : Message) (sending : SendingImage) : Type 0 where
-  pub kind : sending.kind ≡ (if is_read_message message then request_kind else write_kind)
-  pub answer : sending.answer ≡ (if is_read_message message then whole_answer message else 0)
-  pub frame : IsFrameOf addr message (take sending.length sending.bytes)
-
+-- what is being sent
 abbrev pub IsSent : Option Summary → SendingImage → Type 0
 IsSent None sending = IsNothing sending
 IsSent (Some s) sending = MatchOption (sending_in s) (IsNothing sending)

@@ -6,7 +6,7 @@ use Rattle.pm_frame.specs.Layout.{is_carried}
 use Rattle.pm_frame.specs.PagedRead.{paged_fault, paged_request}
 use Rattle.pm_frame.specs.PlainRead.{most_read}
 use Rattle.pm_host.specs.Refusals.{is_within}
-use Rattle.pm_host_c.specs.declared.sending_image.SendingImage.{SendingImage}
+use Rattle.pm_memory.specs.declared.sending_image.SendingImage.{SendingImage}
 use Rattle.pm_host_c.specs.Numbers.{accepted, no_address, no_packet}
 
 -- the size that is asked for; none of a block, which 0 asks for

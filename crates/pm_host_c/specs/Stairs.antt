@@ -27,13 +27,14 @@ use Rattle.pm_stairs.specs.WayBack.{Checks}
 use Rattle.pm_stairs.specs.Sequence.{heard_with, refused_in, sequence_new, skipped, Turns}
 use Rattle.pm_memory.specs.declared.guard_image.GuardImage.{GuardImage}
 use Rattle.pm_host_c.specs.declared.host_step.HostStep.{HostStep}
-use Rattle.pm_host_c.specs.declared.sending_image.SendingImage.{SendingImage}
+use Rattle.pm_memory.specs.declared.sending_image.SendingImage.{SendingImage}
 use Rattle.pm_memory.specs.declared.stairs_end.StairsEndImage.{StairsEndImage}
 use Rattle.pm_memory.specs.declared.stairs_image.StairsImage.{StairsImage}
 use Rattle.pm_host_c.specs.declared.stairs_step.StairsStepImage.{StairsStepImage}
 use Rattle.pm_host_c.specs.Course.{BeginsIn}
 use Rattle.pm_memory.specs.Guard.{guard_of}
-use Rattle.pm_host_c.specs.Host.{after, is_told, job_number, refused_step, told_answer, IsNothing, IsSent}
+use Rattle.pm_memory.specs.Sending.{IsNothing}
+use Rattle.pm_host_c.specs.Host.{after, is_told, job_number, refused_step, told_answer, IsSent}
 use Rattle.pm_memory.specs.Memory.{IsMemory}
 use Rattle.pm_host_c.specs.Numbers.{accepted, again, ended, no_host, no_room, no_stairs, no_step, no_way_back}
 use Rattle.pm_memory.specs.StairsImage.{end_no_way_back, end_none, end_reached, end_refused, end_stopped, is_stopped}

@@ -11,7 +11,7 @@ use Rattle.pm_table.specs.Format.{shape_in}
 use Rattle.pm_host.specs.declared.fault.HostFault.TheVariants.{FormatUnknown, UnknownOutput}
 use Rattle.pm_host.specs.Refusals.{range_fault}
 use Rattle.pm_host.specs.Summary.{Summary}
-use Rattle.pm_host_c.specs.declared.format_numbers.FormatNumbers.{FormatNumbers}
+use Rattle.pm_memory.specs.declared.format_numbers.FormatNumbers.{FormatNumbers}
 use Rattle.pm_host_c.specs.Numbers.{accepted, no_host, outcome}
 use Rattle.pm_num.specs.FaultWords.{num_fault_number}
 use Rattle.pm_host.specs.FaultWords.{host_fault_number}
@@ -50,25 +50,6 @@ pub record IsSmall (x : ℤ) : Type 0 where
   pub above : neg_ℤ (pos (10 ^ 16)) ≤ℤ x
   pub below : x ≤ℤ pos (10 ^ 16)
 
--- the exponents that ULINEAR16 may have
-abbrev pub is_exponent : ℤ → Bool
-is_exponent n = int_le (neg_ℤ (pos 16)) n && int_le n (pos 15)
-
--- The format that a caller's numbers mean: kind 1 is ULINEAR16, kind 2 DIRECT, each with numbers that it may have, and
--- kind 3 LINEAR11, which readings of PMBus have and no output's voltage has; any other is no format.
-abbrev pub format_meant : FormatNumbers → Option Shape
-format_meant i =
-    if i.kind == 1 then (if is_exponent i.exponent then Some (InUlinear16 i.exponent) else None)
-    else (if i.kind == 2 then result_ok (shape_in Direct (record { m = i.m; b = i.b; r = i.exponent }))
-    else (if i.kind == 3 then Some InLinear11 else None))
-
--- the numbers of a format; zeros where none is known
-abbrev pub format_numbers : Option Shape → FormatNumbers
-format_numbers None = record { kind = 0; exponent = pos 0; m = pos 0; b = pos 0 }
-format_numbers (Some (InUlinear16 n)) = record { kind = 1; exponent = n; m = pos 0; b = pos 0 }
-format_numbers (Some (InDirect m b r)) = record { kind = 2; exponent = r; m = m; b = b }
-format_numbers (Some InLinear11) = record { kind = 3; exponent = pos 0; m = pos 0; b = pos 0 }
-
 -- the value is beyond 10^15 microvolts in size
 abbrev pub is_far : Ratio → Bool
 is_far value = is_above value (micros (pos (10 ^ 15))) || is_above (micros (neg_ℤ (pos (10 ^ 15)))) value
@@ -81,11 +62,6 @@ floor_number value = if is_far value then num_fault_number TooLarge else accepte
 abbrev pub value_number : Option Shape → ℕ → ℕ
 value_number None word = host_fault_number FormatUnknown
 value_number (Some shape) word = floor_number (shape_value shape word)
-
--- the numbers are those of the format that is known, and mean it
-pub record IsFormat (known : Option Shape) (format : FormatNumbers) : Type 0 where
-  pub numbers : format ≡ format_numbers known
-  pub meant : format_meant format ≡ known
 
 -- what is asked of an output
 abbrev pub output_number : Option Summary → ℕ → ℕ

@@ -22,12 +22,11 @@ ghost use Rattle.pm_host_c.specs.Sizes.{course_size};
 use crate::host::begin_at;
 use crate::host_step::{HostStep, no_step, step_after};
 use crate::numbers::{ACCEPTED, ENDED, NO_COURSE, NO_HOST, OTHER_FRAME};
-use crate::sending_image::SendingImage;
 use crate::told::send;
 use pm_course::{CourseEnd, CourseNext, FrameCourse, Refusal, Wishes};
 use pm_host::{HostFault, Job, Progress, Stage, Told};
 use pm_limits::LimitFault;
-use pm_memory::{CourseEndImage, CourseImage, GuardImage, WantedImage, job_numbers};
+use pm_memory::{CourseEndImage, CourseImage, GuardImage, SendingImage, WantedImage, job_numbers};
 use pm_table::{Cell, Code, Reg, cell_of};
 use std::mem::size_of;
 

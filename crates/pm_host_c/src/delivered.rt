@@ -9,12 +9,11 @@ ghost use Rattle.pm_host_c.specs.Delivery.{asked_number, idle, is_near, is_told,
 ghost use Rattle.pm_host_c.specs.Delivery.{limit_word, said as spec_said, said_by as spec_said_by, verdict_at, verdict_numbers, word_of as spec_word_of, with_reading as spec_with_reading, IsDelivered, IsFloorOf, IsTold};
 
 use crate::delivery::{power, reading, refusal};
-use crate::delivery_image::DeliveryImage;
 use crate::numbers::ACCEPTED;
 use crate::voltages::put_floor;
 use pm_delivery::{Delivery, Judgement, Limit, Question, Verdict};
 use pm_host::{HostFault, State};
-use pm_memory::GuardImage;
+use pm_memory::{DeliveryImage, GuardImage};
 use pm_num::{AnyFormat, NumFormat};
 
 /// What a rail does, as plain numbers. It has no padding.

@@ -4,16 +4,33 @@ ghost use Rattle.std.specs.Prelude.{◌≡◌, ◌≢◌, ◌==◌, ◌<◌, not
 ghost use Rattle.pm_delivery.specs.Deliveries.{looking_after, looking_before, new_delivery};
 ghost use Rattle.pm_table.specs.Address.{IsAddress};
 ghost use Rattle.pm_host_c.specs.Course.{begun_number};
-ghost use Rattle.pm_host_c.specs.Delivery.{asked_number, delivery_image, due_at, frame_delivery, frame_number, frame_question, looked_number};
+ghost use Rattle.pm_memory.specs.DeliveryImage.{delivery_image, delivery_version};
+ghost use Rattle.pm_host_c.specs.Sizes.{delivery_size};
+ghost use Rattle.pm_host_c.specs.Delivery.{asked_number, due_at, frame_delivery, frame_number, frame_question, looked_number};
 ghost use Rattle.pm_host_c.specs.Delivery.{power_at, read_delivery, read_number, reading_at, with_delivery, IsAsking};
 
-use crate::delivery_image::DeliveryImage;
 use crate::numbers::{ACCEPTED, ENDED, NO_DELIVERY, NO_HOST, OTHER_FRAME};
-use crate::sending_image::SendingImage;
 use pm_delivery::{Delivery, Due, Question, Reading, answer_of, request};
 use pm_host::HostFault;
-use pm_memory::GuardImage;
+use pm_memory::{DeliveryImage, GuardImage, SendingImage};
 use pm_rail::{Power, power_in};
+use std::mem::size_of;
+
+/// How many bytes a delivery has.
+#[unsafe(no_mangle)]
+pub extern "C" fn pm_delivery_size() -> u64
+    ensures { result ≡ delivery_size }
+{
+    size_of::<DeliveryImage>() as u64
+}
+
+/// The number of its layout.
+#[unsafe(no_mangle)]
+pub extern "C" fn pm_delivery_version() -> u16
+    ensures { result ≡ delivery_version }
+{
+    DeliveryImage::VERSION
+}
 
 /// Makes a delivery of an output, of which nothing was asked. H4 for an output above 7.
 #[unsafe(no_mangle)]

@@ -27,8 +27,6 @@ mod answer;
 mod course;
 mod delivered;
 mod delivery;
-mod delivery_image;
-mod format_numbers;
 mod goal;
 mod host;
 mod host_step;
@@ -42,7 +40,6 @@ mod other_read;
 mod packet;
 mod rail;
 mod seen;
-mod sending_image;
 mod stairs;
 mod stairs_step;
 #[cfg(test)]

@@ -9,8 +9,8 @@ ghost use Rattle.pm_host_c.specs.Paged.{paged_answer, paged_number, read_paged_n
 ghost use Rattle.pm_host_c.specs.Packets.{HasBlock, block_of, plain_read_number, read_number};
 
 use crate::numbers::{ACCEPTED, NO_ADDRESS, NO_PACKET};
-use crate::sending_image::SendingImage;
 use pm_frame::{MOST_READ, is_carried, paged_request, read_block, read_paged, read_plain};
+use pm_memory::SendingImage;
 use pm_table::address_ok;
 
 /// The payload of such an answer, without a count and the packet error code.

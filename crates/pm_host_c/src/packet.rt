@@ -4,12 +4,12 @@ ghost use Rattle.std.specs.Prelude.{◌≡◌, ◌≢◌, Some, IsSomeAnd};
 ghost use Rattle.pm_frame.specs.Fault.{write_fault, request_fault};
 ghost use Rattle.pm_frame.specs.Layout.{IsWrite, IsRequest};
 ghost use Rattle.pm_frame.specs.Pec.{pec_of};
-ghost use Rattle.pm_host_c.specs.Host.{IsSending};
+ghost use Rattle.pm_memory.specs.Sending.{IsSending};
 ghost use Rattle.pm_host_c.specs.Packets.{packet_message, payload_in, read_number, written_number};
 
 use crate::numbers::{ACCEPTED, NO_ADDRESS, NO_PACKET};
-use crate::sending_image::SendingImage;
 use pm_frame::{Message, Payload, fits, pec, read_request, read_write};
+use pm_memory::SendingImage;
 use pm_table::address_ok;
 
 /// What a packet says.

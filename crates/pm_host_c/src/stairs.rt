@@ -21,12 +21,11 @@ use crate::numbers::{
     ACCEPTED, AGAIN, ENDED, NO_HOST, NO_ROOM, NO_STAIRS, NO_STEP, NO_WAY_BACK, OTHER_FRAME,
 };
 use crate::seen::Seen;
-use crate::sending_image::SendingImage;
 use crate::stairs_step::StairsStepImage;
 use crate::told::pm_host_frame;
 use pm_course::{CourseEnd, Refusal, surprises};
 use pm_host::{Job, Stage, Step, Told};
-use pm_memory::{GuardImage, StairsEndImage, StairsImage};
+use pm_memory::{GuardImage, SendingImage, StairsEndImage, StairsImage};
 use pm_stairs::{Placed, Sequence, StepCheck, StepEnd, Turn, WordStep, check};
 use std::mem::size_of;
 

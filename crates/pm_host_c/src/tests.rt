@@ -15,10 +15,9 @@ use self::calls::{
     restart_seen, restore, shown, standing, store, within,
 };
 use self::checks::{equal, is_true};
-use crate::format_numbers::FormatNumbers;
 use crate::host::{pm_host_size, pm_host_version, pm_version};
 use pm_host::WordsImage;
-use pm_memory::GuardImage;
+use pm_memory::{FormatNumbers, GuardImage};
 
 #[test]
 fn sizes_are_those_of_the_header(rt: HostRuntime) {

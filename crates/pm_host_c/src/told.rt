@@ -8,9 +8,8 @@ ghost use Rattle.pm_host.specs.Sound.{IsSound};
 
 use crate::host_step::{HostStep, no_step, step_after};
 use crate::numbers::{ACCEPTED, NO_HOST, OTHER_FRAME};
-use crate::sending_image::SendingImage;
 use pm_host::{Stage, Told};
-use pm_memory::GuardImage;
+use pm_memory::{GuardImage, SendingImage};
 
 /// The frame that is to be sent now. E0h if the memory holds no host; then, and if no job is
 /// open, it is nothing.

@@ -7,12 +7,12 @@ ghost use Rattle.pm_num.specs.NearestWord.{nearest_word as spec_nearest_word};
 ghost use Rattle.pm_num.specs.Ratio.{is_above as spec_is_above, micros, InBounds};
 ghost use Rattle.pm_host.specs.Image.{host_of};
 ghost use Rattle.pm_host.specs.Summary.{format_at};
-ghost use Rattle.pm_host_c.specs.Voltages.{at_least_number, at_most_number, floor_number, is_far as spec_is_far, output_number, format_meant, value_number, word_number, IsCeil, IsFloor, IsFormat, IsNear, IsSmall};
+ghost use Rattle.pm_memory.specs.Format.{format_meant, IsFormat};
+ghost use Rattle.pm_host_c.specs.Voltages.{at_least_number, at_most_number, floor_number, is_far as spec_is_far, output_number, value_number, word_number, IsCeil, IsFloor, IsNear, IsSmall};
 
-use crate::format_numbers::FormatNumbers;
 use crate::numbers::{ACCEPTED, NO_HOST};
 use pm_host::{HostFault, nearest_word};
-use pm_memory::GuardImage;
+use pm_memory::{FormatNumbers, GuardImage};
 use pm_num::{Frac, NumFault, NumFormat, at_least, at_most, micro};
 use std::cmp::Ordering;
 

@@ -1,8 +1,11 @@
 -- What the crate promises.
 pub mod CourseEnd
 pub mod CourseImage
+pub mod DeliveryImage
 pub mod Flag
+pub mod Format
 pub mod Guard
 pub mod Memory
+pub mod Sending
 pub mod StairsImage
 pub mod Wanted

@@ -7,8 +7,11 @@
 
 mod course_end_image;
 mod course_image;
+mod delivery_image;
+mod format_numbers;
 mod guard_image;
 mod laws;
+mod sending_image;
 mod stairs_end;
 mod stairs_image;
 mod wanted_image;
@@ -17,8 +20,11 @@ pub use course_end_image::{CourseEndImage, EndNumbers};
 pub use course_image::{
     CourseImage, DifferedImage, HasImage, ReadImage, VoltagesImage, job_numbers,
 };
+pub use delivery_image::DeliveryImage;
+pub use format_numbers::FormatNumbers;
 pub use guard_image::{GuardImage, LimitsImage, OUTPUTS, RegistersImage};
 pub use laws::{courses_are_kept, memories_are_meanings};
+pub use sending_image::SendingImage;
 pub use stairs_end::StairsEndImage;
 pub use stairs_image::{StairsImage, UnderImage};
 pub use wanted_image::{WantedImage, WishImage};

@@ -2,7 +2,6 @@
 //! contracts.
 
 use crate::answer::{PayloadImage, pm_packet_read_answer};
-use crate::format_numbers::FormatNumbers;
 use crate::host::{
     pm_host_check, pm_host_clear, pm_host_learn, pm_host_new, pm_host_new_with, pm_host_order,
     pm_host_order_microvolts, pm_host_restart, pm_host_restore, pm_host_store,
@@ -17,11 +16,10 @@ use crate::names::{NameImage, pm_end_name, pm_refusal_name};
 use crate::other_read::{BlockImage, pm_read_block, pm_read_plain};
 use crate::packet::{PacketImage, pm_packet_read_request, pm_packet_read_write, pm_packet_write};
 use crate::rail::{RailImage, pm_host_rail};
-use crate::sending_image::SendingImage;
 use crate::told::{pm_host_frame, pm_host_read_ended, pm_host_write_ended};
 use crate::voltages::{pm_at_least, pm_at_most, pm_host_format, pm_microvolts, pm_nearest_word};
 use pm_host::{HostImage, StandingImage, WordsImage};
-use pm_memory::{GuardImage, LimitsImage, RegistersImage};
+use pm_memory::{FormatNumbers, GuardImage, LimitsImage, RegistersImage, SendingImage};
 use pm_table::Cell;
 
 pub(super) const NOTHING: SendingImage = SendingImage {

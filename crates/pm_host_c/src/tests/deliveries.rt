@@ -5,13 +5,11 @@ use super::checks::equal;
 use crate::delivered::{DeliveredImage, JudgementImage, pm_delivery_judge, pm_delivery_verdict};
 use crate::delivery::{
     pm_delivery_after, pm_delivery_before, pm_delivery_frame, pm_delivery_new,
-    pm_delivery_read_ended,
+    pm_delivery_read_ended, pm_delivery_size, pm_delivery_version,
 };
-use crate::delivery_image::{DeliveryImage, pm_delivery_size, pm_delivery_version};
 use crate::host::pm_host_new;
-use crate::sending_image::SendingImage;
 use pm_delivery::Delivery;
-use pm_memory::GuardImage;
+use pm_memory::{DeliveryImage, GuardImage, SendingImage};
 
 // Memory of zeros.
 fn blank() -> DeliveryImage {

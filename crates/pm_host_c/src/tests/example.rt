@@ -5,9 +5,8 @@ use super::checks::equal;
 use crate::host::{pm_host_new, pm_host_order};
 use crate::host_step::HostStep;
 use crate::limits::pm_host_no_limits;
-use crate::sending_image::SendingImage;
 use crate::told::{pm_host_frame, pm_host_read_ended, pm_host_write_ended};
-use pm_memory::GuardImage;
+use pm_memory::{GuardImage, SendingImage};
 
 // 3.3 V for VOUT_COMMAND of output 0, by a host of a part at address 58h with two outputs.
 fn ordered(host: &mut GuardImage, frame: &mut SendingImage) -> HostStep {

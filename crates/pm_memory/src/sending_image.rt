@@ -1,7 +1,7 @@
 ghost use Rattle.std.specs.Prelude.{◌≡◌, true, length, take, drop};
 ghost use Rattle.pm_table.specs.Address.{IsAddress};
 ghost use Rattle.pm_frame.specs.Layout.{fits_layout};
-ghost use Rattle.pm_host_c.specs.Host.{IsNothing, IsSending};
+ghost use Rattle.pm_memory.specs.Sending.{IsNothing, IsSending};
 
 use pm_frame::{Frame, Message, write_part};
 
@@ -23,7 +23,7 @@ pub struct SendingImage {
 
 impl SendingImage {
     /// Nothing is to be sent.
-    pub(crate) fn clear(&mut self)
+    pub fn clear(&mut self)
         ensures { IsNothing self.new }
     {
         self.kind = 0;
@@ -33,7 +33,7 @@ impl SendingImage {
 
     /// The frame of a message is to be sent.
     #[inline(always)]
-    pub(crate) fn put(&mut self, address: u8, message: &Message)
+    pub fn put(&mut self, address: u8, message: &Message)
         requires address { IsAddress address }
         requires fits { fits_layout message.now ≡ true }
         ensures { IsSending address message.now self.new }
@@ -48,11 +48,9 @@ impl SendingImage {
             self.answer = 0;
         }
     }
-}
 
-impl SendingImage {
     /// The request of a read by PAGE_PLUS is to be sent, to which a whole answer has so many bytes.
-    pub(crate) fn put_paged(&mut self, request: &[u8; 5], answer: u8)
+    pub fn put_paged(&mut self, request: &[u8; 5], answer: u8)
         ensures kind { self.new.kind ≡ 2 }
         ensures answer { self.new.answer ≡ answer }
         ensures frame { take self.new.length self.new.bytes ≡ request.now }
@@ -71,8 +69,8 @@ fn copy_request(bytes: &mut [u8; 16], request: &[u8; 5])
     bytes[..5].copy_from_slice(request);
 }
 
-/// Copies a frame to the front of the bytes, and answers how many it has.
-pub(crate) fn copy_frame(bytes: &mut [u8; 16], frame: &Frame) -> u8
+// Copies a frame to the front of the bytes, and answers how many it has.
+fn copy_frame(bytes: &mut [u8; 16], frame: &Frame) -> u8
     ensures length { result ≡ length frame.now.items }
     ensures copied { take result bytes.new ≡ frame.now.items }
     ensures rest { drop result bytes.new ≡ drop result bytes.old }

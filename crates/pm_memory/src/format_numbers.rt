@@ -1,7 +1,7 @@
 ghost use Rattle.std.specs.Prelude.{◌≡◌, option_map};
 ghost use Rattle.pm_num.specs.AnyFormat.{shape_of};
 ghost use Rattle.pm_host.specs.Image.{format_held};
-ghost use Rattle.pm_host_c.specs.Voltages.{format_meant, format_numbers, IsFormat};
+ghost use Rattle.pm_memory.specs.Format.{format_meant, format_numbers, IsFormat};
 
 use pm_host::FormatImage;
 use pm_num::{AnyFormat, Direct, Ulinear16};
@@ -31,7 +31,7 @@ impl FormatNumbers {
     };
 
     /// The numbers of what a host learned.
-    pub(crate) fn of(learned: &FormatImage) -> FormatNumbers
+    pub fn of(learned: &FormatImage) -> FormatNumbers
         ensures { IsFormat (format_held learned.now) result }
     {
         if learned.format().is_none() {
@@ -57,7 +57,7 @@ impl FormatNumbers {
     }
 
     /// What the numbers mean.
-    pub(crate) fn format(&self) -> Option<AnyFormat>
+    pub fn format(&self) -> Option<AnyFormat>
         ensures { option_map shape_of result ≡ format_meant self.now }
     {
         match self.kind {

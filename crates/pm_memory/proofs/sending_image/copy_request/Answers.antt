@@ -2,7 +2,7 @@
 use Rattle.std.proofs.Common.{◌≡◌, ◌++◌, ◌∙◌, ap, subst, length}
 use Rattle.std.proofs.Math.Seq.{take-append_seam}
 use Rattle.std.proofs.Common.{take, List, ℕ}
-use Rattle.pm_host_c.proofs.sending_image.copy_request.Goals as goal
+use Rattle.pm_memory.proofs.sending_image.copy_request.Goals as goal
 
 -- the front of a list that begins with another one of so many elements
 front : (n : ℕ) (xs ys rest : List ℕ) → xs ≡ ys → length ys ≡ n → take n (xs ++ rest) ≡ ys
