@@ -1,13 +1,12 @@
 -- What the calls of a host answer and do, by the host's own model. Memory that holds no host, a code
 -- that is no cell's and a frame of the other kind are refused first; then the host decides.
-use Rattle.std.specs.Prelude.{◌≡◌, ◌≢◌, ◌≤◌, ℕ, Bool, true, false, if◌then◌else◌, ◌∷◌, take, Option, Some, None, option_map}
+use Rattle.std.specs.Prelude.{◌≡◌, ◌≢◌, ◌≤◌, ℕ, Bool, true, false, if◌then◌else◌, ◌∷◌, Option, Some, None, option_map}
 use Rattle.std.specs.Prelude.{option_and_then, MatchOption, Result, Ok, Err}
 use Rattle.std.specs.Option.{option_map_or}
 use Rattle.pm_table.specs.declared.cell.Cell.{Cell}
 use Rattle.pm_frame.specs.declared.message.Message.{Message}
-use Rattle.pm_frame.specs.Fault.{answer_fault, whole_answer}
+use Rattle.pm_frame.specs.Fault.{answer_fault}
 use Rattle.pm_frame.specs.FaultWords.{frame_fault_number}
-use Rattle.pm_frame.specs.Layout.{is_read_message}
 use Rattle.pm_limits.specs.declared.fault.LimitFault.{LimitFault}
 use Rattle.pm_limits.specs.FaultWords.{limit_fault_number}
 use Rattle.pm_limits.specs.Guard.{Guarded, guard_fault}
@@ -23,7 +22,6 @@ use Rattle.pm_host.specs.declared.standing_image.StandingImage.{StandingImage}
 use Rattle.pm_host.specs.declared.words_image.WordsImage.{WordsImage}
 use Rattle.pm_table.specs.Cell.{is_cell}
 use Rattle.pm_host.specs.Image.{host_of, standing_held, words_held}
-use Rattle.pm_host.specs.Messages.{IsFrameOf}
 use Rattle.pm_host.specs.Jobs.{accepted_job}
 use Rattle.pm_host.specs.Refusals.{is_within, setup_fault, may_come}
 use Rattle.pm_host.specs.Summary.{Summary, next, step_of, sending_in, possible_at, standing_at}

@@ -1,17 +1,13 @@
 -- The word of a voltage and the voltage of a word, in the format that an image means.
-use Rattle.std.specs.Prelude.{◌≡◌, ℕ, ℤ, pos, neg_ℤ, ◌≤ℤ◌, ◌^◌, int_le, Bool, ◌&&◌, ◌||◌, nat_lt, if◌then◌else◌, ◌==◌, Option, Some, None}
+use Rattle.std.specs.Prelude.{ℕ, ℤ, pos, neg_ℤ, ◌≤ℤ◌, ◌^◌, Bool, ◌||◌, nat_lt, if◌then◌else◌, Option, Some, None}
 use Rattle.std.specs.Option.{option_map_or}
-use Rattle.std.specs.Result.{result_ok}
 use Rattle.pm_num.specs.declared.fault.NumFault.TheVariants.{TooLarge}
-use Rattle.pm_num.specs.AnyFormat.{Shape, InLinear11, InUlinear16, InDirect, shape_highest, shape_lowest, shape_value}
+use Rattle.pm_num.specs.AnyFormat.{Shape, shape_highest, shape_lowest, shape_value}
 use Rattle.pm_num.specs.Bounds.{at_least_fault, at_most_fault}
 use Rattle.pm_num.specs.Ratio.{Ratio, AtMost, is_above, micros}
-use Rattle.pm_table.specs.declared.vout_mode.VoutMode.TheVariants.{Direct}
-use Rattle.pm_table.specs.Format.{shape_in}
 use Rattle.pm_host.specs.declared.fault.HostFault.TheVariants.{FormatUnknown, UnknownOutput}
 use Rattle.pm_host.specs.Refusals.{range_fault}
 use Rattle.pm_host.specs.Summary.{Summary}
-use Rattle.pm_memory.specs.declared.format_numbers.FormatNumbers.{FormatNumbers}
 use Rattle.pm_host_c.specs.Numbers.{accepted, no_host, outcome}
 use Rattle.pm_num.specs.FaultWords.{num_fault_number}
 use Rattle.pm_host.specs.FaultWords.{host_fault_number}

@@ -1,5 +1,5 @@
 -- How a course ended, and what was wrong with its last answer, as plain numbers, and what they mean. This project's own choice.
-use Rattle.std.specs.Prelude.{ℕ, ◌%◌, ◌==◌, if◌then◌else◌, Option, Some, None, is_some, option_map, unwrap_or}
+use Rattle.std.specs.Prelude.{ℕ, ◌%◌, ◌==◌, if◌then◌else◌, Option, Some, None, is_some, option_map}
 use Rattle.std.specs.Option.{option_map_or}
 use Rattle.pm_table.specs.declared.commands.Code.{Code}
 use Rattle.pm_table.specs.Cell.{register_code, register_of}
@@ -7,7 +7,6 @@ use Rattle.pm_course.specs.declared.answer_fault.AnswerFault.{AnswerFault}
 use Rattle.pm_course.specs.declared.answer_fault.AnswerFault.TheVariants.{NoAnswer, NotAcknowledged, NotOurs, Short, Long, WrongCount, WrongPec}
 use Rattle.pm_course.specs.declared.course_end.CourseEnd.{CourseEnd}
 use Rattle.pm_course.specs.declared.course_end.CourseEnd.TheVariants.{Reached, Refused, Differs, NoFormat, OtherSource, Spent}
-use Rattle.pm_course.specs.declared.course_end.Refusal.{Refusal}
 use Rattle.pm_course.specs.declared.frame_course.FrameCourse.{FrameCourse}
 use Rattle.pm_course.specs.AnswerFault.{answer_fault_number}
 use Rattle.pm_course.specs.Ends.{code_of}

@@ -18,7 +18,6 @@ use Rattle.pm_table.specs.declared.reg.Reg.{Reg}
 use Rattle.pm_rail.specs.Course.{course_of}
 use Rattle.pm_course.specs.FrameCourse.{going_on, refused_by, to_byte, to_survey, wanting}
 use Rattle.pm_course.specs.Wishes.{no_voltages}
-use Rattle.pm_memory.specs.declared.course_end_image.EndNumbers.{EndNumbers}
 use Rattle.pm_memory.specs.declared.course_image.CourseImage.{CourseImage}
 use Rattle.pm_memory.specs.declared.course_image.DifferedImage.{DifferedImage}
 use Rattle.pm_memory.specs.declared.course_image.HasImage.{HasImage}
