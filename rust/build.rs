@@ -88,7 +88,16 @@ fn main() {
     let home = env::var_os("CARGO_MANIFEST_DIR");
     if target.contains("linux") && home.as_ref().is_some_and(|home| Path::new(home).join("tests").is_dir()) {
         // Tests only: tests/calls/other_library.rs answers these calls as another library's would.
-        let calls = ["version", "host_version", "host_size", "part_size", "course_version", "course_size", "delivery_version", "delivery_size"];
+        let calls = [
+            "version",
+            "host_version",
+            "host_size",
+            "part_size",
+            "course_version",
+            "course_size",
+            "delivery_version",
+            "delivery_size",
+        ];
         println!("cargo:rustc-link-arg-tests=-Wl{}", calls.map(|call| format!(",--wrap=pm_{call}")).concat());
     }
     for library in ["pm_host_c", "pm_device_c"] {

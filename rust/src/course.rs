@@ -294,7 +294,8 @@ impl Course {
     /// by [`Course::after_write`].
     pub fn after_read(&mut self, host: &mut Host, bytes: &[u8], stops: bool) -> Result<(Step, Sending), Refusal> {
         let (mut next, from, count) = (ffi::SendingImage::default(), bytes.as_ptr(), bytes.len() as u64);
-        let step = unsafe { ffi::pm_course_after_read(&mut self.image, &mut host.image, from, count, u8::from(stops), &mut next) };
+        let step =
+            unsafe { ffi::pm_course_after_read(&mut self.image, &mut host.image, from, count, u8::from(stops), &mut next) };
         Ok((step_of(step)?, Sending::of(next)))
     }
 

@@ -377,7 +377,13 @@ extern "C" {
     pub fn pm_course_frame(course: &mut CourseImage, host: &mut HostImage, sending: &mut SendingImage) -> u8;
     pub fn pm_course_write_ended(course: &mut CourseImage, host: &mut HostImage, acked: u8) -> StepImage;
     pub fn pm_course_read_ended(course: &mut CourseImage, host: &mut HostImage, bytes: *const u8, count: u64) -> StepImage;
-    pub fn pm_course_after_write(course: &mut CourseImage, host: &mut HostImage, acked: u8, stops: u8, next: &mut SendingImage) -> StepImage;
+    pub fn pm_course_after_write(
+        course: &mut CourseImage,
+        host: &mut HostImage,
+        acked: u8,
+        stops: u8,
+        next: &mut SendingImage,
+    ) -> StepImage;
     pub fn pm_course_after_read(
         course: &mut CourseImage,
         host: &mut HostImage,

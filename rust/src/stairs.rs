@@ -153,7 +153,12 @@ impl Stairs {
 
     /// What is to be sent now. `steps` is the whole list, the same each time; `backs` is room for as many steps of the way back, which
     /// a way down doesn't need. Nothing changes with NoRoom, NoHost, H4, and NoStep if a step names a host that isn't there.
-    pub fn frame(&mut self, hosts: &mut [&mut Host], steps: &[StairsStep], backs: &mut [StairsStep]) -> Result<StairsNext, Refusal> {
+    pub fn frame(
+        &mut self,
+        hosts: &mut [&mut Host],
+        steps: &[StairsStep],
+        backs: &mut [StairsStep],
+    ) -> Result<StairsNext, Refusal> {
         let mut found = ffi::SendingImage::default();
         let mut number = AGAIN;
         while number == AGAIN {
@@ -221,7 +226,8 @@ impl Stairs {
 fn end_of(end: &ffi::StairsEndImage, steps: &[StairsStep]) -> StairsEnd {
     let step = usize::from(end.step);
     let output = steps.get(step).map_or(0, StairsStep::output);
-    let course = ffi::CourseEndImage { kind: end.kind, number: end.number, code: end.code, unused: 0, word: end.word, fault: end.fault };
+    let course =
+        ffi::CourseEndImage { kind: end.kind, number: end.number, code: end.code, unused: 0, word: end.word, fault: end.fault };
     let why = match end.kind {
         7 => StairsStop::Changed,
         8 => StairsStop::Restarted,

@@ -221,7 +221,7 @@ fn code_of_cell(cell: Option<Cell>, otherwise: u8) -> u8 {
     }
 }
 
-fn end_of(end: Result<(), NotReached<NoAnswer>>) -> String {
+fn end_of<E>(end: Result<(), NotReached<E>>) -> String {
     match end {
         Ok(()) => "reached".into(),
         Err(NotReached::Refused { refusal, cell }) => format!("refused {refusal} {:02X}", code_of_cell(cell, 0)),
@@ -235,8 +235,8 @@ fn end_of(end: Result<(), NotReached<NoAnswer>>) -> String {
     }
 }
 
-#[test]
-fn each_course_sends_the_frames_of_its_row_and_ends_so() {
+/// Carries each row's course out in this way: the bus has to have sent the row's frames, and the end is the row's.
+fn each_row(carried_out: impl Fn(&mut Host, &mut Course, &mut Told<'_>) -> String) {
     let rows = rows_of(ROWS);
     assert!(rows.len() >= 60, "{} rows", rows.len());
     for row in &rows {
@@ -244,10 +244,33 @@ fn each_course_sends_the_frames_of_its_row_and_ends_so() {
         prepare(&mut host, &mut Told::new(&row.before, 0, &row.row));
         let mut course = course_of(&row.course);
         let mut bus = Told::new(&row.bus, course.output(), &row.row);
-        let end = host.run_course(&mut course, &mut bus);
-        assert_eq!(end_of(end), row.end.trim(), "{}", row.row);
+        assert_eq!(carried_out(&mut host, &mut course, &mut bus), row.end.trim(), "{}", row.row);
         assert_eq!(bus.at, bus.tokens.len(), "{}: a frame less", row.row);
     }
+}
+
+#[test]
+fn each_course_sends_the_frames_of_its_row_and_ends_so() {
+    each_row(|host, course, bus| end_of(host.run_course(course, bus)));
+}
+
+#[test]
+fn each_course_goes_the_same_way_in_a_loop_of_ones_own() {
+    each_row(|host, course, bus| loop {
+        let step = match course.frame(host) {
+            Sending::Nothing => return end_of(course.end().unwrap()),
+            Sending::Write(frame) => {
+                let acked = bus.transaction(0x58, &mut [Operation::Write(&frame[1..])]).is_ok();
+                course.write_ended(host, acked)
+            }
+            Sending::Request { frame, answer } => {
+                let mut bytes = [0xB1, 0, 0, 0, 0, 0, 0, 0];
+                let came = bus.transaction(0x58, &mut [Operation::Write(&frame[1..]), Operation::Read(&mut bytes[1..answer])]);
+                course.read_ended(host, if came.is_ok() { &bytes[..answer] } else { &[] })
+            }
+        };
+        assert!(step.is_ok(), "{step:?}");
+    });
 }
 
 /// Carries a course out over these frames, and says how it ended.

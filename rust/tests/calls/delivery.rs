@@ -58,10 +58,10 @@ impl Rail {
             0x44 => (!self.is('f')).then_some((0x0A66, 2)),
             0x5E => Some((0x1333, 2)),
             0x5F => Some((0x1266, 2)),
-            0x79 => (!self.is('s') && !(self.is('q') && self.has_ordered)).then_some((self.status(), 2)),
+            0x79 => (!(self.is('s') || self.is('q') && self.has_ordered)).then_some((self.status(), 2)),
             0x7B => None,
             0x7A => Some((if self.is('u') { 0x10 } else { 0x80 }, 1)),
-            0x8B => (!self.is('v') && !(self.is('d') && self.rounds > 1)).then_some((read, 2)),
+            0x8B => (!(self.is('v') || self.is('d') && self.rounds > 1)).then_some((read, 2)),
             _ => return None,
         })
     }
@@ -233,7 +233,11 @@ fn nothing_is_asked_before_an_order_that_turns_the_output_off() {
             assert!(matches!(course.frame(&mut host), Sending::Write(_)));
         }
         let found = host.deliver(&mut course, &mut delivery, &mut rail, || ()).unwrap();
-        assert_eq!((found.to_string().as_str(), &rail.asked[..]), ("the part says that it is off", &[0, 0x01, 0x79][..]), "{is_begun}");
+        assert_eq!(
+            (found.to_string().as_str(), &rail.asked[..]),
+            ("the part says that it is off", &[0, 0x01, 0x79][..]),
+            "{is_begun}"
+        );
     }
 }
 

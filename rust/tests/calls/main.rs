@@ -95,7 +95,9 @@ fn no_voltage_is_ordered_where_no_limits_are_known() {
     let switch = |output| Cell::Output(output, Register::Operation);
     assert_eq!((host.limits(0), host.limits_state(0)), (Ok(None), Ok(LimitsState::NoLimits)));
     host.run_job(Job::Learn(0), &mut part).unwrap();
-    for register in [Register::VoutCommand, Register::VoutMax, Register::VoutMin, Register::VoutMarginHigh, Register::VoutMarginLow] {
+    for register in
+        [Register::VoutCommand, Register::VoutMax, Register::VoutMin, Register::VoutMarginHigh, Register::VoutMarginLow]
+    {
         assert_eq!(host.order(Cell::Output(0, register), 0x34CD), Err(Refusal::L8NoLimits), "{register:?}");
     }
     assert_eq!(host.order_microvolts(COMMAND, 3_300_000), Err(Refusal::L8NoLimits));
@@ -267,7 +269,15 @@ fn a_part_has_a_page_and_a_store() {
 
 #[test]
 fn a_part_starts_with_its_words_and_hears_its_own_address() {
-    let words = Output { mode: 0x14, operation: 0x40, command: 0x1001, max: 0x4002, margin_high: 0x1103, margin_low: 0x0F04, min: 0x0005 };
+    let words = Output {
+        mode: 0x14,
+        operation: 0x40,
+        command: 0x1001,
+        max: 0x4002,
+        margin_high: 0x1103,
+        margin_low: 0x0F04,
+        min: 0x0005,
+    };
     let mut part = Part::new(0x58, &[words], (1, 0, 3)).unwrap();
     let held = Register::ALL.map(|register| part.register(0, register).unwrap());
     assert_eq!(held, [0x40, 0x1001, 0x4002, 0x1103, 0x0F04, 0x0005]);

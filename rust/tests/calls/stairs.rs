@@ -12,7 +12,9 @@ struct Board {
 
 impl Board {
     fn new() -> Board {
-        let outputs = [Output { command: 0x2000, max: 0x4000, margin_high: 0x2200, margin_low: 0x1E00, min: 0x1000, ..Output::default() }; 2];
+        let outputs =
+            [Output { command: 0x2000, max: 0x4000, margin_high: 0x2200, margin_low: 0x1E00, min: 0x1000, ..Output::default() };
+                2];
         let part = |address| Part::new(address, &outputs, (1, 0, 3)).unwrap();
         let host = |address| unlimited(Host::new(address, 2, 2).unwrap());
         Board { hosts: [host(0x58), host(0x59)], parts: [part(0x58), part(0x59)], dead: None }
@@ -29,14 +31,14 @@ impl Board {
                 Sending::Nothing => panic!("a frame of nothing"),
                 Sending::Write(frame) => {
                     let taken = part.is_some_and(|part| matches!(part.hear(&frame, false), Ok(Heard::Taken)));
-                    stairs.write_ended(&mut hosts, taken).unwrap();
+                    let _ = stairs.write_ended(&mut hosts, taken).unwrap();
                 }
                 Sending::Request { frame, .. } => {
                     let answer = match part.map(|part| part.hear(&frame, true)) {
                         Some(Ok(Heard::Answered(bytes))) => bytes.to_vec(),
                         _ => Vec::new(),
                     };
-                    stairs.read_ended(&mut hosts, &answer).unwrap();
+                    let _ = stairs.read_ended(&mut hosts, &answer).unwrap();
                 }
             }
         }
@@ -89,7 +91,10 @@ fn a_way_down_orders_first_and_leaves_a_dead_part() {
     let end = board.end(&mut down, &list, &mut []);
     let fault = Some(AnswerFault::NoAnswer);
     let cell = Some(Cell::Output(0, Register::Operation));
-    assert_eq!(end, StairsEnd { step: 0, has_begun: true, why: StairsStop::Course(NotReached::Spent { cell, fault, error: None }) });
+    assert_eq!(
+        end,
+        StairsEnd { step: 0, has_begun: true, why: StairsStop::Course(NotReached::Spent { cell, fault, error: None }) }
+    );
     assert_eq!(end.to_string(), "step 0: no try is left for Output(0, Operation); the last answer: no answer");
     assert_eq!(down.skip(), Ok(()));
     assert_eq!(down.skip(), Err(Refusal::NoStep));
@@ -140,7 +145,10 @@ fn wrong_lists_are_refused() {
     assert_eq!(refused(&mut hosts, &[StairsStep::turns(0, 8, 0)], &mut backs), Refusal::H4UnknownOutput);
     let mut later = Stairs::up(1).unwrap();
     let next = later.frame(&mut hosts, &[StairsStep::turns(0, 2, 0)], &mut backs);
-    assert!(matches!(next, Ok(StairsNext::Ended(StairsEnd { why: StairsStop::Course(NotReached::Refused { .. }), .. }))), "{next:?}");
+    assert!(
+        matches!(next, Ok(StairsNext::Ended(StairsEnd { why: StairsStop::Course(NotReached::Refused { .. }), .. }))),
+        "{next:?}"
+    );
     let unknown = Stairs::check(&[&*hosts[0]], &[StairsStep::turns(0, 0, 0)]).unwrap().unwrap();
     assert_eq!(unknown.to_string(), "step 0: refused: P4 NotKnown Output(0, Operation)");
 }
