@@ -88,17 +88,8 @@ fn main() {
     let home = env::var_os("CARGO_MANIFEST_DIR");
     if target.contains("linux") && home.as_ref().is_some_and(|home| Path::new(home).join("tests").is_dir()) {
         // Tests only: tests/calls/other_library.rs answers these calls as another library's would.
-        let calls = [
-            "version",
-            "host_version",
-            "host_size",
-            "part_size",
-            "course_version",
-            "course_size",
-            "delivery_version",
-            "delivery_size",
-        ];
-        println!("cargo:rustc-link-arg-tests=-Wl{}", calls.map(|call| format!(",--wrap=pm_{call}")).concat());
+        let images = ["host", "course", "delivery", "stairs"].map(|it| format!(",--wrap=pm_{it}_version,--wrap=pm_{it}_size"));
+        println!("cargo:rustc-link-arg-tests=-Wl,--wrap=pm_version,--wrap=pm_part_size{}", images.concat());
     }
     for library in ["pm_host_c", "pm_device_c"] {
         let from = archive(&target, library);

@@ -5,64 +5,39 @@ use core::cell::Cell;
 
 use pmhost::*;
 
-extern "C" {
-    fn __real_pm_version() -> u16;
-    fn __real_pm_host_version() -> u16;
-    fn __real_pm_host_size() -> u64;
-    fn __real_pm_part_size() -> u64;
-    fn __real_pm_course_version() -> u16;
-    fn __real_pm_course_size() -> u64;
-    fn __real_pm_delivery_version() -> u16;
-    fn __real_pm_delivery_size() -> u64;
-}
-
 thread_local! {
     /// What is added to each answer in this thread: the version, the host's version and size, the part's size.
     static MORE: Cell<(u16, u16, u64, u64)> = const { Cell::new((0, 0, 0, 0)) };
-    /// The course's version and size, and the delivery's.
+    /// The course's version and size, the delivery's, and those of stairs.
     static MORE_OF_A_COURSE: Cell<(u16, u64)> = const { Cell::new((0, 0)) };
     static MORE_OF_A_DELIVERY: Cell<(u16, u64)> = const { Cell::new((0, 0)) };
+    static MORE_OF_STAIRS: Cell<(u16, u64)> = const { Cell::new((0, 0)) };
 }
 
-#[no_mangle]
-extern "C" fn __wrap_pm_version() -> u16 {
-    // SAFETY: these eight calls take nothing, and answer a number.
-    unsafe { __real_pm_version() }.wrapping_add(MORE.get().0)
+macro_rules! wrapped {
+    ($($wrapper:ident $own:ident $answer:ty: $more:expr;)*) => {
+        extern "C" {
+            $(fn $own() -> $answer;)*
+        }
+        $(#[no_mangle]
+        extern "C" fn $wrapper() -> $answer {
+            // SAFETY: the library's own call takes nothing, and answers a number.
+            unsafe { $own() }.wrapping_add($more)
+        })*
+    };
 }
 
-#[no_mangle]
-extern "C" fn __wrap_pm_host_version() -> u16 {
-    unsafe { __real_pm_host_version() }.wrapping_add(MORE.get().1)
-}
-
-#[no_mangle]
-extern "C" fn __wrap_pm_host_size() -> u64 {
-    unsafe { __real_pm_host_size() }.wrapping_add(MORE.get().2)
-}
-
-#[no_mangle]
-extern "C" fn __wrap_pm_part_size() -> u64 {
-    unsafe { __real_pm_part_size() }.wrapping_add(MORE.get().3)
-}
-
-#[no_mangle]
-extern "C" fn __wrap_pm_course_version() -> u16 {
-    unsafe { __real_pm_course_version() }.wrapping_add(MORE_OF_A_COURSE.get().0)
-}
-
-#[no_mangle]
-extern "C" fn __wrap_pm_course_size() -> u64 {
-    unsafe { __real_pm_course_size() }.wrapping_add(MORE_OF_A_COURSE.get().1)
-}
-
-#[no_mangle]
-extern "C" fn __wrap_pm_delivery_version() -> u16 {
-    unsafe { __real_pm_delivery_version() }.wrapping_add(MORE_OF_A_DELIVERY.get().0)
-}
-
-#[no_mangle]
-extern "C" fn __wrap_pm_delivery_size() -> u64 {
-    unsafe { __real_pm_delivery_size() }.wrapping_add(MORE_OF_A_DELIVERY.get().1)
+wrapped! {
+    __wrap_pm_version __real_pm_version u16: MORE.get().0;
+    __wrap_pm_host_version __real_pm_host_version u16: MORE.get().1;
+    __wrap_pm_host_size __real_pm_host_size u64: MORE.get().2;
+    __wrap_pm_part_size __real_pm_part_size u64: MORE.get().3;
+    __wrap_pm_course_version __real_pm_course_version u16: MORE_OF_A_COURSE.get().0;
+    __wrap_pm_course_size __real_pm_course_size u64: MORE_OF_A_COURSE.get().1;
+    __wrap_pm_delivery_version __real_pm_delivery_version u16: MORE_OF_A_DELIVERY.get().0;
+    __wrap_pm_delivery_size __real_pm_delivery_size u64: MORE_OF_A_DELIVERY.get().1;
+    __wrap_pm_stairs_version __real_pm_stairs_version u16: MORE_OF_STAIRS.get().0;
+    __wrap_pm_stairs_size __real_pm_stairs_size u64: MORE_OF_STAIRS.get().1;
 }
 
 #[test]
@@ -88,6 +63,10 @@ fn another_library_is_refused() {
     for (more, wanted) in [((0, 0), None), ((1, 0), Some(Refusal::NoDelivery)), ((0, 8), Some(Refusal::NoDelivery))] {
         MORE_OF_A_DELIVERY.set(more);
         assert_eq!(Delivery::new(0, &DeliveryOptions::default()).err(), wanted, "{more:?}");
+    }
+    for (more, wanted) in [((0, 0), None), ((1, 0), Some(Refusal::NoStairs)), ((0, 8), Some(Refusal::NoStairs))] {
+        MORE_OF_STAIRS.set(more);
+        assert_eq!((Stairs::up(1).err(), Stairs::down(1).err()), (wanted, wanted), "{more:?}");
     }
     for (more, wanted) in [(0, None), (2, Some(Refusal::NoPart)), (u64::MAX, Some(Refusal::NoPart))] {
         MORE.set((0, 0, 0, more));
