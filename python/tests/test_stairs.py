@@ -1,5 +1,6 @@
 """Steps of several outputs and parts by the library's calls: in order, cut at each transfer, and undone."""
 import unittest
+from types import SimpleNamespace
 
 from pmhost import Course, Host, ModelPart, NoWayBack, Output, Refused, Stairs, StairsStep, run_stairs
 
@@ -117,7 +118,7 @@ class StairsCalls(unittest.TestCase):
         down = Stairs(board.hosts, [StairsStep.turns(0, 1, 0), StairsStep.turns(1, 0, 0), StairsStep.turns(0, 0, 0)], 4, is_down=True)
         board.buses[1].write = board.buses[1].read = lambda *_: (_ for _ in ()).throw(OSError(6, "No such device or address"))
         run_stairs(down, board.buses)
-        self.assertEqual((down.ended.kind, down.ended.step), ("spent", 1))
+        self.assertEqual((down.ended.kind, down.ended.step, down.ended.has_begun), ("spent", 1, True))
         down.skip()
         run_stairs(down, board.buses)
         self.assertEqual((down.ended.kind, [board.parts[0].word(output, "OPERATION") for output in (0, 1)]), ("reached", [0, 0]))
@@ -132,7 +133,8 @@ class StairsCalls(unittest.TestCase):
         stairs = Stairs(board.hosts, steps)
         with self.assertRaises(NoWayBack) as caught:
             run_stairs(stairs, board.buses)
-        self.assertEqual((caught.exception.end.kind, caught.exception.end.step, board.held()), ("way back", 0, OLD))
+        end = caught.exception.end
+        self.assertEqual((end.kind, end.step, end.has_begun, board.held()), ("way back", 0, False, OLD))
         run_stairs(stairs, board.buses)
         self.assertEqual((stairs.ended.kind, board.held()[0]), ("reached", (0x10CD, 0)))
 
@@ -144,11 +146,59 @@ class StairsCalls(unittest.TestCase):
             host.check(0, "WRITE_PROTECT")
             host.run(bus)
         self.assertIsNone(Stairs.check(board.hosts, STEPS))
+        beyond = StairsStep.sets(0, 0, {"VOUT_COMMAND": "1.5V"})
+        self.assertEqual(Stairs.check(board.hosts, [beyond]).course.number, 0x24)
+        self.assertIsNone(Stairs.check(board.hosts, [STEPS[0], beyond]), "of an output the first step alone is judged")
         first = Stairs.check([Host(0x40, 2), board.hosts[1]], STEPS)
         self.assertEqual((first.kind, first.course.number, first.step), ("refused", 0x61, 0))
         board.hosts[1].set_limits(0, "1.02V", "1.1V")
         back = Stairs.check(board.hosts, STEPS)
         self.assertEqual((back.kind, back.course.register, back.course.number, back.step), ("way back", "VOUT_COMMAND", 0x23, 2))
+
+    def test_what_was_wrong_with_the_last_answer_is_told(self):
+        """A step has one job here, and an order one pass: one that the part never hears, though it is acknowledged, differs with a good answer."""
+        for fates, wanted in ((["deaf"], "no acknowledgement"), (["acked"], ""), (["ok", "deaf"], "no answer"), (["ok", "bit"], "F4 WrongCount")):
+            with self.subTest(fates=fates):
+                board = Board(fates)
+                down = Stairs([Host(0x40, 2, 1)], [StairsStep.turns(0, 1, 0x40)], 1, is_down=True)
+                run_stairs(down, board.buses)
+                self.assertEqual((down.ended.kind, down.ended.course.register, down.ended.course.fault), ("spent", "OPERATION", wanted))
+
+    def test_an_order_that_the_caller_stops_has_not_begun(self):
+        board = Board()
+
+        def stop(_):
+            raise ValueError("not now")
+
+        with self.assertRaises(ValueError):
+            run_stairs(Stairs(board.hosts, STEPS), board.buses, before_order=stop)
+        self.assertEqual((board.held(), board.hosts[0].possible_words(0, "VOUT_COMMAND")), (OLD, (0x1000,)))
+
+    def test_each_order_is_told_as_it_begins_and_as_it_ends(self):
+        """One that differs too; what is read isn't told."""
+        for fate, first in (("ok", ["done"]), ("acked", ["differs", "done"])):
+            board, told = Board(), []
+            board.hosts[0] = Host(0x40, 2, 1)
+            for output in range(2):
+                board.hosts[0].set_limits(output, "0.9V", "1.1V")
+
+            def begun(order, board=board, told=told, fate=fate):
+                told.append(order.register)
+                if len(told) == 1:
+                    left = iter([fate])
+                    for bus in board.buses:
+                        bus.fate = lambda left=left: next(left, "ok")
+
+            run_stairs(Stairs(board.hosts, STEPS), board.buses, None, None, begun, lambda order, step, told=told: told.append((order.register, step.kind)))
+            orders = [*(("VOUT_COMMAND", kind) for kind in first), ("OPERATION", "done"), ("VOUT_COMMAND", "done"), ("OPERATION", "done"), ("OPERATION", "done")]
+            self.assertEqual(told, [it for order in orders for it in (order[0], order)])
+
+    def test_who_listens_hears_what_came_of_each_frame(self):
+        board, heard = Board(), []
+        for host in board.hosts:
+            host.listener = SimpleNamespace(told=lambda sending, came: heard.append(type(came)), restarted=lambda: None)
+        run_stairs(Stairs(board.hosts, STEPS), board.buses)
+        self.assertEqual((len(heard), set(heard)), (board.count, {bool, bytes}))
 
     def test_wrong_calls(self):
         host = Host(0x40, 1)
