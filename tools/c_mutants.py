@@ -20,6 +20,7 @@ PROGRAMS = {
     "target_rows.c": (["trials/c/rows/target_rows.c"], []),
     "course rows": (["trials/course/rows.c"], ["trials/course/rows.txt"]),
     "delivery rows": (["trials/delivery/rows.c"], []),
+    "stairs rows": (["trials/stairs/rows.c"], []),
     "field rows": ([f"trials/field/{each}.c" for each in ("rows", "field", "frames")], ["trials/field/rows.txt"]),
 }
 WRAPPED = "-Wl," + ",".join(f"--wrap={name}" for name in ("open", "ioctl", "close", "fcntl", "clock_gettime", "nanosleep"))
@@ -50,7 +51,7 @@ class Copy:
     def __init__(self, folder, built, sound):
         self.folder, self.built, self.sound = folder, built, sound
         for each in ("crates/pm_host_c/include", "crates/pm_device_c/include", "examples/c", "trials/c/rows", "trials/course",
-                     "trials/delivery", "trials/field", "rust"):
+                     "trials/delivery", "trials/stairs", "trials/field", "rust"):
             shutil.copytree(os.path.join(ROOT, each), os.path.join(folder, each), ignore=shutil.ignore_patterns("target"))
 
     def run(self, *words, **environment):
