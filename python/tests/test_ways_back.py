@@ -6,11 +6,13 @@ import unittest
 from types import SimpleNamespace
 from unittest import mock
 
-from pmhost.back import Held
+from pmhost.back import Held, bring_back
 from pmhost.bus.linux import ENDING
 from pmhost.cli import back, streams
 from pmhost.cli.signals import Interrupted, Later, drop, interrupt, interruptible
 from pmhost.errors import PmhostError
+
+from .fixtures import rails
 
 CORE, IO, AUX = Held("core", "u1", 0, {"OPERATION": 0x80}), Held("io", "u1", 1, {"OPERATION": 0xA8}), Held("aux", "u2", 0, {"VOUT_COMMAND": 0x1000})
 
@@ -64,6 +66,10 @@ class Ends(unittest.TestCase):
         self.assertEqual((call.end(), [(it.end, it.text, it.status) for it in call.said]), (1, [("not back", "not known", 1)] * 3))
         self.assertEqual(call.way.left, "aux isn't known to be back: VOUT_COMMAND 1000 isn't confirmed: [Errno 6] nobody; io isn't known to be back: "
                                         "OPERATION A8 isn't confirmed: refused; core isn't known to be back: OPERATION 80 isn't confirmed: no good answer")
+
+    def test_protection_that_is_in_no_way_is_not_lifted(self):
+        part, lift = rails(), mock.Mock(return_value=True)
+        self.assertEqual((bring_back(part, CORE, lift), lift.call_count), ("", 0))
 
     def test_one_of_two_that_is_not_back_is_told(self):
         call = Call(CORE, IO, fails={"io": "no good answer"})
