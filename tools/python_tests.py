@@ -1,11 +1,12 @@
 #!/usr/bin/env python3
 """Runs the tests of python/tests, and counts what unittest passes over.
 
-    tools/python_tests.py [--may-skip]
+    tools/python_tests.py [--may-skip] [--package]
 
 A test is a function whose name begins with test_ in a class of a file below python/tests. One that the loader doesn't find is a
 failure: a file with another name, a folder that is no package, a coroutine in a plain TestCase. A test that is skipped is a
-failure too, unless its reason is in ALLOWED, which are printed, or --may-skip is given. PMHOST_LIBRARY names the package's library, and PMB the program.
+failure too, unless its reason is in ALLOWED, which are printed, or --may-skip is given. With --package the tests of this repository's own
+tools, the files OF_TOOLS, are left out. PMHOST_LIBRARY names the package's library, and PMB the program.
 The last line says how many passed and failed.
 """
 import ast
@@ -19,14 +20,16 @@ from tally import Tally
 TESTS = os.path.join(ROOT, "python", "tests")
 # Reasons for which a test may be skipped: what the gate's machine need not have.
 ALLOWED = ("no mypy here", "no clone: git tells the scripts", "no sigrok-cli on this machine", "no strace on this machine")
+# The files of tests of this repository's own tools.
+OF_TOOLS = ("test_gate.py", "test_planted.py", "test_release.py", "test_sources.py")
 
 
-def by_content():
-    """The tests that the files have: (path, line of the function)."""
+def by_content(left_out):
+    """The tests that the files have: (path, line of the function), without those of files with these names."""
     found = {}
     for top, _, names in os.walk(TESTS):
         for name in sorted(names):
-            if name.endswith(".py"):
+            if name.endswith(".py") and name not in left_out:
                 path = os.path.join(top, name)
                 with open(path, encoding="utf-8") as file:
                     tree = ast.parse(file.read(), path)
@@ -61,14 +64,19 @@ def place_of(test):
 
 
 def main():
-    words = Words(__doc__, "--may-skip or nothing")
+    words = Words(__doc__, "--may-skip, --package, both or nothing")
     words.add_argument("--may-skip", action="store_true")
-    may_skip = words.read().may_skip
+    words.add_argument("--package", action="store_true")
+    given = words.read()
+    may_skip, left_out = given.may_skip, OF_TOOLS if given.package else ()
     sys.path.insert(0, os.path.join(ROOT, "python"))
     suite = unittest.TestLoader().discover(TESTS, top_level_dir=os.path.join(ROOT, "python"))
-    found, named, unrun, tests = by_content(), set(), [], list(all_of(suite))
-    for test in tests:
+    found, named, unrun, tests = by_content(left_out), set(), [], []
+    for test in all_of(suite):
         place, is_unrun = place_of(test)
+        if place is not None and os.path.basename(place[0]) in left_out:
+            continue
+        tests.append(test)
         named.add(place)
         if is_unrun:
             unrun.append(str(test))

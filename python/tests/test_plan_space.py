@@ -1,6 +1,6 @@
 """The library's course beside the plain plan, which was written from the pages' text: each start with each goal, over four values of all
 five registers, and over six of the selected word, VOUT_MIN and VOUT_MAX; rising and falling formats, and each selection. PMHOST_GOALS
-says how many goals are drawn for each start, or `all`."""
+says how many goals are drawn for each start, or `all`; PMHOST_STARTS takes each so many-th start, as 5."""
 import functools
 import itertools
 import os
@@ -17,12 +17,18 @@ from plain.rail import VOLTAGES, WORDS, commands, next_register, planned
 from plain.packets import name_of
 
 GOALS = os.environ.get("PMHOST_GOALS", "3")
+STARTS = int(os.environ.get("PMHOST_STARTS", "1"))
 ADDRESS = 0x58
 OPERATIONS = {0x80: 0x21, 0xA8: 0x25, 0x94: 0x26}
 COMMAND, MAX, HIGH, LOW, MIN = (CODES[name] for name in ("VOUT_COMMAND", "VOUT_MAX", "VOUT_MARGIN_HIGH", "VOUT_MARGIN_LOW", "VOUT_MIN"))
 # By VOUT_MODE, the word of a whole number of volts: of ULINEAR16 with the exponent -12, and of DIRECT with m = -1, which falls.
 FORMATS = {0x14: lambda volts: volts << 12, 0x40: lambda volts: -volts & 0xFFFF}
 COEFFICIENTS = (-1).to_bytes(2, "little", signed=True) + bytes(3)
+
+
+def starts(values, registers):
+    """The starts: these values of so many registers."""
+    return itertools.islice(itertools.product(values, repeat=registers), 0, None, STARTS)
 
 
 @functools.cache
@@ -116,7 +122,7 @@ class Space(unittest.TestCase):
         for mode, word in FORMATS.items():
             goals = [Goal(word, dict(zip(VOLTAGES, them))) for them in itertools.product(values, repeat=5)]
             for operation in OPERATIONS:
-                for start in itertools.product(values, repeat=5):
+                for start in starts(values, 5):
                     self.compare(mode, operation, dict(zip(VOLTAGES, start)), self.drawn(draw, goals))
         self.assertEqual(set(self.ends), {None, "P5", "P6", *map(name_of, VOLTAGES)}, "no plan ended so")
         self.told("four values of five registers")
@@ -129,7 +135,7 @@ class Space(unittest.TestCase):
                       for them in itertools.product((0, *values), repeat=5)]
             goals = [Goal(word, wish) for wish in wishes]
             for operation in OPERATIONS:
-                for start in itertools.product(values, repeat=5):
+                for start in starts(values, 5):
                     many = 20 if GOALS == "all" else int(GOALS)
                     self.compare(mode, operation, dict(zip(VOLTAGES, start)), [draw.choice(goals) for _ in range(many)])
         self.told("wishes of some registers")
@@ -142,7 +148,7 @@ class Space(unittest.TestCase):
                 moved = (selected, MIN, MAX)
                 rest = {register: 1 for register in WORDS if register != selected}
                 goals = [Goal(word, dict(zip(moved, them))) for them in itertools.product(values, repeat=3)]
-                for start in itertools.product(values, repeat=3):
+                for start in starts(values, 3):
                     self.compare(mode, operation, {**rest, **dict(zip(moved, start))}, self.drawn(draw, goals))
         self.told("six values of three registers")
 

@@ -52,6 +52,7 @@ def parser() -> tuple[Parser, dict[str, argparse.ArgumentParser]]:
     return whole, dict(commands.choices)
 
 
+@functools.cache
 def options_of(found: argparse.ArgumentParser) -> set[str]:
     """The options of a parser, and of those below it."""
     options: set[str] = set()
