@@ -1,12 +1,12 @@
 #!/usr/bin/env python3
 """Runs the tests of python/tests, and counts what unittest passes over.
 
-    tools/python_tests.py [--may-skip] [--package]
+    tools/python_tests.py [--may-skip] [--quick]
 
 A test is a function whose name begins with test_ in a class of a file below python/tests. One that the loader doesn't find is a
 failure: a file with another name, a folder that is no package, a coroutine in a plain TestCase. A test that is skipped is a
-failure too, unless its reason is in ALLOWED, which are printed, or --may-skip is given. With --package the tests of this repository's own
-tools, the files OF_TOOLS, are left out. PMHOST_LIBRARY names the package's library, and PMB the program.
+failure too, unless its reason is in ALLOWED, which are printed, or --may-skip is given. With --quick the files NOT_QUICK are left out: the
+tests of this repository's own tools, and of pmhost as a process. PMHOST_LIBRARY names the package's library, and PMB the program.
 The last line says how many passed and failed.
 """
 import ast
@@ -20,8 +20,8 @@ from tally import Tally
 TESTS = os.path.join(ROOT, "python", "tests")
 # Reasons for which a test may be skipped: what the gate's machine need not have.
 ALLOWED = ("no mypy here", "no clone: git tells the scripts", "no sigrok-cli on this machine", "no strace on this machine")
-# The files of tests of this repository's own tools.
-OF_TOOLS = ("test_gate.py", "test_planted.py", "test_release.py", "test_sources.py")
+# The files of tests of this repository's own tools, and of pmhost as a process.
+NOT_QUICK = ("test_gate.py", "test_planted.py", "test_release.py", "test_sources.py", "test_capture_streams.py", "test_processes.py")
 
 
 def by_content(left_out):
@@ -64,11 +64,11 @@ def place_of(test):
 
 
 def main():
-    words = Words(__doc__, "--may-skip, --package, both or nothing")
+    words = Words(__doc__, "--may-skip, --quick, both or nothing")
     words.add_argument("--may-skip", action="store_true")
-    words.add_argument("--package", action="store_true")
+    words.add_argument("--quick", action="store_true")
     given = words.read()
-    may_skip, left_out = given.may_skip, OF_TOOLS if given.package else ()
+    may_skip, left_out = given.may_skip, NOT_QUICK if given.quick else ()
     sys.path.insert(0, os.path.join(ROOT, "python"))
     suite = unittest.TestLoader().discover(TESTS, top_level_dir=os.path.join(ROOT, "python"))
     found, named, unrun, tests = by_content(left_out), set(), [], []

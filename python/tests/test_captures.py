@@ -1,12 +1,8 @@
-"""Captures of a bus as traces, with the times of their packets, live and in little memory; frames as commands of i2ctransfer,
-and back, and run."""
+"""Captures of a bus as traces, with the times of their packets; frames as commands of i2ctransfer, and back, and run."""
 import hashlib
 import os
-import select
-import signal
 import stat
 import subprocess
-import sys
 import tempfile
 import threading
 import unittest
@@ -18,23 +14,11 @@ from pmhost.capture.vcd import waveform
 from pmhost.faults import heard_by
 
 from . import running
-from .data.capture_rows import (ADDRESSED, CAPTURES, COUNTS, ENDLESS, FAILED, FAULTY, FAULTY_WAVEFORM, FRAMES, HEADS, LONG,
-                                MOST_MEMORY, NO_COMMANDS, READINGS, REFUSED, SHORT, STAND_IN, STREAMS, TIMES, TRANSFERS, UNDRAWN,
-                                UNTIMED, WRONG)
+from .data.capture_rows import (ADDRESSED, CAPTURES, COUNTS, ENDLESS, FAILED, FAULTY, FAULTY_WAVEFORM, FRAMES, NO_COMMANDS,
+                                READINGS, REFUSED, SHORT, STAND_IN, TIMES, TRANSFERS, UNDRAWN, UNTIMED, WRONG)
 from .running import DATA, EXAMPLES, called, needs, needs_tool, pmhost, stored
 
 FOLDER = os.path.join(DATA, "captures")
-
-
-# A call of pmhost that tells at its end the most memory that it had, in KiB.
-TELLS_MEMORY = """
-import sys
-from pmhost.cli import main
-status = main(sys.argv[1:])
-with open("/proc/self/status") as told:
-    print(next(line.split()[1] for line in told if line.startswith("VmHWM:")), file=sys.stderr)
-sys.exit(status)
-"""
 
 
 def capture(name):
@@ -225,64 +209,6 @@ class Times(unittest.TestCase):
         told = decoded(out, "--times")
         self.assertEqual((status, told[0], told[-1]),
                          (0, "1 0 us 58 page 0 VOUT_COMMAND write 34CD", "lines 8 accepted 6 faults 2 bad 0"))
-
-
-class Streams(unittest.TestCase):
-    """The first line comes before the input ends, a long text takes little memory, and streams may be closed or full."""
-
-    def test_the_first_line_comes_at_once(self):
-        for form, words, name in READINGS:
-            wanted = ("0 " if words else "") + capture("bus.trace").splitlines()[0]
-            with self.subTest(f"{form} {words}"):
-                call = running.command("capture", form, "--address=58", *words)
-                with subprocess.Popen(call, stdin=subprocess.PIPE, stdout=subprocess.PIPE, text=True, env=running.around()) as ran:
-                    ran.stdin.write(capture(name))
-                    ran.stdin.flush()
-                    is_there = select.select([ran.stdout], [], [], 20)[0]
-                    found = ran.stdout.readline().strip() if is_there else None
-                    ran.stdin.close()
-                    ran.stdout.read()
-                self.assertEqual(found, wanted)
-
-    def test_a_long_text_takes_little_memory(self):
-        for form, words, name in READINGS:
-            lines = capture(name).splitlines(keepends=True)
-            head, body = lines[:HEADS[form]], "".join(lines[HEADS[form]:])
-            times = LONG // len(body) + 1
-            with self.subTest(f"{form} {words}"), tempfile.TemporaryDirectory() as folder:
-                path = os.path.join(folder, "long")
-                with open(path, "w", encoding="utf-8") as file:
-                    file.writelines(head)
-                    file.writelines(body for _ in range(times))
-                with open(path, "rb") as file, open(os.path.join(folder, "trace"), "w+b") as out:
-                    ran = subprocess.run([sys.executable, "-c", TELLS_MEMORY, "capture", form, "--address=58", *words], stdin=file,
-                                         stdout=out, stderr=subprocess.PIPE, text=True, env=running.around())
-                    out.seek(0)
-                    count = sum(1 for _ in out)
-                self.assertEqual((ran.returncode, count), (0, times * len(capture("bus.trace").splitlines())))
-                self.assertLessEqual(int(ran.stderr), MOST_MEMORY)
-
-    def test_an_interrupt_ends_a_live_capture_without_a_word(self):
-        with subprocess.Popen(running.command("capture", "linux"), stdin=subprocess.PIPE, stdout=subprocess.PIPE,
-                              stderr=subprocess.PIPE, text=True, env=running.around(), preexec_fn=running.with_signals) as ran:
-            ran.stdin.write(capture("bus.linux"))
-            ran.stdin.flush()
-            is_there = select.select([ran.stdout], [], [], 20)[0]
-            ran.send_signal(signal.SIGINT)
-            _, errors = ran.communicate()
-        self.assertTrue(is_there, "no line came while it lived")
-        self.assertEqual((ran.returncode, errors), (130, ""))
-
-    def test_closed_and_full_streams_end_it_in_one_line(self):
-        for redirections, words, status, errors in STREAMS:
-            text = "B0 19 /\n" if "i2ctransfer" in words else capture("bus.linux")
-            with self.subTest(f"{words} {redirections}"):
-                found = running.in_shell(redirections, *words, text=text)
-                self.assertEqual((found[0], found[2]), (status, errors))
-
-    def test_a_pipe_whose_reader_left_ends_it_without_a_word(self):
-        found = running.in_shell("| head -1; exit ${PIPESTATUS[0]}", "capture", "linux", text=capture("bus.linux") * 2000)
-        self.assertEqual((found[0], found[1].count("\n"), found[2]), (1, 1, ""))
 
 
 class Calls(unittest.TestCase):

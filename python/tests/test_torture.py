@@ -5,6 +5,7 @@ import io
 import json
 import os
 import re
+import shutil
 import sys
 import tempfile
 import textwrap
@@ -78,6 +79,13 @@ for output, low, high in ((0, 0x34, 0x12), (1, 0x45, 0x23)):
     if read([0x06, 0x02, output, 0x21], 3) != bytes([2, low, high]):
         sys.exit(1)
 '''
+
+
+def setUpModule():
+    """The object that stands below the programs is compiled once."""
+    if shutil.which("gcc"):
+        below = unittest.enterModuleContext(preload())
+        unittest.enterModuleContext(unittest.mock.patch("pmhost.cli.torture.preload", lambda: contextlib.nullcontext(below)))
 
 
 def tortured(script, *options):

@@ -1,9 +1,8 @@
 """Captures and their traces, texts that are none, command lines, frames and their commands."""
-import os
 
 # The lines of a capture's head, which stand before its packets; how long a text is tried, and what memory it may take.
 HEADS = {"sigrok": 0, "linux": 0, "saleae": 1}
-LONG, MOST_MEMORY = int(os.environ.get("PMHOST_LONG", "5000000")), 50_000
+LONG, MOST_MEMORY = 5_000_000, 50_000
 # How each format is read: the options behind its address, and its capture.
 READINGS = [(form, words, name) for form in HEADS for words, name in (
     ([], f"bus.{form}"), (["--times", "--samplerate=1MHz"] if form == "sigrok" else ["--times"],
