@@ -92,7 +92,8 @@ else
 fi
 
 if command -v cargo > /dev/null; then
-    PM_ARCHIVES=$built CARGO_TARGET_DIR=$folder/cargo cargo test --offline --all-features --manifest-path rust/Cargo.toml > "$folder/log" 2>&1
+    # (nobody debugs what is removed with the folder)
+    PM_ARCHIVES=$built CARGO_TARGET_DIR=$folder/cargo CARGO_PROFILE_DEV_DEBUG=0 CARGO_INCREMENTAL=0 cargo test --offline --all-features --manifest-path rust/Cargo.toml > "$folder/log" 2>&1
     status=$?
     read -r good bad < <(awk '/^test result: / {good += $4; bad += $6} END {print good + 0, bad + 0}' "$folder/log")
     # (each test of the sources ran: those of doc comments have a line of their own)

@@ -8,7 +8,7 @@ import tempfile
 import unittest
 
 from . import running
-from .data.capture_rows import HEADS, LONG, MOST_MEMORY, READINGS, STREAMS
+from .data.capture_rows import HEADS, LONG, MOST_GROWTH, READINGS, STREAMS
 from .test_captures import capture
 
 # A call of pmhost that tells at its end the most memory that it had, in KiB.
@@ -39,23 +39,28 @@ class Streams(unittest.TestCase):
                     ran.stdout.read()
                 self.assertEqual(found, wanted)
 
+    def memory(self, form, words, name, times):
+        """The most memory, in KiB, that a capture took whose packets come so many times."""
+        lines = capture(name).splitlines(keepends=True)
+        with tempfile.TemporaryDirectory() as folder:
+            path = os.path.join(folder, "text")
+            with open(path, "w", encoding="utf-8") as file:
+                file.writelines(lines[:HEADS[form]])
+                for _ in range(times):
+                    file.writelines(lines[HEADS[form]:])
+            with open(path, "rb") as file, open(os.path.join(folder, "trace"), "w+b") as out:
+                ran = subprocess.run([sys.executable, "-c", TELLS_MEMORY, "capture", form, "--address=58", *words], stdin=file,
+                                     stdout=out, stderr=subprocess.PIPE, text=True, env=running.around())
+                out.seek(0)
+                count = sum(1 for _ in out)
+        self.assertEqual((ran.returncode, count), (0, times * len(capture("bus.trace").splitlines())))
+        return int(ran.stderr)
+
     def test_a_long_text_takes_little_memory(self):
         for form, words, name in READINGS:
-            lines = capture(name).splitlines(keepends=True)
-            head, body = lines[:HEADS[form]], "".join(lines[HEADS[form]:])
-            times = LONG // len(body) + 1
-            with self.subTest(f"{form} {words}"), tempfile.TemporaryDirectory() as folder:
-                path = os.path.join(folder, "long")
-                with open(path, "w", encoding="utf-8") as file:
-                    file.writelines(head)
-                    file.writelines(body for _ in range(times))
-                with open(path, "rb") as file, open(os.path.join(folder, "trace"), "w+b") as out:
-                    ran = subprocess.run([sys.executable, "-c", TELLS_MEMORY, "capture", form, "--address=58", *words], stdin=file,
-                                         stdout=out, stderr=subprocess.PIPE, text=True, env=running.around())
-                    out.seek(0)
-                    count = sum(1 for _ in out)
-                self.assertEqual((ran.returncode, count), (0, times * len(capture("bus.trace").splitlines())))
-                self.assertLessEqual(int(ran.stderr), MOST_MEMORY)
+            with self.subTest(f"{form} {words}"):
+                short = self.memory(form, words, name, 1)
+                self.assertLessEqual(self.memory(form, words, name, LONG // len(capture(name)) + 1), short + MOST_GROWTH)
 
     def test_an_interrupt_ends_a_live_capture_without_a_word(self):
         with subprocess.Popen(running.command("capture", "linux"), stdin=subprocess.PIPE, stdout=subprocess.PIPE,

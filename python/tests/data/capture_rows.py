@@ -1,8 +1,9 @@
 """Captures and their traces, texts that are none, command lines, frames and their commands."""
 
-# The lines of a capture's head, which stand before its packets; how long a text is tried, and what memory it may take.
+# The lines of a capture's head, which stand before its packets; how many characters a long text has, and how many KiB of memory it
+# may take more than a short one, which is less than its trace has.
 HEADS = {"sigrok": 0, "linux": 0, "saleae": 1}
-LONG, MOST_MEMORY = 5_000_000, 50_000
+LONG, MOST_GROWTH = 3_000_000, 500
 # How each format is read: the options behind its address, and its capture.
 READINGS = [(form, words, name) for form in HEADS for words, name in (
     ([], f"bus.{form}"), (["--times", "--samplerate=1MHz"] if form == "sigrok" else ["--times"],
