@@ -20,17 +20,17 @@ WIDTHS = {"uint8_t": "u8", "int8_t": "i8", "uint16_t": "u16", "int16_t": "i16", 
           "c_uint8": "u8", "c_int8": "i8", "c_uint16": "u16", "c_int16": "i16", "c_int64": "i64", "c_uint64": "u64", "c_char": "u8"}
 # The structs, by their names in C; with Rattle's, and the file. Python's and Rust's are called as Rattle's images are.
 STRUCTS = {
-    "sending": ("SendingImage", "pm_memory/src/sending_image.rt"), "step": ("HostStep", "pm_host_c/src/host_step.rt"),
+    "sending": ("SendingImage", "pm_memory/src/sending_image.rt"), "step": ("HostStep", "pm_calls/src/host_step.rt"),
     "words": ("WordsImage", "pm_host/src/words_image.rt"), "standing": ("StandingImage", "pm_host/src/standing_image.rt"),
-    "cell": ("KnownCell", "pm_host_c/src/known_cells.rt"), "known": ("KnownCells", "pm_host_c/src/known_cells.rt"),
+    "cell": ("KnownCell", "pm_calls/src/known_cells.rt"), "known": ("KnownCells", "pm_calls/src/known_cells.rt"),
     "registers": ("RegistersImage", "pm_memory/src/guard_image.rt"),
-    "limits": ("LimitsImage", "pm_memory/src/guard_image.rt"), "band": ("BandImage", "pm_host_c/src/limits.rt"),
-    "rail": ("RailImage", "pm_host_c/src/rail.rt"), "course_end": ("CourseEndImage", "pm_memory/src/course_end_image.rt"),
-    "course_job": ("CourseJobImage", "pm_host_c/src/course.rt"),
+    "limits": ("LimitsImage", "pm_memory/src/guard_image.rt"), "band": ("BandImage", "pm_calls/src/limits.rt"),
+    "rail": ("RailImage", "pm_calls/src/rail.rt"), "course_end": ("CourseEndImage", "pm_memory/src/course_end_image.rt"),
+    "course_job": ("CourseJobImage", "pm_calls/src/course.rt"),
     "wish": ("WishImage", "pm_memory/src/wanted_image.rt"), "wanted": ("WantedImage", "pm_memory/src/wanted_image.rt"),
-    "format": ("FormatNumbers", "pm_memory/src/format_numbers.rt"), "name": ("NameImage", "pm_host_c/src/names.rt"),
-    "packet": ("PacketImage", "pm_host_c/src/packet.rt"), "payload": ("PayloadImage", "pm_host_c/src/answer.rt"),
-    "block": ("BlockImage", "pm_host_c/src/other_read.rt"),
+    "format": ("FormatNumbers", "pm_memory/src/format_numbers.rt"), "name": ("NameImage", "pm_calls/src/names.rt"),
+    "packet": ("PacketImage", "pm_calls/src/packet.rt"), "payload": ("PayloadImage", "pm_calls/src/answer.rt"),
+    "block": ("BlockImage", "pm_calls/src/other_read.rt"),
     "part_output": ("OutputImage", "pm_device/src/image.rt"), "part_config": ("ConfigImage", "pm_device/src/image.rt"),
     "part_reply": ("ReplyImage", "pm_device_c/src/reply_image.rt"),
 }
@@ -62,6 +62,7 @@ def header(*path):
 
 
 CRATES = {"pm_host_c": sources("pm_host_c"), "pm_device_c": sources("pm_device_c")}
+WORK = sources("pm_calls")  # what pm_host_c exports the calls of
 HEADERS = {"pm_host_c": header("crates/pm_host_c/include/pmhost.h"), "pm_device_c": header("crates/pm_device_c/include/pmpart.h")}
 PYTHON = read("python/src/pmhost/_library.py")
 RUST = without_comments(read("rust/src/ffi.rs"))
@@ -108,14 +109,14 @@ def numbers_of_types():
             re.findall(rf"{name}::(\w+)(?:\([^)]*\))? => (\d\w*),", read("crates", path)) if (name, variant) in words}
 
 
-def constants(crate):
+def constants(files):
     """The numbers of a crate's own."""
-    return {name: int(number, 0) for name, number in re.findall(r"pub const (\w+): u8 = (\w+);", CRATES[crate]["numbers.rt"])}
+    return {name: int(number, 0) for name, number in re.findall(r"pub const (\w+): u8 = (\w+);", files["numbers.rt"])}
 
 
 def named():
     """The words of each number, as pm_refusal_name has them."""
-    words, text = words_of_types(), CRATES["pm_host_c"]["names.rt"]
+    words, text = words_of_types(), WORK["names.rt"]
     found = {int(number, 0): words[name, variant] for number, name, variant in re.findall(
         r"(0x\w+) => (?:Some\()?(?:LimitFault::Host\()?(?:HostFault::Num\()?(\w+Fault)::(\w+)", text) if (name, variant) in words}
     return found | {int(number, 0): name for number, name in re.findall(r'(0xE\w) => Some\("(\w+)"\)', text)}
@@ -123,7 +124,7 @@ def named():
 
 def refusals():
     """Each number and its words, by the types, by what C is told, and by each layer."""
-    types, own, part, names = numbers_of_types(), constants("pm_host_c"), constants("pm_device_c"), named()
+    types, own, part, names = numbers_of_types(), constants(WORK), constants(CRATES["pm_device_c"]), named()
     alone = {number: camel(name) for name, number in own.items() if number >= 0xE0}
     of_part = {part[name]: camel(name) for name in ("NO_PART", "NO_READING")}
     yield "names", types | alone | of_part, {"pm_refusal_name": names}

@@ -1,8 +1,1 @@
-mod HeldImage
-mod GoesOn
-mod Tells
-mod Named
-mod Ceils
 mod Narrows
-mod TellsStairs
-mod HandsStairs

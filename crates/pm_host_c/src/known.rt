@@ -1,11 +1,12 @@
 //! What a host knows.
 
-ghost use Rattle.std.specs.Prelude.{◌≡◌, ◌≢◌, ◌≤◌};
+ghost use Rattle.std.specs.Prelude.{◌≡◌, ◌≢◌};
 ghost use Rattle.pm_table.specs.Cell.{cell_at};
-ghost use Rattle.pm_host.specs.Image.{host_of, standing_held, words_held};
-ghost use Rattle.pm_host_c.specs.Host.{cell_number, IsStanding, IsPossible, seen_number};
+ghost use Rattle.pm_host.specs.Image.{host_of};
+ghost use Rattle.pm_calls.specs.Host.{cell_number, IsStanding, IsPossible, seen_number};
 
-use crate::numbers::{ACCEPTED, NO_CELL, NO_HOST};
+use pm_calls::known::{counted, flagged};
+use pm_calls::numbers::{ACCEPTED, NO_CELL, NO_HOST};
 use pm_host::{HostFault, StandingImage, WordsImage};
 use pm_memory::GuardImage;
 use pm_table::{Code, cell_of};
@@ -35,21 +36,6 @@ pub extern "C" fn pm_host_confirmed_word(
     ACCEPTED
 }
 
-/// The numbers of what is said of a cell, each 0 unless the flag is 1: damaged memory may have any flag.
-pub(crate) fn flagged(standing: StandingImage) -> StandingImage
-    ensures same { standing_held result ≡ standing_held standing }
-    ensures flag { result.is_confirmed ≤ 1 }
-{
-    if standing.is_confirmed == 1 {
-        standing
-    } else {
-        StandingImage {
-            is_confirmed: 0,
-            word: 0,
-        }
-    }
-}
-
 /// The words that a cell may hold. E0h, E1h, H4.
 #[unsafe(no_mangle)]
 pub extern "C" fn pm_host_possible_words(
@@ -73,21 +59,6 @@ pub extern "C" fn pm_host_possible_words(
     }
     *words = counted(host.host.state.known.possible(cell));
     ACCEPTED
-}
-
-/// The numbers of a cell's possible words, each 0 if the count is above 16, which damaged memory may have.
-pub(crate) fn counted(words: &WordsImage) -> WordsImage
-    ensures same { words_held result ≡ words_held words.now }
-    ensures count { result.count ≤ 16 }
-{
-    if words.count <= 16 {
-        *words
-    } else {
-        WordsImage {
-            count: 0,
-            words: [0; 16],
-        }
-    }
 }
 
 /// 1 if a restart of the device was seen since the host started, 0 if none was. E0h.

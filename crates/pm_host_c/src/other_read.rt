@@ -1,27 +1,18 @@
 //! What came back for a read that is no packet of the table: an SMBus block of any code, and any number of bytes of any
 //! code.
 
-ghost use Rattle.std.specs.Prelude.{◌≡◌, ◌≢◌, ◌≤◌, length};
+ghost use Rattle.std.specs.Prelude.{◌≡◌, ◌≢◌};
 ghost use Rattle.pm_frame.specs.BlockRead.{block_fault, IsBlockAnswer};
 ghost use Rattle.pm_frame.specs.PagedRead.{IsPagedAnswer};
 ghost use Rattle.pm_frame.specs.PlainRead.{IsPlainAnswer};
-ghost use Rattle.pm_host_c.specs.Paged.{paged_answer, paged_number, read_paged_number, size_asked, IsPagedSending};
-ghost use Rattle.pm_host_c.specs.Packets.{HasBlock, block_of, plain_read_number, read_number};
+ghost use Rattle.pm_calls.specs.Paged.{paged_answer, paged_number, read_paged_number, size_asked, IsPagedSending};
+ghost use Rattle.pm_calls.specs.Packets.{HasBlock, block_of, plain_read_number, read_number};
 
-use crate::numbers::{ACCEPTED, NO_ADDRESS, NO_PACKET};
+use pm_calls::numbers::{ACCEPTED, NO_ADDRESS, NO_PACKET};
+use pm_calls::other_read::{BlockImage, asked_size, whole_answer};
 use pm_frame::{MOST_READ, is_carried, paged_request, read_block, read_paged, read_plain};
 use pm_memory::SendingImage;
 use pm_table::address_ok;
-
-/// The payload of such an answer, without a count and the packet error code.
-#[repr(C)]
-#[derive(Clone, Copy, Debug)]
-pub struct BlockImage {
-    /// How many bytes it has, at most 32.
-    pub length: u8,
-    /// The bytes; after them 0.
-    pub bytes: [u8; 32],
-}
 
 /// What came back for a block read of a code, the read address first, then the count. E3h, F1 to F5.
 #[unsafe(no_mangle)]
@@ -125,40 +116,5 @@ pub extern "C" fn pm_read_paged(
             ACCEPTED
         }
         Err(fault) => fault.number(),
-    }
-}
-
-// The count that is asked for; none of a block.
-fn asked_size(size: u8) -> Option<usize>
-    ensures { result ≡ size_asked size }
-{
-    if size == 0 {
-        None
-    } else {
-        Some(usize::from(size))
-    }
-}
-
-// How many bytes a whole answer has at most: the read address, the count, the payload and the packet error code.
-fn whole_answer(size: u8) -> u8
-    requires { size ≤ 32 }
-    ensures { result ≡ paged_answer size }
-{
-    if size == 0 { 35 } else { size + 3 }
-}
-
-impl BlockImage {
-    // The image of a block of these bytes.
-    fn of(found: &[u8]) -> BlockImage
-        requires { length found.now ≤ 32 }
-        ensures bytes { block_of result ≡ found.now }
-        ensures rest { HasBlock result }
-    {
-        let mut bytes = [0; 32];
-        bytes[..found.len()].copy_from_slice(found);
-        BlockImage {
-            length: found.len() as u8,
-            bytes,
-        }
     }
 }

@@ -1,23 +1,29 @@
 //! The calls of the tests, without contracts: what a test says is run, and no proof carries the calls'
 //! contracts.
 
-use crate::answer::{PayloadImage, pm_packet_read_answer};
+use crate::answer::pm_packet_read_answer;
 use crate::host::{
     pm_host_check, pm_host_clear, pm_host_learn, pm_host_new, pm_host_new_with, pm_host_order,
     pm_host_order_microvolts, pm_host_restart, pm_host_restore, pm_host_store,
 };
 use crate::known::{pm_host_confirmed_word, pm_host_possible_words, pm_host_restart_seen};
-use crate::known_cells::{KnownCell, KnownCells, pm_host_known_cells};
+use crate::known_cells::pm_host_known_cells;
 use crate::limits::{
-    BandImage, pm_host_band, pm_host_limits, pm_host_limits_state, pm_host_no_limits,
-    pm_host_set_limits,
+    pm_host_band, pm_host_limits, pm_host_limits_state, pm_host_no_limits, pm_host_set_limits,
 };
-use crate::names::{NameImage, pm_end_name, pm_refusal_name};
-use crate::other_read::{BlockImage, pm_read_block, pm_read_plain};
-use crate::packet::{PacketImage, pm_packet_read_request, pm_packet_read_write, pm_packet_write};
-use crate::rail::{RailImage, pm_host_rail};
+use crate::names::{pm_end_name, pm_refusal_name};
+use crate::other_read::{pm_read_block, pm_read_plain};
+use crate::packet::{pm_packet_read_request, pm_packet_read_write, pm_packet_write};
+use crate::rail::pm_host_rail;
 use crate::told::{pm_host_frame, pm_host_read_ended, pm_host_write_ended};
 use crate::voltages::{pm_at_least, pm_at_most, pm_host_format, pm_microvolts, pm_nearest_word};
+use pm_calls::answer::PayloadImage;
+use pm_calls::known_cells::{KnownCell, KnownCells};
+use pm_calls::limits::BandImage;
+use pm_calls::names::NameImage;
+use pm_calls::other_read::BlockImage;
+use pm_calls::packet::PacketImage;
+use pm_calls::rail::RailImage;
 use pm_host::{HostImage, StandingImage, WordsImage};
 use pm_memory::{FormatNumbers, GuardImage, LimitsImage, RegistersImage, SendingImage};
 use pm_table::Cell;

@@ -3,11 +3,12 @@
 use super::calls::{NOTHING, host, no_host};
 use super::checks::equal;
 use crate::course::{
-    CourseJobImage, pm_course_accept, pm_course_after_read, pm_course_after_write, pm_course_ended,
+    pm_course_accept, pm_course_after_read, pm_course_after_write, pm_course_ended,
     pm_course_frame, pm_course_job_now, pm_course_microvolts, pm_course_next, pm_course_power,
     pm_course_read_ended, pm_course_size, pm_course_survey, pm_course_version, pm_course_want,
     pm_course_words, pm_course_write_ended,
 };
+use pm_calls::course::CourseJobImage;
 use pm_course::FrameCourse;
 use pm_memory::{CourseEndImage, CourseImage, GuardImage, SendingImage};
 

@@ -2,12 +2,13 @@
 
 use super::calls::no_host;
 use super::checks::equal;
-use crate::delivered::{DeliveredImage, JudgementImage, pm_delivery_judge, pm_delivery_verdict};
+use crate::delivered::{pm_delivery_judge, pm_delivery_verdict};
 use crate::delivery::{
     pm_delivery_after, pm_delivery_before, pm_delivery_frame, pm_delivery_new,
     pm_delivery_read_ended, pm_delivery_size, pm_delivery_version,
 };
 use crate::host::pm_host_new;
+use pm_calls::delivered::{DeliveredImage, JudgementImage};
 use pm_delivery::Delivery;
 use pm_memory::{DeliveryImage, GuardImage, SendingImage};
 

@@ -6,7 +6,7 @@ use crate::stairs::{
     pm_stairs_ask, pm_stairs_check, pm_stairs_new, pm_stairs_read_ended, pm_stairs_size,
     pm_stairs_skip, pm_stairs_version, pm_stairs_write_ended,
 };
-use crate::stairs_step::StairsStepImage;
+use pm_calls::stairs_step::StairsStepImage;
 use pm_memory::{GuardImage, SendingImage, StairsEndImage, StairsImage};
 use pm_stairs::{Sequence, WordAct, WordStep};
 use std::mem::size_of;

@@ -1,0 +1,7 @@
+mod HeldImage
+mod GoesOn
+mod Tells
+mod Named
+mod Ceils
+mod TellsStairs
+mod HandsStairs
