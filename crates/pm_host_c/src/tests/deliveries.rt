@@ -7,9 +7,10 @@ use crate::delivery::{
     pm_delivery_after, pm_delivery_before, pm_delivery_frame, pm_delivery_new,
     pm_delivery_read_ended, pm_delivery_size, pm_delivery_version,
 };
-use crate::host::pm_host_new;
+use crate::host::{pm_host_learn, pm_host_new};
+use crate::told::pm_host_read_ended;
 use pm_calls::delivered::{DeliveredImage, JudgementImage};
-use pm_delivery::Delivery;
+use pm_delivery::{Delivery, Heard};
 use pm_memory::{DeliveryImage, GuardImage, SendingImage};
 
 // Memory of zeros.
@@ -35,6 +36,42 @@ fn sending() -> SendingImage {
         answer: 9,
         unused: 0,
         bytes: [0; 16],
+    }
+}
+
+// Answers in which nothing is 0.
+const UNSAID: DeliveredImage = DeliveredImage {
+    kind: 9,
+    code: 9,
+    bit: 9,
+    fault: 9,
+    has_microvolts: 9,
+    unused: 9,
+    word: 9,
+    microvolts: 9,
+};
+
+const UNJUDGED: JudgementImage = JudgementImage {
+    fault: 9,
+    warning: 9,
+    fault_word: 9,
+    warning_word: 9,
+};
+
+// A host that learned that the voltages of its output are ULINEAR16 with an exponent of -12.
+fn host_with_format() -> GuardImage {
+    let mut host = host();
+    let _ = pm_host_learn(&mut host, 0);
+    let _ = pm_host_read_ended(&mut host, &[0xB1, 0x01, 0x14, 0x4E]);
+    host
+}
+
+// A good answer with this word.
+fn good(word: u16) -> Heard {
+    Heard {
+        asked: 1,
+        fault: 0,
+        word,
     }
 }
 
@@ -98,26 +135,64 @@ fn status_word_is_asked_before_an_order(rt: HostRuntime) {
 #[test]
 fn nothing_is_said_of_an_output_that_is_not_known_to_be_on(rt: HostRuntime) {
     let mut delivery = blank();
-    let mut said = DeliveredImage {
-        kind: 9,
-        code: 9,
-        bit: 9,
-        fault: 9,
-        has_microvolts: 9,
-        unused: 9,
-        word: 9,
-        microvolts: 9,
-    };
+    let mut said = UNSAID;
     let _ = pm_delivery_new(&mut delivery, 0, 0, 1, 50, 1);
     let _ = pm_delivery_after(&mut delivery, 0);
     let told = pm_delivery_verdict(&delivery, &host(), &mut said);
     equal(&rt, &(told, said.kind, said.has_microvolts), &(0, 3, 0), &1);
-    let mut judgement = JudgementImage {
-        fault: 9,
-        warning: 9,
-        fault_word: 9,
-        warning_word: 9,
-    };
+    let mut judgement = UNJUDGED;
     let told = pm_delivery_judge(&delivery, &host(), 0x1000, &mut judgement);
     equal(&rt, &(told, judgement.fault), &(0x07, 9), &2);
+}
+
+#[test]
+fn a_reading_is_told_in_microvolts(rt: HostRuntime) {
+    let mut delivery = blank();
+    let mut said = UNSAID;
+    let _ = pm_delivery_new(&mut delivery, 0, 1, 1, 50, 1);
+    let _ = pm_delivery_after(&mut delivery, 0);
+    delivery.delivery.read_vout = good(0x1800);
+    let told = pm_delivery_verdict(&delivery, &host_with_format(), &mut said);
+    equal(
+        &rt,
+        &(told, said.has_microvolts, said.microvolts),
+        &(0, 1, 1_500_000),
+        &1,
+    );
+}
+
+#[test]
+fn both_limits_are_told_with_their_words(rt: HostRuntime) {
+    let mut delivery = blank();
+    let mut judgement = UNJUDGED;
+    let _ = pm_delivery_new(&mut delivery, 0, 1, 1, 50, 1);
+    delivery.delivery.ov_fault_limit = good(0x1700);
+    delivery.delivery.ov_warn_limit = good(0x1600);
+    let told = pm_delivery_judge(&delivery, &host_with_format(), 0x1800, &mut judgement);
+    equal(
+        &rt,
+        &(told, judgement.fault, judgement.warning),
+        &(0, 0x40, 0x42),
+        &1,
+    );
+    equal(
+        &rt,
+        &(judgement.fault_word, judgement.warning_word),
+        &(0x1700, 0x1600),
+        &2,
+    );
+}
+
+#[test]
+fn an_output_that_was_turned_off_went_off_or_is_still_on(rt: HostRuntime) {
+    let mut delivery = blank();
+    let mut said = UNSAID;
+    let _ = pm_delivery_new(&mut delivery, 0, 2, 0, 50, 1);
+    let _ = pm_delivery_after(&mut delivery, 1);
+    delivery.delivery.status_word = good(0x0040);
+    let told = pm_delivery_verdict(&delivery, &host(), &mut said);
+    equal(&rt, &(told, said.kind, said.code), &(0, 11, 0), &1);
+    delivery.delivery.status_word = good(0x0000);
+    let told = pm_delivery_verdict(&delivery, &host(), &mut said);
+    equal(&rt, &(told, said.kind, said.code), &(0, 12, 0x79), &2);
 }
