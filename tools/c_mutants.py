@@ -2,12 +2,12 @@
 beside it has to fail."""
 import os
 import re
-import shutil
 import subprocess
 import threading
 
 import mutant_file
-from crate_copy import read, write
+from copies import Planted, copied, ran
+from crate_copy import read
 from program import ROOT
 
 SOURCES = os.path.join(ROOT, "rust", "src")
@@ -23,9 +23,34 @@ PROGRAMS = {
     "stairs rows": (["trials/stairs/rows.c"], []),
     "field rows": ([f"trials/field/{each}.c" for each in ("rows", "field", "frames")], ["trials/field/rows.txt"]),
 }
+HEADERS = ("-Icrates/pm_host_c/include", "-Icrates/pm_device_c/include")
 WRAPPED = "-Wl," + ",".join(f"--wrap={name}" for name in ("open", "ioctl", "close", "fcntl", "clock_gettime", "nanosleep"))
+# Within which a run ends.
+SECONDS = 300
 # Nobody looks at a test that fails here in a debugger.
 WITHOUT_DEBUG = {"CARGO_PROFILE_TEST_DEBUG": "0", "CARGO_PROFILE_DEV_DEBUG": "0"}
+
+
+def archives(built):
+    return [os.path.join(built, f"lib{each}.a") for each in ("pm_host_c", "pm_device_c")]
+
+
+def shared(built, folder):
+    """The path of the archives as one library that Python loads, in a folder."""
+    place = os.path.join(folder, "libpmhost.so")
+    subprocess.run(["gcc", "-shared", "-Wl,--whole-archive", *archives(built), "-Wl,--no-whole-archive", "-Wl,-z,noexecstack", "-o", place], check=True)
+    return place
+
+
+def compiled(folder, built, *words):
+    """The status of gcc with these words over the headers and the archives, and what it says."""
+    return ran(folder, ["gcc", "-O1", *HEADERS, *words, *archives(built)], SECONDS)
+
+
+def cargo(folder, built, *words):
+    """The status of the crate's tests, and what they say."""
+    return ran(folder, ["cargo", "test", "--offline", "--manifest-path", "rust/Cargo.toml", *words], SECONDS, PM_ARCHIVES=built,
+               CARGO_TARGET_DIR=os.path.join(folder, "target"), **WITHOUT_DEBUG)
 
 
 class Broken(Exception):
@@ -49,15 +74,10 @@ class Copy:
     """What is tried on: a copy of the files, with one text in the place of another."""
 
     def __init__(self, folder, built, sound):
-        self.folder, self.built, self.sound = folder, built, sound
-        for each in ("crates/pm_host_c/include", "crates/pm_device_c/include", "examples/c", "trials/c/rows", "trials/course",
-                     "trials/delivery", "trials/stairs", "trials/field", "rust"):
-            shutil.copytree(os.path.join(ROOT, each), os.path.join(folder, each), ignore=shutil.ignore_patterns("target"))
+        self.folder, self.built, self.sound = copied(folder), built, sound
 
     def run(self, *words, **environment):
-        done = subprocess.run(words, cwd=self.folder, env={**os.environ, **environment}, stdin=subprocess.DEVNULL,
-                              stdout=subprocess.PIPE, stderr=subprocess.STDOUT, text=True)
-        return done.returncode, done.stdout
+        return ran(self.folder, words, SECONDS, **environment)
 
     def planted(self, bug):
         """Whether its test fails with the bug, and passes without it; and in words what came of it."""
@@ -69,16 +89,11 @@ class Copy:
             return False, wrong
         if not self.passes(bug, self.sound):
             return False, "its test fails without it"
-        was = {name: text_of(name) for name, *_ in bug.pairs}
-        for name, text in mutant_file.planted(bug, text_of).items():
-            write(os.path.join(self.folder, name), text)
-        try:
-            return (False, "NOT NOTICED") if self.passes(bug, Sound()) else (True, bug.said["test"])
-        except Broken as words:
-            return False, f"it doesn't compile: {words}"
-        finally:
-            for name, text in was.items():
-                write(os.path.join(self.folder, name), text)
+        with Planted(self.folder, mutant_file.planted(bug, text_of)):
+            try:
+                return (False, "NOT NOTICED") if self.passes(bug, Sound()) else (True, bug.said["test"])
+            except Broken as words:
+                return False, f"it doesn't compile: {words}"
 
     def passes(self, bug, sound):
         """Whether the test that a bug names passes, by what programs say now or said once."""
@@ -86,6 +101,8 @@ class Copy:
         if test in PROGRAMS:
             status, text = sound.once(test, lambda: self.rows(test))
             return status in (0, 1) and f"\n{row}: " not in "\n" + text
+        if test == "bring-up":
+            return sound.once(test, self.example) == read(os.path.join(ROOT, "examples", "c", "bring_up.expected")).strip()
         if test == "dropped answers":
             return sound.once(bug.said["test"], lambda: self.warns(row))
         if test == "i2c_dev.c":
@@ -97,16 +114,20 @@ class Copy:
         return self.rust(test)
 
     def program(self, name, *words):
-        found = self.run("gcc", "-O1", "-Icrates/pm_host_c/include", "-Icrates/pm_device_c/include", *words, os.path.join(self.built, "libpm_host_c.a"),
-                         os.path.join(self.built, "libpm_device_c.a"), "-o", name)
-        if found[0]:
-            raise Broken(found[1])
+        status, said = compiled(self.folder, self.built, *words, "-o", name)
+        if status:
+            raise Broken(said)
 
     def rows(self, name):
         """The status of a program with rows, and what it says."""
         sources, words = PROGRAMS[name]
         self.program("rows", *sources)
         return self.run("timeout", "60", "./rows", *words)
+
+    def example(self):
+        """What the example of rails in order says."""
+        self.program("bring_up", "examples/c/bring_up.c")
+        return self.run("timeout", "60", "./bring_up")[1].strip()
 
     def warns(self, call):
         """Whether gcc warns of this call alone on a line."""
@@ -122,8 +143,7 @@ class Copy:
         return self.run("timeout", "60", "./bus", *words.split(), MISHAPS=mishaps)
 
     def cargo(self, *words):
-        return self.run("cargo", "test", "--offline", "--manifest-path", "rust/Cargo.toml", *words, PM_ARCHIVES=self.built,
-                        CARGO_TARGET_DIR=os.path.join(self.folder, "target"), **WITHOUT_DEBUG)
+        return cargo(self.folder, self.built, *words)
 
     def passing(self):
         """The tests of the crate that pass, by their whole names."""

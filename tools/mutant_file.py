@@ -18,6 +18,7 @@ end has an empty last one. Files are those of the crate, or of the repository. L
 """
 import os
 
+from copies import hunk
 from crate_copy import read
 
 FOLDER = "mutants"
@@ -54,6 +55,15 @@ class Mutant:
             lines += [f"file: {name}"] * (name != file) + [f"old: {old}", f"new: {new}"]
             file = name
         return "\n".join(lines) + "\n"
+
+
+def written(name, path, text):
+    """A new text of a file as the lines of a bug: those that differ, and before them as many as make its old text stand once."""
+    whole = read(path)
+    was, (first, behind, lines) = whole.split("\n"), hunk(path, text)
+    while first and (first == behind or whole.count("\n".join(was[first:behind])) > 1):
+        first, lines = first - 1, [was[first - 1], *lines]
+    return "\n".join([f"== {name}", f"file: {path}", *(f"old: {it}" for it in was[first:behind]), *(f"new: {it}" for it in lines or [""])])
 
 
 def path_of(name):

@@ -8,7 +8,7 @@ from program import ROOT, kept_files
 
 STYLE = "docs/style.md"
 # What all pages together may have, and what a page may: words a sentence on average, and words of its longest one.
-MOST_WORDS, AVERAGE, LONGEST = 42000, 20, 35
+MOST_WORDS, AVERAGE, LONGEST = 44000, 20, 35
 PLAINEST = {"README.md": 15, "docs/proved.md": 15}
 # Pages that are counted here and judged elsewhere: the manual page is made of the command's help, and README has an editor of its own.
 NOT_JUDGED = ("docs/pmhost.1", "README.md")

@@ -20,8 +20,14 @@ from tally import Tally
 TESTS = os.path.join(ROOT, "python", "tests")
 # Reasons for which a test may be skipped: what the gate's machine need not have.
 ALLOWED = ("no mypy here", "no clone: git tells the scripts", "no sigrok-cli on this machine", "no strace on this machine")
-# The files of tests of this repository's own tools, and of pmhost as a process.
-NOT_QUICK = ("test_gate.py", "test_planted.py", "test_release.py", "test_sources.py", "test_capture_streams.py", "test_processes.py")
+# The files of tests of this repository's own tools and texts; and those with the tests of pmhost as a process.
+OF_TREE = ("test_gate.py", "test_planted.py", "test_release.py", "test_sources.py")
+NOT_QUICK = (*OF_TREE, "test_capture_streams.py", "test_processes.py")
+# How many random boards, lives, events and late answers the package's tests draw, how few of the starts of a plan and of the transfers of margin tests and
+# probes they try: less than by themselves.
+FEWER = {"PMHOST_BOARDS": "12", "PMHOST_LIVES": "60", "PMHOST_PLAN_LIVES": "40", "PMHOST_EVENTS": "1000",
+         "PMHOST_NEIGHBOURS": "15", "PMHOST_LATE": "100", "PMHOST_BEGINNINGS": "30", "PMHOST_DRAWS": "40", "PMHOST_LATE_TAKES": "20",
+         "PMHOST_EVERY": "5", "PMHOST_STARTS": "5"}
 
 
 def by_content(left_out):

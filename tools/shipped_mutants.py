@@ -1,20 +1,20 @@
 """Planted bugs of what is shipped above the proof: those of python, c and rust, over several copies at once."""
+import functools
 import os
-import queue
-import shutil
 import tempfile
 import threading
 
 import c_mutants
 import mutant_file
 import python_mutants
+from copies import copied, spread
 from crate_copy import read
 
 # The files of bugs that are no crate's.
 LANGUAGES = ("python", "c", "rust")
 # Bugs that no test can notice, each with `why`, and how many there may be.
 UNNOTICED = os.path.join(mutant_file.FOLDER, "unnoticed.txt")
-MOST_UNNOTICED = 15
+MOST_UNNOTICED = 30
 
 
 def unnoticed():
@@ -27,42 +27,26 @@ def copies_of(language, bugs, built, folder, jobs):
     if language == "python":
         homes = [os.path.join(folder, str(number)) for number in range(jobs)]
         for home in homes:
-            os.mkdir(home)
-            python_mutants.copied(home)
+            copied(home)
         python_mutants.look_at_tests(homes, sorted({it.said["test"] for it in bugs}))
         return [lambda bug, home=home: python_mutants.planted(home, bug) for home in homes]
     sound = c_mutants.Sound()
     return [c_mutants.Copy(os.path.join(folder, str(number)), built, sound).planted for number in range(jobs)]
 
 
-def work(waiting, planted, tally, lock):
-    """One job: bug after bug."""
-    while True:
-        try:
-            bug = waiting.get_nowait()
-        except queue.Empty:
-            return
+def try_all(language, bugs, built, jobs, tally):
+    """Tries the bugs of a language in so many jobs."""
+    lock = threading.Lock()
+
+    def one(planted, bug):
         is_found, words = planted(bug)
         with lock:
             tally.tell(bug.name, [] if is_found else [words])
             if is_found:
                 print(f"{bug.name}: noticed by {words}", flush=True)
 
-
-def try_all(language, bugs, built, jobs, tally):
-    """Tries the bugs of a language in so many jobs."""
-    folder, waiting, lock = tempfile.mkdtemp(), queue.Queue(), threading.Lock()
-    for bug in bugs:
-        waiting.put(bug)
-    try:
-        copies = copies_of(language, bugs, built, folder, min(jobs, len(bugs)))
-        threads = [threading.Thread(target=work, args=(waiting, planted, tally, lock)) for planted in copies]
-        for each in threads:
-            each.start()
-        for each in threads:
-            each.join()
-    finally:
-        shutil.rmtree(folder, ignore_errors=True)
+    with tempfile.TemporaryDirectory(ignore_cleanup_errors=True) as folder:
+        spread(iter(bugs), [functools.partial(one, planted) for planted in copies_of(language, bugs, built, folder, min(jobs, len(bugs)))])
 
 
 def count(tally):

@@ -78,17 +78,25 @@ static void begin(void) {
             exit(1);
 }
 
-static void tell(const char *what, uint8_t number, const pm_stairs *stairs) {
-    static const char *const ends[] = {"?", "reached", "refused", "differs", "spent", "format", "source", "changed", "restarted", "way back"};
+static const char *on_or_off(unsigned rail) {
+    uint8_t is_on = 0;
+    pm_part_on_state(&buses[rails[rail].part].part, rails[rail].output, &is_on);
+    return is_on == 1 ? "on" : "off";
+}
+
+static void tell_rails(void) {
     unsigned at;
-    printf("%s: %s, %u steps begun\n", what, number == PM_ENDED ? ends[stairs->end.kind] : "stopped", stairs->begun);
     for (at = 0; at < RAILS; at++) {
         int64_t microvolts = 0;
-        uint8_t is_on = 0;
         pm_part_commanded_microvolts(&buses[rails[at].part].part, rails[at].output, &microvolts);
-        pm_part_on_state(&buses[rails[at].part].part, rails[at].output, &is_on);
-        printf("  %s is %s, %ld uV\n", rails[at].name, is_on == 1 ? "on" : "off", (long)microvolts);
+        printf("  %s is %s, %ld uV\n", rails[at].name, on_or_off(at), (long)microvolts);
     }
+}
+
+static void tell(const char *what, uint8_t number, const pm_stairs *stairs) {
+    static const char *const ends[] = {"?", "reached", "refused", "differs", "spent", "format", "source", "changed", "restarted", "way back"};
+    printf("%s: %s, %u steps begun\n", what, number == PM_ENDED ? ends[stairs->end.kind] : "stopped", stairs->begun);
+    tell_rails();
 }
 
 /* Two steps a rail: its voltage while it is off, then on. */
@@ -119,11 +127,12 @@ static void go_back(const pm_stairs *stopped, const pm_stairs_step *backs) {
     tell("back", pm_run_stairs(&way, at_hosts, at_buses, PARTS, steps, stopped->begun, NULL, 0, put, ask), &way);
 }
 
+/* Turns the rails off, the last one first. A rail that isn't known to be off is left, and counted: the end of the stairs doesn't say so. */
 static void shut_down(void) {
     pm_stairs_step steps[RAILS];
     pm_stairs way;
     uint8_t number;
-    unsigned at;
+    unsigned at, left[RAILS], lefts = 0;
     memset(steps, 0, sizeof steps);
     for (at = 0; at < RAILS; at++) {
         steps[at].host = rails[RAILS - 1 - at].part;
@@ -132,11 +141,19 @@ static void shut_down(void) {
     }
     pm_stairs_new(&way, 4, 1);
     while ((number = pm_run_stairs(&way, at_hosts, at_buses, PARTS, steps, RAILS, NULL, 0, put, ask)) == PM_ENDED && way.end.kind != PM_REACHED) {
-        printf("%s isn't known to be off\n", rails[RAILS - 1 - way.end.step].name);
+        left[lefts++] = RAILS - 1 - way.end.step;
         if (pm_stairs_skip(&way) != PM_OK)
             exit(1);
     }
-    tell("down", number, &way);
+    if (number != PM_ENDED || lefts == 0) {
+        tell("down", number, &way);
+        return;
+    }
+    printf("down: %u step%s left", lefts, lefts == 1 ? "" : "s");
+    for (at = 0; at < lefts; at++)
+        printf(", %s is %s", rails[left[at]].name, on_or_off(left[at]));
+    printf("\n");
+    tell_rails();
 }
 
 int main(void) {

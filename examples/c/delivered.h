@@ -10,7 +10,7 @@
 #include "pmhost.h"
 
 /* What a chain of calls was told once of a part. */
-typedef struct { int limits, status_word; } delivered_told;
+typedef struct { int limits; } delivered_told;
 
 /* A line that grows, as far as there is room. */
 typedef struct { char *text; size_t room, used; } delivered_line;
@@ -142,13 +142,15 @@ static inline void delivered_put_power_good(delivered_line *line, const pm_deliv
         delivered_put_volts(line, begins);
 }
 
-static inline void delivered_put_unknown(delivered_line *line, const pm_delivered *it, int is_absent) {
+/* What isn't known of an output, by its STATUS_WORD or another register. */
+static inline void delivered_put_unknown(delivered_line *line, const pm_delivery *delivery, const pm_delivered *it) {
+    int is_off = delivery->look == 3, is_missing = it->code == 0x79 && delivery->lacks & (PM_LACKS_STATUS_WORD | PM_FOUND_NO_STATUS_WORD);
     pm_name name = {{0}};
-    delivered_put(line, "delivery not known: ");
+    delivered_put(line, is_off ? "commanded off; not known to be off: " : "delivery not known: ");
     if (it->code == 0x8B && it->fault == 0)
         delivered_put(line, "what the output commands isn't known");
-    else if (is_absent)
-        delivered_put(line, "%s gave no good answer", delivered_name(it->code));
+    else if (is_missing)
+        delivered_put(line, "the part %s STATUS_WORD%s", pm_is_delivered(delivery, it) ? "lacks" : "seems to lack", is_off ? "" : " and READ_VOUT");
     else if (it->fault == PM_NO_ANSWER)
         delivered_put(line, "%s gave no good answer: no answer", delivered_name(it->code));
     else if (pm_refusal_name(it->fault, &name) == PM_OK)
@@ -157,10 +159,12 @@ static inline void delivered_put_unknown(delivered_line *line, const pm_delivere
 
 static inline void delivered_put_verdict(delivered_line *line, const pm_delivery *delivery, const pm_host *host, const pm_delivered *it) {
     switch (it->kind) {
-    case PM_DELIVERS:
+    case PM_DELIVERS: case PM_DELIVERS_BY_READ_VOUT:
         delivered_put(line, "delivers %s", it->has_microvolts ? "" : "by STATUS_WORD");
         if (it->has_microvolts)
             delivered_put_volts(line, it->microvolts);
+        if (it->kind == PM_DELIVERS_BY_READ_VOUT)
+            delivered_put(line, " by READ_VOUT");
         break;
     case PM_COMMANDED_OFF: delivered_put(line, "commanded off"); break;
     case PM_NOT_KNOWN_ON: delivered_put(line, "not known to be on"); break;
@@ -180,7 +184,7 @@ static inline void delivered_put_verdict(delivered_line *line, const pm_delivery
         delivered_put_power_good(line, delivery, host, it);
         break;
     case PM_NO_POWER_GOOD: delivered_put_status(line, delivery), delivered_put(line, ": power good is missing"); break;
-    case PM_DELIVERY_NOT_KNOWN: delivered_put_unknown(line, it, pm_is_delivered(delivery, it)); break;
+    case PM_DELIVERY_NOT_KNOWN: delivered_put_unknown(line, delivery, it); break;
     case PM_WENT_OFF: delivered_put(line, "the part says that it is off"); break;
     case PM_STILL_ON:
         delivered_put(line, "commanded off, and the part says that it is on: ");
@@ -251,15 +255,12 @@ static inline void delivered_put_beyond(delivered_line *line, const pm_delivery 
 static inline void delivered_words(char *text, size_t room, const pm_delivery *delivery, const pm_host *host, const pm_course *course,
                                    const pm_delivered *delivered, int has_ordered, delivered_told *told) {
     delivered_line line = {text, room, 0};
-    int is_absent = delivered->kind == PM_DELIVERY_NOT_KNOWN && pm_is_delivered(delivery, delivered);
     text[0] = 0;
     if (delivered->kind == PM_BEYOND_FAULT_LIMIT) {
         delivered_put_beyond(&line, delivery, host, course);
         return;
     }
-    if (!is_absent || !told->status_word)
-        delivered_put_verdict(&line, delivery, host, delivered);
-    told->status_word |= is_absent;
+    delivered_put_verdict(&line, delivery, host, delivered);
     delivered_put_limits(&line, delivery, host, course, has_ordered, told);
 }
 

@@ -9,6 +9,9 @@ _pmb() {
     elif [ "$command" = decode ]; then
         mapfile -t COMPREPLY < <(compgen -W "--values --vout= --readings= --all --pages --gap= --long --times --json --help" -- "$word")
         [[ ${COMPREPLY[0]-} != *= ]] || compopt -o nospace
+    elif [ "$command" = check ]; then
+        mapfile -t COMPREPLY < <(compgen -W "--lacks= --help" -- "$word")
+        [[ ${COMPREPLY[0]-} != *= ]] || compopt -o nospace
     else
         mapfile -t COMPREPLY < <(compgen -W "--help" -- "$word")
     fi

@@ -9,7 +9,7 @@ import shutil
 import subprocess
 import tempfile
 
-from pmhost import _library
+from pmhost import _library, pec
 
 from . import runs
 
@@ -93,6 +93,17 @@ class Field:
 
     def word(self):
         return f"{self.get('VOUT_COMMAND'):04X}"
+
+
+class Early(Field):
+    """A part whose rails trip earlier than VOUT_UV_FAULT_LIMIT says, which is read as 0E00."""
+
+    def hear(self, frame, ending):
+        answer = super().hear(frame, ending)
+        if answer and list(frame[1:3]) == [0x06, 2] and frame[4] == 0x44:
+            came = [*answer[:2], 0x00, 0x0E]
+            return [*came, pec(bytes([*frame, *came]))]
+        return answer
 
 
 class FieldBus:

@@ -10,11 +10,11 @@ from .runs import called
 
 # Words behind pmhost, the last of which is completed, and what it becomes.
 ROWS = [(["pro"], "probe"), (["-b", "m"], "model"), (["-b", "model", "set", "0", "3V", "VOUT_MARGIN_H"], "VOUT_MARGIN_HIGH"),
-        (["-b", "model", "set", "0", "3V", "+", "mar"], "margin margin-test"), (["margin", "0", "h"], "high"),
+        (["-b", "model", "set", "0", "3V", "+", "mar"], "margin margin-test"), (["margin", "0", "h"], "high"), (["margin", "0", "low", "--ig"], "--ignore-faults"),
         (["set", "0", "3V", "--no"], "--no-limit"),
         (["apply", "--dry"], "--dry-run"), (["apply", "/etc/pass"], "/etc/passwd"), (["--trace", "/etc/pass"], "/etc/passwd"),
         (["apply", "--picture", "/etc/pass"], "/etc/passwd"), (["faults", "--seed", "1", "--pl"], "--plain-host"),
-        (["read", "-", "WRITE"], "WRITE_PROTECT"), (["learn", "VOUT"], "")]
+        (["read", "-", "WRITE"], "WRITE_PROTECT"), (["learn", "VOUT"], ""), (["capture", "--sa"], "--samplerate"), (["--sa"], "")]
 
 
 @unittest.skipUnless(shutil.which("bash"), "no bash here")

@@ -64,7 +64,7 @@ DAY = (
     ("set board.toml core 1.06V", 0, "set core: VOUT_COMMAND accepted 10F0 1.058593V; the output commands 1.058593V, within 0.95V to 1.15V"),
     ("set board.toml core 1.2V", 1, "set core: refused L4 AboveLimit"),
     ("margin board.toml core high", 0, "margin core: OPERATION A8 on, margin high confirmed; the output commands 1.099609V, within 0.95V to 1.15V"),
-    ("margin board.toml core low + on board.toml core", 0, "margin core: OPERATION 94 on, margin low confirmed; the output commands 1V",
+    ("margin board.toml core low + on board.toml core", 0, "margin core: OPERATION 98 on, margin low confirmed; the output commands 1V",
      "on core: OPERATION 80 on confirmed; the output commands 1.058593V"),
     ("why board.toml pll", 0, "why pll: it is on: READ_VOUT is 0.949951V"),
     ("why board.toml", 0, "why core: ", "why io: ", "why pll: "),

@@ -5,7 +5,7 @@ import pickle
 import threading
 import unittest
 
-from pmhost import Device, LimitRefused, Looks, ModelPart, ModelPartBus, NotDelivered, Output, PlanRefused, Unknown
+from pmhost import Course, Device, LimitRefused, Looks, MarginRefused, ModelPart, ModelPartBus, NotDelivered, Output, PlanRefused, Unknown
 
 from . import field_boards, field_calls
 from .field import ADDRESS, Field, FieldBus
@@ -73,6 +73,47 @@ class Api(unittest.TestCase):
             self.assertEqual(([line for line in part.lines if line.startswith("B0 05")], part.volts()), ([], 1000000))
             self.assertEqual(str(pickle.loads(pickle.dumps(it.exception))), str(it.exception))
             device.survey(0)
+
+    def test_a_margin_acts_on_faults_and_may_ignore_them(self):
+        for side, ignored, byte, volts in (("high", False, 0xA8, 1062500), ("low", False, 0x98, 937500), ("high", True, 0xA4, 1062500), ("low", True, 0x94, 937500)):
+            part, device = self.device()
+            state = device.margin(0, side, ignore_faults=ignored)
+            self.assertEqual((part.get("OPERATION"), part.volts(), state.band.least.microvolts), (byte, volts, volts))
+        part, device = self.device()
+        device.margin(0, "low")
+        self.assertEqual((device.margin(0, "high").selected, part.get("OPERATION")), ("VOUT_MARGIN_HIGH", 0xA8))
+
+    def test_a_margin_near_its_own_fault_limit_is_refused(self):
+        near = "VOUT_MARGIN_LOW 0.9375V leaves less than 1% of what is commanded now to VOUT_UV_FAULT_LIMIT, which is 0.927734V"
+        beyond = "VOUT_MARGIN_HIGH 1.0625V leaves less than 1% of what is commanded now to VOUT_OV_FAULT_LIMIT, which is 1.030029V"
+        do = "move the limit or the margin, or give ignore_faults=True"
+        for side, field, looks, register, said, advice in (
+                ("low", ("VOUT_UV_FAULT_LIMIT", 0x0ED8), Looks(), "VOUT_UV_FAULT_LIMIT", near, do),
+                ("high", ("VOUT_OV_FAULT_LIMIT", 0x107B), Looks(fault_limits="tell"), "VOUT_OV_FAULT_LIMIT", beyond, do),
+                ("high", ("lacks", 0x40), Looks(), "VOUT_OV_FAULT_LIMIT", "VOUT_OV_FAULT_LIMIT gave no good answer",
+                 "ask again, or give ignore_faults=True if the part has none"),
+                ("low", ("lacks", 0x44), Looks(fault_limits="skip"), "VOUT_UV_FAULT_LIMIT", "VOUT_UV_FAULT_LIMIT wasn't read",
+                 "have fault limits read, or give ignore_faults=True")):
+            with self.subTest(side=side, field=field):
+                part, device = self.device(field, looks=looks)
+                with self.assertRaises(MarginRefused) as it:
+                    device.margin(0, side)
+                self.assertEqual((str(it.exception), it.exception.register), (f"{said}: the rail may trip: {advice}", register))
+                self.assertEqual(([line for line in part.lines if line.startswith("B0 05")], part.volts()), ([], 1000000))
+                again = pickle.loads(pickle.dumps(it.exception))
+                self.assertEqual((str(again), again.register, again.do("x")), (str(it.exception), register, it.exception.do("x")))
+                # Nothing is open, and the same margin is ordered by whoever asks for it otherwise.
+                device.survey(0)
+                device.margin(0, side, ignore_faults=True)
+                self.assertEqual(part.get("OPERATION"), {"high": 0xA4, "low": 0x94}[side])
+
+    def test_whoever_names_the_byte_or_does_not_look_is_not_refused(self):
+        part, device = self.device(("VOUT_UV_FAULT_LIMIT", 0x0ED8))
+        device.complete(Course.power(0, 0x98))
+        self.assertEqual(part.volts(), 937500)
+        part, device = self.device(("VOUT_UV_FAULT_LIMIT", 0x0ED8), looks=None)
+        device.margin(0, "low")
+        self.assertEqual((part.get("OPERATION"), part.volts()), (0x98, 937500))
 
     def test_a_rail_that_is_off_is_raised(self):
         calls = (lambda it: it.survey(0), lambda it: it.set_voltage(0, "1.05V"), lambda it: it.turn_on(0), lambda it: it.margin(0, "low"),

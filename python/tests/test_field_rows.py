@@ -56,7 +56,7 @@ class Row:
 
     @property
     def lacks(self):
-        return [NAMES[int(code, 16)] for code, in self.all("lacks")]
+        return [({0x79: "STATUS_WORD", 0x8B: "READ_VOUT"} | NAMES)[int(code, 16)] for codes in self.all("lacks") for code in codes]
 
     @property
     def looks(self):

@@ -9,8 +9,10 @@ from unittest import mock
 
 from pmhost import Course, Device, Format, ModelPart, ModelPartBus, Output, clock, delivery, stores, why
 from pmhost.cuts import Cut, cuts
-from pmhost.delivery import Heard
+from pmhost.delivery import Heard, Verdict
+from pmhost.look import Delivered, Looks, has_room
 from pmhost.errors import refusal
+from pmhost.operation import avsbus, ignores_faults, margin_byte, selected_by
 from pmhost.parts import BadRails
 from pmhost.readings import Reading
 from pmhost.rehearsal import first_not_reached, is_reached, modelled
@@ -128,6 +130,42 @@ class Cuts(unittest.TestCase):
         self.assertEqual(cuts(form, {"VOUT_MARGIN_HIGH": None, "VOUT_MARGIN_LOW": 0x0800}, 0x0C00, 0x1400), [low])
 
 
+class Rooms(unittest.TestCase):
+    def test_how_far_a_margin_is_from_its_own_fault_limit(self):
+        # The margin, its limit and the ends of what is commanded in microvolts, and whether it is the high one.
+        rows = (
+            # 1 % is far enough, and one microvolt less isn't.
+            (937_500, 927_500, (1_000_000, 1_000_000), False, True), (937_500, 927_501, (1_000_000, 1_000_000), False, False),
+            (1_062_500, 1_072_500, (1_000_000, 1_000_000), True, True), (1_062_500, 1_072_499, (1_000_000, 1_000_000), True, False),
+            # At or beyond it there is none.
+            (937_500, 937_500, (1_000_000, 1_000_000), False, False), (937_500, 2_000_000, (1_000_000, 1_000_000), False, False),
+            (1_062_500, 1_062_500, (1_000_000, 1_000_000), True, False), (1_062_500, 500_000, (1_000_000, 1_000_000), True, False),
+            # Once the order has begun, the margin is an end of the band: the other one counts, wherever it lies, and where a bound cuts the margin.
+            (1_062_500, 1_072_500, (1_000_000, 1_062_500), True, True), (1_062_500, 1_072_499, (1_000_000, 1_062_500), True, False),
+            (937_500, 927_500, (937_500, 1_000_000), False, True), (937_500, 927_501, (937_500, 1_000_000), False, False),
+            (1_000_000, 1_012_000, (1_000_000, 1_200_000), True, True), (1_000_000, 1_011_999, (1_000_000, 1_200_000), True, False),
+            (2_000_000, 2_010_000, (1_000_000, 1_500_000), True, True), (2_000_000, 2_009_999, (1_000_000, 1_500_000), True, False),
+            # Of a voltage below 0 V.
+            (-937_500, -947_500, (-1_000_000, -1_000_000), False, True), (-937_500, -947_499, (-1_000_000, -1_000_000), False, False),
+            # Beyond all that the library says is a limit that is near nothing; a margin or a voltage that it doesn't say isn't known to have room.
+            (937_500, None, (1_000_000, 1_000_000), False, True), (None, None, None, True, True),
+            (None, 500_000, (1_000_000, 1_000_000), False, False), (937_500, 500_000, None, False, False))
+        for *words, found in rows:
+            with self.subTest(words):
+                self.assertIs(has_room(*words), found)
+
+
+class Bytes(unittest.TestCase):
+    def test_which_bytes_are_ordered_and_what_they_say(self):
+        self.assertEqual([margin_byte(*each) for each in (("high",), ("low",), ("high", True), ("low", True))], [0xA8, 0x98, 0xA4, 0x94])
+        with self.assertRaisesRegex(ValueError, "side: 'up' isn't high or low"):
+            margin_byte("up")
+        self.assertEqual([byte for byte in range(256) if ignores_faults(byte)], [0x94, 0x95, 0x96, 0x97, 0xA4, 0xA5, 0xA6, 0xA7])
+        self.assertEqual([selected_by(byte) for byte in (0x80, 0x8F, 0x98, 0x94, 0xA8, 0xA7, 0xB0)],
+                         ["VOUT_COMMAND", "VOUT_COMMAND", "VOUT_MARGIN_LOW", "VOUT_MARGIN_LOW", "VOUT_MARGIN_HIGH", "VOUT_MARGIN_HIGH", None])
+        self.assertEqual([byte for byte in range(256) if avsbus(byte)], [byte for byte in range(256) if byte >> 4 & 3 == 3])
+
+
 class Rehearsals(unittest.TestCase):
     def part(self, coefficients=None):
         """A part of two outputs, of which the host knows what output 1 holds, and WRITE_PROTECT."""
@@ -156,7 +194,7 @@ class Rehearsals(unittest.TestCase):
             self.assertEqual(is_reached(modelled(part, 1, True), Course.words(1, {"VOUT_COMMAND": word}, 40)), is_one, word)
         part.host.set_limits(1, "0.2V", "0.3V")
         self.assertIsNone(first_not_reached(part, 1, (0x80, 0xA8 - 0x28), True))
-        byte, end = first_not_reached(part, 1, (0x80, 0xA8, 0x94), True)
+        byte, end = first_not_reached(part, 1, (0x80, 0xA8, 0x98), True)
         self.assertEqual((byte, end.kind), (0xA8, "refused"))
 
 
@@ -173,6 +211,26 @@ class Whys(unittest.TestCase):
             self.assertIs(why.findings(part, 1).state, learned)
         self.assertEqual(asked, [(1, "STATUS_WORD"), (1, "STATUS_VOUT"), (None, "STATUS_CML"), (1, "STATUS_INPUT"), (1, "ON_OFF_CONFIG"), (None, "READ_VIN"),
                                  (1, "READ_VOUT"), (1, "VOUT_OV_FAULT_LIMIT"), (1, "VOUT_UV_FAULT_LIMIT"), (1, "POWER_GOOD_ON"), (0, "WRITE_PROTECT")])
+
+
+    def test_why_an_output_is_off_without_a_fault(self):
+        for bits, config, said in ((["MFR_SPECIFIC", "OFF"], 0x02, "no fault of the standard is noted: STATUS_MFR_SPECIFIC is 5A: the data sheet has its bits"),
+                                   (["OFF"], 0x02, "no register says why: "), (["MFR_SPECIFIC", "OFF"], 0x1E, "no fault is noted: ON_OFF_CONFIG is 1E, by which the "),
+                                   (["MFR_SPECIFIC", "OFF"], None, "no fault is noted: whether its CONTROL (RUN) pin counts isn't known")):
+            seen = why.Findings(0, SimpleNamespace(), {"STATUS_WORD": Reading("STATUS_WORD", 0x40, bits=bits),
+                                                       "STATUS_MFR_SPECIFIC": Reading("STATUS_MFR_SPECIFIC", 0x5A)})
+            with self.subTest(bits=bits, config=config):
+                self.assertEqual(why.why_off(seen, config)[:len(said)], said)
+
+
+class NewFaults(unittest.TestCase):
+    def test_each_is_named_by_its_bit(self):
+        for register, status, bit, name in (("STATUS_VOUT", 0x8000, 4, "VOUT_UV_FAULT"), ("STATUS_IOUT", 0x4000, 7, "IOUT_OC_FAULT"),
+                                            ("STATUS_INPUT", 0x2000, 4, "VIN_UV_FAULT"), ("STATUS_TEMPERATURE", 0x0004, 7, "OT_FAULT"),
+                                            ("STATUS_WORD", 0x0020, 5, "VOUT_OV_FAULT")):
+            found = Delivered(0, Verdict("fault", register, bit), Looks(), status=status)
+            with self.subTest(register=register):
+                self.assertEqual((found.said.rpartition(": ")[2], found.why), (f"{name} came with this call", f"{name} came with this call: `why` says more"))
 
 
 class Places(unittest.TestCase):

@@ -110,6 +110,11 @@ class Lines(unittest.TestCase):
         log.claim()
         self.assertEqual(lines[-1], "#commands 0 1000000 to 1000000 uV without VOUT_MIN")
 
+    def test_a_host_that_heard_nothing_claims_nothing(self) -> None:
+        device, log, lines = logged(ModelPartBus(ModelPart(0x58, [Output()] * 2)))
+        log.claim()
+        self.assertEqual(lines, ["#log 58 2 2"])
+
     def test_a_note_is_one_short_line(self) -> None:
         self.assertEqual(note_of("a\nb"), "## a\\nb")
         self.assertLess(len(note_of("x" * 9000)), 4096)
@@ -146,6 +151,17 @@ class Files(unittest.TestCase):
         lines = [line for line in self.read().splitlines() if not line.startswith("##")]
         self.assertEqual([line.split()[0] for line in lines], ["#log", "B0", "B0", "#holds", "#log", "B0", "#holds"])
 
+    def test_a_call_over_two_parts_writes_both_logs(self) -> None:
+        """Each has a log of its own up to what its one output commands, though both are written once the call ends."""
+        with tempfile.NamedTemporaryFile("w", suffix=".toml") as file:
+            for part, address in ("u1", "58"), ("u2", "59"):
+                file.write(f'[parts.{part}]\nbus = "model"\naddress = "{address}"\noutputs = 1\n'
+                           f'[rails.{part}]\npart = "{part}"\noutput = 0\nvolts = "1.05V"\nlimits = ["0.9V", "1.1V"]\n')
+            file.flush()
+            self.assertEqual(run("--log", self.path, "apply", file.name), 0)
+        lines = [line for line in self.read().splitlines() if line.startswith(("#log", "#commands"))]
+        self.assertEqual(lines, ["#log 58 1 3", "#commands 0 1050048 to 1050049 uV", "#log 59 1 3", "#commands 0 1050048 to 1050049 uV"])
+
     def test_a_file_that_fails_is_told(self) -> None:
         self.assertEqual(run("-b", "model", "--log", "/nowhere/a.log", "learn", "0"), 2)
 
@@ -154,6 +170,15 @@ class Files(unittest.TestCase):
         run("-b", "model", "--outputs", "2", "--no-limit", "--log", self.path, "set", "0", "3.3V", "+", "survey", "1", "+", "store")
         ran = subprocess.run([path_of("pmb"), "check"], input=self.read(), capture_output=True, text=True, check=False)
         self.assertEqual((ran.returncode, ran.stdout[:10]), (0, "accepted: "), ran.stdout)
+
+    @needs("pmb")
+    def test_what_a_part_lacks_is_the_receivers_word(self) -> None:
+        run("-b", "model", "--outputs", "2", "--no-limit", "--lacks", "VOUT_MIN", "--log", self.path, "survey", "0")
+        for option, status, words in ((), 1, "the writer says that 58 lacks VOUT_MIN: --lacks=58:VOUT_MIN if its data sheet says so"), (
+                ("--lacks=58:VOUT_MIN",), 0, "; without VOUT_MIN of 58 by --lacks"):
+            ran = subprocess.run([path_of("pmb"), "check", *option], input=self.read(), capture_output=True, text=True, check=False)
+            self.assertEqual(ran.returncode, status, ran.stdout)
+            self.assertTrue(ran.stdout.endswith(f"{words}\n"), ran.stdout)
 
     @needs("pmb")
     def test_a_claim_without_its_read_is_refused(self) -> None:

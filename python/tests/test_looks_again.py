@@ -80,14 +80,15 @@ class Answers(unittest.TestCase):
         self.assertEqual((between(1_000_000, 1_000_001), between(1_000_000, 1_000_002)), ("1V", "1V to 1.000002V"))
 
     def test_one_object(self):
-        commanded = Commanded("VOUT_COMMAND", 1, True, 1_000_000, 1_000_001, (900_000, 1_100_000), "within", {"VOUT_MAX": "", "VOUT_MIN": ""})
+        commanded = Commanded("VOUT_COMMAND", 1, True, 1_000_000, 1_000_001, (900_000, 1_100_000), "within", {"VOUT_MAX": "", "VOUT_MIN": ""},
+                              ignores_faults=False)
         answer = Answer("set 0 1V", "restarted", status=3, output=0, register="OPERATION", word=0x80, microvolts=1_000_000, possible=(0x80, 0), why="so",
                         commanded=commanded, delivered=Delivered(0, Verdict("off", microvolts=5), Looks(), status=0x40), restart_seen=True, refusal="L3 BelowLimit")
         found = json.loads(answer.as_json({"part": "u1"}))
         del found["time"]
         self.assertEqual(found, {
             "command": "set 0 1V", "end": "restarted", "status": 3, "why": "so", "refusal": "L3 BelowLimit", "output": 0, "register": "OPERATION",
-            "word": "80", "volts": 1.0, "possible": ["80", "00"], "selected": "VOUT_COMMAND", "on": True, "commands": [1.0, 1.000001],
+            "word": "80", "volts": 1.0, "possible": ["80", "00"], "selected": "VOUT_COMMAND", "faults_ignored": False, "on": True, "commands": [1.0, 1.000001],
             "limits": [0.9, 1.1], "within": True, "delivery": "off", "read_vout": 0.000005, "status_word": "0040", "missing": ["VOUT_MAX", "VOUT_MIN"],
             "restart_seen": True, "rows": [], "part": "u1"})
         self.assertEqual([Answer("x", "done", output=output, register=register, name=name).place()

@@ -1,5 +1,6 @@
 """Margin tests of two rails, row by row: which bytes of OPERATION go in which order, what ends a test, and that nothing is ordered before all is
 judged."""
+import json
 import tempfile
 import unittest
 from unittest import mock
@@ -11,7 +12,7 @@ from .runs import called
 from .test_margin_tests import BOARD
 from .test_sequences import ORDER, Watched
 
-HIGH, LOW, ON = 0xA8, 0x94, 0x80
+HIGH, LOW, ON = 0xA8, 0x98, 0x80
 CORE, IO = [(0, HIGH), (0, LOW), (0, ON)], [(1, HIGH), (1, LOW), (1, ON)]
 
 
@@ -71,6 +72,16 @@ class Rows(unittest.TestCase):
                          [[name, point] for name in ("core", "io") for point in ("nominal", "high", "low", "nominal")])
         self.assertIn("core: back, OPERATION 80 confirmed\nio: back, OPERATION 80 confirmed\n", out)
 
+    def test_faults_are_ignored_at_both_margins(self):
+        ignoring = [(0, 0xA4), (0, 0x94), (0, ON), (1, 0xA4), (1, 0x94), (1, ON)]
+        status, orders, out, _ = self.run_test("--ignore-faults")
+        self.assertEqual((status, orders), (0, ignoring))
+        self.assertEqual([(line.split()[0], "faults ignored" in line) for line in out.splitlines()[1:9]],
+                         [(name, is_margin) for name in ("core", "io") for is_margin in (False, True, True, False)])
+        found = json.loads(self.run_test("--ignore-faults", "--json")[2])
+        self.assertEqual([(row["point"], row.get("faults_ignored")) for row in found["rows"][:4]],
+                         [("nominal", False), ("high", True), ("low", True), ("nominal", False)])
+
     def test_named_rails_alone(self):
         self.assertEqual(self.run_test("io")[:2], (0, IO))
         status, orders, _, err = self.run_test("io", "aux")
@@ -101,5 +112,5 @@ class Rows(unittest.TestCase):
     def test_a_rail_that_is_not_back(self):
         status, orders, out, err = self.run_test(kind=Deaf, byte=ON)
         self.assertEqual((status, orders), (1, CORE[:2]))
-        self.assertIn("core isn't known to be back: OPERATION 80 isn't confirmed: OPERATION is 94", err)
+        self.assertIn("core isn't known to be back: OPERATION 80 isn't confirmed: OPERATION is 98", err)
         self.assertNotIn("core: back", out)

@@ -18,7 +18,7 @@ from .test_board_files import table_of
 AWAY = os.environ.get("PMHOST_AWAY", "1 2 9 30").split()
 EACH_LENGTH, EVERY = "PMHOST_AWAY" in os.environ, int(os.environ.get("PMHOST_EVERY", "1"))
 LENGTHS = [*range(1, 31)] if AWAY == ["1-30"] else [int(each) for each in AWAY]
-ON, MARGINS, NAMES = 0x80, (0xA8, 0x94), ("core", "io")
+ON, MARGINS, NAMES = 0x80, (0xA8, 0x98, 0xA4, 0x94), ("core", "io")
 BACK = re.compile(r"(\w+)(?: is back: |: back, |: )OPERATION ([0-9A-F]{2}) confirmed")
 
 

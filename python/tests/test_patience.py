@@ -1,6 +1,7 @@
 """A bus that waits for a busy part, over a clock that nobody waits for."""
 import errno
 import re
+import tempfile
 import time
 import unittest
 from unittest import mock
@@ -9,6 +10,7 @@ from pmhost import Host, LinuxBus, PatientBus, Transfers, clock, pec
 from pmhost.bus import patient
 
 from . import runs
+from .board_kernel import BoardKernel
 from .busy import Deaf30, Timed
 from .field import Field
 from .kernel import FakeKernel, Part
@@ -210,6 +212,20 @@ class Patience(unittest.TestCase):
                     self.assertGreater(part.get("questions"), 2)
                     status, out, _ = runs.called(["-b", "7", "-a", "58", "read", "0", "STATUS_WORD"], FakeKernel(part))
                     self.assertEqual(out, f"read 0: STATUS_WORD {'0080 BUSY' if noted else '0000'}\n")
+
+    def test_the_ready_of_a_board_file_is_what_the_part_is_asked(self):
+        """The byte EF of a part of the file is asked behind a write, as often as by --ready; without it CAPABILITY is."""
+        for ready, asked in ('ready = "EF:60"', "B0 EF /"), ("", "B0 19 /"):
+            part = Field()
+            part.set("busy_ms", 60)
+            part.set("busy_kind", 1)
+            with as_shipped(), tempfile.NamedTemporaryFile("w", suffix=".toml") as file, self.subTest(ready):
+                file.write(f'[parts.u1]\nbus = 7\naddress = "58"\noutputs = 2\n{ready}\n'
+                           '[rails.core]\npart = "u1"\noutput = 0\nvolts = "1.05V"\nlimits = ["0.8V", "1.3V"]\n')
+                file.flush()
+                self.assertEqual(runs.called(["apply", file.name], BoardKernel({7: {0x58: part}}))[0], 0)
+                self.assertGreater(part.get("questions"), 1)
+                self.assertEqual({line for line in part.lines if line in ("B0 EF /", "B0 19 /")}, {asked})
 
     def test_a_part_is_ready_by_its_own_byte(self):
         good = bytes.fromhex("40") + bytes([pec(bytes.fromhex("B0EFB140"))])

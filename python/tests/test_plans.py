@@ -430,6 +430,14 @@ class Kinds(unittest.TestCase):
             self.assertEqual((course.turns_off, course.copy().turns_off), (is_off, is_off), f"{byte:02X}")
         self.assertFalse(Course.survey(0).turns_off)
 
+    def test_a_course_knows_at_which_margin_the_part_acts_on_faults(self):
+        host = free(Host(0x58))
+        for side, ignored, register in (("high", False, "VOUT_MARGIN_HIGH"), ("low", False, "VOUT_MARGIN_LOW"), ("high", True, None), ("low", True, None)):
+            course = Course.margin(0, side, 40, ignored)
+            self.assertEqual((course.guarded, course.copy().guarded, course.tries, course.turns_off), (register, register, 40, False))
+            self.assertEqual(course.next(host).kind, "learn")
+        self.assertEqual((Course.power(0, 0x98).guarded, Course.survey(0).guarded), (None, None))
+
     def test_a_job_has_a_word_where_it_is_an_order(self):
         host, course = free(Host(0x58)), Course.power(0, 0x40)
         self.assertEqual((course.next(host), course.job()), (Job("order", "OPERATION", 0x40), None))

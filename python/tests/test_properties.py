@@ -121,10 +121,22 @@ def bit(word, place):
     return word >> place & 1 == 1
 
 
-def verdict_of(held, before, asked_before, has_vout, limits, within, commanded):
+def voltage_of(held, limits, within, commanded):
+    """What READ_VOUT says; None if it is right."""
+    if isinstance(held[0x8B], str):
+        return "not known", 0x8B, 0
+    volts = Fraction(held[0x8B], 4096)
+    if not limits[0] <= volts <= limits[1]:
+        return "outside", 0x8B, 0
+    return ("beyond", 0x8B, 0) if abs(volts - commanded) > commanded * within / 1000 else None
+
+
+def verdict_of(held, before, asked_before, lacks, limits, within, commanded):
     """What a rail does that is commanded on, in the plainest words: `held` has the word of each register, and `before` that of STATUS_WORD
     before the first order; a text where no good answer came. The kind, the register and the bit."""
-    status = held[0x79]
+    status, has_vout = held[0x79], "READ_VOUT" not in lacks
+    if "STATUS_WORD" in lacks:
+        return (voltage_of(held, limits, within, commanded) or ("delivers by READ_VOUT", None, 0)) if has_vout else ("not known", 0x79, 0)
     if isinstance(status, str):
         return "not known", 0x79, 0
     if bit(status, 6):
@@ -145,14 +157,8 @@ def verdict_of(held, before, asked_before, has_vout, limits, within, commanded):
     for code, _ in pointed:
         if isinstance(held[code], str):
             return "not known", code, 0
-    if has_vout:
-        if isinstance(held[0x8B], str):
-            return "not known", 0x8B, 0
-        volts = Fraction(held[0x8B], 4096)
-        if not limits[0] <= volts <= limits[1]:
-            return "outside", 0x8B, 0
-        if abs(volts - commanded) > commanded * within / 1000:
-            return "beyond", 0x8B, 0
+    if has_vout and (found := voltage_of(held, limits, within, commanded)):
+        return found
     if bit(status, 11):
         return ("power good alone" if has_vout else "no power good"), 0x79, 0
     return "delivers", None, 0
@@ -198,8 +204,10 @@ class Deliveries(unittest.TestCase):
     def test_each_verdict_is_the_plain_one_s(self, draw):
         host, found = known_host(), set()
         for number in range(DRAWS * 4):
-            rail, has_vout, within, looks_before = Rail(draw), draw.random() < 0.8, draw.choice((0, 30, 50, 1000)), draw.random() < 0.8
-            delivery = Delivery(0, draw.choice(("refuse", "skip")), has_vout, within, draw.choice((1, 3)))
+            rail, within, looks_before = Rail(draw), draw.choice((0, 30, 50, 1000)), draw.random() < 0.8
+            said, seen = ([each for each in ("STATUS_WORD", "READ_VOUT") if draw.random() < 0.15] for _ in range(2))
+            lacks = {*said, *seen}
+            delivery = Delivery(0, draw.choice(("refuse", "skip")), said, within, draw.choice((1, 3)), seen)
             if looks_before:
                 delivery.look_before()
                 self.carry_out(delivery, host, rail)
@@ -207,13 +215,13 @@ class Deliveries(unittest.TestCase):
             delivery.look_after(False)
             self.carry_out(delivery, host, rail)
             verdict = delivery.verdict(host)
-            kind, code, place = verdict_of(rail.held, rail.before, looks_before, has_vout, (Fraction(9, 10), Fraction(12, 10)), within, 1)
-            with self.subTest(number=number, held=rail.held, before=rail.before, has_vout=has_vout, within=within):
+            kind, code, place = verdict_of(rail.held, rail.before, looks_before, lacks, (Fraction(9, 10), Fraction(12, 10)), within, 1)
+            with self.subTest(number=number, held=rail.held, before=rail.before, lacks=lacks, within=within):
                 self.assertEqual((verdict.kind, verdict.register, verdict.bit), (kind, NAMES.get(code), place))
-                if kind == "not known":
+                if kind == "not known" and not (code == 0x79 and "STATUS_WORD" in lacks):
                     self.assertEqual(verdict.fault, {"none": "no answer", "damaged": "F5 WrongPec"}[rail.held[code]])
             found.add(kind)
-        self.assertEqual(found, {"delivers", "off", "fault", "outside", "beyond", "power good alone", "no power good", "not known"})
+        self.assertEqual(found, {"delivers", "off", "fault", "outside", "beyond", "power good alone", "no power good", "not known", "delivers by READ_VOUT"})
 
     @staticmethod
     def carry_out(delivery, host, rail):

@@ -7,6 +7,7 @@ import unittest
 from unittest import mock
 
 from pmhost import clock
+from pmhost.cli import streams
 from pmhost.rails import Rail
 from pmhost.sequence import in_order, milliseconds
 from pmhost.values import CODES
@@ -22,7 +23,7 @@ from .test_runs import Blocks
 
 # PAGE_PLUS_WRITE of OPERATION: its output and its byte.
 ORDER = re.compile(r"B0 05 03 0(\d) 01 (\w\w) ")
-STATUS_WORD = 0x79
+STATUS_WORD, READ_VOUT = 0x79, 0x8B
 TIMES = {"0ms": 0, "5ms": 5, " 5 ms": 5, "12s": 12_000, "5": None, "ms": None, "5us": None, "1.5s": None, "-5ms": None}
 
 
@@ -175,6 +176,13 @@ class Frames(unittest.TestCase):
         self.assertGreater(len(named), 1)
 
 
+    def test_off_goes_on_where_nobody_is_left_to_read_it(self):
+        """The reader of the pipe leaves before the first line: every rail is off all the same, and the call ends as badly as it began."""
+        with mock.patch.object(streams, "write", side_effect=streams.NoStream("standard output: Broken pipe")) as write:
+            status, orders, _, _ = self.run_board("off", "FILE", starts=(0x80, 0x80, 0x80))
+        self.assertEqual((status != 0, orders, write.call_count), (True, [(2, 0), (1, 0), (0, 0)], 3))
+
+
 class Gates(unittest.TestCase):
     """`delivers`: what a rail that comes before another does, by the word that the part answers, is judged before the next one begins."""
 
@@ -201,15 +209,15 @@ class Gates(unittest.TestCase):
 
 
 class Seen(Watched):
-    """A part that keeps among its orders, too, of which output it answered STATUS_WORD; or that has none."""
+    """A part that keeps among its orders, too, of which output it answered STATUS_WORD; and that lacks these codes."""
 
-    lacks = False
+    lacks = ()
 
     def hear(self, frame, ending):
-        is_status = ending == "restart" and bytes(frame[1:3]) == b"\x06\x02" and frame[4] == STATUS_WORD
-        if is_status and self.lacks:
+        is_question = ending == "restart" and bytes(frame[1:3]) == b"\x06\x02"
+        if is_question and frame[4] in self.lacks:
             return None
-        if is_status:
+        if is_question and frame[4] == STATUS_WORD:
             self.orders.append((frame[3], "seen"))
         return super().hear(frame, ending)
 
@@ -219,7 +227,7 @@ class Silence(unittest.TestCase):
 
     board = "\n".join([table_of("u1", 7, 0x58, 2), rail_of("core", 0), rail_of("io", 1, 'after = ["core"]', "delivers = true")])
 
-    def run_board(self, board, mishaps, lacks=False):
+    def run_board(self, board, mishaps, lacks=()):
         part = Seen((0, 0))
         part.lacks, over = lacks, BoardKernel({7: {0x58: part}}, mishaps)
         over.strikes_looks = True
@@ -241,15 +249,24 @@ class Silence(unittest.TestCase):
                         self.assertIn((1, "seen"), orders[orders.index((1, 0x80)):])
                     self.assertEqual(status == 0, err == "")
                     # The part has it: no call says that it doesn't.
-                    self.assertNotIn("STATUS_WORD gives no answer", err)
+                    self.assertNotIn("lack", err)
                     statuses.add(status)
         self.assertEqual(statuses, {0, 1})
 
     def test_a_part_without_status_word(self):
-        status, orders, _, err = self.run_board(self.board, [], lacks=True)
-        self.assertEqual((status, orders), (1, [(0, 0x80)]))
-        self.assertIn("core has to deliver first, which isn't known: STATUS_WORD gives no answer", err)
-        status, orders, out, _ = self.run_board(self.board.replace("delivers = true", ""), [], lacks=True)
+        status, orders, out, _ = self.run_board(self.board, [], [STATUS_WORD])
         self.assertEqual((status, orders), (0, [(0, 0x80), (1, 0x80)]))
-        self.assertIn("on core: OPERATION 80 on confirmed; the output commands 1V, within 0.9V to 1.1V; delivery not known: "
-                      "STATUS_WORD gave no good answer", out)
+        self.assertIn("on core: OPERATION 80 on confirmed; the output commands 1V, within 0.9V to 1.1V, delivers 1V by READ_VOUT", out)
+
+    def test_a_part_without_status_word_and_read_vout(self):
+        unknown = "whether the rail delivers isn't known: the part seems to lack STATUS_WORD and READ_VOUT"
+        status, orders, _, err = self.run_board(self.board, [], [STATUS_WORD, READ_VOUT])
+        self.assertEqual((status, orders), (1, [(0, 0x80)]))
+        self.assertIn(unknown, err)
+        said = self.board.replace("[rails.core]", 'lacks = ["STATUS_WORD", "READ_VOUT"]\n[rails.core]')
+        status, orders, _, err = self.run_board(said, [], [STATUS_WORD, READ_VOUT])
+        self.assertEqual((status, orders), (1, [(0, 0x80)]))
+        self.assertIn("core has to deliver first, which isn't known: the part lacks STATUS_WORD and READ_VOUT", err)
+        status, orders, out, _ = self.run_board(said.replace("delivers = true", ""), [], [STATUS_WORD, READ_VOUT])
+        self.assertEqual((status, orders), (0, [(0, 0x80), (1, 0x80)]))
+        self.assertIn("delivery not known: the part lacks STATUS_WORD and READ_VOUT", out)

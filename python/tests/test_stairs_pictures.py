@@ -6,8 +6,8 @@ import tempfile
 import unittest
 
 from pmhost.picture import drawing
-from pmhost.picture.lane import SHADE
-from pmhost.picture.stairs import HIGH
+from pmhost.picture.lane import INSIDE, SHADE
+from pmhost.picture.stairs import GRID, HIGH
 
 from .board_kernel import BoardKernel
 from .drawn import SVG, Drawn, layout_faults
@@ -51,6 +51,26 @@ def crossed(drawn):
             yield f"{it.words!r} is crossed"
 
 
+def overlong(drawn):
+    """The lines of the grid that end elsewhere than the ground of a rail does, but for those of the heads."""
+    grounds = {(float(it.get("y")), float(it.get("y")) + float(it.get("height"))) for it in drawn.root.iter(SVG + "rect") if it.get("fill") == INSIDE}
+    head = min(top for _, top, _, _ in drawn.paths(GRID, 1.0))
+    yield from (f"a line from {top} to {end}" for _, top, _, end in drawn.paths(GRID, 1.0) if top != head and (top, end) not in grounds)
+
+
+class Shapes(unittest.TestCase):
+    def test_a_mark_stands_where_it_is_put(self):
+        for kind in ("good", "fault", "restart"):
+            (x, y), (x2, y2) = ([float(it) for it in re.search(r"M([\d.]+) ([\d.]+)", drawing.symbol(kind, *place)).groups()]
+                                for place in ((100, 50), (110, 70)))
+            self.assertEqual((round(x2 - x), round(y2 - y), abs(x - 100) < 6, abs(y - 50) < 6), (10, 20, True, True), kind)
+
+    def test_the_first_words_that_fit_are_taken(self):
+        choices = ["not known, whether on or off", "on or off", "?"]
+        found = [drawing.first_that_fits(choices, room, 12, 1) for room in (300, 80, 5)]
+        self.assertEqual(found, [[it] for it in choices])
+
+
 class Pictures(unittest.TestCase):
     def setUp(self):
         folder = tempfile.TemporaryDirectory()
@@ -74,8 +94,10 @@ class Pictures(unittest.TestCase):
         self.assertEqual(self.called(command, self.file, "--picture", self.picture, **more), plain)
         with open(self.picture, encoding="utf-8") as file:
             drawn = Drawn(file.read())
-        self.assertEqual([*layout_faults(drawn), *crossed(drawn)], [])
+        self.assertEqual([*layout_faults(drawn), *crossed(drawn), *overlong(drawn)], [])
         bold = [it for it in drawn.texts if it.is_bold]
+        times = [it.words for it in drawn.texts if it.words.endswith(" ms")]
+        self.assertEqual((len(times), [it for it in times if not re.fullmatch(r"\d+ ms", it)]), (sum(it.size == 12 for it in bold), []))
         rows = {it.words: Row(drawn, it) for it in bold if it.size == 15}
         return [it.words for it in bold if it.size != 15], rows, plain[0][0], drawn
 
@@ -120,7 +142,9 @@ class Pictures(unittest.TestCase):
         shades = set()
         for place in range(30):
             _, rows, _, drawn = self.drawn("on", starts=(0xA8, 0), mishaps=["ok"] * place + ["deaf"] * 400)
-            if any(it.get("fill") == drawing.LINE and it.get("fill-opacity") == re.findall(r"[\d.]+", SHADE)[0] for it in drawn.root.iter(SVG + "rect")):
+            # (the legend has one too)
+            if any(it.get("fill") == drawing.LINE and it.get("fill-opacity") == re.findall(r"[\d.]+", SHADE)[0]
+                   and rows["core"].top < float(it.get("y")) < rows["core"].top + HIGH for it in drawn.root.iter(SVG + "rect")):
                 shades.update(rows["core"].labels)
         self.assertIn("1 V to 1.062 V", shades)
 

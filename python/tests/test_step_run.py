@@ -27,6 +27,13 @@ class Runs(unittest.TestCase):
             self.assertEqual([carried_out(run, place, part) for place, part in enumerate(parts)], ["reached"] * 9)
             self.assertEqual([part.bus.part.word(0, "OPERATION") for part in parts], [byte] * 9)
 
+    def test_a_step_without_a_way_back_is_carried_out(self):
+        """The output holds 1 V, which is outside its limits, so that no plan leads back to it. The caller of steps asked for no way back."""
+        part = device(0x40)
+        part.host.set_limits(0, "1.02V", "1.1V")
+        run = StepRun([(part, StairsStep.sets(0, 0, {"VOUT_COMMAND": "1.05V"}))], 40)
+        self.assertEqual((carried_out(run, 0, part), part.bus.part.word(0, "VOUT_COMMAND")), ("reached", 0x10CD))
+
     def test_a_part_that_is_silent_at_first_is_asked_about_and_gone_on_with(self):
         """Each request of the first job is unheard; nothing was ordered by then."""
         for why in ("", "no answer at 40h"):

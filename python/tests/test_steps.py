@@ -50,7 +50,7 @@ class Begins(unittest.TestCase):
     def test_which_rails_hold_the_next_one_up(self):
         for kind in VERDICTS:
             with self.subTest(kind=kind):
-                self.assertEqual(steps.why_not_before("core", delivered(kind)) == "", kind == "delivers")
+                self.assertEqual(steps.why_not_before("core", delivered(kind)) == "", kind.startswith("delivers"))
 
     def test_a_rail_waits_and_looks_at_those_that_it_names(self):
         core, aux = rail("core"), rail("aux")

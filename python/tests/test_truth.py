@@ -65,5 +65,6 @@ class Truth(unittest.TestCase):
             if job.startswith("set 0 ") and len(job.split()) == 3:
                 self.assertEqual(part.converter.selected(0), CODES["VOUT_COMMAND"])
                 self.assertLess(abs(commanded - Fraction(job.split()[2].removesuffix("V"))), Fraction(1, 4096))
-            if job == "margin 0 high":
-                self.assertEqual((cells[0, 0x01], part.converter.selected(0)), (0xA8, CODES["VOUT_MARGIN_HIGH"]))
+            if job.startswith("margin 0 "):
+                margin = {"high": (0xA8, CODES["VOUT_MARGIN_HIGH"]), "low": (0x98, CODES["VOUT_MARGIN_LOW"])}[job.split()[2]]
+                self.assertEqual((cells[0, 0x01], part.converter.selected(0)), margin)

@@ -98,6 +98,11 @@ class Lane:
         """The volts at which upright lines of this colour and width stand over a row's middle."""
         return sorted(self.volts(x) for x, top, other, end in self.drawn.paths(colour, width) if x == other and top < label.y - 4 < end)
 
+    def steps(self):
+        """The volts that a voltage's level lines join, each with the next one."""
+        return [(self.volts(x), self.volts(other)) for x, top, other, end in self.drawn.paths(drawing.LINE, 3)
+                if top == end and self.tops[0] < top < self.tops[-1] + ROW]
+
     def shades(self):
         """By row, the microvolts that the host is said to know, and the volts between which the shade stands."""
         found = {}
@@ -150,6 +155,7 @@ class Ways(unittest.TestCase):
         self.assertEqual([(name, rail.heads) for name, rail in rails.items()], [("core", HEADS), ("io", IO_HEADS)])
         self.assertEqual(rails["core"].rows, [START, RAISED, ORDERED])
         self.assertEqual(rails["io"].rows, [IO_START, IO_ORDERED])
+        self.assertEqual([rail.steps() for rail in rails.values()], [[(1.0, 3.3)], [(1.0, 1.25)]])
         self.assertEqual([(rail.allowed[-1], rail.wanted[-1]) for rail in rails.values()], [([0.9, 3.6], [3.3]), ([0.9, 1.6], [1.25])])
         self.assertEqual([(rail.end, rail.colour) for rail in rails.values()],
                          [("the output commands 3.300048V, within 0.9V to 3.6V, delivers 3.300048V", drawing.GOOD),

@@ -6,6 +6,7 @@ import unittest
 from types import SimpleNamespace
 from unittest import mock
 
+from pmhost import Format
 from pmhost.back import Held, bring_back
 from pmhost.bus.linux import ENDING
 from pmhost.cli import back, streams
@@ -74,6 +75,13 @@ class Ends(unittest.TestCase):
     def test_one_of_two_that_is_not_back_is_told(self):
         call = Call(CORE, IO, fails={"io": "no good answer"})
         self.assertEqual((call.end(), [it.end for it in call.said]), (1, ["not back", "back"]))
+
+    def test_words_of_another_format_are_not_back(self):
+        """The output holds the word of before, which stands for another voltage by the format that it has now."""
+        for exponent, why in (-12, ""), (-11, "its voltages have another format now"):
+            held = Held("core", "u1", 0, {"VOUT_COMMAND": 0x34CD}, Format("ULINEAR16", exponent))
+            with self.subTest(exponent=exponent):
+                self.assertEqual(bring_back(rails(), held), why)
 
     def test_nobody_is_left_to_read_it(self):
         call = Call(CORE, IO)

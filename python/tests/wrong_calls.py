@@ -3,10 +3,21 @@ from decimal import Decimal
 from fractions import Fraction
 
 from pmhost import Course, Device, Format, HostRefused, LimitRefused, LINEAR11, MemoryRefused, ModelPart, ModelPartBus, NumberRefused, Output, Packet, Voltage
-from pmhost import Host, pec, read_answer, read_request, read_write
+from pmhost import Host, pec, read_answer, read_block, read_plain, read_request, read_write
 from pmhost import FrameRefused, SetupRefused, Smbus2Bus
+from pmhost.delivery import Delivery
+from pmhost.packets import paged_request, read_paged
 
 REQUEST = Packet("PAGE_PLUS_READ", 0x21)
+
+
+
+def looking(output):
+    """A delivery of an output that is looked at now."""
+    found = Delivery(output)
+    found.look_after()
+    return found
+
 
 # Of a Device `p` with two learned outputs, of which output 0 has limits of 3.2 to 3.465 V, and of its host.
 CALLS = [
@@ -76,6 +87,10 @@ CALLS = [
     (lambda p: p.order(0, "OPERATION", 0x80), LimitRefused, "L5 NotKnownWithin"),
     (lambda p: p.margin(0, "up"), ValueError, "side: 'up' isn't high or low"),
     (lambda p: Course.survey(8), ValueError, "output: 8 isn't 0 to 7"),
+    (lambda p: Course.survey(0).write_ended(p.host, "yes"), TypeError, "acked: True or False is wanted, and not 'yes'"),
+    (lambda p: Course.survey(0).after_write(p.host, "yes"), TypeError, "acked: True or False is wanted, and not 'yes'"),
+    *((lambda p, call=call: call(p.host, bytes(65537)), ValueError, "answer: 65537 are more than 65536") for call in (
+        Course.survey(0).read_ended, Course.survey(0).after_read, looking(0).read_ended)),
     (lambda p: Course.survey(0, -1), ValueError, "tries: -1 isn't 0 to 65535"),
     (lambda p: Course.words(0, {"OPERATION": 0x80}), ValueError, "wanted: OPERATION is no voltage of an output"),
     (lambda p: Course.voltage(0, 3.3), TypeError, "voltage: give a text with its unit"),
@@ -128,6 +143,14 @@ CALLS = [
     (lambda p: Packet("write word", 0x121), ValueError, "code: 289 isn't 0 to 255"),
     (lambda p: Packet("write byte", 0x21).frame(0x58), MemoryRefused, "NoPacket"),
     (lambda p: REQUEST.frame(0x78), MemoryRefused, "NoAddress"),
+    *((lambda p, call=call: call(0x158), ValueError, "address: 344 isn't 0 to 255") for call in (
+        REQUEST.frame, lambda it: read_write(it, b"\xb0\x03\x46"), lambda it: read_request(it, b"\xb0\x19"), lambda it: read_answer(it, REQUEST, b""),
+        lambda it: paged_request(it, 0, 0x40, 2), lambda it: read_paged(it, 0, 0x40, 2, b""), lambda it: read_block(it, 0x99, b""),
+        lambda it: read_plain(it, 0x79, 2, b""))),
+    (lambda p: looking(2).frame(p.host), HostRefused, "H4 UnknownOutput"),
+    (lambda p: looking(2).read_ended(p.host, b""), HostRefused, "H4 UnknownOutput"),
+    (lambda p: looking(2).verdict(p.host), HostRefused, "H4 UnknownOutput"),
+    (lambda p: looking(2).judge(p.host, 0x1000), HostRefused, "H4 UnknownOutput"),
     (lambda p: read_write(0x58, b"\xb0\x21\xcd\x34\x00"), FrameRefused, "F5 WrongPec"),
     (lambda p: read_request(0x58, b"\xb2\x21"), FrameRefused, "F1 NotOurs"),
     (lambda p: read_answer(0x58, REQUEST, b"\xb1\x02\xcd\x34\x00"), FrameRefused, "F5 WrongPec"),

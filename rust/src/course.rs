@@ -9,7 +9,7 @@ use crate::host::{step_of, Cell, Host, Register, Sending, Step};
 use crate::jobs::Job;
 use crate::loops::{Failures, Frames};
 use crate::rail::{Rail, Wanted};
-use crate::refusal::{accepted, Refusal};
+use crate::refusal::{accepted, Refusal, ENDED};
 
 /// How many jobs a course may have, if a caller has no number of his own.
 pub const COURSE_TRIES: u16 = 64;
@@ -157,7 +157,7 @@ impl<E: error::Error + 'static> error::Error for NotReached<E> {
 /// host.set_limits(0, Limits { least: 3_135_000, most: 3_465_000 })?;
 /// let mut course = Course::voltage(0, Register::VoutCommand, 3_300_000, COURSE_TRIES)?;
 /// loop {
-///     let _step = match course.frame(&mut host) {
+///     let _step = match course.frame(&mut host)? {
 ///         Sending::Nothing => break,
 ///         Sending::Write(frame) => {
 ///             let acked = bus.transaction(0x58, &mut [Operation::Write(&frame[1..])]).is_ok();
@@ -225,7 +225,7 @@ impl Course {
 
     /// To a byte of OPERATION. One that turns the output off is the first frame, whatever is known, and nothing but OPERATION is read
     /// after it. One that leaves it on is ordered after a survey and reads of WRITE_PROTECT and of the register that it selects, by
-    /// its limits.
+    /// its limits. At the margins A8h and 98h the part acts on faults, at A4h and 94h it ignores them.
     pub fn power(output: u8, byte: u8, tries: u16) -> Result<Course, Refusal> {
         Course::made(output, |image| unsafe { ffi::pm_course_power(image, output, byte, tries) })
     }
@@ -263,11 +263,13 @@ impl Course {
     }
 
     /// What is to be sent now: the frame of its open job, which stays the same until it hears what became of it; if none is open,
-    /// its next job begins first. `Sending::Nothing` once it has ended.
-    pub fn frame(&mut self, host: &mut Host) -> Sending {
+    /// its next job begins first. `Sending::Nothing` once it has ended. H4 if the host has no such output: nothing changes then.
+    pub fn frame(&mut self, host: &mut Host) -> Result<Sending, Refusal> {
         let mut found = ffi::SendingImage::default();
-        unsafe { ffi::pm_course_frame(&mut self.image, &mut host.image, &mut found) };
-        Sending::of(found)
+        match unsafe { ffi::pm_course_frame(&mut self.image, &mut host.image, &mut found) } {
+            ENDED => Ok(Sending::Nothing),
+            number => accepted(number).map(|()| Sending::of(found)),
+        }
     }
 
     /// A write was sent, and acknowledged or not. OtherFrame if none is to be sent.
@@ -313,7 +315,7 @@ impl Course {
         NotReached::of(&found, self.output, error)
     }
 
-    /// Which job it would begin now; `None` if it would end. Nothing begins, and nothing changes.
+    /// Which job it would begin now; `None` if it would end, and if the host has no such output. Nothing begins, and nothing changes.
     #[must_use]
     pub fn next(&self, host: &Host) -> Option<Job> {
         let mut found = ffi::CourseJobImage::default();

@@ -3,12 +3,15 @@
 use core::{error, fmt};
 
 use crate::course::{AnswerFault, NotReached};
-use crate::delivery::Limit;
+use crate::delivery::{Limit, FOUND_NO_STATUS_WORD, LACKS_READ_VOUT, LACKS_STATUS_WORD};
 use crate::host::{Limits, Register};
 use crate::number::Format;
 use crate::refusal::Refusal;
 use crate::status::{name_of, BitName, Status, Volts};
 use crate::verdict::Verdict;
+
+/// The command code of STATUS_WORD.
+const STATUS_WORD: u8 = 0x79;
 
 /// The bits of STATUS_WORD that say a fault or point to one.
 const FAULTS: u16 = 0xE03C;
@@ -47,17 +50,30 @@ pub struct Delivered {
     pub(crate) goals: [Option<Goal>; 3],
     pub(crate) limit_words: [u16; 4],
     pub(crate) silent: [bool; 4],
-    pub(crate) is_absent: bool,
-    pub(crate) is_told: bool,
+    pub(crate) is_off: bool,
+    pub(crate) lacks: u8,
     pub(crate) tells_power_good: bool,
 }
 
 impl Delivered {
-    /// Whether the output does what it is to, isn't asked since it isn't commanded on, or has no STATUS_WORD to judge it by.
+    /// Whether the output does what it is to, isn't asked since it isn't commanded on, or can't be asked, since its caller said that the
+    /// part has neither STATUS_WORD nor READ_VOUT; after an order that turned it off, that it has no STATUS_WORD.
     #[must_use]
     pub fn is_good(&self) -> bool {
         let is_told_alone = self.tells_power_good && matches!(self.verdict, Verdict::PowerGoodAlone { .. });
-        self.verdict.is_good() || self.is_absent || is_told_alone
+        self.verdict.is_good() || self.is_unasked() || is_told_alone
+    }
+
+    /// Whether nothing is known of it, since the part lacks what it would be known by, as the caller says or as was found.
+    fn is_missing(&self) -> bool {
+        matches!(self.verdict, Verdict::NotKnown { code: STATUS_WORD, .. })
+            && self.lacks & (LACKS_STATUS_WORD | FOUND_NO_STATUS_WORD) != 0
+    }
+
+    /// Whether that is so by what the caller said.
+    fn is_unasked(&self) -> bool {
+        let needed = if self.is_off { LACKS_STATUS_WORD } else { LACKS_STATUS_WORD | LACKS_READ_VOUT };
+        self.is_missing() && self.lacks & needed == needed
     }
 
     fn volts(&self, word: u16) -> Volts {
@@ -110,6 +126,7 @@ impl Delivered {
             Verdict::NotYet => to.write_str("delivery not asked to its end"),
             Verdict::Delivers { microvolts: None } => to.write_str("delivers by STATUS_WORD"),
             Verdict::Delivers { microvolts } => write!(to, "delivers {}", Volts(microvolts)),
+            Verdict::DeliversByReadVout { microvolts } => write!(to, "delivers {} by READ_VOUT", Volts(microvolts)),
             Verdict::CommandedOff => to.write_str("commanded off"),
             Verdict::NotKnownOn => to.write_str("not known to be on"),
             Verdict::IsOff { .. } => {
@@ -144,10 +161,18 @@ impl Delivered {
                 self.tell_status(to)?;
                 to.write_str(": power good is missing")
             }
-            Verdict::NotKnown { code, .. } if self.is_absent => {
-                write!(to, "delivery not known: {} gave no good answer", name_of(code))
+            Verdict::NotKnown { code, fault } => {
+                to.write_str(if self.is_off { "commanded off; not known to be off: " } else { "delivery not known: " })?;
+                if !self.is_missing() {
+                    return tell_unknown(code, fault, to);
+                }
+                to.write_str(if self.is_unasked() {
+                    "the part lacks STATUS_WORD"
+                } else {
+                    "the part seems to lack STATUS_WORD"
+                })?;
+                to.write_str(if self.is_off { "" } else { " and READ_VOUT" })
             }
-            Verdict::NotKnown { code, fault } => tell_unknown(code, fault, to),
             Verdict::WentOff => to.write_str("the part says that it is off"),
             Verdict::StillOn => {
                 to.write_str("commanded off, and the part says that it is on: ")?;
@@ -183,17 +208,14 @@ impl Delivered {
 
 fn tell_unknown(code: u8, fault: Option<AnswerFault>, to: &mut fmt::Formatter<'_>) -> fmt::Result {
     match fault {
-        Some(fault) => write!(to, "delivery not known: {} gave no good answer: {fault}", name_of(code)),
-        None => to.write_str("delivery not known: what the output commands isn't known"),
+        Some(fault) => write!(to, "{} gave no good answer: {fault}", name_of(code)),
+        None => to.write_str("what the output commands isn't known"),
     }
 }
 
 impl fmt::Display for Delivered {
-    /// One line; nothing if a part without STATUS_WORD was named before.
+    /// One line.
     fn fmt(&self, to: &mut fmt::Formatter<'_>) -> fmt::Result {
-        if self.is_absent && self.is_told {
-            return self.tell_limits("", to);
-        }
         self.tell_verdict(to)?;
         if matches!(self.verdict, Verdict::Delivers { .. } | Verdict::OutsideLimits { .. } | Verdict::Beyond { .. }) {
             self.tell_rest(to)?;

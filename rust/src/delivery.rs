@@ -3,12 +3,13 @@
 use core::fmt;
 
 use crate::bus::{Bus, Operation};
-use crate::course::{AnswerFault, Course};
+use crate::course::Course;
 use crate::delivered::{BeyondFaultLimit, Delivered, Goal, NotDelivered, GOALS};
 use crate::ffi;
 use crate::host::{Cell, Host, Register, Sending};
 use crate::jobs::Job;
 use crate::loops::{is_order, Failures, Frames};
+use crate::packet::Block;
 use crate::refusal::{accepted, Refusal};
 use crate::verdict::Verdict;
 
@@ -47,8 +48,11 @@ pub struct DeliveryOptions {
     pub fault_limits: FaultLimits,
     /// What is made of it if only power good is missing.
     pub power_good: PowerGood,
-    /// Whether READ_VOUT is one of the part's registers: the data sheet says it. One that gives no answer at all in two rounds counts as
-    /// missing.
+    /// Whether STATUS_WORD is one of the part's registers: the data sheet says it. Without it READ_VOUT decides. It is found to be
+    /// missing if it gives no answer in two rounds, after each of which the part answers a read of OPERATION.
+    pub has_status_word: bool,
+    /// Whether READ_VOUT is one. It is found to be missing likewise. Of a part that has neither, nothing is known: that is good only if both
+    /// are false here.
     pub has_read_vout: bool,
     /// How far READ_VOUT may be from what the output commands, in thousandths of that, 1000 at most.
     pub within: u16,
@@ -61,6 +65,7 @@ impl Default for DeliveryOptions {
         DeliveryOptions {
             fault_limits: FaultLimits::Refuse,
             power_good: PowerGood::Judge,
+            has_status_word: true,
             has_read_vout: true,
             within: DELIVERS_WITHIN,
             rounds: DELIVERY_ROUNDS,
@@ -94,13 +99,12 @@ pub struct Delivery {
     image: ffi::DeliveryImage,
     goals: [Option<Goal>; 3],
     tells_power_good: bool,
-    is_absent: bool,
+    status_word: Silence,
     has_told_limits: bool,
-    has_told_absent: bool,
 }
 
-/// A register that is asked in each round: whether any answer came, and in how many rounds none did.
-#[derive(Default)]
+/// A register that is asked in each round: whether any answer ever came; if not, whether this round is silent, and how many were.
+#[derive(Clone, Copy, Default)]
 struct Silence {
     has_answered: bool,
     is_silent: bool,
@@ -110,13 +114,14 @@ struct Silence {
 impl Silence {
     /// What came of it once more.
     fn hear(&mut self, heard: ffi::HeardImage) {
-        self.is_silent = heard.asked != 0 && heard.fault == NO_ANSWER;
         self.has_answered |= heard.asked != 0 && heard.fault != NO_ANSWER;
+        self.is_silent = heard.asked != 0 && heard.fault == NO_ANSWER && !self.has_answered;
     }
 
-    /// A round has ended. Whether the part lacks the register: no answer at all came in two.
-    fn lasts(&mut self) -> bool {
-        self.rounds = self.rounds.saturating_add(u8::from(self.is_silent));
+    /// A round has ended, after which the part answered another read or not. Whether it lacks the register: that never answered, and was
+    /// silent in two rounds after which the part did.
+    fn lasts(&mut self, is_there: bool) -> bool {
+        self.rounds = self.rounds.saturating_add(u8::from(self.is_silent && is_there));
         self.is_silent = false;
         self.rounds >= 2 && !self.has_answered
     }
@@ -143,22 +148,16 @@ impl Delivery {
             FaultLimits::Tell => 1,
             FaultLimits::Skip => 2,
         };
-        let has = u8::from(options.has_read_vout);
-        accepted(unsafe { ffi::pm_delivery_new(&mut image, output, limits, has, options.within, options.rounds) })?;
+        let lacks = u8::from(!options.has_status_word) * LACKS_STATUS_WORD + u8::from(!options.has_read_vout) * LACKS_READ_VOUT;
+        accepted(unsafe { ffi::pm_delivery_new(&mut image, output, limits, lacks, options.within, options.rounds) })?;
         let tells_power_good = options.power_good == PowerGood::Tell;
-        Ok(Delivery {
-            image,
-            goals: [None; 3],
-            tells_power_good,
-            is_absent: false,
-            has_told_limits: false,
-            has_told_absent: false,
-        })
+        Ok(Delivery { image, goals: [None; 3], tells_power_good, status_word: Silence::default(), has_told_limits: false })
     }
 
     /// Begins to look at what stands before the first order of a call: STATUS_WORD, and the fault limits unless they are skipped. Ask for
     /// it before no order that turns the output off.
     pub fn look_before(&mut self) -> Result<(), Refusal> {
+        self.status_word = Silence::default();
         accepted(unsafe { ffi::pm_delivery_before(&mut self.image) })
     }
 
@@ -167,8 +166,8 @@ impl Delivery {
         accepted(unsafe { ffi::pm_delivery_after(&mut self.image, u8::from(is_off)) })
     }
 
-    /// The request that is to be sent now; `Sending::Nothing` if nothing is left to ask. Wait before one of which
-    /// [`Delivery::is_again`] is true.
+    /// The request that is to be sent now; `Sending::Nothing` if nothing is left to ask. Wait before one by which [`Delivery::round`] has
+    /// grown.
     pub fn frame(&mut self, host: &Host) -> Sending {
         let mut found = ffi::SendingImage::default();
         let number = unsafe { ffi::pm_delivery_frame(&mut self.image, &host.image, &mut found) };
@@ -179,10 +178,10 @@ impl Delivery {
         }
     }
 
-    /// Whether the request that is to be sent begins a further round, before which a caller waits.
+    /// Which of its rounds it is, from 0: if it has grown, a caller waits before the next request.
     #[must_use]
-    pub fn is_again(&self) -> bool {
-        self.image.round != 0 && self.image.status_word.asked == 0
+    pub fn round(&self) -> u16 {
+        self.image.round
     }
 
     /// A request was sent, and these bytes came back, the read address first; none if there was no answer.
@@ -243,11 +242,7 @@ impl Delivery {
 
     /// What the output does, with all that is said of it; nothing is said twice.
     pub fn delivered(&mut self, host: &Host) -> Result<Delivered, Refusal> {
-        let verdict = match self.is_absent {
-            true => Verdict::NotKnown { code: STATUS_WORD, fault: Some(AnswerFault::NoAnswer) },
-            false => self.verdict(host)?,
-        };
-        let is_absent = self.is_absent;
+        let verdict = self.verdict(host)?;
         let limits = [self.image.ov_fault_limit, self.image.ov_warn_limit, self.image.uv_warn_limit, self.image.uv_fault_limit];
         let image = &self.image;
         let found = Delivered {
@@ -263,35 +258,34 @@ impl Delivery {
             goals: self.goals,
             limit_words: limits.map(|heard| heard.word),
             silent: limits.map(|heard| !self.has_told_limits && heard.asked != 0 && heard.fault != 0),
-            is_absent,
-            is_told: self.has_told_absent,
+            is_off: image.look == LOOK_OFF,
+            lacks: image.lacks,
             tells_power_good: self.tells_power_good,
         };
-        self.has_told_absent |= is_absent;
         self.has_told_limits |= found.silent != [false; 4];
         self.goals = [None; 3];
         Ok(found)
     }
 
-    /// Asks all that there is to ask over a bus. A part that gives no answer at all for READ_VOUT in two rounds is asked no more for that,
-    /// and one that gives none for STATUS_WORD, with the look before an order as a round, nothing more.
+    /// Asks all that there is to ask over a bus. STATUS_WORD or READ_VOUT that is silent in two rounds, after each of which the part answers a
+    /// read of OPERATION, is one that it lacks, and is asked no more. The look before an order counts as a round.
     fn ask<B: Bus>(&mut self, host: &Host, bus: &mut B, pause: &mut impl FnMut()) -> Result<(), Refusal> {
-        let (mut status_word, mut read_vout) = (Silence::default(), Silence::default());
-        status_word.hear(self.image.before);
-        status_word.lasts();
-        while !self.is_absent {
+        let (mut status_word, mut read_vout) = (self.status_word, Silence::default());
+        loop {
+            let (round, lacks) = (self.image.round, self.image.lacks);
             let sending = self.frame(host);
-            if sending == Sending::Nothing || self.is_again() {
-                self.is_absent = status_word.lasts();
-                self.image.has_read_vout &= u8::from(!read_vout.lasts());
+            if sending == Sending::Nothing || self.image.round != round {
+                let is_there = (status_word.is_silent || read_vout.is_silent) && self.is_there(host, bus);
+                self.image.lacks |= u8::from(status_word.lasts(is_there)) * FOUND_NO_STATUS_WORD;
+                self.image.lacks |= u8::from(read_vout.lasts(is_there)) * FOUND_NO_READ_VOUT;
+                if sending != Sending::Nothing {
+                    pause();
+                }
+                if self.image.lacks != lacks {
+                    continue;
+                }
             }
-            let Sending::Request { frame, answer } = sending else { return Ok(()) };
-            if self.is_absent {
-                return Ok(());
-            }
-            if self.is_again() {
-                pause();
-            }
+            let Sending::Request { frame, answer } = sending else { break };
             let mut bytes = [0; 8];
             let came = &mut bytes[..answer.min(8)];
             let mut operations = [Operation::Write(&frame[1..]), Operation::Read(&mut came[1..])];
@@ -299,17 +293,39 @@ impl Delivery {
             came[0] = frame[0] | 1;
             let is_heard = is_answered && came[1..].iter().any(|byte| *byte != 0xFF);
             self.read_ended(host, if is_heard { came } else { &[] })?;
-            status_word.hear(self.image.status_word);
+            status_word.hear(if self.image.look == LOOK_BEFORE { self.image.before } else { self.image.status_word });
             read_vout.hear(self.image.read_vout);
         }
+        if self.image.look == LOOK_BEFORE {
+            self.status_word = status_word;
+        }
         Ok(())
+    }
+
+    /// Whether the part gives a good answer for OPERATION: if it gives none, silence says nothing of which registers it lacks.
+    fn is_there<B: Bus>(&self, host: &Host, bus: &mut B) -> bool {
+        let (address, output, code) = (host.address(), self.image.output, Register::Operation.code());
+        let Ok(request) = Block::paged_request(address, output, code, 1) else { return false };
+        (0..host.passes()).any(|_| {
+            let mut came = [address << 1 | 1, 0, 0, 0];
+            let mut operations = [Operation::Write(&request[1..]), Operation::Read(&mut came[1..])];
+            bus.transaction(address, &mut operations).is_ok() && Block::read_paged(address, output, code, 1, &came).is_ok()
+        })
     }
 }
 
 /// P8, by which a judgement is shown too.
 const P8: u8 = Refusal::P8BeyondFaultLimit.number();
 
-const STATUS_WORD: u8 = 0x79;
+/// What is looked at: what stands before the first order, and an output that was turned off.
+const LOOK_BEFORE: u8 = 1;
+const LOOK_OFF: u8 = 3;
+
+/// The bits of what a part lacks, as its caller says and as was found.
+pub(crate) const LACKS_STATUS_WORD: u8 = 1;
+pub(crate) const LACKS_READ_VOUT: u8 = 2;
+pub(crate) const FOUND_NO_STATUS_WORD: u8 = 4;
+const FOUND_NO_READ_VOUT: u8 = 8;
 
 /// The number of an answer that didn't come.
 const NO_ANSWER: u8 = 1;

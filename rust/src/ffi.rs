@@ -6,7 +6,7 @@ pub const HOST_VERSION: u16 = 6;
 pub const HOST_SIZE: usize = 2064;
 pub const COURSE_VERSION: u16 = 1;
 pub const COURSE_SIZE: usize = 104;
-pub const DELIVERY_VERSION: u16 = 1;
+pub const DELIVERY_VERSION: u16 = 2;
 pub const DELIVERY_SIZE: usize = 66;
 pub const STAIRS_VERSION: u16 = 1;
 pub const STAIRS_SIZE: usize = 272;
@@ -168,7 +168,7 @@ pub struct DeliveryImage {
     pub output: u8,
     pub look: u8,
     pub fault_limits: u8,
-    pub has_read_vout: u8,
+    pub lacks: u8,
     pub within: u16,
     pub rounds: u16,
     pub round: u16,
@@ -398,14 +398,8 @@ extern "C" {
     pub fn pm_course_goal(course: &CourseImage, host: &HostImage, code: u8, word: &mut u16) -> u8;
     pub fn pm_delivery_size() -> u64;
     pub fn pm_delivery_version() -> u16;
-    pub fn pm_delivery_new(
-        delivery: &mut DeliveryImage,
-        output: u8,
-        fault_limits: u8,
-        has_read_vout: u8,
-        within: u16,
-        rounds: u16,
-    ) -> u8;
+    pub fn pm_delivery_new(delivery: &mut DeliveryImage, output: u8, fault_limits: u8, lacks: u8, within: u16, rounds: u16)
+        -> u8;
     pub fn pm_delivery_before(delivery: &mut DeliveryImage) -> u8;
     pub fn pm_delivery_after(delivery: &mut DeliveryImage, off: u8) -> u8;
     pub fn pm_delivery_frame(delivery: &mut DeliveryImage, host: &HostImage, sending: &mut SendingImage) -> u8;

@@ -180,6 +180,16 @@ mod tests {
         fs::remove_file(&path).unwrap();
     }
 
+    /// The numbers and sizes of include/uapi/linux/i2c-dev.h and i2c.h, asm-generic/fcntl.h and asm-generic/signal-defs.h: no test has a
+    /// bus, and a call with another number opens none.
+    #[test]
+    fn the_numbers_are_those_of_linux() {
+        assert_eq!((I2C_SLAVE, I2C_FUNCS, I2C_RDWR), (0x0703, 0x0705, 0x0707));
+        assert_eq!((I2C_M_RD, I2C_FUNC_I2C, LONGEST), (1, 1, 8192));
+        assert_eq!((F_OFD_SETLK, F_WRLCK, SIG_BLOCK, SIG_SETMASK), (37, 1, 0, 2));
+        assert_eq!((size_of::<Message>(), size_of::<Messages>(), size_of::<Lock>()), (16, 16, 32));
+    }
+
     #[test]
     fn another_file_is_no_bus() {
         let null = OpenOptions::new().read(true).write(true).open("/dev/null").unwrap();

@@ -54,11 +54,11 @@ impl<'a> Frames<'a> {
         Frames { host, course: Some(course), stops: true }
     }
 
-    fn first(&mut self) -> Sending {
+    fn first(&mut self) -> Result<Sending, Refusal> {
         match &mut self.course {
-            Some(course) if self.stops && is_order(course.next(self.host)) => Sending::Nothing,
+            Some(course) if self.stops && is_order(course.next(self.host)) => Ok(Sending::Nothing),
             Some(course) => course.frame(self.host),
-            None => self.host.frame(),
+            None => Ok(self.host.frame()),
         }
     }
 
@@ -79,7 +79,7 @@ impl<'a> Frames<'a> {
     /// Sends frame after frame over a bus until none is left: the last step, `None` if there was no frame. A store, which wears
     /// the part's memory, is sent once: its later passes end as not acknowledged, unsent.
     pub(crate) fn carry_out<B: Bus>(&mut self, bus: &mut B, failures: &mut Failures<B::Error>) -> Result<Option<Step>, Refusal> {
-        let (mut last, mut has_stored, mut sending) = (None, false, self.first());
+        let (mut last, mut has_stored, mut sending) = (None, false, self.first()?);
         loop {
             let (step, next) = match sending {
                 Sending::Nothing => return Ok(last),

@@ -185,6 +185,9 @@ impl fmt::Display for Refusal {
 
 impl core::error::Error for Refusal {}
 
+/// What a call answers if a course or stairs have ended, which refuses nothing.
+pub(crate) const ENDED: u8 = 0x95;
+
 /// What a number says.
 pub(crate) fn accepted(number: u8) -> Result<(), Refusal> {
     if number == 0 {

@@ -5,10 +5,9 @@ use core::fmt;
 use crate::course::NotReached;
 use crate::ffi;
 use crate::host::{step_of, Cell, Host, Sending, Step};
-use crate::refusal::{accepted, Refusal};
+use crate::refusal::{accepted, Refusal, ENDED};
 use crate::stairs_step::StairsStep;
 
-const ENDED: u8 = 0x95;
 const AGAIN: u8 = 0x96;
 const NO_WAY_BACK: u8 = 0x97;
 
@@ -47,7 +46,7 @@ impl fmt::Display for StairsEnd {
     /// One line.
     fn fmt(&self, to: &mut fmt::Formatter<'_>) -> fmt::Result {
         match &self.why {
-            StairsStop::Reached => write!(to, "each of {} steps is over", self.step),
+            StairsStop::Reached => write!(to, "each of {} steps is over, or was left", self.step),
             StairsStop::Course(why) => write!(to, "step {}: {why}", self.step),
             StairsStop::Changed => write!(to, "step {}: the format changed, or another orders beside it", self.step),
             StairsStop::Restarted => write!(to, "step {}: a part restarted or was exchanged", self.step),
@@ -75,8 +74,9 @@ pub enum StairsNext {
     Ended(StairsEnd),
 }
 
-/// Steps of several outputs of at most eight hosts, one after another. Whatever is lost, cut or repeated, each output stands on a stair
-/// or on the next one, in the list's order. It holds no host and no list, and may be copied.
+/// Steps of several outputs of at most eight hosts, one after another. On a way up over one host each output stands on a stair or on the next
+/// one, in the list's order, whatever is lost, cut or repeated, while the part doesn't restart and nobody else orders: this is proved. Over
+/// several hosts it is tested. It holds no host and no list, and may be copied.
 ///
 /// ```
 /// use pmhost::{Bus, Host, Operation, Output, Part, Sending, Stairs, StairsNext, StairsStep, StairsStop, Wish, Wishes, COURSE_TRIES};

@@ -158,13 +158,21 @@ mod tests {
     }
 
     #[test]
-    fn each_status_register_has_its_own_bits() {
+    fn each_bit_of_a_status_register_has_its_name() {
         for (code, word, words) in [
-            (0x79, 0x4840, "STATUS_WORD 4840 IOUT_POUT, POWER_GOOD#, OFF"),
-            (0x7A, 0x90, "STATUS_VOUT 90 VOUT_OV_FAULT, VOUT_UV_FAULT"),
-            (0x7B, 0x81, "STATUS_IOUT 81 IOUT_OC_FAULT, POUT_OP_WARNING"),
-            (0x7C, 0x18, "STATUS_INPUT 18 VIN_UV_FAULT, UNIT_OFF_LOW_VIN"),
-            (0x7D, 0x81, "STATUS_TEMPERATURE 81 OT_FAULT, bit 0"),
+            (0x79, 0xFF00, "STATUS_WORD FF00 VOUT, IOUT_POUT, INPUT, MFR_SPECIFIC, POWER_GOOD#, FANS, OTHER, UNKNOWN"),
+            (
+                0x79,
+                0x00FF,
+                "STATUS_WORD 00FF BUSY, OFF, VOUT_OV_FAULT, IOUT_OC_FAULT, VIN_UV_FAULT, TEMPERATURE, CML, NONE_OF_THE_ABOVE",
+            ),
+            (0x7A, 0xF0, "STATUS_VOUT F0 VOUT_OV_FAULT, VOUT_OV_WARNING, VOUT_UV_WARNING, VOUT_UV_FAULT"),
+            (0x7A, 0x0F, "STATUS_VOUT 0F VOUT_MAX_MIN, TON_MAX_FAULT, TOFF_MAX_WARNING, TRACKING"),
+            (0x7B, 0xF0, "STATUS_IOUT F0 IOUT_OC_FAULT, IOUT_OC_LV_FAULT, IOUT_OC_WARNING, IOUT_UC_FAULT"),
+            (0x7B, 0x0F, "STATUS_IOUT 0F CURRENT_SHARE_FAULT, POWER_LIMITING, POUT_OP_FAULT, POUT_OP_WARNING"),
+            (0x7C, 0xF0, "STATUS_INPUT F0 VIN_OV_FAULT, VIN_OV_WARNING, VIN_UV_WARNING, VIN_UV_FAULT"),
+            (0x7C, 0x0F, "STATUS_INPUT 0F UNIT_OFF_LOW_VIN, IIN_OC_FAULT, IIN_OC_WARNING, PIN_OP_WARNING"),
+            (0x7D, 0xF1, "STATUS_TEMPERATURE F1 OT_FAULT, OT_WARNING, UT_WARNING, UT_FAULT, bit 0"),
             (0x7A, 0x00, "STATUS_VOUT 00"),
         ] {
             assert_eq!(Status(code, word).to_string(), words);

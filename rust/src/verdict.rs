@@ -3,7 +3,7 @@
 use crate::course::AnswerFault;
 use crate::ffi;
 
-/// What an output does. A good end is `Delivers`, `WentOff` after an order that turned it off, and `CommandedOff` or `NotKnownOn`
+/// What an output does. A good end is `Delivers`, `DeliversByReadVout`, `WentOff` after an order that turned it off, and `CommandedOff` or `NotKnownOn`
 /// if the output isn't asked.
 #[derive(Clone, Copy, Debug, PartialEq, Eq)]
 #[must_use = "a rail that is off, or that tripped, is told by this alone"]
@@ -13,6 +13,11 @@ pub enum Verdict {
     /// OFF and POWER_GOOD# are 0, no fault is new, and READ_VOUT is within the limits and near what the output commands.
     Delivers {
         /// READ_VOUT in microvolts, rounded down; `None` of a part without it, and beyond 10^15.
+        microvolts: Option<i64>,
+    },
+    /// READ_VOUT is within the limits and near what the output commands, of a part without STATUS_WORD: of faults nothing is known.
+    DeliversByReadVout {
+        /// READ_VOUT in microvolts, rounded down; `None` beyond 10^15.
         microvolts: Option<i64>,
     },
     /// Nothing was asked: the output is commanded off.
@@ -54,7 +59,8 @@ pub enum Verdict {
     NotKnown {
         /// Its command code.
         code: u8,
-        /// What was wrong with the last answer; `None` of READ_VOUT if that was good, and what the output commands isn't known.
+        /// What was wrong with the last answer. `None` of STATUS_WORD if it wasn't asked, since the part lacks it; of READ_VOUT if it was
+        /// good, and what the output commands isn't known.
         fault: Option<AnswerFault>,
     },
     /// OFF is 1 after an order that turned the output off.
@@ -67,7 +73,14 @@ impl Verdict {
     /// Whether the output does what it is to, or isn't asked since it isn't commanded on.
     #[must_use]
     pub fn is_good(&self) -> bool {
-        matches!(self, Verdict::Delivers { .. } | Verdict::WentOff | Verdict::CommandedOff | Verdict::NotKnownOn)
+        matches!(
+            self,
+            Verdict::Delivers { .. }
+                | Verdict::DeliversByReadVout { .. }
+                | Verdict::WentOff
+                | Verdict::CommandedOff
+                | Verdict::NotKnownOn
+        )
     }
 
     /// READ_VOUT in microvolts, if it is known.
@@ -75,6 +88,7 @@ impl Verdict {
     pub fn microvolts(&self) -> Option<i64> {
         match *self {
             Verdict::Delivers { microvolts }
+            | Verdict::DeliversByReadVout { microvolts }
             | Verdict::OutsideLimits { microvolts }
             | Verdict::Beyond { microvolts }
             | Verdict::PowerGoodAlone { microvolts } => microvolts,
@@ -98,6 +112,7 @@ impl Verdict {
             10 => Verdict::NotKnown { code, fault: AnswerFault::of(found.fault) },
             11 => Verdict::WentOff,
             12 => Verdict::StillOn,
+            14 => Verdict::DeliversByReadVout { microvolts },
             _ => Verdict::NotYet,
         }
     }

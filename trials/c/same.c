@@ -437,12 +437,12 @@ static void paged(void) {
 
 /* What an output does, and which limits a word is at or beyond. */
 static void deliveries(const pm_host *host) {
-    uint8_t output = draw_output(), code = draw_code(), limits = (uint8_t)draw(5), has = (uint8_t)draw(3), is_off = (uint8_t)draw(3);
+    uint8_t output = draw_output(), code = draw_code(), limits = (uint8_t)draw(5), lacks = (uint8_t)draw(20), is_off = (uint8_t)draw(3);
     uint16_t word = draw_word(), within = (uint16_t)(draw(4) ? draw(100) : draw(65536)), rounds = (uint16_t)(draw(8) ? draw(4) : draw(65536));
     pm_delivery *delivery = &looked.delivery;
     memset(&out, (int)draw(256), sizeof out);
     switch (draw(12)) {
-    case 0: heard(64, pm_delivery_new(delivery, output, limits, has, within, rounds), 255); break;
+    case 0: heard(64, pm_delivery_new(delivery, output, limits, lacks, within, rounds), 255); break;
     case 1: heard(65, pm_delivery_before(delivery), 255); break;
     case 2: heard(66, pm_delivery_after(delivery, is_off), 255); break;
     case 3: heard(67, pm_delivery_verdict(delivery, host, &out.delivered), 255); break;

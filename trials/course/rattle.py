@@ -1,10 +1,7 @@
 #!/usr/bin/env python3
-"""Runs the rows of rows.txt and accept.txt by the crates' own calls: a FrameCourse over a Guard, frame by frame, and, where nothing is wanted
-as a voltage, the Driver over a Bus. `rt try` makes the program: it proves nothing, and the calls that it runs are those of the proved crates.
-
-The driver's course is to words, to nothing or to a byte that turns the output off. It has no ends `format` and `source`, and doesn't say what
-was wrong with the last answer. To a byte that leaves the output on it reads no WRITE_PROTECT, and it doesn't learn an exchanged part's format
-anew. Rows of these are run by frames alone, and of its end `spent` the code is compared.
+"""Runs the rows of rows.txt and accept.txt by the crates' own calls: a FrameCourse over a Guard, frame by frame, and the Driver over a Bus,
+which carries the same course out by one call. `rt try` makes the program: it proves nothing, and the calls that it runs are those of the
+proved crates.
 
 It prints what differs of a row, and a count.
 """
@@ -18,7 +15,7 @@ import tempfile
 ROOT = os.path.dirname(os.path.dirname(os.path.dirname(os.path.abspath(__file__))))
 FILES = [os.path.join(ROOT, "trials", "course", name) for name in ("rows.txt", "accept.txt")]
 HEADER = os.path.join(ROOT, "crates", "pm_host_c", "include", "pmhost.h")
-USES = "pm_device_tests pm_driver pm_world pm_course pm_rail pm_limits pm_host pm_device pm_model pm_frame pm_table pm_num"
+USES = "pm_device_tests pm_driver pm_world pm_course pm_limits pm_host pm_device pm_model pm_frame pm_table pm_num"
 TOKEN = re.compile(r"([rwc])([0-9A-F]{2})=([0-9A-F]*|-)([!*#]?)")
 REGISTERS = {0x21: "command", 0x24: "max", 0x25: "margin_high", 0x26: "margin_low", 0x2B: "min"}
 LEARN, PROTECT = 0x20, 0x10
@@ -35,7 +32,6 @@ use pm_device_tests::BASE;
 use pm_driver::{Bus, Driver, carry_out};
 use pm_host::Job;
 use pm_limits::{Guard, OutputLimits, PartRegisters};
-use pm_rail::{ApplyEnd, Course, StopCause, Wanted};
 use pm_table::{Cell, Code, Reg, cell_of};
 use std::io;
 
@@ -69,7 +65,6 @@ struct Row {
     frames: Option<Span>,
     accept: Option<u32>,
     then: Option<Span>,
-    is_driven: bool,
 }
 
 #[derive(Drop)]
@@ -185,30 +180,6 @@ fn made(row: &Row) -> FrameCourse {
     }
 }
 
-fn word(wish: Wish) -> Option<u16> {
-    match wish {
-        Wish::Word(word) => Some(word),
-        _ => None,
-    }
-}
-
-fn way(row: &Row) -> Course {
-    match row.kind {
-        0 => Course::survey(row.output, row.tries),
-        1 => Course::power(row.output, row.byte, row.tries),
-        _ => {
-            let wanted = Wanted {
-                command: word(row.wishes[0]),
-                max: word(row.wishes[1]),
-                margin_high: word(row.wishes[2]),
-                margin_low: word(row.wishes[3]),
-                min: word(row.wishes[4]),
-            };
-            Course::new(row.output, wanted, row.tries)
-        }
-    }
-}
-
 fn carried(course: &mut FrameCourse, guard: &mut Guard, wire: &mut Wire) {
     for _ in 0..2000 {
         if guard.host().outputs() <= course.course.survey.output {
@@ -250,20 +221,6 @@ fn numbers(end: Option<CourseEnd>) -> (&'static str, u8, u16, u8) {
         Some(CourseEnd::Spent { code, fault }) => match fault {
             Some(fault) => ("spent", code.0, 0, fault.number()),
             None => ("spent", code.0, 0, 0),
-        },
-    }
-}
-
-fn driven(end: ApplyEnd) -> (&'static str, u8, u16, u8) {
-    match end {
-        ApplyEnd::Reached => ("reached", 0, 0, 0),
-        ApplyEnd::Stopped { why } => match why {
-            StopCause::Refused(fault) => ("refused", code(fault.code()), 0, fault.number()),
-            StopCause::Differs(register, word) => ("differs", register.code().0, word, 0),
-            StopCause::Spent(job) => match job {
-                Job::Order(cell, _) | Job::Check(cell) => ("spent", cell.code().0, 0, 0),
-                _ => ("spent", 0x20, 0, 0),
-            },
         },
     }
 }
@@ -323,12 +280,12 @@ fn by_driver(rt: &HostRuntime, number: usize, row: &Row) -> io::Result<()> {
     if let Some(frames) = row.frames {
         wire.turn(frames);
         let mut driver = Driver::guarded(guard, wire);
-        let mut course = way(row);
-        let end = match driver.complete(&mut course) {
-            Ok(end) => driven(end),
-            Err(fault) => ("refused", 0x01, 0, fault.number()),
-        };
-        return say(rt, number, "driver", driver.bus(), end);
+        let mut course = made(row);
+        if driver.host().outputs() <= course.course.survey.output {
+            return Ok(());
+        }
+        let end = driver.run_course(&mut course);
+        return say(rt, number, "driver", driver.bus(), numbers(Some(end)));
     }
     Ok(())
 }
@@ -336,9 +293,7 @@ fn by_driver(rt: &HostRuntime, number: usize, row: &Row) -> io::Result<()> {
 fn main(rt: HostRuntime) -> io::Result<()> {
     for (number, row) in ROWS.iter().enumerate() {
         by_frames(&rt, number, row)?;
-        if row.is_driven {
-            by_driver(&rt, number, row)?;
-        }
+        by_driver(&rt, number, row)?;
     }
     Ok(())
 }
@@ -365,13 +320,6 @@ class Row:
     def said(self, name, otherwise):
         found = re.search(rf"\b{name}=(\S+)", self.host)
         return found[1] if found else otherwise
-
-    def is_driven(self):
-        """Whether the driver runs it: see above."""
-        leaves_on = self.kind == "power" and int(self.wishes[0], 16) & 0x80
-        modes = {token[4:6] for token in f"{self.before} {self.bus}".split() if token.startswith("r20=") and token[4:5] != "-"}
-        return bool(self.end) and self.output < self.outputs and not leaves_on and not any(":" in wish for wish in self.wishes) and len(modes) <= 1 \
-            and self.end.split()[0] not in ("format", "source")
 
 
 def rows_of(path):
@@ -431,7 +379,7 @@ def written(rows):
         jobs = [word for at, word in enumerate(row.before.split())
                 if word[0] != "c" and not (word[0] == "r" and at and row.before.split()[at - 1][:3] == "w" + word[1:3])]
         made.append("Row { outputs: %d, passes: %d, lacks: [%s], limits: %s, before: %s, jobs: &[%s], kind: %d, output: %d, byte: %d, "
-                    "wishes: [%s], tries: %d, frames: %s, accept: %s, then: %s, is_driven: %s }" % (
+                    "wishes: [%s], tries: %d, frames: %s, accept: %s, then: %s }" % (
                         row.outputs, int(row.said("passes", "1")), ", ".join(str(code in lacks).lower() for code in ("24", "25", "26", "2B")),
                         "Some((%s, %s))" % tuple(limits) if len(limits) == 2 else "None", span(row.before, 0),
                         ", ".join(map(job_of, jobs)), ["survey", "power", "to"].index(row.kind), row.output,
@@ -439,7 +387,7 @@ def written(rows):
                         ", ".join(wishes.get(name, "Wish::Stay") for name in REGISTERS.values()), row.tries,
                         f"Some({span(row.bus, row.output)})" if row.end else "None",
                         f"Some({row.accept.split()[0]})" if row.accept else "None",
-                        f"Some({span(row.then, row.output)})" if row.ends else "None", str(row.is_driven()).lower()))
+                        f"Some({span(row.then, row.output)})" if row.ends else "None"))
     return (PROGRAM + f"static TOKENS: [Token; {len(tokens)}] = [\n" + "".join(f"    {it},\n" for it in tokens) + "];\n\n"
             + f"static ROWS: [Row; {len(made)}] = [\n" + "".join(f"    {it},\n" for it in made) + "];\n")
 
@@ -477,7 +425,7 @@ def run(text):
 def differences(row, lines, known):
     """What differs of a row, by the lines that the program printed of it."""
     wanted = {"frames": row.end, "driver": row.end, "then": row.ends, "accept": " ".join(row.accept.split()[1:])}
-    due = [part for part, wants in (("frames", row.end), ("accept", row.accept), ("then", row.ends), ("driver", row.is_driven())) if wants]
+    due = [part for part, wants in (("frames", row.end), ("accept", row.accept), ("then", row.ends), ("driver", row.end)) if wants]
     found = []
     if [line[0] for line in lines] != due:
         return [f"it has {[line[0] for line in lines]}, is to have {due}"]
@@ -486,8 +434,6 @@ def differences(row, lines, known):
         wants = wanted[part]
         if part == "accept":
             end = end.rsplit(" ", 1)[0] if kind == "refused" else end
-        if part == "driver" and kind == "spent":
-            end, wants = " ".join(end.split()[:2]), " ".join(wants.split()[:2])
         if wrong != "0" or at != to or end != wants:
             found.append(f"{part}: ended {end}, is to be {wants}; {'' if wrong == '0' else 'a frame is another; '}{int(to) - int(at)} frames are left")
     return found
@@ -507,14 +453,13 @@ def main():
             lines.setdefault(int(words[0]), []).append(words[1:])
     if not lines:
         sys.exit(printed[-3000:])
-    failed = driven = 0
+    failed = 0
     for number, row in enumerate(begun):
         found = differences(row, lines.get(number, []), known)
-        driven += row.is_driven()
         failed += bool(found)
         for text in found:
             print(f"{row.row}: {text}")
-    print(f"{len(begun)} rows by frames, {driven} of them by the driver too; {len(rows) - len(begun)} of an output that isn't there")
+    print(f"{len(begun)} rows by frames and by the driver; {len(rows) - len(begun)} of an output that isn't there")
     print(f"courses in Rattle: {len(begun) - failed} passed, {failed} failed")
     sys.exit(bool(failed))
 

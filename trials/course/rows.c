@@ -298,7 +298,8 @@ static int is_refused(const char *name, uint8_t number, pm_course_end end) {
     return 0;
 }
 
-/* A course over memory that holds none, over memory that holds no host, and while another job is open, after which it goes on. */
+/* A course over memory that holds none, over memory that holds no host, before it begins and once it has ended, and while another job is
+ * open, after which it goes on. */
 static int refused_courses(void) {
     static pm_host host, none;
     static pm_course course, empty;
@@ -317,7 +318,8 @@ static int refused_courses(void) {
     split(frames, &on);
     if (is_over && pm_host_run_course(&host, &course, put, ask, &on).kind == PM_REACHED && on.at == on.count &&
         pm_course_next(&course, &host, &next) == PM_ENDED && next.kind == PM_JOB_NONE)
-        return passed + 1;
+        return passed + 1 + is_refused("a course that has ended, over memory that holds no host", PM_NO_HOST,
+                                       pm_host_run_course(&none, &course, put, ask, &on));
     printf("another job is over: the course doesn't go on; %s\n", on.wrong);
     return passed;
 }
@@ -372,7 +374,7 @@ int main(int count, char **words) {
             return 2;
     int refused = refused_courses();
     passed += refused;
-    failed += 4 - refused;
+    failed += 5 - refused;
     printf("courses: %d rows passed, %d failed\n", passed, failed);
     return failed != 0 || passed == 0;
 }

@@ -21,13 +21,15 @@ typedef struct {
                           * that is off, p off whose frame was handed out before, b set to 0.7 V with a margin of 1.3 V, B set to 1.3 V
                           * with one of 1.15 V */
     const char *wrong;
-    uint8_t fault_limits, has_read_vout;
+    uint8_t fault_limits, lacks;
     uint16_t rounds;
     uint8_t end, number; /* of the course */
     uint8_t kind, code, bit, fault;
     uint16_t word;
     int64_t microvolts;  /* -1 where none is told */
     int reads, writes, pauses;
+    int is_unasked;      /* pm_is_delivered all the same, since the caller said what the part lacks */
+    int away[4];         /* nobody answers from the first of these transfers to the second, nor from the third to the fourth, from 1 */
 } row;
 
 enum { REFUSE, TELL, SKIP };
@@ -35,46 +37,60 @@ enum { REFUSE, TELL, SKIP };
 
 /* The numbers are those that firmware compiles in: they stand here by hand. */
 static const row rows[] = {
-    {"a set that goes well", 's', "", REFUSE, 1, 5, 1, 0, 1, 0, 0, 0, 0, 1100097, 20, 1, 0},
-    {"the same without fault limits", 's', "", SKIP, 1, 5, 1, 0, 1, 0, 0, 0, 0, 1100097, 16, 1, 0},
-    {"a goal at VOUT_OV_FAULT_LIMIT", 'S', "t", REFUSE, 1, 5, 2, 0x68, 13, 0x40, 0, 0, 0x14CD, NONE, 11, 0, 0},
-    {"the same, told alone", 'S', "t", TELL, 1, 5, 1, 0, 4, 0x79, 0, 0, 0x8860, NONE, 20, 1, 0},
-    {"the same, not read", 'S', "t", SKIP, 1, 5, 1, 0, 4, 0x79, 0, 0, 0x8860, NONE, 16, 1, 0},
-    {"fault limits that give no answer", 'S', "tf", REFUSE, 1, 5, 1, 0, 4, 0x79, 0, 0, 0x8860, NONE, 22, 1, 0},
-    {"a margin below the fault limits", 'm', "t", REFUSE, 1, 5, 1, 0, 1, 0, 0, 0, 0, 1149902, 20, 1, 0},
-    {"a margin at VOUT_OV_FAULT_LIMIT", 'm', "tH", REFUSE, 1, 5, 2, 0x68, 13, 0x40, 0, 0, 0x14CD, NONE, 12, 0, 0},
-    {"two goals at fault limits", 'b', "", REFUSE, 1, 5, 2, 0x68, 13, 0x44, 0, 0, 0x0B33, NONE, 12, 0, 0},
-    {"a goal at a fault limit, and one that isn't", 'B', "t", REFUSE, 1, 5, 2, 0x68, 13, 0x40, 0, 0, 0x14CD, NONE, 12, 0, 0},
-    {"a goal at VOUT_UV_FAULT_LIMIT", 'U', "", REFUSE, 1, 5, 2, 0x68, 13, 0x44, 0, 0, 0x0B33, NONE, 11, 0, 0},
-    {"a RUN pin that is low", 's', "r", REFUSE, 1, 5, 1, 0, 4, 0x79, 0, 0, 0x0840, NONE, 23, 1, 4},
-    {"power good that begins above", 's', "g", REFUSE, 1, 3, 1, 0, 8, 0x79, 0, 0, 0x0800, 1100097, 26, 1, 2},
-    {"power good of a part without READ_VOUT", 's', "g", REFUSE, 0, 3, 1, 0, 9, 0x79, 0, 0, 0x0800, NONE, 21, 1, 2},
-    {"a part without READ_VOUT", 's', "v", REFUSE, 0, 3, 1, 0, 1, 0, 0, 0, 0, NONE, 19, 1, 0},
-    {"a fault that was latched before", 's', "o", REFUSE, 1, 5, 1, 0, 1, 0, 0, 0, 0, 1100097, 20, 1, 0},
-    {"a new warning", 's', "w", REFUSE, 1, 5, 1, 0, 1, 0, 0, 0, 0, 1100097, 21, 1, 0},
-    {"a new fault", 's', "u", REFUSE, 1, 5, 1, 0, 5, 0x7A, 4, 0, 0x10, NONE, 20, 1, 0},
-    {"a new fault of a register that gives no answer", 's', "i", REFUSE, 1, 2, 1, 0, 10, 0x7B, 0, 1, 0, 1100097, 26, 1, 1},
-    {"BUSY and CML", 's', "c", REFUSE, 1, 5, 1, 0, 1, 0, 0, 0, 0, 1100097, 20, 1, 0},
-    {"READ_VOUT at 90 %", 's', "l", REFUSE, 1, 3, 1, 0, 7, 0x8B, 0, 0, 0x0FD7, 989990, 24, 1, 2},
-    {"READ_VOUT at 104 %", 's', "h", REFUSE, 1, 3, 1, 0, 1, 0, 0, 0, 0, 1144042, 20, 1, 0},
-    {"a ramp", 's', "m", REFUSE, 1, 5, 1, 0, 1, 0, 0, 0, 0, 1100097, 26, 1, 3},
-    {"a ramp that is longer than the rounds", 's', "m", REFUSE, 1, 2, 1, 0, 6, 0x8B, 0, 0, 0x0119, 68603, 22, 1, 1},
-    {"STATUS_WORD that gives no answer", 's', "s", REFUSE, 1, 2, 1, 0, 10, 0x79, 0, 1, 0, NONE, 21, 1, 0},
-    {"READ_VOUT that gives no answer in two rounds", 's', "v", REFUSE, 1, 2, 1, 0, 1, 0, 0, 0, 0, NONE, 24, 1, 1},
-    {"READ_VOUT that gives no answer, and power good is missing", 's', "vg", REFUSE, 1, 2, 1, 0, 9, 0x79, 0, 0, 0x0800, NONE, 24, 1, 1},
-    {"READ_VOUT that gives no answer in one round", 's', "v", REFUSE, 1, 1, 1, 0, 10, 0x8B, 0, 1, 0, NONE, 21, 1, 0},
-    {"READ_VOUT with another PEC, and then no answer", 's', "d", REFUSE, 1, 3, 1, 0, 10, 0x8B, 0, 1, 0, NONE, 27, 1, 2},
-    {"READ_VOUT with another PEC", 's', "p", REFUSE, 1, 1, 1, 0, 10, 0x8B, 0, 0x35, 0, NONE, 21, 1, 0},
-    {"an older fault, and no answer before the order", 's', "bo", REFUSE, 1, 5, 1, 0, 5, 0x79, 5, 0, 0x8020, NONE, 21, 1, 0},
-    {"on", 'n', "", REFUSE, 1, 5, 1, 0, 1, 0, 0, 0, 0, 1000000, 19, 1, 0},
-    {"on, with a RUN pin that is low", 'n', "r", REFUSE, 1, 2, 1, 0, 4, 0x79, 0, 0, 0x0840, NONE, 19, 1, 1},
-    {"off", 'o', "", REFUSE, 1, 5, 1, 0, 11, 0, 0, 0, 0, NONE, 2, 1, 0},
-    {"off, whose frame was handed out before", 'p', "", REFUSE, 1, 5, 1, 0, 11, 0, 0, 0, 0, NONE, 2, 1, 0},
-    {"off, and it stays on", 'o', "n", REFUSE, 1, 3, 1, 0, 12, 0x79, 0, 0, 0, NONE, 4, 1, 2},
-    {"off, and STATUS_WORD gives no answer", 'o', "s", REFUSE, 1, 1, 1, 0, 10, 0x79, 0, 1, 0, NONE, 3, 1, 0},
-    {"a survey", 'y', "", REFUSE, 1, 5, 1, 0, 1, 0, 0, 0, 0, 1000000, 7, 0, 0},
-    {"a survey with a RUN pin that is low", 'y', "r", REFUSE, 1, 1, 1, 0, 4, 0x79, 0, 0, 0x0840, NONE, 6, 0, 0},
-    {"a survey of an output that is off", 'O', "", REFUSE, 1, 5, 1, 0, 2, 0, 0, 0, 0, NONE, 5, 0, 0},
+    {"a set that goes well", 's', "", REFUSE, 0, 5, 1, 0, 1, 0, 0, 0, 0, 1100097, 20, 1, 0, 0, {0}},
+    {"the same without fault limits", 's', "", SKIP, 0, 5, 1, 0, 1, 0, 0, 0, 0, 1100097, 16, 1, 0, 0, {0}},
+    {"a goal at VOUT_OV_FAULT_LIMIT", 'S', "t", REFUSE, 0, 5, 2, 0x68, 13, 0x40, 0, 0, 0x14CD, NONE, 11, 0, 0, 0, {0}},
+    {"the same, told alone", 'S', "t", TELL, 0, 5, 1, 0, 4, 0x79, 0, 0, 0x8860, NONE, 20, 1, 0, 0, {0}},
+    {"the same, not read", 'S', "t", SKIP, 0, 5, 1, 0, 4, 0x79, 0, 0, 0x8860, NONE, 16, 1, 0, 0, {0}},
+    {"fault limits that give no answer", 'S', "tf", REFUSE, 0, 5, 1, 0, 4, 0x79, 0, 0, 0x8860, NONE, 22, 1, 0, 0, {0}},
+    {"a margin below the fault limits", 'm', "t", REFUSE, 0, 5, 1, 0, 1, 0, 0, 0, 0, 1149902, 20, 1, 0, 0, {0}},
+    {"a margin at VOUT_OV_FAULT_LIMIT", 'm', "tH", REFUSE, 0, 5, 2, 0x68, 13, 0x40, 0, 0, 0x14CD, NONE, 12, 0, 0, 0, {0}},
+    {"two goals at fault limits", 'b', "", REFUSE, 0, 5, 2, 0x68, 13, 0x44, 0, 0, 0x0B33, NONE, 12, 0, 0, 0, {0}},
+    {"a goal at a fault limit, and one that isn't", 'B', "t", REFUSE, 0, 5, 2, 0x68, 13, 0x40, 0, 0, 0x14CD, NONE, 12, 0, 0, 0, {0}},
+    {"a goal at VOUT_UV_FAULT_LIMIT", 'U', "", REFUSE, 0, 5, 2, 0x68, 13, 0x44, 0, 0, 0x0B33, NONE, 11, 0, 0, 0, {0}},
+    {"a RUN pin that is low", 's', "r", REFUSE, 0, 5, 1, 0, 4, 0x79, 0, 0, 0x0840, NONE, 23, 1, 4, 0, {0}},
+    {"power good that begins above", 's', "g", REFUSE, 0, 3, 1, 0, 8, 0x79, 0, 0, 0x0800, 1100097, 26, 1, 2, 0, {0}},
+    {"power good of a part without READ_VOUT", 's', "g", REFUSE, 2, 3, 1, 0, 9, 0x79, 0, 0, 0x0800, NONE, 21, 1, 2, 0, {0}},
+    {"a part without READ_VOUT", 's', "v", REFUSE, 2, 3, 1, 0, 1, 0, 0, 0, 0, NONE, 19, 1, 0, 0, {0}},
+    {"a fault that was latched before", 's', "o", REFUSE, 0, 5, 1, 0, 1, 0, 0, 0, 0, 1100097, 20, 1, 0, 0, {0}},
+    {"a new warning", 's', "w", REFUSE, 0, 5, 1, 0, 1, 0, 0, 0, 0, 1100097, 21, 1, 0, 0, {0}},
+    {"a new fault", 's', "u", REFUSE, 0, 5, 1, 0, 5, 0x7A, 4, 0, 0x10, NONE, 20, 1, 0, 0, {0}},
+    {"a new fault of a register that gives no answer", 's', "i", REFUSE, 0, 2, 1, 0, 10, 0x7B, 0, 1, 0, 1100097, 26, 1, 1, 0, {0}},
+    {"BUSY and CML", 's', "c", REFUSE, 0, 5, 1, 0, 1, 0, 0, 0, 0, 1100097, 20, 1, 0, 0, {0}},
+    {"READ_VOUT at 90 %", 's', "l", REFUSE, 0, 3, 1, 0, 7, 0x8B, 0, 0, 0x0FD7, 989990, 24, 1, 2, 0, {0}},
+    {"READ_VOUT at 104 %", 's', "h", REFUSE, 0, 3, 1, 0, 1, 0, 0, 0, 0, 1144042, 20, 1, 0, 0, {0}},
+    {"a ramp", 's', "m", REFUSE, 0, 5, 1, 0, 1, 0, 0, 0, 0, 1100097, 26, 1, 3, 0, {0}},
+    {"a ramp that is longer than the rounds", 's', "m", REFUSE, 0, 2, 1, 0, 6, 0x8B, 0, 0, 0x0119, 68603, 22, 1, 1, 0, {0}},
+    {"STATUS_WORD that gives no answer", 's', "s", REFUSE, 0, 2, 1, 0, 14, 0, 0, 0, 0, 1100097, 24, 1, 1, 0, {0}},
+    {"a part without STATUS_WORD that trips", 'S', "st", TELL, 0, 3, 1, 0, 6, 0x8B, 0, 0, 0, 0, 25, 1, 2, 0, {0}},
+    {"the same, as its caller says", 'S', "st", TELL, 1, 3, 1, 0, 6, 0x8B, 0, 0, 0, 0, 20, 1, 2, 0, {0}},
+    {"a part without STATUS_WORD whose READ_VOUT is 90 %", 's', "sl", REFUSE, 1, 2, 1, 0, 7, 0x8B, 0, 0, 0x0FD7, 989990, 19, 1, 1, 0, {0}},
+    {"a part without STATUS_WORD, as its caller says", 's', "s", REFUSE, 1, 2, 1, 0, 14, 0, 0, 0, 0, 1100097, 18, 1, 0, 0, {0}},
+    {"a part without both", 's', "sv", REFUSE, 0, 2, 1, 0, 10, 0x8B, 0, 1, 0, NONE, 26, 1, 1, 0, {0}},
+    {"a part without both, in more rounds", 's', "sv", REFUSE, 0, 5, 1, 0, 10, 0x79, 0, 0, 0, NONE, 29, 1, 3, 0, {0}},
+    {"a part without both, as its caller says of one", 's', "sv", REFUSE, 1, 2, 1, 0, 10, 0x79, 0, 0, 0, NONE, 23, 1, 1, 0, {0}},
+    {"a part without both, as its caller says", 's', "sv", REFUSE, 3, 2, 1, 0, 10, 0x79, 0, 0, 0, NONE, 17, 1, 0, 1, {0}},
+    {"off, of a part without STATUS_WORD", 'o', "s", REFUSE, 0, 3, 1, 0, 10, 0x79, 0, 0, 0, NONE, 7, 1, 2, 0, {0}},
+    {"off, of a part without STATUS_WORD, as its caller says", 'o', "s", REFUSE, 1, 3, 1, 0, 10, 0x79, 0, 0, 0, NONE, 1, 1, 0, 1, {0}},
+    {"off, and the bus goes away", 'o', "", REFUSE, 0, 3, 1, 0, 10, 0x79, 0, 1, 0, NONE, 13, 1, 2, 0, {3, 999}},
+    {"a survey, and the bus goes away", 'y', "", REFUSE, 0, 3, 1, 0, 10, 0x79, 0, 1, 0, NONE, 17, 0, 2, 0, {6, 999}},
+    {"the bus is away at the look before, and STATUS_WORD is silent in one round", 's', "s", REFUSE, 0, 1, 1, 0, 10, 0x79, 0, 1, 0, NONE, 28, 1, 0, 0, {7, 18}},
+    {"the bus is away at the look before, and from the end", 's', "", REFUSE, 0, 3, 1, 0, 10, 0x79, 0, 1, 0, NONE, 37, 1, 2, 0, {7, 18, 27, 999}},
+    {"READ_VOUT that gives no answer in two rounds", 's', "v", REFUSE, 0, 2, 1, 0, 1, 0, 0, 0, 0, NONE, 26, 1, 1, 0, {0}},
+    {"READ_VOUT that gives no answer, and power good is missing", 's', "vg", REFUSE, 0, 2, 1, 0, 9, 0x79, 0, 0, 0x0800, NONE, 26, 1, 1, 0, {0}},
+    {"READ_VOUT that gives no answer in one round", 's', "v", REFUSE, 0, 1, 1, 0, 10, 0x8B, 0, 1, 0, NONE, 22, 1, 0, 0, {0}},
+    {"READ_VOUT with another PEC, and then no answer", 's', "d", REFUSE, 0, 3, 1, 0, 10, 0x8B, 0, 1, 0, NONE, 27, 1, 2, 0, {0}},
+    {"READ_VOUT with another PEC", 's', "p", REFUSE, 0, 1, 1, 0, 10, 0x8B, 0, 0x35, 0, NONE, 21, 1, 0, 0, {0}},
+    {"an older fault, and no answer before the order", 's', "bo", REFUSE, 0, 5, 1, 0, 5, 0x79, 5, 0, 0x8020, NONE, 22, 1, 0, 0, {0}},
+    {"on", 'n', "", REFUSE, 0, 5, 1, 0, 1, 0, 0, 0, 0, 1000000, 19, 1, 0, 0, {0}},
+    {"on, with a RUN pin that is low", 'n', "r", REFUSE, 0, 2, 1, 0, 4, 0x79, 0, 0, 0x0840, NONE, 19, 1, 1, 0, {0}},
+    {"off", 'o', "", REFUSE, 0, 5, 1, 0, 11, 0, 0, 0, 0, NONE, 2, 1, 0, 0, {0}},
+    {"off, whose frame was handed out before", 'p', "", REFUSE, 0, 5, 1, 0, 11, 0, 0, 0, 0, NONE, 2, 1, 0, 0, {0}},
+    {"off, and it stays on", 'o', "n", REFUSE, 0, 3, 1, 0, 12, 0x79, 0, 0, 0, NONE, 4, 1, 2, 0, {0}},
+    {"off, and STATUS_WORD gives no answer", 'o', "s", REFUSE, 0, 1, 1, 0, 10, 0x79, 0, 1, 0, NONE, 4, 1, 0, 0, {0}},
+    {"a survey", 'y', "", REFUSE, 0, 5, 1, 0, 1, 0, 0, 0, 0, 1000000, 7, 0, 0, 0, {0}},
+    {"a survey with a RUN pin that is low", 'y', "r", REFUSE, 0, 1, 1, 0, 4, 0x79, 0, 0, 0x0840, NONE, 6, 0, 0, 0, {0}},
+    {"a survey of an output that is off", 'O', "", REFUSE, 0, 5, 1, 0, 2, 0, 0, 0, 0, NONE, 5, 0, 0, 0, {0}},
 };
 
 static const row *now;
@@ -115,6 +131,12 @@ static uint16_t read_vout(void) {
     return is('m') && status_words < 4 ? word / 16 : word;
 }
 
+/* Whether nobody answers this transfer. */
+static int is_away(void) {
+    int at = reads + writes;
+    return (now->away[0] && at >= now->away[0] && at <= now->away[1]) || (now->away[2] && at >= now->away[2] && at <= now->away[3]);
+}
+
 /* The bytes of a register; 0 where it gives none. */
 static int held(uint8_t code, uint16_t *word) {
     switch (code) {
@@ -147,7 +169,7 @@ static uint8_t put(void *context, const uint8_t *bytes, uint64_t count) {
     (void)context;
     (void)count;
     writes++;
-    if (bytes[1] != 0x05)
+    if (bytes[1] != 0x05 || is_away())
         return PM_NOT_ACKED;
     has_ordered = 1;
     if (bytes[4] == 0x01)
@@ -165,6 +187,8 @@ static uint64_t ask(void *context, const uint8_t *request, uint64_t count, uint8
     (void)context;
     (void)room;
     reads++;
+    if (is_away())
+        return 0;
     memcpy(all, request, count);
     size = request[1] == 0x10 ? 1 : held(request[4], &word);
     if (size == 0)
@@ -218,6 +242,9 @@ static int differs(const pm_course_end *end, const pm_delivered *said) {
         || pauses != now->pauses;
 }
 
+/* Whether the kind of an end alone says that it is good. */
+static int is_good_kind(uint8_t kind) { return kind == 1 || kind == 2 || kind == 3 || kind == 11 || kind == 14; }
+
 /* One call says what is wrong with it, and the number of those. */
 static int is_wrong(const char *name, int found, int wanted) {
     if (found != wanted)
@@ -227,7 +254,7 @@ static int is_wrong(const char *name, int found, int wanted) {
 
 /* Which ends are good, by their kinds, and of a part without STATUS_WORD; and what calls beside pm_host_deliver answer. */
 static int calls(void) {
-    static const uint8_t good[14] = {0, 1, 1, 1, 0, 0, 0, 0, 0, 0, 0, 1, 0, 0};
+    static const uint8_t good[15] = {0, 1, 1, 1, 0, 0, 0, 0, 0, 0, 0, 1, 0, 0, 1};
     pm_host host;
     pm_course course;
     pm_delivery delivery;
@@ -236,17 +263,19 @@ static int calls(void) {
     int failed = 0;
     now = rows;
     if (pm_host_new(&host, 0x58, 1, 2) != 0 || pm_host_set_limits(&host, 0, 500000, 2000000) != 0
-        || pm_delivery_new(&delivery, 0, REFUSE, 1, 50, 5) != 0)
+        || pm_delivery_new(&delivery, 0, REFUSE, 0, 50, 5) != 0)
         return 1;
-    delivery.status_word.asked = 1;
     for (said.kind = 0; said.kind < sizeof good; said.kind++)
         failed += is_wrong("a kind of end", pm_is_delivered(&delivery, &said), good[said.kind]);
     said.kind = 10, said.code = 0x79;
     failed += is_wrong("STATUS_WORD that gave no answer", pm_is_delivered(&delivery, &said), 0);
-    delivery.status_word.asked = 0;
-    failed += is_wrong("a part without STATUS_WORD", pm_is_delivered(&delivery, &said), 1);
+    delivery.lacks = PM_FOUND_NO_STATUS_WORD | PM_FOUND_NO_READ_VOUT;
+    failed += is_wrong("a part that was found to lack both", pm_is_delivered(&delivery, &said), 0);
+    delivery.lacks = PM_LACKS_STATUS_WORD | PM_LACKS_READ_VOUT;
+    failed += is_wrong("a part that lacks both, as its caller says", pm_is_delivered(&delivery, &said), 1);
     said.code = 0x8B;
     failed += is_wrong("READ_VOUT that gave no answer", pm_is_delivered(&delivery, &said), 0);
+    delivery.lacks = 0;
 
     operation = 0x80, command = 0x1000, high = 0x1266, reads = has_ordered = 0;
     if (begin_both(&course, 1100000, 1150000) != 0 || pm_host_deliver(&host, &course, &delivery, put, ask, rest, NULL, &said).kind != 1)
@@ -262,7 +291,7 @@ static int calls(void) {
     failed += is_wrong("its fault limit", judgement.fault << 16 | judgement.fault_word, 0x44 << 16 | 0x0B33);
     failed += is_wrong("its warning", judgement.warning << 16 | judgement.warning_word, 0x43 << 16 | 0x0CCD);
 
-    if (pm_delivery_new(&delivery, 1, REFUSE, 1, 50, 5) != 0 || pm_delivery_before(&delivery) != 0)
+    if (pm_delivery_new(&delivery, 1, REFUSE, 0, 50, 5) != 0 || pm_delivery_before(&delivery) != 0)
         return failed + 1;
     failed += is_wrong("an output that isn't there", pm_delivery_ask(&delivery, &host, ask, rest, NULL), PM_H4_UNKNOWN_OUTPUT);
     return failed;
@@ -282,10 +311,10 @@ int main(void) {
         command = 0x1000;
         high = is('H') ? 0x14CD : 0x1266;
         if (pm_host_new(&host, 0x58, 1, 2) != 0 || pm_host_set_limits(&host, 0, 500000, 2000000) != 0 || begin(&course, &host) != 0
-            || pm_delivery_new(&delivery, 0, now->fault_limits, now->has_read_vout, 50, now->rounds) != 0)
+            || pm_delivery_new(&delivery, 0, now->fault_limits, now->lacks, 50, now->rounds) != 0)
             return 1;
         end = pm_host_deliver(&host, &course, &delivery, put, ask, rest, NULL, &said);
-        if (differs(&end, &said)) {
+        if (differs(&end, &said) || pm_is_delivered(&delivery, &said) != (is_good_kind(said.kind) || now->is_unasked)) {
             failed++;
             printf("%s: end %d %02X, kind %d %02X bit %d fault %02X word %04X, %lld, reads %d writes %d pauses %d\n", now->name, end.kind,
                    end.number, said.kind, said.code, said.bit, said.fault, said.word,

@@ -30,6 +30,13 @@ static int is_commanded_on(const field_part *part, uint8_t at) {
     return !(config & BY_COMMAND) || ((!(config & BY_OPERATION) || on) && (!(config & BY_PIN) || is_pin_on));
 }
 
+/* Whether the output is at a margin at which OPERATION has faults ignored. */
+static int ignores_faults(const field_part *part, uint8_t at) {
+    uint16_t byte = 0;
+    (void)pm_part_word(&part->chip, at, OPERATION, &byte);
+    return (byte & 0xFC) == 0x94 || (byte & 0xFC) == 0xA4;
+}
+
 /* A ramp to a voltage begins, where it isn't on one already. */
 static void go_to(field_part *part, field_output *out, int64_t to, uint16_t for_ms) {
     if (out->to == to) return;
@@ -56,9 +63,10 @@ static void settle_output(field_part *part, uint8_t at) {
         go_to(part, out, 0, 0);
     }
     int64_t volts = field_voltage(part, out);
-    if (is_on && !out->has_tripped && volts > field_microvolts(out->held.ov_fault)) trip(part, out, VOUT_OV_FAULT);
+    int is_guarded = is_on && !out->has_tripped && !ignores_faults(part, at);
+    if (is_guarded && volts > field_microvolts(out->held.ov_fault)) trip(part, out, VOUT_OV_FAULT);
     int is_settled = is_on && !out->has_tripped && part->now >= out->until;
-    if (is_settled && volts < field_microvolts(out->held.uv_fault)) trip(part, out, VOUT_UV_FAULT);
+    if (is_guarded && is_settled && volts < field_microvolts(out->held.uv_fault)) trip(part, out, VOUT_UV_FAULT);
     if (is_on && volts > field_microvolts(out->held.ov_warn)) out->vout |= VOUT_OV_WARNING;
     if (is_settled && !out->has_tripped && volts < field_microvolts(out->held.uv_warn)) out->vout |= VOUT_UV_WARNING;
     volts = field_voltage(part, out);
@@ -169,7 +177,7 @@ static const place PARTS[] = {
     OF_PART("MFR_CONFIG_ALL", config_all), OF_PART("step", step), OF_PART("clamps", clamps), OF_PART("transfer_us", transfer_us),
     OF_PART("restart_at", restart_at), OF_PART("away_at_write", away_at_write), OF_PART("away_for", away_for),
     OF_PART("gone_code", gone_code),
-    OF_PART("gone_at_write", gone_at_write), OF_PART("gone_at_frame", gone_at_frame), OF_PART("no_page_plus", no_page_plus), OF_PART("no_pec", no_pec), OF_PART("transfers", transfers), OF_PART("writes", writes), OF_PART("stores", stores), OF_PART("questions", questions),
+    OF_PART("gone_at_write", gone_at_write), OF_PART("gone_at_frame", gone_at_frame), OF_PART("back_at_frame", back_at_frame), OF_PART("lost_at_frame", lost_at_frame), OF_PART("no_page_plus", no_page_plus), OF_PART("no_pec", no_pec), OF_PART("transfers", transfers), OF_PART("writes", writes), OF_PART("stores", stores), OF_PART("questions", questions),
     OF_PART("now", now)};
 static const struct { const char *name; uint8_t code; } CELLS[] = {
     {"OPERATION", OPERATION}, {"VOUT_COMMAND", VOUT_COMMAND}, {"VOUT_MAX", 0x24}, {"VOUT_MARGIN_HIGH", 0x25}, {"VOUT_MARGIN_LOW", 0x26},

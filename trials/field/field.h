@@ -54,8 +54,9 @@ typedef struct {
     uint16_t step;          /* voltages are rounded down to a multiple of it; 1 for none */
     uint16_t clamps;        /* 1 where VOUT_COMMAND and the margins are clamped to VOUT_MIN and VOUT_MAX as they are written */
     uint16_t transfer_us;   /* how long a transfer takes, for callers that have no clock */
-    uint16_t gone_code;     /* it has this code no more once it heard so many writes, or so many frames were sent; 0 for never */
+    uint16_t gone_code;     /* it has this code no more, or none at all (100h), once it heard so many writes, or so many frames were sent; 0 for never */
     uint16_t gone_at_write, gone_at_frame;
+    uint16_t back_at_frame, lost_at_frame; /* it has it again once so many were sent, and no more once so many were; 0 for never */
     uint16_t no_page_plus;  /* 1 where it acknowledges no PAGE_PLUS packet, 2 where it does and answers ones */
     uint16_t no_pec;        /* 1 where ones stand in the place of an answer's packet error code */
     uint16_t was_busy, cml;

@@ -26,8 +26,9 @@ static packet packet_of(const uint8_t *bytes, uint64_t count, int is_request) {
 }
 
 static int lacks(const field_part *part, uint8_t code) {
-    int is_late = (part->gone_at_write && part->writes >= part->gone_at_write) || (part->gone_at_frame && part->frames > part->gone_at_frame);
-    return (is_late && part->gone_code == code) || (part->lacks[code >> 5] >> (code & 31) & 1) != 0;
+    int is_back = part->back_at_frame && part->frames > part->back_at_frame && !(part->lost_at_frame && part->frames > part->lost_at_frame);
+    int is_late = (part->gone_at_write && part->writes >= part->gone_at_write) || (part->gone_at_frame && part->frames > part->gone_at_frame && !is_back);
+    return (is_late && (part->gone_code == 0x100 || part->gone_code == code)) || (part->lacks[code >> 5] >> (code & 31) & 1) != 0;
 }
 
 /* ---- Answers ---- */

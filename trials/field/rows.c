@@ -14,7 +14,7 @@
 enum { ADDRESS = 0x58, TRIES = 40, PASSES = 3, LINES = 24, CALLS = 4, ROOM = 400 };
 /* By pm_delivered's kind. */
 static const char *const KINDS[] = {"not-yet", "delivers", "commanded-off", "not-known-on", "off", "fault", "outside", "beyond",
-                                    "power-good-alone", "no-power-good", "not-known", "went-off", "still-on", "P8"};
+                                    "power-good-alone", "no-power-good", "not-known", "went-off", "still-on", "P8", "delivers-by-READ_VOUT"};
 
 /* A row: its lines before the first call, and its calls, each with what has to come of it. */
 typedef struct { char call[64], is[64], end[64], says[ROOM], status[8]; } call_row;
@@ -96,16 +96,17 @@ static int set_up_part(chain *it, const row *from) {
 }
 
 static int set_up(chain *it, const row *from) {
-    const char *limits = said(from, "limits", "refuse"), *lacks = said(from, "lacks", NULL);
+    const char *limits = said(from, "limits", "refuse"), *lacks = said(from, "lacks", "");
     uint8_t kind = !strcmp(limits, "tell") ? PM_FAULT_LIMITS_TELL : !strcmp(limits, "skip") ? PM_FAULT_LIMITS_SKIP : PM_FAULT_LIMITS_REFUSE;
     uint16_t within = (uint16_t)atoi(said(from, "within", "50")), rounds = (uint16_t)atoi(said(from, "rounds", "7"));
-    pm_registers has = {1, 1, 1, !lacks};
+    pm_registers has = {1, 1, 1, !strstr(lacks, "2B")};
+    uint8_t missing = (uint8_t)((strstr(lacks, "79") ? PM_LACKS_STATUS_WORD : 0) | (strstr(lacks, "8B") ? PM_LACKS_READ_VOUT : 0));
     int64_t least = 0, most = 0;
     memset(it, 0, sizeof *it);
     if (sscanf(said(from, "band", "800000 1300000"), "%" SCNd64 " %" SCNd64, &least, &most) != 2) return 0;
     return set_up_part(it, from) && !pm_host_new_with(&it->host, ADDRESS, 2, PASSES, &has) && !pm_host_set_limits(&it->host, 0, least, most)
-        && !pm_host_set_limits(&it->host, 1, 800000, 1300000) && !pm_delivery_new(&it->deliveries[0], 0, kind, 1, within, rounds)
-        && !pm_delivery_new(&it->deliveries[1], 1, kind, 1, within, rounds);
+        && !pm_host_set_limits(&it->host, 1, 800000, 1300000) && !pm_delivery_new(&it->deliveries[0], 0, kind, missing, within, rounds)
+        && !pm_delivery_new(&it->deliveries[1], 1, kind, missing, within, rounds);
 }
 
 /* The course of a call, and its register; 0 of a survey. */
@@ -241,9 +242,9 @@ static int is_said(const spoken *it) {
     pm_host host;
     pm_course course;
     pm_delivery delivery;
-    delivered_told told = {0, 0};
+    delivered_told told = {0};
     char text[ROOM];
-    if (pm_host_new(&host, ADDRESS, 1, PASSES) || pm_course_survey(&course, 0, TRIES) || pm_delivery_new(&delivery, 0, 2, 1, 50, 1)) return 0;
+    if (pm_host_new(&host, ADDRESS, 1, PASSES) || pm_course_survey(&course, 0, TRIES) || pm_delivery_new(&delivery, 0, 2, 0, 50, 1)) return 0;
     pm_heard *const bytes[4] = {&delivery.status_vout, &delivery.status_iout, &delivery.status_input, &delivery.status_temperature};
     delivery.status_word = (pm_heard){1, 0, it->status_word};
     *bytes[it->code - 0x7A] = (pm_heard){it->byte != 0, 0, it->byte};
@@ -257,7 +258,7 @@ static int is_said_after_an_order(void) {
     static row from;
     pm_course course;
     pm_delivered said;
-    delivered_told told = {0, 0};
+    delivered_told told = {0};
     char with[ROOM], without[ROOM];
     take_line(&from, "name: a limit is said after an order alone");
     take_line(&from, "part: VOUT_OV_WARN_LIMIT 1080");

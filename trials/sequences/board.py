@@ -8,7 +8,7 @@ from dataclasses import dataclass
 from pmhost import ModelPart, Output, ideal
 from pmhost.voltages import shown
 
-OFF, ON, HIGH, LOW = 0x00, 0x80, 0xA8, 0x94
+OFF, ON, HIGH, LOW = 0x00, 0x80, 0xA8, 0x98
 MARGINS = HIGH, LOW
 REGISTERS = ("OPERATION", "VOUT_COMMAND", "VOUT_MAX", "VOUT_MARGIN_HIGH", "VOUT_MARGIN_LOW", "VOUT_MIN")
 # Neighbours, between which one bit of the address is another; and 48, whose zeros pmhost believes only after a further read.

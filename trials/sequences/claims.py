@@ -23,7 +23,7 @@ NOT_KNOWN = re.compile(r"; (?:its format isn't known|[A-Z_]+ gave no good answer
 NOTE = re.compile(r"; [A-Z_, ]+ gave no good answer, and (?:is|are)n't judged")
 DELIVERS = re.compile(rf", delivers (?:{VOLT}|by STATUS_WORD)")
 STATUS = re.compile(r"; (STATUS_\w+) ([0-9A-F]+)((?: [A-Z_]+,?)*)(?: and (STATUS_\w+) ([0-9A-F]+)((?: [A-Z_]+,?)*))?")
-SAID = re.compile(r"; (?:the part says that it is off|delivery not known: [A-Z_]+ gave no good answer(?:: [\w ]+)?)")
+SAID = re.compile(r"; (?:the part says that it is off|(?:delivery not known|commanded off; not known to be off): [A-Z_]+ gave no good answer: [\w ]+)")
 CODES = {"STATUS_WORD": 0x79, "STATUS_VOUT": 0x7A, "STATUS_IOUT": 0x7B, "STATUS_INPUT": 0x7C, "STATUS_TEMPERATURE": 0x7D, "READ_VOUT": 0x8B}
 # What the line of a list says of its rails.
 UNTOUCHED, NOT_OFF = re.compile(r"pmhost: on FILE: nothing was ordered of (.*)"), re.compile(r"pmhost: off FILE: not known to be off: (.*)")

@@ -11,12 +11,11 @@ use Rattle.pm_memory.specs.declared.guard_image.GuardImage.{GuardImage}
 use Rattle.pm_memory.specs.declared.sending_image.SendingImage.{SendingImage}
 use Rattle.pm_memory.specs.declared.stairs_image.StairsImage.{StairsImage}
 use Rattle.pm_calls.specs.declared.stairs_step.StairsStepImage.{StairsStepImage}
-use Rattle.pm_calls.specs.Course.{BeginsIn}
 use Rattle.pm_memory.specs.Guard.{guard_of}
 use Rattle.pm_memory.specs.Sending.{IsNothing}
 use Rattle.pm_calls.specs.Host.{job_number, IsSent}
 use Rattle.pm_calls.specs.Numbers.{accepted, ended}
-use Rattle.pm_calls.specs.Stairs.{backs_after, end_said, job_said, number_said, refused_with, HandsOut}
+use Rattle.pm_calls.specs.Stairs.{backs_after, end_said, job_said, number_said, refused_with, BeginsIn, HandsOut}
 use Rattle.pm_calls.specs.Stairs.{begun_job, no_job, refused_job}
 use Rattle.pm_memory.specs.StairsImage.{end_none, stairs_image}
 

@@ -1,6 +1,6 @@
-mod HeldImage
-mod GoesOn
 mod Tells
+mod Sent
+mod Heard
 mod Named
 mod Ceils
 mod TellsStairs

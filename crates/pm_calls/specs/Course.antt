@@ -1,45 +1,45 @@
 -- What the calls of a course answer and write, by the definitions of pm_course. This project's own choice.
-use Rattle.std.specs.Prelude.{◌≡◌, ◌≢◌, ℕ, Bool, true, false, ◌&&◌, nat_lt, if◌then◌else◌, Option, Some, None, is_some, option_and_then}
+use Rattle.std.specs.Prelude.{◌≡◌, ℕ, ℤ, Bool, true, false, nat_lt, if◌then◌else◌, Option, Some, None, is_some, option_and_then, take}
 use Rattle.std.specs.Prelude.{Result, Ok, Err}
 use Rattle.std.specs.Option.{option_map_or}
 use Rattle.pm_table.specs.declared.reg.Reg.{Reg}
 use Rattle.pm_table.specs.Cell.{is_voltage, register_of}
 use Rattle.pm_table.specs.Rules.{rule}
-use Rattle.std.specs.Prelude.{ℤ}
 use Rattle.pm_host.specs.declared.fault.HostFault.TheVariants.{BadWord, UnknownOutput}
+use Rattle.pm_host.specs.declared.fault.Untold.{Untold}
 use Rattle.pm_host.specs.declared.job.Job.{Job as Asked}
 use Rattle.pm_host.specs.declared.stage.Stage.{Stage}
 use Rattle.pm_host.specs.FaultWords.{host_fault_number}
-use Rattle.pm_host.specs.Image.{held, host_of}
-use Rattle.pm_host.specs.Summary.{Summary, step_of}
+use Rattle.pm_host.specs.Image.{held}
+use Rattle.pm_host.specs.Summary.{step_of}
 use Rattle.pm_host.specs.Transcript.{Entry}
 use Rattle.pm_limits.specs.Guard.{Guarded, limits_at}
-use Rattle.pm_rail.specs.Course.{course_of, is_order}
-use Rattle.pm_course.specs.declared.course_end.CourseEnd.{CourseEnd}
-use Rattle.pm_course.specs.declared.course_end.CourseEnd.TheVariants.{Refused}
+use Rattle.pm_rail.specs.Course.{course_of}
+use Rattle.pm_rail.specs.Registers.{nothing}
 use Rattle.pm_course.specs.declared.course_end.CourseNext.{CourseNext}
 use Rattle.pm_course.specs.declared.course_end.CourseNext.TheVariants.{Job, Ended}
-use Rattle.pm_course.specs.declared.frame_course.FrameCourse.{FrameCourse}
 use Rattle.pm_course.specs.declared.course_end.Refusal.{Refusal}
+use Rattle.pm_course.specs.declared.frame_course.FrameCourse.{FrameCourse}
+use Rattle.pm_course.specs.declared.frames.Sending.{Sending}
+use Rattle.pm_course.specs.declared.frames.Sending.TheVariants.{Write, Request}
 use Rattle.pm_course.specs.Accept.{Accepts}
-use Rattle.pm_course.specs.FrameCourse.{SaysNext, going_on, refused_by, wanting}
-use Rattle.pm_course.specs.Heard.{heard_by, is_job_of}
-use Rattle.pm_course.specs.Surprise.{surprises}
+use Rattle.pm_course.specs.FrameCourse.{going_on, wanting}
+use Rattle.pm_course.specs.Frames.{GoesOn, HandsOut, Hears, SaysBy}
+use Rattle.pm_course.specs.Hosted.{IsSentAt}
 use Rattle.pm_course.specs.Wishes.{no_voltages}
-use Rattle.pm_rail.specs.Registers.{nothing}
-use Rattle.pm_calls.specs.declared.course.CourseJobImage.{CourseJobImage}
 use Rattle.pm_memory.specs.declared.course_image.CourseImage.{CourseImage}
 use Rattle.pm_memory.specs.declared.guard_image.GuardImage.{GuardImage}
-use Rattle.pm_calls.specs.declared.host_step.HostStep.{HostStep}
 use Rattle.pm_memory.specs.declared.sending_image.SendingImage.{SendingImage}
 use Rattle.pm_memory.specs.declared.wanted_image.WantedImage.{WantedImage}
 use Rattle.pm_memory.specs.CourseImage.{course_image, course_in, job_code, job_kind, job_word}
 use Rattle.pm_memory.specs.Guard.{guard_of, limits_kept, registers_held}
-use Rattle.pm_memory.specs.Sending.{IsNothing}
-use Rattle.pm_calls.specs.Host.{after, is_told, job_begun, job_number, refused_step, told_answer, IsSent}
 use Rattle.pm_memory.specs.Memory.{IsMemory}
-use Rattle.pm_calls.specs.Numbers.{accepted, ended, no_course, no_host}
+use Rattle.pm_memory.specs.Sending.{request_kind, write_kind, IsNothing}
 use Rattle.pm_memory.specs.Wanted.{wanted_meant}
+use Rattle.pm_calls.specs.declared.course.CourseJobImage.{CourseJobImage}
+use Rattle.pm_calls.specs.declared.host_step.HostStep.{HostStep}
+use Rattle.pm_calls.specs.Host.{fault_in, host_step, refused_step}
+use Rattle.pm_calls.specs.Numbers.{accepted, ended, no_course, no_host, other_frame}
 
 -- a course is made: H4 for an output that no device has, then H5 for a code that is no voltage
 abbrev pub begun_number : ℕ → ℕ
@@ -89,20 +89,30 @@ job_image job = record { kind = job_kind job; code = job_code job; word = job_wo
 abbrev pub job_answer : Option FrameCourse → CourseJobImage → CourseJobImage
 job_answer course was = option_map_or (λ c. job_image c.course.survey.asked) course was
 
--- a course whose output the host doesn't have ends with H4
-abbrev pub unknown_output : FrameCourse → FrameCourse
-unknown_output c = record c { end = Some (Refused (record { number = host_fault_number UnknownOutput; register = None })) }
-
 -- the guard of memory whose open job is at this stage
 abbrev pub guard_at : GuardImage → Option Stage → Guarded
 guard_at i stage = record { host = held stage i.host.state; limits = limits_kept i; registers = registers_held i.registers }
 
--- what a course says by a guard in memory
-pub data SaysIn (g : Guarded) (was : FrameCourse) : CourseNext → FrameCourse → Type 0 where
-  unknown : nat_lt was.course.survey.output g.host.setup.outputs ≡ false
-      → SaysIn g was (Ended (Refused (record { number = host_fault_number UnknownOutput; register = None }))) (unknown_output was)
-  there : (result : CourseNext) (is : FrameCourse) → nat_lt was.course.survey.output g.host.setup.outputs ≡ true
-      → SaysNext g.registers (limits_at g was.course.survey.output) g.host was result is → SaysIn g was result is
+-- Why the memories of a host and a course are refused: one holds no host, the other no course, or the course is of an output that the
+-- host doesn't have (H4). Nothing changes then.
+abbrev pub output_fault : Guarded → FrameCourse → Option ℕ
+output_fault g c = if nat_lt c.course.survey.output g.host.setup.outputs then None else Some (host_fault_number UnknownOutput)
+
+abbrev pub memory_fault : Option Guarded → Option FrameCourse → Option ℕ
+memory_fault None course = Some no_host
+memory_fault (Some g) None = Some no_course
+memory_fault (Some g) (Some c) = output_fault g c
+
+-- otherwise they mean a host with its limits and a course of one of its outputs
+pub record AreBoth (host : GuardImage) (course : CourseImage) (g : Guarded) (c : FrameCourse) : Type 0 where
+  pub guard : guard_of host ≡ Some g
+  pub held : course_in course ≡ Some c
+  pub there : output_fault g c ≡ None
+
+-- what the memory of a host means after a call; it stays a function of what it means
+pub record IsAfter (old new : GuardImage) (g : Guarded) : Type 0 where
+  pub guard : guard_of new ≡ Some g
+  pub written : IsMemory old → IsMemory new
 
 -- what a course would begin now
 abbrev pub next_number : CourseNext → ℕ
@@ -113,11 +123,10 @@ abbrev pub next_image : CourseNext → CourseJobImage
 next_image (Job job) = job_image (Some job)
 next_image (Ended over) = job_image None
 
-pub data WouldBegin (guard : Option Guarded) (course : Option FrameCourse) (was : CourseJobImage) : ℕ → CourseJobImage → Type 0 where
-  no_host_for : guard ≡ None → WouldBegin guard course was no_host was
-  no_course_for : (g : Guarded) → guard ≡ Some g → course ≡ None → WouldBegin guard course was no_course was
-  said : (g : Guarded) (c is : FrameCourse) (result : CourseNext) → guard ≡ Some g → course ≡ Some c → SaysIn g c result is
-      → WouldBegin guard course was (next_number result) (next_image result)
+pub data WouldBegin (host : GuardImage) (course : CourseImage) (was : CourseJobImage) : ℕ → CourseJobImage → Type 0 where
+  refused_next : (number : ℕ) → memory_fault (guard_of host) (course_in course) ≡ Some number → WouldBegin host course was number was
+  said : (g : Guarded) (c is : FrameCourse) (result : CourseNext) → AreBoth host course g c → SaysBy g c result is
+      → WouldBegin host course was (next_number result) (next_image result)
 
 -- A held word is taken, or why it isn't.
 abbrev pub accept_number : Result (Unit {0}) Refusal → ℕ
@@ -139,88 +148,53 @@ pub data AcceptsIn (guard : Option Guarded) (was : CourseImage) (tolerance : ℕ
       → Accepts (limits_at g c.course.survey.output) g.host c tolerance answer is → number ≡ accept_number answer
       → new ≡ accept_image was answer is → AcceptsIn guard was tolerance number new
 
--- the host after a call: a job has begun, or it is as it was
-pub record BeginsIn (old : GuardImage) (job : Asked) (new : GuardImage) : Type 0 where
-  pub lets : job_number (guard_of old) (Some job) ≡ accepted
-  pub begun : host_of new.host ≡ job_begun (host_of old.host) (Some job)
-  pub limits : new.limits ≡ old.limits
-  pub registers : new.registers ≡ old.registers
-  pub written : IsMemory old → IsMemory new
+-- the frame that numbers are
+abbrev pub IsFrameIn : Option Sending → SendingImage → Type 0
+IsFrameIn None i = IsNothing i
+IsFrameIn (Some (Write frame)) i = (i.kind ≡ write_kind) × (i.answer ≡ 0) × (take i.length i.bytes ≡ frame.items)
+IsFrameIn (Some (Request frame bytes)) i = (i.kind ≡ request_kind) × (i.answer ≡ bytes) × (take i.length i.bytes ≡ frame.items)
 
--- the stage of a course's open job
-abbrev pub own_at : FrameCourse → Stage → Option Stage
-own_at c stage = rule (is_job_of c.course.survey.asked stage) stage
+-- the frame of a stage, or none, by the numbers that it is
+pub record IsPut (g : Guarded) (at : Option Stage) (i : SendingImage) : Type 0 where
+  pub sent : Option Sending
+  pub of_stage : IsSentAt g at sent
+  pub frame : IsFrameIn sent i
 
-abbrev pub own_stage : FrameCourse → Option Stage → Option Stage
-own_stage c stage = option_and_then (own_at c) stage
+-- what is answered of a frame, or of none
+abbrev pub sent_number : Option Sending → ℕ
+sent_number sent = if is_some sent then accepted else ended
 
--- How a course that is written so goes on: by the frame of its open job, or by the first of the job that it says, which begins; or it
--- has ended, as it says or since the host or its limits refuse that job. With `stops` no order begins: the course waits before it.
-pub data GoesOn (stops : Bool) (old : GuardImage) (was : CourseImage) (g : Guarded) (c : FrameCourse) : ℕ → GuardImage → CourseImage → SendingImage
-    → Type 0 where
-  again : (sending : SendingImage) (stage : Stage) → own_stage c g.host.stage ≡ Some stage → IsSent (host_of old.host) sending
-      → GoesOn stops old was g c accepted old was sending
-  waits : (sending : SendingImage) (is : FrameCourse) (job : Asked) → own_stage c g.host.stage ≡ None → SaysIn g c (Job job) is
-      → stops && is_order job ≡ true → IsNothing sending → GoesOn stops old was g c accepted old was sending
-  begun : (sending : SendingImage) (is : FrameCourse) (job : Asked) (new : GuardImage) → own_stage c g.host.stage ≡ None
-      → SaysIn g c (Job job) is → stops && is_order job ≡ false → BeginsIn old job new → IsSent (host_of new.host) sending
-      → GoesOn stops old was g c accepted new (course_image is) sending
-  over : (sending : SendingImage) (is : FrameCourse) (last : CourseEnd) → own_stage c g.host.stage ≡ None → SaysIn g c (Ended last) is
-      → IsNothing sending → GoesOn stops old was g c ended old (course_image is) sending
-  refused : (sending : SendingImage) (is : FrameCourse) (job : Asked) → own_stage c g.host.stage ≡ None → SaysIn g c (Job job) is
-      → stops && is_order job ≡ false → job_number (guard_of old) (Some job) ≢ accepted → IsNothing sending
-      → GoesOn stops old was g c ended old (course_image (refused_by c (job_number (guard_of old) (Some job)) job)) sending
+abbrev pub stage_number : Option Stage → ℕ
+stage_number at = if is_some at then accepted else ended
 
--- how a course hands out its next frame
-pub data HandsOut (old : GuardImage) (was : CourseImage) : ℕ → GuardImage → CourseImage → SendingImage → Type 0 where
-  no_host_there : (sending : SendingImage) → guard_of old ≡ None → IsNothing sending → HandsOut old was no_host old was sending
-  no_course_there : (sending : SendingImage) (g : Guarded) → guard_of old ≡ Some g → course_in was ≡ None → IsNothing sending
-      → HandsOut old was no_course old was sending
-  goes_on : (number : ℕ) (new : GuardImage) (is : CourseImage) (sending : SendingImage) (g : Guarded) (c : FrameCourse)
-      → guard_of old ≡ Some g → course_in was ≡ Some c → GoesOn false old was g c number new is sending
-      → HandsOut old was number new is sending
+-- Memory is refused; or a course hands out its next frame, by what the memories mean.
+pub data HandsOutIn (old : GuardImage) (was : CourseImage) : ℕ → GuardImage → CourseImage → SendingImage → Type 0 where
+  refused_frame : (number : ℕ) (sending : SendingImage) → memory_fault (guard_of old) (course_in was) ≡ Some number → IsNothing sending
+      → HandsOutIn old was number old was sending
+  hands_out : (g next : Guarded) (c is : FrameCourse) (sent : Option Sending) (new : GuardImage) (sending : SendingImage)
+      → AreBoth old was g c → HandsOut g c sent next is → IsFrameIn sent sending → IsAfter old new next
+      → HandsOutIn old was (sent_number sent) new (course_image is) sending
 
--- what a call answers that tells a host and a course what became of a frame
-abbrev pub course_answer : Option Summary → Option FrameCourse → Entry → HostStep
-course_answer None course entry = refused_step no_host
-course_answer (Some s) None entry = refused_step no_course
-course_answer (Some s) (Some c) entry = told_answer (Some s) entry
+-- what a call answers that tells a host and a course what became of a frame: how the job stands then
+abbrev pub heard_step : Guarded → Entry → HostStep
+heard_step g entry = host_step (fault_in g.host entry) (step_of g.host entry)
 
-abbrev pub is_heard : Option Summary → Option FrameCourse → Entry → Bool
-is_heard host course entry = if is_some course then is_told host entry else false
+-- Memory is refused, or no frame of this kind is being sent, and nothing changes; or the host and the course hear it.
+pub data HearsIn (old : GuardImage) (was : CourseImage) (entry : Entry) : HostStep → GuardImage → CourseImage → Type 0 where
+  refused_told : (number : ℕ) → memory_fault (guard_of old) (course_in was) ≡ Some number
+      → HearsIn old was entry (refused_step number) old was
+  unasked : (g : Guarded) (c : FrameCourse) (fault : Untold) → AreBoth old was g c → Hears g c entry (Err fault) g c
+      → HearsIn old was entry (refused_step other_frame) old was
+  hears_it : (g next : Guarded) (c is : FrameCourse) (new : GuardImage) → AreBoth old was g c → Hears g c entry (Ok tt) next is
+      → IsAfter old new next → HearsIn old was entry (heard_step g entry) new (course_image is)
 
--- the course after it
-abbrev pub heard_at : Summary → FrameCourse → Entry → Option Stage → FrameCourse
-heard_at s c entry None = c
-heard_at s c entry (Some stage) = heard_by c s.setup.addr stage entry (surprises s stage entry) (step_of s entry)
-
-abbrev pub heard_in : CourseImage → Option Summary → Option FrameCourse → Entry → CourseImage
-heard_in was (Some s) (Some c) entry = course_image (heard_at s c entry s.stage)
-heard_in was (Some s) None entry = was
-heard_in was None course entry = was
-
-pub record TellsCourse (old : GuardImage) (was : CourseImage) (entry : Entry) (result : HostStep) (new : GuardImage) (is : CourseImage) :
-    Type 0 where
-  pub answer : result ≡ course_answer (host_of old.host) (course_in was) entry
-  pub told : is_heard (host_of old.host) (course_in was) entry ≡ true → host_of new.host ≡ after (host_of old.host) entry
-  pub heard : is_heard (host_of old.host) (course_in was) entry ≡ true
-      → is ≡ heard_in was (host_of old.host) (course_in was) entry
-  pub limits : new.limits ≡ old.limits
-  pub registers : new.registers ≡ old.registers
-  pub written : IsMemory old → IsMemory new
-  pub refused : is_heard (host_of old.host) (course_in was) entry ≡ false → new ≡ old
-  pub refused_course : is_heard (host_of old.host) (course_in was) entry ≡ false → is ≡ was
-
--- How what became of a frame is told and the next one is handed out, by the memory of both in between; what isn't heard changes nothing,
--- and then nothing is handed out.
-pub data TellsAndSends (stops : Bool) (old : GuardImage) (was : CourseImage) (entry : Entry) :
+-- It is refused so too; or the host and the course hear it, and then the course goes on, or waits before an order where it is to stop there.
+pub data HearsOnIn (stops : Bool) (old : GuardImage) (was : CourseImage) (entry : Entry) :
     HostStep → GuardImage → CourseImage → SendingImage → Type 0 where
-  nothing_told : (result : HostStep) (sending : SendingImage) → is_heard (host_of old.host) (course_in was) entry ≡ false
-      → result ≡ course_answer (host_of old.host) (course_in was) entry → IsNothing sending
-      → TellsAndSends stops old was entry result old was sending
-  told_on : (result : HostStep) (between new : GuardImage) (is : CourseImage) (sending : SendingImage) (s : Summary) (c : FrameCourse)
-      (g : Guarded) (number : ℕ) → host_of old.host ≡ Some s → course_in was ≡ Some c
-      → is_heard (Some s) (Some c) entry ≡ true → TellsCourse old was entry result between (heard_in was (Some s) (Some c) entry)
-      → guard_of between ≡ Some g
-      → GoesOn stops between (heard_in was (Some s) (Some c) entry) g (heard_at s c entry s.stage) number new is sending
-      → TellsAndSends stops old was entry result new is sending
+  refused_both : (number : ℕ) (sending : SendingImage) → memory_fault (guard_of old) (course_in was) ≡ Some number → IsNothing sending
+      → HearsOnIn stops old was entry (refused_step number) old was sending
+  unasked_both : (g : Guarded) (c : FrameCourse) (fault : Untold) (sending : SendingImage) → AreBoth old was g c
+      → Hears g c entry (Err fault) g c → IsNothing sending → HearsOnIn stops old was entry (refused_step other_frame) old was sending
+  hears_on : (g between next : Guarded) (c heard is : FrameCourse) (sent : Option Sending) (new : GuardImage) (sending : SendingImage)
+      → AreBoth old was g c → Hears g c entry (Ok tt) between heard → GoesOn stops between heard sent next is → IsFrameIn sent sending
+      → IsAfter old new next → HearsOnIn stops old was entry (heard_step g entry) new (course_image is) sending

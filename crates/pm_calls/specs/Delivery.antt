@@ -24,7 +24,7 @@ use Rattle.pm_delivery.specs.declared.reading.Reading.{Reading}
 use Rattle.pm_delivery.specs.declared.verdict.Verdict.{Verdict}
 use Rattle.pm_delivery.specs.declared.verdict.Verdict.TheVariants as verdict
 use Rattle.pm_delivery.specs.Beyond.{judgement_of, refusal_of}
-use Rattle.pm_delivery.specs.Deliveries.{again, heard_of, with_heard}
+use Rattle.pm_delivery.specs.Deliveries.{again, first_question, heard_of, with_heard}
 use Rattle.pm_delivery.specs.Due.{due_of}
 use Rattle.pm_delivery.specs.Ended.{verdict_of}
 use Rattle.pm_delivery.specs.FaultWords.{delivery_fault_number}
@@ -83,10 +83,10 @@ due_number (Ask question) = accepted
 due_number Again = accepted
 due_number Nothing = ended
 
-abbrev pub due_question : Due → Option Question
-due_question (Ask question) = Some question
-due_question Again = Some StatusWord
-due_question Nothing = None
+abbrev pub due_question : Delivery → Due → Option Question
+due_question d (Ask question) = Some question
+due_question d Again = Some (first_question d)
+due_question d Nothing = None
 
 abbrev pub due_delivery : Delivery → Due → Delivery
 due_delivery d (Ask question) = d
@@ -97,8 +97,8 @@ due_delivery d Nothing = d
 abbrev pub frame_number : ℕ → Due → ℕ
 frame_number refusal due = if refusal == accepted then due_number due else refusal
 
-abbrev pub frame_question : ℕ → Due → Option Question
-frame_question refusal due = if refusal == accepted then due_question due else None
+abbrev pub frame_question : ℕ → Delivery → Due → Option Question
+frame_question refusal d due = if refusal == accepted then due_question d due else None
 
 abbrev pub frame_delivery : DeliveryImage → ℕ → Due → DeliveryImage
 frame_delivery i refusal due = if refusal == accepted then with_delivery i (due_delivery i.delivery due) else i
@@ -155,6 +155,7 @@ verdict_numbers verdict.NoPowerGood = said 9 (question_code StatusWord) 0 0
 verdict_numbers (verdict.NotKnown register fault) = said 10 (question_code register) 0 fault
 verdict_numbers verdict.WentOff = said 11 0 0 0
 verdict_numbers verdict.StillOn = said 12 (question_code StatusWord) 0 0
+verdict_numbers verdict.DeliversByVoltage = said 14 0 0 0
 
 -- the register that a verdict is said by, and what it held
 abbrev pub said_by : Verdict → Option Question
@@ -171,6 +172,7 @@ said_by verdict.NoPowerGood = Some StatusWord
 said_by (verdict.NotKnown register fault) = Some register
 said_by verdict.WentOff = None
 said_by verdict.StillOn = Some StatusWord
+said_by verdict.DeliversByVoltage = None
 
 abbrev pub word_of : Delivery → Option Question → ℕ
 word_of d register = option_map_or (λ r. (heard_of d r).word) register 0

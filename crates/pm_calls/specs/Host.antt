@@ -58,11 +58,6 @@ pub record BeginsJob (old : GuardImage) (job : Option Job) (result : ℕ) (new :
   pub written : IsMemory old → IsMemory new
   pub refused : result ≢ 0 → new ≡ old
 
--- the number of a job that began and stands somewhere, or of why it is refused
-abbrev pub begun_answer : Result Stage LimitFault → ℕ
-begun_answer (Ok stage) = accepted
-begun_answer (Err fault) = limit_fault_number fault
-
 -- the memory holds a host
 abbrev pub memory_number : Option Summary → ℕ
 memory_number None = no_host

@@ -31,10 +31,9 @@ use Rattle.pm_memory.specs.declared.sending_image.SendingImage.{SendingImage}
 use Rattle.pm_memory.specs.declared.stairs_end.StairsEndImage.{StairsEndImage}
 use Rattle.pm_memory.specs.declared.stairs_image.StairsImage.{StairsImage}
 use Rattle.pm_calls.specs.declared.stairs_step.StairsStepImage.{StairsStepImage}
-use Rattle.pm_calls.specs.Course.{BeginsIn}
 use Rattle.pm_memory.specs.Guard.{guard_of}
 use Rattle.pm_memory.specs.Sending.{IsNothing}
-use Rattle.pm_calls.specs.Host.{after, is_told, job_number, refused_step, told_answer, IsSent}
+use Rattle.pm_calls.specs.Host.{after, is_told, job_begun, job_number, refused_step, told_answer, IsSent}
 use Rattle.pm_memory.specs.Memory.{IsMemory}
 use Rattle.pm_calls.specs.Numbers.{accepted, again, ended, no_host, no_room, no_stairs, no_step, no_way_back}
 use Rattle.pm_memory.specs.StairsImage.{end_no_way_back, end_none, end_reached, end_refused, end_stopped, is_stopped}
@@ -117,6 +116,14 @@ stopped_by q number job = stairs_image q (end_stopped q (Course (Refused (refusa
 
 abbrev pub refused_with : Sequence → Sequence → Turn → ℕ → Asked → StairsImage
 refused_with was is said number job = stopped_by (refused_in was is (is_some (back_said said))) number job
+
+-- the host after a call: a job has begun, or it is as it was
+pub record BeginsIn (old : GuardImage) (job : Asked) (new : GuardImage) : Type 0 where
+  pub lets : job_number (guard_of old) (Some job) ≡ accepted
+  pub begun : host_of new.host ≡ job_begun (host_of old.host) (Some job)
+  pub limits : new.limits ≡ old.limits
+  pub registers : new.registers ≡ old.registers
+  pub written : IsMemory old → IsMemory new
 
 -- How stairs hand out what is next, by the host at the place that they name: the frame of their open job, or the first of the job that
 -- they name, which begins; nothing where they name none, or where the host or its limits refuse it.

@@ -1,28 +1,17 @@
 //! A course of an output: it is made, hands out frames, and hears what became of them.
 
-ghost use Rattle.std.specs.Prelude.{◌≡◌, true, ◌&&◌, nat_lt, Some, None, IfSome};
-ghost use Rattle.pm_host.specs.Image.{held, host_of, is_current};
-ghost use Rattle.pm_host.specs.Progress.{stage_after, step_after as step_told};
-ghost use Rattle.pm_host.specs.Sound.{IsSound};
-ghost use Rattle.pm_host.specs.Summary.{next, step_of};
-ghost use Rattle.pm_host.specs.Told.{entry_told, is_awaited};
-ghost use Rattle.pm_course.specs.Heard.{heard_by};
-ghost use Rattle.pm_course.specs.Surprise.{surprises as surprises_by};
-ghost use Rattle.pm_memory.specs.Memory.{IsMemory};
-ghost use Rattle.pm_rail.specs.Course.{is_order};
-ghost use Rattle.pm_limits.specs.FaultWords.{limit_fault_number};
-ghost use Rattle.pm_course.specs.FrameCourse.{refused_by};
-ghost use Rattle.pm_calls.specs.Course.{guard_at, job_image, own_stage as spec_own_stage, voltage_register, AcceptsIn, GoesOn, HandsOut, SaysIn, TellsAndSends, TellsCourse, WouldBegin};
+ghost use Rattle.std.specs.Prelude.{◌≡◌, ◌<◌, nat_lt, Some, IfOk, IfSome, OnOk};
+ghost use Rattle.std.specs.Result.{result_err};
+ghost use Rattle.pm_host.specs.Told.{entry_told};
+ghost use Rattle.pm_calls.specs.Course.{job_image, memory_fault, stage_number, voltage_register, AcceptsIn, AreBoth, HandsOutIn, HearsIn, HearsOnIn, IsPut, WouldBegin};
 ghost use Rattle.pm_memory.specs.Guard.{guard_of};
-ghost use Rattle.pm_memory.specs.CourseImage.{course_image, course_in};
+ghost use Rattle.pm_memory.specs.Hosted.{guard_in, IsThere};
+ghost use Rattle.pm_memory.specs.CourseImage.{course_held, course_in};
 
-use crate::host::begin_at;
 use crate::host_step::{HostStep, no_step, step_after};
 use crate::numbers::{ACCEPTED, ENDED, NO_COURSE, NO_HOST, OTHER_FRAME};
-use crate::told::send;
-use pm_course::{CourseEnd, CourseNext, FrameCourse, Refusal};
-use pm_host::{HostFault, Job, Progress, Stage, Told};
-use pm_limits::LimitFault;
+use pm_course::CourseNext;
+use pm_host::{HostFault, Job, Stage, Told, transcripts_are_followed};
 use pm_memory::{CourseImage, GuardImage, SendingImage, job_numbers};
 use pm_table::{Cell, Code, Reg, cell_of};
 
@@ -65,137 +54,67 @@ fn has_output(host: &GuardImage, output: u8) -> bool
     output < host.host.state.outputs
 }
 
-// What a course says next. H4 ends it if the host has no such output.
-fn says(host: &GuardImage, stage: Option<Stage>, course: &mut FrameCourse) -> CourseNext
-    requires { IsSound (held stage host.now.host.state) }
-    ensures { SaysIn (guard_at host.now stage) course.old result course.new }
+// The stage of the host's open job; or the number of why the memories of a host and a course are refused.
+fn read(course: &CourseImage, host: &GuardImage) -> Result<Option<Stage>, u8>
+    ensures fault { result_err result ≡ memory_fault (guard_of host.now) (course_in course.now) }
+    ensures there { OnOk result (IsThere host.now) }
+    ensures stage { IfOk result (λ stage. stage ≡ (guard_in host.now).host.stage) }
+    ensures both { OnOk result (AreBoth host.now course.now (guard_in host.now) (course_held course.now)) }
+    ensures output { OnOk result (course.now.output < (guard_in host.now).host.setup.outputs) }
 {
-    if host.host.state.outputs <= course.course.survey.output {
-        let end = CourseEnd::Refused(Refusal {
-            number: HostFault::UnknownOutput.number(),
-            register: None,
-        });
-        course.end = Some(end);
-        return CourseNext::Ended(end);
+    let Ok(stage) = host.open_stage() else {
+        return Err(NO_HOST);
+    };
+    if !course.is_course() {
+        return Err(NO_COURSE);
     }
-    let limits = host.limits(course.course.survey.output);
-    let registers = host.registers.registers();
-    course.next_in(&host.host.state, stage, registers, &limits)
+    if !has_output(host, course.output) {
+        return Err(HostFault::UnknownOutput.number());
+    }
+    Ok(stage)
 }
 
-// The stage of a course's open job.
-fn own_stage(asked: &FrameCourse, stage: Option<Stage>) -> Option<Stage>
-    ensures own { result ≡ spec_own_stage asked.now stage }
-    ensures open { IfSome result (λ at. stage ≡ Some at) }
+// The frame of the stage at which the host's open job stands, or nothing.
+fn put(host: &GuardImage, at: Option<Stage>, sending: &mut SendingImage)
+    requires there { IsThere host.now }
+    requires open { IfSome at (λ stage. (guard_in host.now).host.stage ≡ Some stage) }
+    ensures { IsPut (guard_in host.now) at sending.new }
 {
-    match stage {
-        Some(at) if asked.is_job_of(at) => Some(at),
-        _ => None,
-    }
-}
-
-// The first frame of what a course says next, which begins; or none, if it has ended, or waits before an order.
-fn begin_next(
-    course: &mut CourseImage,
-    host: &mut GuardImage,
-    stage: Option<Stage>,
-    asked: &FrameCourse,
-    stops: bool,
-    sending: &mut SendingImage,
-) -> u8
-    requires there { host_of host.old.host ≡ Some (held stage host.old.host.state) }
-    requires current { is_current host.old.host ≡ true }
-    requires sound { IsSound (held stage host.old.host.state) }
-    requires other { spec_own_stage asked.now stage ≡ None }
-    ensures { GoesOn stops host.old (course_image asked.now) (guard_at host.old stage) asked.now result host.new course.new sending.new }
-{
-    let mut said = *asked;
-    match says(host, stage, &mut said) {
-        CourseNext::Ended(_) => {
-            course.write(&said);
-            sending.clear();
-            ENDED
-        }
-        CourseNext::Job(job) => {
-            if waits(stops, job) {
-                course.write(asked);
-                sending.clear();
-                return ACCEPTED;
-            }
-            match begin_at(host, stage, job) {
-                Ok(at) => {
-                    course.write(&said);
-                    send(host, at, sending);
-                    ACCEPTED
-                }
-                Err(fault) => {
-                    refuse(course, asked, fault, job);
-                    sending.clear();
-                    ENDED
-                }
-            }
-        }
+    match at {
+        Some(stage) => sending.put(host.host.state.address, &stage.message()),
+        None => sending.clear(),
     }
 }
 
-// Whether a course waits before a job: one that stops does before an order.
-fn waits(stops: bool, job: Job) -> bool
-    ensures { result ≡ (stops && is_order job) }
+// What is answered of a frame, or of none.
+fn number_sent(at: Option<Stage>) -> u8
+    ensures { result ≡ stage_number at }
 {
-    stops && matches!(job, Job::Order(..))
-}
-
-// A course ends, since the host or its limits refuse the job that it said. That is seldom.
-#[inline(never)]
-fn refuse(course: &mut CourseImage, asked: &FrameCourse, fault: LimitFault, job: Job)
-    ensures { course.new ≡ course_image (refused_by asked.now (limit_fault_number fault) job) }
-{
-    let mut refused = *asked;
-    refused.refused(fault.number(), job);
-    course.write(&refused);
+    match at {
+        Some(_) => ACCEPTED,
+        None => ENDED,
+    }
 }
 
 /// A host hears what became of its frame, and the course does if the frame is of its job.
 pub fn tell(course: &mut CourseImage, host: &mut GuardImage, told: Told<'_>) -> HostStep
-    ensures { TellsCourse host.old course.old (entry_told told.entry) result host.new course.new }
+    ensures { HearsIn host.old course.old (entry_told told.entry) result host.new course.new }
 {
-    let Ok(stage) = host.host.read_stage() else {
-        return no_step(NO_HOST);
+    let stage = match read(course, host) {
+        Ok(stage) => stage,
+        Err(number) => return no_step(number),
     };
-    if !course.is_course() {
-        return no_step(NO_COURSE);
+    let Some(at) = stage else {
+        return no_step(OTHER_FRAME);
+    };
+    if !at.awaits(&told) {
+        return no_step(OTHER_FRAME);
     }
     let mut asked = course.held();
-    match stage {
-        Some(stage) if stage.awaits(&told) => {
-            let address = host.host.state.address;
-            let progress = hear(host, &mut asked, stage, told);
-            course.write(&asked);
-            step_after(progress.step(), address, stage, told)
-        }
-        _ => no_step(OTHER_FRAME),
-    }
-}
-
-// Tells a host and a course what became of the frame of a stage: if the job still stands.
-fn hear(host: &mut GuardImage, asked: &mut FrameCourse, stage: Stage, told: Told<'_>) -> Progress
-    requires current { is_current host.old.host ≡ true }
-    requires sound { IsSound (held (Some stage) host.old.host.state) }
-    requires awaited { is_awaited stage told ≡ true }
-    ensures there { host_of host.new.host ≡ Some (held (stage_after result) host.new.host.state) }
-    ensures current { is_current host.new.host ≡ true }
-    ensures sound { IsSound (held (stage_after result) host.new.host.state) }
-    ensures after { held (stage_after result) host.new.host.state ≡ next (held (Some stage) host.old.host.state) (entry_told told.entry) }
-    ensures step { step_told result ≡ step_of (held (Some stage) host.old.host.state) (entry_told told.entry) }
-    ensures heard { let s = held (Some stage) host.old.host.state in
-        asked.new ≡ heard_by asked.old s.setup.addr stage (entry_told told.entry) (surprises_by s stage (entry_told told.entry)) (step_of s (entry_told told.entry)) }
-    ensures limits { host.new.limits ≡ host.old.limits }
-    ensures registers { host.new.registers ≡ host.old.registers }
-    ensures written { IsMemory host.old → IsMemory host.new }
-{
-    let progress = asked.told_with(&mut host.host.state, stage, told);
-    host.host.write_stage(progress.stage());
-    progress
+    let address = host.host.state.address;
+    let heard = asked.hear_by(host, at, told);
+    course.write(&asked);
+    step_after(heard.step, address, at, told)
 }
 
 /// A host hears what became of its frame, and the course does if the frame is of its job. What is to be sent next is handed out.
@@ -206,53 +125,33 @@ pub fn tell_and_send(
     stops: bool,
     sending: &mut SendingImage,
 ) -> HostStep
-    ensures { TellsAndSends stops host.old course.old (entry_told told.entry) result host.new course.new sending.new }
+    ensures { HearsOnIn stops host.old course.old (entry_told told.entry) result host.new course.new sending.new }
 {
-    let Ok(stage) = host.host.read_stage() else {
-        sending.clear();
-        return no_step(NO_HOST);
+    let stage = match read(course, host) {
+        Ok(stage) => stage,
+        Err(number) => {
+            sending.clear();
+            return no_step(number);
+        }
     };
-    if !course.is_course() {
+    let Some(at) = stage else {
         sending.clear();
-        return no_step(NO_COURSE);
+        return no_step(OTHER_FRAME);
+    };
+    if !at.awaits(&told) {
+        sending.clear();
+        return no_step(OTHER_FRAME);
     }
     let mut asked = course.held();
-    match stage {
-        Some(stage) if stage.awaits(&told) => {
-            let address = host.host.state.address;
-            let progress = hear(host, &mut asked, stage, told);
-            send_next(course, host, progress.stage(), &asked, stops, sending);
-            step_after(progress.step(), address, stage, told)
-        }
-        _ => {
-            sending.clear();
-            no_step(OTHER_FRAME)
-        }
-    }
-}
-
-// The frame of a course's open job, or else the first frame of what it says next.
-fn send_next(
-    course: &mut CourseImage,
-    host: &mut GuardImage,
-    stage: Option<Stage>,
-    asked: &FrameCourse,
-    stops: bool,
-    sending: &mut SendingImage,
-) -> u8
-    requires there { host_of host.old.host ≡ Some (held stage host.old.host.state) }
-    requires current { is_current host.old.host ≡ true }
-    requires sound { IsSound (held stage host.old.host.state) }
-    ensures { GoesOn stops host.old (course_image asked.now) (guard_at host.old stage) asked.now result host.new course.new sending.new }
-{
-    match own_stage(asked, stage) {
-        Some(at) => {
-            course.write(asked);
-            send(host, at, sending);
-            ACCEPTED
-        }
-        None => begin_next(course, host, stage, asked, stops, sending),
-    }
+    let address = host.host.state.address;
+    // law: nothing changes what a host was made with
+    transcripts_are_followed();
+    let heard = asked.hear_by(host, at, told);
+    let step = step_after(heard.step, address, at, told);
+    let next = asked.go_on(host, heard.stage, stops);
+    course.write(&asked);
+    put(host, next, sending);
+    step
 }
 
 /// The work of `pm_course_accept`.
@@ -280,15 +179,14 @@ pub fn accept(course: &mut CourseImage, host: &GuardImage, microvolts: u32) -> u
 
 /// The work of `pm_course_next`.
 pub fn would_begin(course: &CourseImage, host: &GuardImage, next: &mut CourseJobImage) -> u8
-    ensures { WouldBegin (guard_of host.now) (course_in course.now) next.old result next.new }
+    ensures { WouldBegin host.now course.now next.old result next.new }
 {
-    let Ok(stage) = host.host.read_stage() else {
-        return NO_HOST;
+    let stage = match read(course, host) {
+        Ok(stage) => stage,
+        Err(number) => return number,
     };
-    let Some(mut asked) = course.course() else {
-        return NO_COURSE;
-    };
-    match says(host, stage, &mut asked) {
+    let mut asked = course.held();
+    match asked.next_at(host, stage) {
         CourseNext::Job(job) => {
             *next = CourseJobImage::of(Some(job));
             ACCEPTED
@@ -302,22 +200,18 @@ pub fn would_begin(course: &CourseImage, host: &GuardImage, next: &mut CourseJob
 
 /// The work of `pm_course_frame`.
 pub fn hand_out(course: &mut CourseImage, host: &mut GuardImage, sending: &mut SendingImage) -> u8
-    ensures { HandsOut host.old course.old result host.new course.new sending.new }
+    ensures { HandsOutIn host.old course.old result host.new course.new sending.new }
 {
-    let Ok(stage) = host.host.read_stage() else {
-        sending.clear();
-        return NO_HOST;
-    };
-    if !course.is_course() {
-        sending.clear();
-        return NO_COURSE;
-    }
-    let asked = course.held();
-    match own_stage(&asked, stage) {
-        Some(at) => {
-            send(host, at, sending);
-            ACCEPTED
+    let stage = match read(course, host) {
+        Ok(stage) => stage,
+        Err(number) => {
+            sending.clear();
+            return number;
         }
-        None => begin_next(course, host, stage, &asked, false, sending),
-    }
+    };
+    let mut asked = course.held();
+    let at = asked.hand_out(host, stage);
+    course.write(&asked);
+    put(host, at, sending);
+    number_sent(at)
 }

@@ -150,6 +150,7 @@ fn numbers_of(verdict: Verdict) -> DeliveredImage
         Verdict::NotKnown(register, fault) => said(10, register.code().0, 0, fault),
         Verdict::WentOff => said(11, 0, 0, 0),
         Verdict::StillOn => said(12, Question::StatusWord.code().0, 0, 0),
+        Verdict::DeliversByVoltage => said(14, 0, 0, 0),
     }
 }
 
@@ -181,6 +182,7 @@ fn said_by(verdict: Verdict) -> Option<Question>
         Verdict::NewFault(register, _) | Verdict::NotKnown(register, _) => Some(register),
         Verdict::NotYet
         | Verdict::Delivers
+        | Verdict::DeliversByVoltage
         | Verdict::CommandedOff
         | Verdict::NotKnownOn
         | Verdict::WentOff => None,

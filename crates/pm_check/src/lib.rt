@@ -1,8 +1,9 @@
 //! A log that proves itself: what a host was asked for and heard, and what is claimed of it. [`check`] replays it
 //! through a new [`Host`](pm_host::Host), and accepts it only if that host knows each claim by nothing but these acts.
 //!
-//! What it accepts is true of every device that could have given these answers: `accepted_claims_are_held` says so over
-//! lives. Nothing is trusted but that the answers came; who wrote the log doesn't matter. It takes no memory.
+//! What it accepts is true of every device that could have given these answers, unless it restarted since:
+//! `accepted_claims_are_held` says so over lives. What is trusted is that the answers came, and which registers a claim says that
+//! the device lacks. For a log as a text `pm_log` asks its receiver for that. It takes no memory.
 //!
 //! ```
 //! fn checked(answer: &[u8]) -> Result<(), CheckFault> {

@@ -3,3 +3,4 @@ mod LastReads
 mod OpenBands
 mod Others
 mod Stays
+mod CheckedBeside

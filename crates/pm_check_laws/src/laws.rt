@@ -1,12 +1,14 @@
 //! The laws, over nothing but definitions.
 
 ghost use Rattle.pm_check_laws.specs.Checked.{AcceptedClaimsAreHeld, AcceptedClaimsStay, AcceptedVoltagesStay, UnknownClaimsAreOpen, UnknownVoltagesAreOpen};
+ghost use Rattle.pm_check_laws.specs.CheckedBeside.{AcceptedClaimsHoldBeside};
 
 use pm_check::logs_are_transcripts;
 use pm_host::{possible_words_are_followed, transcripts_are_followed};
+use pm_part_laws::same_settings_live_alike;
 use pm_table::cells_are_told_apart;
 use pm_world::{
-    bands_are_exact, bands_are_held, events_are_lived, learned_formats_are_true,
+    bands_are_exact, bands_are_held, events_are_lived, learned_formats_are_true, lists_say_enough,
     lives_are_followed, possible_words_are_exact, possible_words_are_held,
     settings_move_by_the_open_job,
 };
@@ -86,4 +88,17 @@ pub fn accepted_voltages_stay()
     learned_formats_are_true();
     bands_are_held();
     settings_move_by_the_open_job();
+}
+
+/// Each claim of a log that is accepted is true of each host that tells the log beside any part, whoever reads the part meanwhile: of
+/// a word (`holds`) and of microvolts (`voltage`), unless the part restarted since the answers that say so. It stays true while the
+/// part doesn't restart and no job is open that may write what the claim speaks of (`stays`, `voltage_stays`).
+pub fn accepted_claims_hold_beside()
+    ensures { AcceptedClaimsHoldBeside }
+{
+    same_settings_live_alike();
+    lists_say_enough();
+    accepted_claims_are_held();
+    accepted_claims_stay();
+    accepted_voltages_stay();
 }

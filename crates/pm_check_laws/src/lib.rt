@@ -17,6 +17,6 @@
 mod laws;
 
 pub use laws::{
-    accepted_claims_are_held, accepted_claims_stay, accepted_voltages_stay,
-    unknown_claims_are_open, unknown_voltages_are_open,
+    accepted_claims_are_held, accepted_claims_hold_beside, accepted_claims_stay,
+    accepted_voltages_stay, unknown_claims_are_open, unknown_voltages_are_open,
 };

@@ -1,4 +1,4 @@
 -- Lemmas of this crate.
-mod Awaited
 mod Good
+mod Hosts
 mod Says

@@ -1,5 +1,5 @@
 -- The frames that a course hands out, and what it makes of what became of them. This project's own choice.
-use Rattle.std.specs.Prelude.{◌≡◌, ℕ, true, false, Option, Some, None, Result, Ok, Err, IsSomeAnd, MatchOption}
+use Rattle.std.specs.Prelude.{◌≡◌, ℕ, Bool, true, false, ◌&&◌, Option, Some, None, Result, Ok, Err, IsSomeAnd, MatchOption}
 use Rattle.pm_frame.specs.declared.message.Message.{Message}
 use Rattle.pm_frame.specs.Fault.{whole_answer}
 use Rattle.pm_frame.specs.Layout.{is_read_message, IsRequest, IsWrite}
@@ -13,6 +13,7 @@ use Rattle.pm_host.specs.Transcript.{Entry}
 use Rattle.pm_limits.specs.declared.fault.LimitFault.{LimitFault}
 use Rattle.pm_limits.specs.FaultWords.{limit_fault_number}
 use Rattle.pm_limits.specs.Guard.{Guarded, LetsBegin, guard_fault, limits_at}
+use Rattle.pm_rail.specs.Course.{is_order}
 use Rattle.pm_course.specs.declared.course_end.CourseEnd.{CourseEnd}
 use Rattle.pm_course.specs.declared.course_end.CourseNext.{CourseNext}
 use Rattle.pm_course.specs.declared.course_end.CourseNext.TheVariants.{Job, Ended}
@@ -48,6 +49,20 @@ pub data HandsOut (old : Guarded) (was : FrameCourse) : Option Sending → Guard
   over : (end : CourseEnd) (is : FrameCourse) → SaysBy old was (Ended end) is → HandsOut old was None old is
   refused : (job : Asked) (fault : LimitFault) (is : FrameCourse) → SaysBy old was (Job job) is → guard_fault old job ≡ Some fault
       → HandsOut old was None old (refused_by was (limit_fault_number fault) job)
+
+-- it begins an order, or would if the guard didn't refuse it
+abbrev pub begins_order : (old : Guarded) (was : FrameCourse) (sent : Option Sending) (new : Guarded) (is : FrameCourse)
+    → HandsOut old was sent new is → Bool
+begins_order old was _ _ _ (again stage sent opened own frame) = false
+begins_order old was _ _ _ (begun job sent new is says lets frame) = is_order job
+begins_order old was _ _ _ (over end is says) = false
+begins_order old was _ _ _ (refused job fault is says refuses) = is_order job
+
+-- It hands out what is next, by a call that may be told to stop before an order: it waits there, and nothing changes.
+pub data GoesOn (stops : Bool) (old : Guarded) (was : FrameCourse) : Option Sending → Guarded → FrameCourse → Type 0 where
+  waits : (job : Asked) (is : FrameCourse) → is_order job && stops ≡ true → SaysBy old was (Job job) is → GoesOn stops old was None old was
+  hands : (sent : Option Sending) (new : Guarded) (is : FrameCourse) (does : HandsOut old was sent new is)
+      → begins_order old was sent new is does && stops ≡ false → GoesOn stops old was sent new is
 
 -- It is told what became of the frame that the guard's host is sending, which the host is told too: S2 where it sends none, S3 where
 -- one of the other kind.

@@ -6,5 +6,7 @@ pub mod FrameCourse
 pub mod Surprise
 pub mod Heard
 pub mod Frames
+pub mod Hosted
 pub mod AcceptFault
 pub mod Accept
+pub mod Lemmas

@@ -6,14 +6,16 @@ ghost use Rattle.pm_host.specs.Summary.{possible_at};
 ghost use Rattle.pm_table.specs.Cell.{IsCell};
 ghost use Rattle.pm_course.specs.Ends.{end_of as spec_end_of};
 ghost use Rattle.pm_course.specs.FrameCourse.{asked_for as spec_asked_for, asking_for as spec_asking_for, is_turning as spec_is_turning, last_end as spec_last_end, planning, protect_in as spec_protect_in, source_in as spec_source_in, source_of as spec_source_of, to_byte, to_survey, to_wishes, wanting, with_plan, SaysNext};
+ghost use Rattle.pm_course.specs.Frames.{SaysBy};
 ghost use Rattle.pm_course.specs.FrameCourse as specs;
 
 use crate::answer_fault::AnswerFault;
 use crate::course_end::{CourseEnd, CourseNext, Refusal, code_of};
+use crate::hosted::Hosted;
 use crate::voltages::Voltages;
 use crate::wish::Wishes;
 use pm_host::{Job, Stage, State};
-use pm_limits::{Guard, OutputLimits, PartRegisters};
+use pm_limits::{OutputLimits, PartRegisters};
 use pm_rail::{ApplyEnd, Course, Next, PlanFault, StopCause, Wanted};
 use pm_table::{Cell, Operation, Reg, is_allowed};
 
@@ -75,22 +77,25 @@ impl FrameCourse {
     }
 
     /// What it would begin now, or how it would end. It changes nothing.
-    pub fn next(&self, guard: &Guard) -> CourseNext
-        requires { self.now.course.survey.output < guard.now.host.setup.outputs }
-        ensures { specs.WouldSay guard.now.registers (limits_at guard.now self.now.course.survey.output) guard.now.host self.now result }
+    pub fn next<H: Hosted>(&self, host: &H) -> CourseNext
+        requires there { H.is_there host.now }
+        requires output { self.now.course.survey.output < (H.guarded host.now).host.setup.outputs }
+        ensures { specs.WouldSay (H.guarded host.now).registers (limits_at (H.guarded host.now) self.now.course.survey.output) (H.guarded host.now).host self.now result }
     {
         let mut asked = *self;
-        asked.next_by(guard)
+        asked.next_at(host, host.stage())
     }
 
-    /// What to do next, by what the guard's host knows and within the output's limits.
-    pub fn next_by(&mut self, guard: &Guard) -> CourseNext
-        requires { self.old.course.survey.output < guard.now.host.setup.outputs }
-        ensures { SaysNext guard.now.registers (limits_at guard.now self.old.course.survey.output) guard.now.host self.old result self.new }
+    /// What to do next, by what a host knows whose open job stands at this stage, and within the output's limits.
+    pub fn next_at<H: Hosted>(&mut self, host: &H, stage: Option<Stage>) -> CourseNext
+        requires there { H.is_there host.now }
+        requires stage { stage ≡ (H.guarded host.now).host.stage }
+        requires output { self.old.course.survey.output < (H.guarded host.now).host.setup.outputs }
+        ensures { SaysBy (H.guarded host.now) self.old result self.new }
     {
-        let host = guard.host();
-        let limits = guard.limits(self.course.survey.output);
-        self.next_in(host.state(), host.stage(), guard.registers(), &limits)
+        let limits = host.limits(self.course.survey.output);
+        let part = host.registers();
+        self.next_in(host.state(), stage, part, &limits)
     }
 
     /// What to do next, by the state beside the open job, of a part with these registers, by these limits. The output's

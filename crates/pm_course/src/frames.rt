@@ -1,18 +1,20 @@
-//! The frames of a course, over a guard.
+//! The frames of a course, over a host with its limits.
 
-ghost use Rattle.std.specs.Prelude.{◌≡◌, ◌<◌, true};
+ghost use Rattle.std.specs.Prelude.{◌≡◌, ◌<◌, ◌&&◌, true, Some, IfSome};
 ghost use Rattle.pm_table.specs.Address.{IsAddress};
 ghost use Rattle.pm_host.specs.Sound.{HasWord};
 ghost use Rattle.pm_host.specs.Summary.{stage_message};
 ghost use Rattle.pm_host.specs.Told.{entry_told};
 ghost use Rattle.pm_host.specs.Transcript.{Finished, Got};
+ghost use Rattle.pm_rail.specs.Course.{is_order};
 ghost use Rattle.pm_course.specs.Frames.{HandsOut, Hears, IsSendingOf, IsSent};
+ghost use Rattle.pm_course.specs.Hosted.{GoesOnAt, HandsOutAt};
 
 use crate::course_end::CourseNext;
 use crate::frame_course::FrameCourse;
-use crate::surprise::surprises;
+use crate::hosted::Hosted;
 use pm_frame::{Frame, write_part};
-use pm_host::{Stage, Told, Untold};
+use pm_host::{Job, Stage, Told, Untold};
 use pm_limits::Guard;
 
 /// A frame that is to be sent now.
@@ -62,65 +64,120 @@ pub fn sent_by(guard: &Guard) -> Option<Sending>
 
 impl FrameCourse {
     /// The frame of the course's open job, which stays the same until `write_ended` or `read_ended`; if none is open, what is next is
-    /// begun. `None` once the course has ended, as `end` says: also if the guard refuses the job, which changes nothing else.
-    pub fn frame(&mut self, guard: &mut Guard) -> Option<Sending>
-        requires { self.old.course.survey.output < guard.old.host.setup.outputs }
-        ensures { HandsOut guard.old self.old result guard.new self.new }
+    /// begun. `None` once the course has ended, as `end` says: also if the host or its limits refuse the job, which changes nothing else.
+    pub fn frame<H: Hosted>(&mut self, host: &mut H) -> Option<Sending>
+        requires there { H.is_there host.old }
+        requires output { self.old.course.survey.output < (H.guarded host.old).host.setup.outputs }
+        ensures there { H.is_there host.new }
+        ensures hands { HandsOut (H.guarded host.old) self.old result (H.guarded host.new) self.new }
+        ensures written { H.is_written host.old → H.is_written host.new }
     {
-        if let Some(stage) = guard.host().stage() {
-            if self.is_job_of(stage) {
-                return sent_by(guard);
+        let stage = host.stage();
+        match self.hand_out(host, stage) {
+            Some(at) => Some(Sending::of(host.state().address, at)),
+            None => None,
+        }
+    }
+
+    /// As `frame`, if the host's open job stands at this stage: the stage whose frame is to be sent.
+    pub fn hand_out<H: Hosted>(&mut self, host: &mut H, stage: Option<Stage>) -> Option<Stage>
+        requires there { H.is_there host.old }
+        requires stage { stage ≡ (H.guarded host.old).host.stage }
+        requires output { self.old.course.survey.output < (H.guarded host.old).host.setup.outputs }
+        ensures there { H.is_there host.new }
+        ensures hands { HandsOutAt (H.guarded host.old) self.old result (H.guarded host.new) self.new }
+        ensures open { IfSome result (λ at. (H.guarded host.new).host.stage ≡ Some at) }
+        ensures written { H.is_written host.old → H.is_written host.new }
+    {
+        self.go_on(host, stage, false)
+    }
+
+    /// As `hand_out`; but if the course is to stop before an order, none begins: it waits, and nothing changes.
+    pub fn go_on<H: Hosted>(
+        &mut self,
+        host: &mut H,
+        stage: Option<Stage>,
+        stops: bool,
+    ) -> Option<Stage>
+        requires there { H.is_there host.old }
+        requires stage { stage ≡ (H.guarded host.old).host.stage }
+        requires output { self.old.course.survey.output < (H.guarded host.old).host.setup.outputs }
+        ensures there { H.is_there host.new }
+        ensures goes { GoesOnAt stops (H.guarded host.old) self.old result (H.guarded host.new) self.new }
+        ensures open { IfSome result (λ at. (H.guarded host.new).host.stage ≡ Some at) }
+        ensures written { H.is_written host.old → H.is_written host.new }
+    {
+        if let Some(at) = stage {
+            if self.is_job_of(at) {
+                return stage;
             }
         }
         let mut asked = *self;
-        match asked.next_by(guard) {
+        match asked.next_at(host, stage) {
             CourseNext::Ended(_) => {
                 *self = asked;
                 None
             }
-            CourseNext::Job(job) => match guard.begin(job) {
-                Ok(()) => {
-                    *self = asked;
-                    sent_by(guard)
+            CourseNext::Job(job) => {
+                if waits(stops, job) {
+                    return None;
                 }
-                Err(fault) => {
-                    self.refused(fault.number(), job);
-                    None
+                match host.begin_at(stage, job) {
+                    Ok(at) => {
+                        *self = asked;
+                        at
+                    }
+                    Err(fault) => {
+                        self.refused(fault.number(), job);
+                        None
+                    }
                 }
-            },
+            }
         }
     }
 
     /// A write was sent, and acknowledged or not. S2 if nothing is being sent, S3 if a request is: then nothing changes.
-    pub fn write_ended(&mut self, guard: &mut Guard, acked: bool) -> Result<(), Untold>
-        ensures { Hears guard.old self.old (Finished acked) result guard.new self.new }
+    pub fn write_ended<H: Hosted>(&mut self, host: &mut H, acked: bool) -> Result<(), Untold>
+        requires there { H.is_there host.old }
+        ensures there { H.is_there host.new }
+        ensures hears { Hears (H.guarded host.old) self.old (Finished acked) result (H.guarded host.new) self.new }
+        ensures written { H.is_written host.old → H.is_written host.new }
     {
-        self.told(guard, Told::Finished { acked })
+        self.told(host, Told::Finished { acked })
     }
 
     /// A request was sent, and these bytes came back, the read address first; none if there was no answer. S2 if nothing
     /// is being sent, S3 if a write is: then nothing changes.
-    pub fn read_ended(&mut self, guard: &mut Guard, bytes: &[u8]) -> Result<(), Untold>
-        ensures { Hears guard.old self.old (Got bytes.now) result guard.new self.new }
+    pub fn read_ended<H: Hosted>(&mut self, host: &mut H, bytes: &[u8]) -> Result<(), Untold>
+        requires there { H.is_there host.old }
+        ensures there { H.is_there host.new }
+        ensures hears { Hears (H.guarded host.old) self.old (Got bytes.now) result (H.guarded host.new) self.new }
+        ensures written { H.is_written host.old → H.is_written host.new }
     {
-        self.told(guard, Told::Got(bytes))
+        self.told(host, Told::Got(bytes))
     }
 
     // What became of the frame that is being sent.
-    fn told(&mut self, guard: &mut Guard, told: Told<'_>) -> Result<(), Untold>
-        ensures { Hears guard.old self.old (entry_told told.entry) result guard.new self.new }
+    fn told<H: Hosted>(&mut self, host: &mut H, told: Told<'_>) -> Result<(), Untold>
+        requires there { H.is_there host.old }
+        ensures there { H.is_there host.new }
+        ensures hears { Hears (H.guarded host.old) self.old (entry_told told.entry) result (H.guarded host.new) self.new }
+        ensures written { H.is_written host.old → H.is_written host.new }
     {
-        let host = guard.host();
         let Some(stage) = host.stage() else {
             return Err(Untold::NothingSent);
         };
         if !stage.awaits(&told) {
             return Err(Untold::WrongKind);
         }
-        let address = host.state().address;
-        let surprised = surprises(host.state(), stage, told);
-        let step = guard.told(told);
-        self.heard(address, stage, told, surprised, step);
+        self.hear_by(host, stage, told);
         Ok(())
     }
+}
+
+// Whether a course waits before a job: one that stops does before an order.
+fn waits(stops: bool, job: Job) -> bool
+    ensures { result ≡ (is_order job && stops) }
+{
+    matches!(job, Job::Order(..)) && stops
 }

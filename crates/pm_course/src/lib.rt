@@ -8,7 +8,7 @@
 //! no format or OPERATION holds a byte that its cell doesn't take. It reads WRITE_PROTECT before an output is turned on. It learns the
 //! format anew after an answer that shows that the part restarted or was exchanged.
 //!
-//! It sends nothing, waits for nothing and takes no memory.
+//! It drives any host with its limits that is [`Hosted`]. It sends nothing, waits for nothing and takes no memory.
 //!
 //! Tests: crates/pm_host_tests
 #![tactic(auto)]
@@ -20,6 +20,7 @@ mod course_end;
 mod frame_course;
 mod frames;
 mod heard;
+mod hosted;
 mod surprise;
 mod told;
 mod voltages;
@@ -31,6 +32,7 @@ pub use answer_fault::AnswerFault;
 pub use course_end::{CourseEnd, CourseNext, Refusal};
 pub use frame_course::FrameCourse;
 pub use frames::{Sending, sent_by};
+pub use hosted::{Heard, Hosted};
 pub use surprise::{Noticed, notices, surprises};
 pub use voltages::Voltages;
 pub use wish::{Wish, Wishes};

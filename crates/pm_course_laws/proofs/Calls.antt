@@ -1,16 +1,15 @@
--- What the calls of a course do is what its life is made of.
-use Rattle.std.proofs.Common.{◌≡◌, ℕ, Bool, true, false, List, [], ◌∷◌, ◌++◌, Option, Some, None, Ok, refl, ap, sym, subst, ◌∙◌}
+-- The calls of a course as steps of its life, and all that holds of courses.
+use Rattle.std.proofs.Common.{Bool, List, None, Ok, Option, Some, [], ap, false, refl, subst, sym, true, ℕ, ◌++◌, ◌∙◌, ◌∷◌, ◌≡◌}
 use Rattle.std.specs.Prelude.{not, option_map}
 use Rattle.pm_table.specs.declared.cell.Cell.TheVariants.{Out, Protect}
 use Rattle.pm_table.specs.Rules.{first, rule}
 use Rattle.pm_host.specs.declared.fault.HostFault.{HostFault}
 use Rattle.pm_host.specs.declared.job.Job.{Job as Asked}
-use Rattle.pm_host.specs.declared.job.Job.TheVariants.{Order, OrderMicro, Check, Learn, Send}
+use Rattle.pm_host.specs.declared.job.Job.TheVariants.{Check, Learn, Order, OrderMicro, Send}
 use Rattle.pm_host.specs.Jobs.{accepted_job}
 use Rattle.pm_host.specs.Refusals.{cell_fault, micro_word}
 use Rattle.pm_device.specs.declared.config.Config.{Config}
 use Rattle.pm_host.specs.Summary.{Summary, step_of}
-use Rattle.pm_host.specs.Transcript as host
 use Rattle.pm_limits.specs.declared.part_registers.PartRegisters.{PartRegisters}
 use Rattle.pm_limits.specs.declared.fault.LimitFault.TheVariants.{MissingRegister}
 use Rattle.pm_limits.specs.Guard.{Guarded, LetsBegin, limits_at, of_host}
@@ -27,11 +26,21 @@ use Rattle.pm_world.specs.declared.event.Event.{Event}
 use Rattle.pm_world.specs.Ended.{begins_other}
 use Rattle.pm_world.specs.Life.{now}
 use Rattle.pm_world.specs.State.{share_of}
-use Rattle.pm_course_laws.specs.FrameLives.{Handed, IsFrameCourse, IsHad, asks, begins_job, goes_on, hears, over, refused, stays}
+use Rattle.pm_course_laws.specs.FrameLives.{FrameCoursesHoldInLives, Handed, IsFrameCourse, IsHad, asks, begins_job, goes_on, hears, over, refused, stays}
+use Rattle.pm_course_laws.specs.FrameWays.{FrameCoursesGoTheirWay}
+use Rattle.pm_course_laws.proofs.Names.{Given}
+use Rattle.pm_course_laws.proofs.Off.{keeps-off}
+use Rattle.pm_course_laws.proofs.On.{keeps-on}
+use Rattle.pm_course_laws.proofs.OrdersNothing.{surveys-order-nothing, unformed-order-nothing}
+use Rattle.pm_course_laws.proofs.ToWishes.{goes, keeps}
+use Rattle.pm_host.specs.Transcript as host
+
+-- ---- What the calls of a course do is what its life is made of ----
 
 -- a guard begins no check of a register that the part doesn't have
 pub had-so : (g new : Guarded) (job : Asked) (output : ℕ) → LetsBegin g job (Ok tt) new → IsHad g.registers output (accepted_job g.host job)
-had-so g new (Check (Out other register)) output lets = λ same. by (cell_fault g.host (Out other register)) (has_register g.registers register) refl
+had-so g new (Check (Out other register)) output lets = λ same. by (cell_fault g.host (Out other register))
+    (has_register g.registers register) refl
     (sym lets.fault) where
       by : (f : Option HostFault) (has : Bool) → has_register g.registers register ≡ has →
           first (of_host f ∷ rule (not has) MissingRegister ∷ []) ≡ None → has_register g.registers register ≡ true
@@ -48,8 +57,10 @@ had-so g new (Learn at) output lets = tt
 had-so g new (Send command) output lets = tt
 
 -- what a course says by a guard is what it says by the life's host
-said-so : (part : PartRegisters) (g : Guarded) (s : Summary) (c is : FrameCourse) (next : CourseNext) → g.host ≡ s → g.registers ≡ part →
-    SaysNext g.registers (limits_at g c.course.survey.output) g.host c next is → SaysNext part (limits_at g c.course.survey.output) s c next is
+pub said-so : (part : PartRegisters) (g : Guarded) (s : Summary) (c is : FrameCourse) (next : CourseNext) →
+    g.host ≡ s → g.registers ≡ part →
+    SaysNext g.registers (limits_at g c.course.survey.output) g.host c next is →
+    SaysNext part (limits_at g c.course.survey.output) s c next is
 said-so part g s c is next host' registers says =
     subst (λ (p : PartRegisters). SaysNext p (limits_at g c.course.survey.output) s c next is) registers
     (subst (λ (x : Summary). SaysNext g.registers (limits_at g c.course.survey.output) x c next is) host' says)
@@ -58,7 +69,8 @@ pub hands-so : (config : Config) (passes : ℕ) (part : PartRegisters) (begun c 
     (g new : Guarded) (sent : Option Sending) → IsFrameCourse config passes part begun before c own later →
     g.host ≡ (now config passes (later ++ before)).host → g.registers ≡ part → HandsOut g c sent new is →
     Handed config passes part begun before own later g new is
-hands-so config passes part begun c is own later before g new sent was host' registers (again stage frame open' mine sending) = stays refl was
+hands-so config passes part begun c is own later before g new sent was host' registers
+    (again stage frame open' mine sending) = stays refl was
 hands-so config passes part begun c is own later before g new sent was host' registers (begun_job job frame new' is' says lets sending) =
     begins_job job lets (λ event asked'. asks (limits_at g c.course.survey.output) c is own later event job was
     (said-so part g (now config passes (later ++ before)).host c is _ host' registers says) asked')
@@ -75,9 +87,35 @@ pub hears-so : (config : Config) (passes : ℕ) (part : PartRegisters) (begun c 
     (share_of (now config passes (later ++ before)) event).told ≡ Some entry → Hears g c entry (Ok tt) new is →
     IsFrameCourse config passes part begun before is (goes_on (step_of g.host entry)) (event ∷ later)
 hears-so config passes part begun c is later before g new event entry was host' alone told heard' = go entry is told heard' where
-  go : (e : host.Entry) (f : FrameCourse) → (share_of (now config passes (later ++ before)) event).told ≡ Some e → Hears g c e (Ok tt) new f →
+  go : (e : host.Entry) (f : FrameCourse) → (share_of (now config passes (later ++ before)) event).told ≡ Some
+      e → Hears g c e (Ok tt) new f →
       IsFrameCourse config passes part begun before f (goes_on (step_of g.host e)) (event ∷ later)
   go e f tells (heard stage new' open' comes next limits registers) =
       subst (λ (s : Summary). IsFrameCourse config passes part begun before
       (heard_by c s.setup.addr stage e (surprises s stage e) (step_of s e)) (goes_on (step_of s e)) (event ∷ later)) (sym host')
       (hears c later event stage e was alone (sym (ap (λ (s : Summary). s.stage) host') ∙ open') tells)
+
+-- ---- What a course that hands out frames is worth over a life ----
+
+pub hold-in-lives : Given → FrameCoursesHoldInLives
+hold-in-lives laws = record {
+  words = λ config passes part output words wanted voltages tries c own later before spelled lived means b.
+      keeps laws config passes part output words wanted voltages tries before spelled b.here means c own later lived b;
+  unformed = λ config passes part output words voltages tries c own later before refusal spelled lived faults b.
+      unformed-order-nothing laws config passes part output words voltages tries before refusal spelled faults c own later lived b;
+  surveys = λ config passes part output tries c own later before spelled lived b.
+      surveys-order-nothing laws config passes part output tries c own later before lived b;
+  hands = λ config passes part begun c is own later before g new sent was host registers handed.
+      hands-so config passes part begun c is own later before g new sent was host registers handed;
+  hears = λ config passes part begun c is later before g new event entry was host alone told heard'.
+      hears-so config passes part begun c is later before g new event entry was host alone told heard';
+  off = λ config passes part output byte tries c own later before off spelled lived b.
+      keeps-off laws config passes part output byte tries before spelled b.here off c own later lived b;
+  on = λ config passes part output byte tries c own later before on spelled lived had b.
+      keeps-on laws config passes part output byte tries before spelled b.here on c own later lived had b;
+  had = λ g new job output lets. had-so g new job output lets;
+}
+
+pub go-their-way : Given → FrameCoursesGoTheirWay
+go-their-way laws config passes part output words wanted voltages tries c own later before spelled lived here means is =
+    goes laws config passes part output words wanted voltages tries before spelled here means c own later lived is

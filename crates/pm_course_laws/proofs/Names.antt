@@ -19,10 +19,9 @@ use Rattle.pm_world.specs.Courses.{CoursesHoldInLives}
 use Rattle.pm_world.specs.Laws.{LearnedFormatsAreTrue, LivesAreFollowed}
 use Rattle.pm_world.specs.Life.{now}
 use Rattle.pm_world.specs.Lived.{EventsAreLived}
-use Rattle.pm_course_laws.proofs.Learns as learns
 use Rattle.pm_course_laws.proofs.Said as says
 use Rattle.pm_course_laws.proofs.Ties as ties
-use Rattle.pm_course_laws.proofs.Told.{asking-plan}
+use Rattle.pm_course_laws.proofs.Said.{asking-plan}
 
 -- What a course is given by the laws below it
 pub record Given : Type 0 where
@@ -35,7 +34,8 @@ pub record Given : Type 0 where
 pub own-plan : (x : Course) (p : Option Wanted) → x.survey.plan ≡ p → with_plan x p ≡ x
 own-plan x p is = subst (λ (q : Option Wanted). with_plan x q ≡ x) is refl
 
-module _ (laws : Given) (config : Config) (passes : ℕ) (part : PartRegisters) (begun : FrameCourse) (before : List Event) (plan : Option Wanted) where
+module _ (laws : Given) (config : Config) (passes : ℕ) (part : PartRegisters) (begun : FrameCourse)
+    (before : List Event) (plan : Option Wanted) where
   abbrev at : List Event → Summary
   at es = (now config passes (es ++ before)).host
 
@@ -52,7 +52,8 @@ module _ (laws : Given) (config : Config) (passes : ℕ) (part : PartRegisters) 
     abbrev aft : Wanted → Course
     aft formed = after_next part limits (at later) (says.way_to part limits (at later) c formed)
 
-    same-is : (formed : Wanted) (x : Course) → Same c → says.Named part limits (at later) c job is formed → aft formed ≡ naming x (said.Job job) →
+    same-is : (formed : Wanted) (x : Course) → Same c → says.Named part limits (at later) c job is formed →
+        aft formed ≡ naming x (said.Job job) →
         x.survey.output ≡ c.course.survey.output → x.byte ≡ c.course.byte → Same is
     same-is formed x same named after output byte = record {
       output = ap (λ (y : Course). y.survey.output) named.course ∙ (ap (λ (y : Course). y.survey.output) after ∙ (output ∙ same.output));
@@ -91,7 +92,7 @@ module _ (laws : Given) (config : Config) (passes : ℕ) (part : PartRegisters) 
 
     -- it learns the format
     pub names-learn : (formed : Wanted) → Same c → says.Named part limits (at later) c job is formed →
-        learns.Either part limits (at later) (says.way_to part limits (at later) c formed) plan job → Names limits c is later job
+        says.Either part limits (at later) (says.way_to part limits (at later) c formed) plan job → Names limits c is later job
     names-learn formed same named either = record {
       next = either.next;
       after = way-is formed (says.way_to part limits (at later) c formed) named either.after ∙ sym either.after_other;

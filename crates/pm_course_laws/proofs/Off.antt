@@ -78,7 +78,8 @@ module _ (laws : Given) (config : Config) (passes : ℕ) (part : PartRegisters) 
         (subst (λ (l : List Event). Begins config passes part (power_course_of output byte tries) c.course l before) split begins');
     come_true = λ limits is on said'. k.come_true part limits output byte tries c.course later before refl begins'
         (reached limits c is later stands.same on said');
-    untouched = λ none register. (laws.courses.untouched config passes (later ++ before) lived).held part (power_course_of output byte tries)
+    untouched = λ none register. (laws.courses.untouched config passes (later ++ before) lived).held part
+        (power_course_of output byte tries)
         c.course register later before refl begins' none;
   }
     where

@@ -41,9 +41,8 @@ use Rattle.pm_world.specs.State.{asked}
 use Rattle.pm_course_laws.specs.FrameLives.{BeginsFrames, ChecksHad, IsHad, KeepsFrameCoursesOn, MaySay}
 use Rattle.pm_course_laws.proofs.Names.{Given, names-known, own-plan}
 use Rattle.pm_course_laws.proofs.Said as says
-use Rattle.pm_course_laws.proofs.Surveys.{way-reads}
+use Rattle.pm_course_laws.proofs.OrdersNothing.{is_reading, way-reads}
 use Rattle.pm_course_laws.proofs.Ties as ties
-use Rattle.pm_course_laws.proofs.Unordered.{is_reading}
 
 module _ (laws : Given) (config : Config) (passes : ℕ) (part : PartRegisters) (output byte tries : ℕ) (before : List Event)
     (spelled : IsSpelled config) (here : output < config.count) (on : has_on byte ≡ true) where

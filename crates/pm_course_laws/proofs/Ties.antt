@@ -36,7 +36,7 @@ use Rattle.pm_world.specs.Lived.{EventsAreLived, IsLived}
 use Rattle.pm_world.specs.State.{State, asked, end_by, next as world_next, share_of}
 use Rattle.pm_course_laws.specs.FrameLives.{IsFrameCourse, asks, begins, beside, goes_on, hears, over, refused}
 use Rattle.pm_course_laws.proofs.Said as says
-use Rattle.pm_course_laws.proofs.Told.{ended-course, ended-voltages, is_learn, learn-calm, told-forgets, told-plan}
+use Rattle.pm_course_laws.proofs.Said.{ended-course, ended-voltages, is_learn, learn-calm, told-forgets, told-plan}
 
 module _ (followed : LivesAreFollowed) (lives : EventsAreLived) (config : Config) (passes : ℕ) (part : PartRegisters)
     (begun : FrameCourse) (before : List Event) (plan : Option Wanted) where
@@ -114,7 +114,8 @@ module _ (followed : LivesAreFollowed) (lives : EventsAreLived) (config : Config
   way-over x [] es alone was = was
   way-over x (event ∷ newer) es alone was =
       let parts = or_parts (begins_other event) (list_any begins_other newer) alone in
-      course-beside x (newer ++ es) event (way-over x newer es parts.1 was) (beside-none (now config passes ((newer ++ es) ++ before)) event parts.0)
+      course-beside x (newer ++ es) event (way-over x newer es parts.1 was)
+      (beside-none (now config passes ((newer ++ es) ++ before)) event parts.0)
 
   -- its way, whether its own job is open or not
   pub loosen : (x : Course) (own : Bool) (later : List Event) → Tied x own later → Way x later
@@ -146,7 +147,8 @@ module _ (followed : LivesAreFollowed) (lives : EventsAreLived) (config : Config
 
   -- ---- What is told ----
 
-  forgotten : (x : Course) (later : List Event) (surprised : Bool) → ((output : ℕ) → x.survey.asked ≡ Some (Learn output) → surprised ≡ false) →
+  forgotten : (x : Course) (later : List Event) (surprised : Bool) →
+      ((output : ℕ) → x.survey.asked ≡ Some (Learn output) → surprised ≡ false) →
       Tied x true later → Tied (if surprised then forgetting x else x) true later
   forgotten x later false calm tied = tied
   forgotten x later true calm (opened y named newer older event job opens alone forgets') =
@@ -213,7 +215,8 @@ module _ (followed : LivesAreFollowed) (lives : EventsAreLived) (config : Config
       addr : ℕ
       addr = (at later).setup.addr
 
-      on : (step : Step) → step_of (at later) entry ≡ step → (f : FrameCourse) → Same f → way_of f ≡ way_of c → Stands f (goes_on step) (event ∷ later)
+      on : (step : Step) → step_of (at later) entry ≡ step → (f : FrameCourse) → Same f → way_of f ≡ way_of c →
+          Stands f (goes_on step) (event ∷ later)
       on Next e f same is = record {
         same = same;
         tied = subst (λ (x : Course). Tied x true (event ∷ later)) (sym is) (further (way_of c) later event alone was.tied);
@@ -315,7 +318,13 @@ module _ (followed : LivesAreFollowed) (lives : EventsAreLived) (config : Config
     go (refused limits f g o l job number was says') lived' may' =
         let before' = go was lived' may' in
         record {
-          same = record { output = before'.same.output; plan' = before'.same.plan'; byte = before'.same.byte; voltages = before'.same.voltages };
+          same = record {
+            output = before'.same.output;
+            plan' = before'.same.plan';
+            byte =
+                before'.same.byte;
+            voltages = before'.same.voltages;
+          };
           tied = before'.tied;
         }
     go (asks limits f g o l event job was says' named) lived' may' =
@@ -337,5 +346,6 @@ module _ (followed : LivesAreFollowed) (lives : EventsAreLived) (config : Config
       (c : FrameCourse) (own : Bool) (later : List Event) → IsLived config passes (later ++ before) →
       IsFrameCourse config passes part begun before c own later → Stands c own later
   stands-all names c own later lived is = stands-by (λ es. Unit {0}) (λ event es may. tt)
-      (λ limits f g l event job same lived' may says' named. named-leads limits f g l event job (names limits f g l job same lived' says') named)
+      (λ limits f g l event job same lived' may says' named. named-leads limits f g l event job
+      (names limits f g l job same lived' says') named)
       c own later lived tt is

@@ -30,12 +30,10 @@ use Rattle.pm_world.specs.Lemmas.Hosts.{same-outputs}
 use Rattle.pm_world.specs.Life.{now}
 use Rattle.pm_world.specs.Lived.{IsLived}
 use Rattle.pm_course_laws.specs.FrameLives.{BeginsFrames, IsFrameCourse, KeepsFrameCourses, Means}
-use Rattle.pm_course_laws.proofs.Learns as learns
 use Rattle.pm_course_laws.proofs.Said as says
 use Rattle.pm_course_laws.proofs.Ties as ties
-use Rattle.pm_course_laws.proofs.Words.{none-missing, words-one}
+use Rattle.pm_course_laws.proofs.Words.{none-missing, sound-one, words-one}
 use Rattle.pm_course_laws.proofs.Names.{Given, names-known, names-learn}
-use Rattle.pm_course_laws.proofs.OneWords.{sound-one}
 
 module _ (laws : Given) (config : Config) (passes : ℕ) (part : PartRegisters) (output : ℕ) (words wanted : Wanted) (voltages : Voltages)
     (tries : ℕ) (before : List Event) (spelled : IsSpelled config) (here : output < config.count)
@@ -53,42 +51,43 @@ module _ (laws : Given) (config : Config) (passes : ℕ) (part : PartRegisters) 
   plain s c same = λ j. ap (λ (b : Option ℕ). asked_for s c.course b j) same.byte
 
   -- the words that it goes by: those that are meant, where it knows the format; otherwise it learns that
-  data Knows (limits : OutputLimits) (later : List Event) (c : FrameCourse) (formed : Wanted) : Type 0 where
+  pub data Knows (limits : OutputLimits) (later : List Event) (c : FrameCourse) (formed : Wanted) : Type 0 where
     knows : planning c.course formed ≡ Some wanted → Knows limits later c formed
-    learning : learns.IsUnlearned part limits (at later) (says.way_to part limits (at later) c formed) → Knows limits later c formed
+    learning : says.IsUnlearned part limits (at later) (says.way_to part limits (at later) c formed) → Knows limits later c formed
 
-  known : (limits : OutputLimits) (later : List Event) (c : FrameCourse) (formed : Wanted) (r : Result Wanted Refusal) → r ≡ Ok formed →
+  pub known : (limits : OutputLimits) (later : List Event) (c : FrameCourse) (formed : Wanted) (r : Result Wanted Refusal) → r ≡ Ok formed →
       Same c → IsLived config passes (later ++ before) →
       AreFormed (format_now (at later) c.course) (wanted_in c.course.survey.plan) c.voltages r → Knows limits later c formed
-  known limits later c formed r r-is same lived are = by c.course.survey.learned refl (format_at (at later) c.course.survey.output) refl where
-    by : (b : Bool) → c.course.survey.learned ≡ b → (f : Option Shape) → format_at (at later) c.course.survey.output ≡ f →
-        Knows limits later c formed
-    by false e f g = learning (inl e)
-    by true e None g = learning (inr g)
-    by true e (Some shape) g = knows planned where
-      now-is : format_now (at later) c.course ≡ Some shape
-      now-is = ap (λ (b : Bool). if b then format_at (at later) c.course.survey.output else None) e ∙ g
+  known limits later c formed r r-is same lived are = by c.course.survey.learned refl
+      (format_at (at later) c.course.survey.output) refl where
+        by : (b : Bool) → c.course.survey.learned ≡ b → (f : Option Shape) → format_at (at later) c.course.survey.output ≡ f →
+            Knows limits later c formed
+        by false e f g = learning (inl e)
+        by true e None g = learning (inr g)
+        by true e (Some shape) g = knows planned where
+          now-is : format_now (at later) c.course ≡ Some shape
+          now-is = ap (λ (b : Bool). if b then format_at (at later) c.course.survey.output else None) e ∙ g
 
-      shape-is : shape ≡ shape_for config output
-      shape-is = (laws.formats.agree config passes (later ++ before) spelled lived).held output shape
-          (sym (ap (λ (o : ℕ). format_at (at later) o) same.output) ∙ g)
+          shape-is : shape ≡ shape_for config output
+          shape-is = (laws.formats.agree config passes (later ++ before) spelled lived).held output shape
+              (sym (ap (λ (o : ℕ). format_at (at later) o) same.output) ∙ g)
 
-      formed-ok : AreFormed (Some shape) (wanted_in c.course.survey.plan) c.voltages (Ok formed)
-      formed-ok = subst (λ (x : Result Wanted Refusal). AreFormed (Some shape) (wanted_in c.course.survey.plan) c.voltages x) r-is
-          (subst (λ (x : Option Shape). AreFormed x (wanted_in c.course.survey.plan) c.voltages r) now-is are)
+          formed-ok : AreFormed (Some shape) (wanted_in c.course.survey.plan) c.voltages (Ok formed)
+          formed-ok = subst (λ (x : Result Wanted Refusal). AreFormed (Some shape) (wanted_in c.course.survey.plan) c.voltages x) r-is
+              (subst (λ (x : Option Shape). AreFormed x (wanted_in c.course.survey.plan) c.voltages r) now-is are)
 
-      meant : AreMeant (shape_for config output) words voltages formed
-      meant = subst (λ (x : Shape). AreMeant x words voltages formed) shape-is
-          (subst (λ (v : Voltages). AreMeant shape words v formed) same.voltages
-          (subst (λ (p : Option Wanted). AreMeant shape (wanted_in p) c.voltages formed) same.plan' formed-ok.1))
+          meant : AreMeant (shape_for config output) words voltages formed
+          meant = subst (λ (x : Shape). AreMeant x words voltages formed) shape-is
+              (subst (λ (v : Voltages). AreMeant shape words v formed) same.voltages
+              (subst (λ (p : Option Wanted). AreMeant shape (wanted_in p) c.voltages formed) same.plan' formed-ok.1))
 
-      formed-is : formed ≡ wanted
-      formed-is = words-one (shape_for config output) (sound-one config output lived.sound here) words voltages formed wanted meant means.1
+          formed-is : formed ≡ wanted
+          formed-is = words-one (shape_for config output) (sound-one config output lived.sound here) words voltages formed wanted meant means.1
 
-      planned : planning c.course formed ≡ Some wanted
-      planned = ap (λ (p : Option Wanted). if is_some p then Some formed else None) same.plan' ∙ ap (λ (w : Wanted). Some w) formed-is
+          planned : planning c.course formed ≡ Some wanted
+          planned = ap (λ (p : Option Wanted). if is_some p then Some formed else None) same.plan' ∙ ap (λ (w : Wanted). Some w) formed-is
 
-  names : (limits : OutputLimits) (c is : FrameCourse) (later : List Event) (job : Asked) → Same c →
+  pub names : (limits : OutputLimits) (c is : FrameCourse) (later : List Event) (job : Asked) → Same c →
       IsLived config passes (later ++ before) → SaysNext part limits (at later) c (Job job) is →
       ties.Names laws.followed laws.lives config passes part begun before (Some wanted) limits c is later job
   names limits c is later job same lived said' =
@@ -102,13 +101,16 @@ module _ (laws : Given) (config : Config) (passes : ℕ) (part : PartRegisters) 
 
           so : Knows limits later c n.formed →
               ties.Names laws.followed laws.lives config passes part begun before (Some wanted) limits c is later job
-          so (knows planned) = names-known laws config passes part begun before (Some wanted) limits c is later job n.formed planned same n.named
-          so (learning unlearned) = names-learn laws config passes part begun before (Some wanted) limits c is later job n.formed same n.named
-              (learns.learn-either part limits (at later) (says.way_to part limits (at later) c n.formed) (Some wanted) job n.idle same.byte unlearned
+          so (knows planned) = names-known laws config passes part begun before (Some wanted) limits c is later
+              job n.formed planned same n.named
+          so (learning unlearned) = names-learn laws config passes part begun before (Some wanted) limits c is
+              later job n.formed same n.named
+              (says.learn-either part limits (at later) (says.way_to part limits (at later) c n.formed)
+              (Some wanted) job n.idle same.byte unlearned
               (none-missing part (shape_for config output) words voltages wanted means.1 there) n.named.next)
 
   -- its way has reached its end where it has
-  reached : (limits : OutputLimits) (c is : FrameCourse) (later : List Event) → Same c → IsLived config passes (later ++ before) →
+  pub reached : (limits : OutputLimits) (c is : FrameCourse) (later : List Event) → Same c → IsLived config passes (later ++ before) →
       last_end c.end ≡ None → SaysNext part limits (at later) c (Ended Reached) is →
       next_of part limits (at later) (with_plan c.course (Some wanted)) ≡ said.Ended way.Reached
   reached limits c is later same lived on said' =
@@ -119,7 +121,8 @@ module _ (laws : Given) (config : Config) (passes : ℕ) (part : PartRegisters) 
           so : Knows limits later c r.formed → next_of part limits (at later) (with_plan c.course (Some wanted)) ≡ said.Ended way.Reached
           so (knows planned) = subst (λ (p : Option Wanted). next_of part limits (at later) (with_plan c.course p) ≡ said.Ended way.Reached)
               planned r.reached
-          so (learning unlearned) = absurd (learns.due-not-reached part limits (at later) (says.way_to part limits (at later) c r.formed) r.idle
+          so (learning unlearned) = absurd (says.due-not-reached part limits (at later)
+              (says.way_to part limits (at later) c r.formed) r.idle
               same.byte unlearned r.reached)
 
   -- it goes the way of pm_rail, whatever restarts
@@ -141,7 +144,8 @@ module _ (laws : Given) (config : Config) (passes : ℕ) (part : PartRegisters) 
         (ap (λ (l : List Event). l ++ before) split)
         (subst (λ (l : List Event). Begins config passes part (course_of output wanted tries) x l before) split begins') missing;
     kept = λ missing register none. k.kept part output wanted tries x register later before refl begins' missing none;
-    come_true = λ missing limits is register word on said' wants. k.come_true part limits output wanted tries x register word later before refl
+    come_true = λ missing limits is register word on said' wants. k.come_true part limits output wanted tries x
+        register word later before refl
         begins' missing (reached limits c is later stands.same lived on said') wants;
     commanded = λ missing limits is on said'. k.commanded part limits output wanted tries x later before refl begins' missing
         (reached limits c is later stands.same lived on said');

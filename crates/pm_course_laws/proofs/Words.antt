@@ -1,12 +1,12 @@
--- The words that wishes have in one format are the same each time, and none is wanted of a register of which nothing is wished.
-use Rattle.std.proofs.Common.{◌≡◌, ℕ, ℤ, Bool, true, false, not, Option, Some, None, refl, ap, sym, ◌∙◌, arith}
-use Rattle.std.specs.Prelude.{◌&&◌, ◌||◌, if◌then◌else◌, find, option_map, is_some, List, [], ◌∷◌}
-use Rattle.pm_num.specs.AnyFormat.{Shape, shape_rank, shape_value}
+-- The words that wishes have in a format.
+use Rattle.std.proofs.Common.{Bool, Err, None, Ok, Option, Some, ap, arith, cond, false, not, pos, refl, subst, sym, true, ℕ, ℤ, ◌<◌, ◌∙◌, ◌≡◌}
+use Rattle.std.specs.Prelude.{List, [], find, if◌then◌else◌, is_some, option_and_then, option_map, ◌&&◌, ◌||◌, ◌∷◌}
+use Rattle.pm_num.specs.AnyFormat.{InDirect, InUlinear16, Shape, shape_rank, shape_value}
 use Rattle.pm_num.specs.Bounds.{IsAtLeast, IsAtMost}
 use Rattle.pm_num.specs.Ratio.{Ratio, micros}
 use Rattle.pm_num.specs.Lemmas.OneWord.{IsOneWord, at_most_both, one_from_nearest}
 use Rattle.pm_table.specs.declared.reg.Reg.{Reg}
-use Rattle.pm_table.specs.declared.reg.Reg.TheVariants.{Operation, VoutCommand, VoutMax, MarginHigh, MarginLow, VoutMin}
+use Rattle.pm_table.specs.declared.reg.Reg.TheVariants.{MarginHigh, MarginLow, Operation, VoutCommand, VoutMax, VoutMin}
 use Rattle.pm_limits.specs.declared.part_registers.PartRegisters.{PartRegisters}
 use Rattle.pm_limits.specs.Part.{has_register}
 use Rattle.pm_rail.specs.declared.fault.PlanFault.TheVariants.{MissingRegister}
@@ -15,6 +15,20 @@ use Rattle.pm_rail.specs.Orders.{is_wanted_missing, missing_fault, voltages}
 use Rattle.pm_rail.specs.Registers.{wants_of}
 use Rattle.pm_course.specs.declared.voltages.Voltages.{Voltages}
 use Rattle.pm_course.specs.Wishes.{AreMeant, IsMeant, IsWordFor, is_missing, missing_at, missing_in, voltage_of}
+use Rattle.std.specs.Ordering.{int_eq}
+use Rattle.std.specs.Result.{result_ok}
+use Rattle.pm_num.specs.declared.fault.NumFault.TheVariants.{ExponentRange, ZeroSlope}
+use Rattle.pm_num.specs.Lemmas.Slope.{direct-one_word}
+use Rattle.pm_num.specs.Lemmas.Unsigned.{ulinear16-one_word}
+use Rattle.pm_table.specs.declared.coefficients.Coefficients.{Coefficients}
+use Rattle.pm_table.specs.declared.vout_mode.VoutMode.{VoutMode}
+use Rattle.pm_table.specs.declared.vout_mode.VoutMode.TheVariants.{Direct, Linear}
+use Rattle.pm_table.specs.Format.{is_decimal, shape_in}
+use Rattle.pm_table.specs.VoutMode.{mode_of}
+use Rattle.pm_device.specs.declared.config.Config.{Config}
+use Rattle.pm_device.specs.Held.{mode_for, shape_for}
+use Rattle.pm_device.specs.Start.{IsSound}
+use Rattle.pm_world.specs.Lemmas.Formats.{slope}
 
 -- ---- One word ----
 
@@ -65,7 +79,8 @@ pub words-one : (shape : Shape) → IsOneWord (shape_value shape) (shape_rank sh
 words-one shape one words v u w h k =
     let command = meant-one shape one VoutCommand (voltage_of v VoutCommand) words.command u.command w.command h.command k.command in
     let max = meant-one shape one VoutMax (voltage_of v VoutMax) words.max u.max w.max h.max k.max in
-    let high = meant-one shape one MarginHigh (voltage_of v MarginHigh) words.margin_high u.margin_high w.margin_high h.margin_high k.margin_high in
+    let high = meant-one shape one MarginHigh (voltage_of v MarginHigh) words.margin_high u.margin_high
+    w.margin_high h.margin_high k.margin_high in
     let low = meant-one shape one MarginLow (voltage_of v MarginLow) words.margin_low u.margin_low w.margin_low h.margin_low k.margin_low in
     let min = meant-one shape one VoutMin (voltage_of v VoutMin) words.min u.min w.min h.min k.min in
     ap (λ (x : Option ℕ). words_by x u.max u.margin_high u.margin_low u.min) command
@@ -76,7 +91,7 @@ words-one shape one words v u w h k =
 
 -- ---- Missing registers ----
 
-find-none : (p q : Reg → Bool) (list : List Reg) → ((r : Reg) → p r ≡ false → q r ≡ false) → find p list ≡ None → find q list ≡ None
+pub find-none : (p q : Reg → Bool) (list : List Reg) → ((r : Reg) → p r ≡ false → q r ≡ false) → find p list ≡ None → find q list ≡ None
 find-none p q [] less is = refl
 find-none p q (r ∷ list) less is = by (p r) refl is (λ h. find-none p q list less h) where
   by : (b : Bool) → p r ≡ b → (if b then Some r else find p list) ≡ None → (find p list ≡ None → find q list ≡ None) →
@@ -97,7 +112,8 @@ pub none-missing : (part : PartRegisters) (shape : Shape) (words : Wanted) (v : 
     missing_in part words v ≡ None → missing_fault part (wants_of w) ≡ None
 none-missing part shape words v w are is =
     ap (λ (r : Option Reg). option_map (λ register. MissingRegister register) r)
-    (find-none (is_missing part words v) (is_wanted_missing part (wants_of w)) voltages less (none (find (is_missing part words v) voltages) is))
+    (find-none (is_missing part words v) (is_wanted_missing part (wants_of w)) voltages less
+    (none (find (is_missing part words v) voltages) is))
   where
     none : (found : Option Reg) → option_map missing_at found ≡ None → found ≡ None
     none None h = refl
@@ -110,8 +126,36 @@ none-missing part shape words v w are is =
 
     less : (r : Reg) → is_missing part words v r ≡ false → is_wanted_missing part (wants_of w) r ≡ false
     less Operation h = refl
-    less VoutCommand h = both _ _ (not (has_register part VoutCommand)) (meant-some shape VoutCommand (voltage_of v VoutCommand) words.command w.command are.command) h
+    less VoutCommand h = both _ _ (not (has_register part VoutCommand))
+        (meant-some shape VoutCommand (voltage_of v VoutCommand) words.command w.command are.command) h
     less VoutMax h = both _ _ (not (has_register part VoutMax)) (meant-some shape VoutMax (voltage_of v VoutMax) words.max w.max are.max) h
-    less MarginHigh h = both _ _ (not (has_register part MarginHigh)) (meant-some shape MarginHigh (voltage_of v MarginHigh) words.margin_high w.margin_high are.margin_high) h
-    less MarginLow h = both _ _ (not (has_register part MarginLow)) (meant-some shape MarginLow (voltage_of v MarginLow) words.margin_low w.margin_low are.margin_low) h
+    less MarginHigh h = both _ _ (not (has_register part MarginHigh))
+        (meant-some shape MarginHigh (voltage_of v MarginHigh) words.margin_high w.margin_high are.margin_high) h
+    less MarginLow h = both _ _ (not (has_register part MarginLow))
+        (meant-some shape MarginLow (voltage_of v MarginLow) words.margin_low w.margin_low are.margin_low) h
     less VoutMin h = both _ _ (not (has_register part VoutMin)) (meant-some shape VoutMin (voltage_of v VoutMin) words.min w.min are.min) h
+
+-- ---- The words of a format that is made are one each ----
+
+abbrev HasOne : Shape → Type 0
+HasOne shape = IsOneWord (shape_value shape) (shape_rank shape)
+
+shape-one : (mode : VoutMode) (c : Coefficients) (shape : Shape) → result_ok (shape_in mode c) ≡ Some shape → HasOne shape
+shape-one (Linear n) c shape is =
+    let same : InUlinear16 n ≡ shape = cc in subst (λ (s : Shape). HasOne s) same (ulinear16-one_word n)
+shape-one Direct c shape is = go (int_eq c.m (pos 0)) (is_decimal c) refl is where
+  go : (flat decimal : Bool) → int_eq c.m (pos 0) ≡ flat →
+      result_ok (cond flat (Err ZeroSlope) (cond decimal (Ok (InDirect c.m c.b c.r)) (Err ExponentRange))) ≡ Some shape → HasOne shape
+  go true decimal e is' = cc
+  go false false e is' = cc
+  go false true e is' =
+      let same : InDirect c.m c.b c.r ≡ shape = cc in
+      subst (λ (s : Shape). HasOne s) same (direct-one_word c.m c.b c.r (slope c.m e))
+
+pub sound-one : (config : Config) (output : ℕ) → IsSound config → output < config.count → HasOne (shape_for config output)
+sound-one config output sound here = go (result_ok (mode_of (mode_for config output))) (sound.formats output here) where
+  go : (mode : Option VoutMode) →
+      option_and_then (λ m. result_ok (shape_in m config.coefficients)) mode ≡ Some (shape_for config output) →
+      HasOne (shape_for config output)
+  go None is = cc
+  go (Some mode) is = shape-one mode config.coefficients (shape_for config output) is

@@ -1,3 +1,8 @@
 -- What the crate promises.
 pub mod FrameLives
 pub mod FrameWays
+pub mod Reached
+pub mod Chains
+pub mod Progress
+pub mod FramesBeside
+pub mod ProgressBeside

@@ -1,5 +1,5 @@
 -- What a delivery holds, and what its answers say of the rail. This project's own choice, by the bits that the standard has.
-use Rattle.std.specs.Prelude.{ℕ, ◌+◌, ◌==◌, ◌&&◌, not, nat_lt, if◌then◌else◌, Bool, List, find, Option, None, option_map}
+use Rattle.std.specs.Prelude.{ℕ, ◌+◌, ◌==◌, ◌&&◌, ◌||◌, not, nat_lt, if◌then◌else◌, Bool, List, find, Option, None, option_map}
 use Rattle.std.specs.Option.{option_or}
 use Rattle.pm_delivery.specs.declared.delivery.Delivery.{Delivery}
 use Rattle.pm_delivery.specs.declared.delivery.FaultBit.{FaultBit}
@@ -33,13 +33,26 @@ limits_tell = 1
 abbrev pub limits_skip : ℕ
 limits_skip = 2
 
+-- the bits of what a part lacks: STATUS_WORD and READ_VOUT, as the caller says, and as was found
+abbrev pub lacks_status_word : ℕ
+lacks_status_word = 0
+
+abbrev pub lacks_read_vout : ℕ
+lacks_read_vout = 1
+
+abbrev pub found_no_status_word : ℕ
+found_no_status_word = 2
+
+abbrev pub found_no_read_vout : ℕ
+found_no_read_vout = 3
+
 -- nothing was asked of an output
-abbrev pub new_delivery : ℕ → ℕ → Bool → ℕ → ℕ → Delivery
-new_delivery output limits has_vout within rounds = record {
+abbrev pub new_delivery : ℕ → ℕ → ℕ → ℕ → ℕ → Delivery
+new_delivery output limits lacks within rounds = record {
   output = output;
   look = look_nowhere;
   fault_limits = limits;
-  has_read_vout = if has_vout then 1 else 0;
+  lacks = lacks;
   within = within;
   rounds = rounds;
   round = 0;
@@ -58,13 +71,24 @@ new_delivery output limits has_vout within rounds = record {
   power_good_off = nothing;
 }
 
--- READ_VOUT is one of the part's registers
+-- one of two bits says that the part lacks a register
+abbrev pub lacks_any : Delivery → ℕ → ℕ → Bool
+lacks_any d said found = has_bit d.lacks said || has_bit d.lacks found
+
+-- STATUS_WORD is one of the part's registers, and READ_VOUT is
+abbrev pub has_status : Delivery → Bool
+has_status d = not (lacks_any d lacks_status_word found_no_status_word)
+
 abbrev pub has_vout : Delivery → Bool
-has_vout d = not (d.has_read_vout == 0)
+has_vout d = not (lacks_any d lacks_read_vout found_no_read_vout)
+
+-- what a round asks first
+abbrev pub first_question : Delivery → Question
+first_question d = if has_status d then StatusWord else ReadVout
 
 -- what stands before an order is looked at: all that was heard is forgotten
 abbrev pub looking_before : Delivery → Delivery
-looking_before d = record (new_delivery d.output d.fault_limits (has_vout d) d.within d.rounds) { look = look_before }
+looking_before d = record (new_delivery d.output d.fault_limits d.lacks d.within d.rounds) { look = look_before }
 
 -- a round begins: what was heard of the output is forgotten, and what stood before the first order is kept
 abbrev pub in_round : Delivery → ℕ → Delivery

@@ -1,5 +1,5 @@
 -- What a delivery asks next. This project's own choice.
-use Rattle.std.specs.Prelude.{ℕ, ◌-◌, ◌==◌, ◌&&◌, not, nat_lt, if◌then◌else◌, Bool, Option, Some, None, is_some}
+use Rattle.std.specs.Prelude.{ℕ, ◌-◌, ◌==◌, ◌&&◌, ◌||◌, not, nat_lt, if◌then◌else◌, Bool, Option, Some, None, is_some}
 use Rattle.std.specs.Option.{option_or}
 use Rattle.pm_rail.specs.declared.power.Power.{Power}
 use Rattle.pm_rail.specs.declared.power.Power.TheVariants as power
@@ -13,8 +13,8 @@ use Rattle.pm_delivery.specs.declared.question.Question.TheVariants.{StatusVout,
 use Rattle.pm_delivery.specs.declared.question.Question.TheVariants.{PowerGoodOn, PowerGoodOff}
 use Rattle.pm_delivery.specs.declared.reading.Reading.{Reading}
 use Rattle.pm_delivery.specs.declared.verdict.Verdict.{Verdict}
-use Rattle.pm_delivery.specs.declared.verdict.Verdict.TheVariants.{Delivers, PowerGoodAlone}
-use Rattle.pm_delivery.specs.Deliveries.{has_vout, heard_of, is_new, is_off, limits_skip, look_after, look_before, look_off, new_fault}
+use Rattle.pm_delivery.specs.declared.verdict.Verdict.TheVariants.{Delivers, DeliversByVoltage, PowerGoodAlone}
+use Rattle.pm_delivery.specs.Deliveries.{has_status, has_vout, heard_of, is_new, is_off, limits_skip, look_after, look_before, look_off, new_fault}
 use Rattle.pm_delivery.specs.Heard.{is_due, is_good}
 use Rattle.pm_delivery.specs.StatusBits.{input, iout_pout, temperature, vout}
 use Rattle.pm_delivery.specs.Verdict.{verdict_on}
@@ -27,9 +27,16 @@ asks d passes question = rule (is_due passes (heard_of d question)) question
 abbrev pub asks_of : Delivery → ℕ → Question → ℕ → Option Question
 asks_of d passes question summary = if is_new d summary then asks d passes question else None
 
--- READ_VOUT is asked where the part has it, the output isn't off, and no fault is new
+-- STATUS_WORD is asked where the part has it
+abbrev pub asks_status : Delivery → ℕ → Question → Option Question
+asks_status d passes question = if has_status d then asks d passes question else None
+
+-- READ_VOUT is asked where the part has it, the output isn't off, and no fault is new; of a part without STATUS_WORD always
+abbrev pub is_sound : Delivery → Bool
+is_sound d = is_good d.status_word && (not (is_off d) && not (is_some (new_fault d)))
+
 abbrev pub can_decide : Delivery → Bool
-can_decide d = has_vout d && (is_good d.status_word && (not (is_off d) && not (is_some (new_fault d))))
+can_decide d = has_vout d && (not (has_status d) || is_sound d)
 
 abbrev pub asks_vout : Delivery → ℕ → Option Question
 asks_vout d passes = if can_decide d then asks d passes ReadVout else None
@@ -41,11 +48,11 @@ asks_limits d passes = if d.fault_limits == limits_skip then None
     (option_or (asks d passes UvWarnLimit) (asks d passes UvFaultLimit)))
 
 abbrev pub due_before : Delivery → ℕ → Option Question
-due_before d passes = option_or (asks d passes Before) (asks_limits d passes)
+due_before d passes = option_or (asks_status d passes Before) (asks_limits d passes)
 
 -- in each round: STATUS_WORD, the status registers whose summary is new, and READ_VOUT
 abbrev pub due_in_round : Delivery → ℕ → Option Question
-due_in_round d passes = option_or (asks d passes StatusWord)
+due_in_round d passes = option_or (asks_status d passes StatusWord)
     (option_or (asks_of d passes StatusVout vout)
     (option_or (asks_of d passes StatusIout iout_pout)
     (option_or (asks_of d passes StatusInput input)
@@ -67,6 +74,7 @@ again_or d last = if is_left d then Again else asked last
 -- power good alone is missing, at which voltages that begins and ends
 abbrev pub due_by : Delivery → ℕ → Verdict → Due
 due_by d passes Delivers = Nothing
+due_by d passes DeliversByVoltage = Nothing
 due_by d passes PowerGoodAlone = again_or d (option_or (asks d passes PowerGoodOn) (asks d passes PowerGoodOff))
 due_by d passes verdict = again_or d None
 
@@ -80,13 +88,13 @@ due_or (Some question) due = Ask question
 abbrev pub due_after : Delivery → ℕ → Reading → Due
 due_after d passes reading = due_or (due_in_round d passes) (due_round_over d passes reading)
 
--- after an order that turned the output off: STATUS_WORD, until OFF is 1
+-- after an order that turned the output off: STATUS_WORD, until OFF is 1; nothing of a part without it
 abbrev pub due_off : Delivery → ℕ → Due
-due_off d passes = due_or (asks d passes StatusWord) (if is_off d then Nothing else again_or d None)
+due_off d passes = if has_status d then due_or (asks d passes StatusWord) (if is_off d then Nothing else again_or d None) else Nothing
 
--- an output that is commanded off, or isn't known to be on, isn't asked
+-- an output that is commanded off, or isn't known to be on, isn't asked; nor is a part that has neither STATUS_WORD nor READ_VOUT
 abbrev pub due_on : Delivery → ℕ → Power → Reading → Due
-due_on d passes power.On reading = due_after d passes reading
+due_on d passes power.On reading = if has_status d || has_vout d then due_after d passes reading else Nothing
 due_on d passes power.Off reading = Nothing
 due_on d passes power.NotKnown reading = Nothing
 

@@ -9,9 +9,9 @@ use Rattle.pm_delivery.specs.declared.question.Question.TheVariants.{StatusWord,
 use Rattle.pm_delivery.specs.declared.reading.Reading.{Reading}
 use Rattle.pm_delivery.specs.declared.reading.Reading.TheVariants as reading
 use Rattle.pm_delivery.specs.declared.verdict.Verdict.{Verdict}
-use Rattle.pm_delivery.specs.declared.verdict.Verdict.TheVariants.{Delivers, IsOff, NewFault, OutsideLimits, Beyond, PowerGoodAlone}
+use Rattle.pm_delivery.specs.declared.verdict.Verdict.TheVariants.{Delivers, DeliversByVoltage, IsOff, NewFault, OutsideLimits, Beyond, PowerGoodAlone}
 use Rattle.pm_delivery.specs.declared.verdict.Verdict.TheVariants.{NoPowerGood, NotKnown, WentOff, StillOn}
-use Rattle.pm_delivery.specs.Deliveries.{has_vout, heard_of, is_new, is_off, lacks_power_good, new_fault}
+use Rattle.pm_delivery.specs.Deliveries.{has_status, has_vout, heard_of, is_new, is_off, lacks_power_good, new_fault}
 use Rattle.pm_delivery.specs.Heard.{is_good}
 use Rattle.pm_delivery.specs.StatusBits.{input, iout_pout, temperature, vout}
 
@@ -54,10 +54,24 @@ abbrev pub verdict_sound : Delivery → Reading → Option FaultBit → Verdict
 verdict_sound d reading None = verdict_known d reading (unanswered d)
 verdict_sound d reading (Some fault) = NewFault fault.register fault.place
 
+-- a part without STATUS_WORD is judged by READ_VOUT
+abbrev pub verdict_read : Delivery → Reading → Verdict
+verdict_read d reading.NotKnown = not_known d ReadVout
+verdict_read d reading.Outside = OutsideLimits
+verdict_read d reading.Beyond = Beyond
+verdict_read d reading.Right = DeliversByVoltage
+
+abbrev pub verdict_alone : Delivery → Reading → Verdict
+verdict_alone d reading = if has_vout d then verdict_read d reading else not_known d StatusWord
+
+-- a rail that is commanded on, by STATUS_WORD and by what that points to
+abbrev pub verdict_status : Delivery → Reading → Verdict
+verdict_status d reading = if not (is_good d.status_word) then not_known d StatusWord
+    else (if is_off d then IsOff else verdict_sound d reading (new_fault d))
+
 -- a rail that is commanded on
 abbrev pub verdict_on : Delivery → Reading → Verdict
-verdict_on d reading = if not (is_good d.status_word) then not_known d StatusWord
-    else (if is_off d then IsOff else verdict_sound d reading (new_fault d))
+verdict_on d reading = if has_status d then verdict_status d reading else verdict_alone d reading
 
 -- a rail that was turned off
 abbrev pub verdict_off : Delivery → Verdict

@@ -1,5 +1,6 @@
 ghost use Rattle.std.specs.Prelude.{◌≡◌, find, option_map, true, false};
-ghost use Rattle.pm_delivery.specs.Deliveries.{again, fault_bit, has as spec_has, has_vout as spec_has_vout, heard_of, in_round, is_new as spec_is_new, is_off as spec_is_off, lacks_power_good as spec_lacks_power_good};
+ghost use Rattle.pm_delivery.specs.Deliveries.{again, first_question as spec_first_question, has as spec_has, has_status as spec_has_status, has_vout as spec_has_vout, lacks_any, heard_of, in_round};
+ghost use Rattle.pm_delivery.specs.Deliveries.{fault_bit, is_new as spec_is_new, is_off as spec_is_off, lacks_power_good as spec_lacks_power_good};
 ghost use Rattle.pm_delivery.specs.Deliveries.{looking_after, looking_before, new_delivery, new_fault as spec_new_fault, next_round as spec_next_round, status_fault as spec_status_fault, with_heard};
 ghost use Rattle.pm_delivery.specs.Heard.{heard_after};
 ghost use Rattle.pm_delivery.specs.StatusBits.{status_word_faults};
@@ -34,6 +35,27 @@ pub const LIMITS_TELL: u8 = 1;
 /// They aren't read.
 pub const LIMITS_SKIP: u8 = 2;
 
+/// Bits of [`Delivery::lacks`]: the caller says that the part has no STATUS_WORD.
+pub const LACKS_STATUS_WORD: u8 = 1;
+
+/// The caller says that the part has no READ_VOUT.
+pub const LACKS_READ_VOUT: u8 = 2;
+
+/// The part was found to have no STATUS_WORD.
+pub const FOUND_NO_STATUS_WORD: u8 = 4;
+
+/// The part was found to have no READ_VOUT.
+pub const FOUND_NO_READ_VOUT: u8 = 8;
+
+// The numbers of these bits.
+const LACKS_STATUS_WORD_BIT: u8 = 0;
+
+const LACKS_READ_VOUT_BIT: u8 = 1;
+
+const FOUND_NO_STATUS_WORD_BIT: u8 = 2;
+
+const FOUND_NO_READ_VOUT_BIT: u8 = 3;
+
 /// What an output does, by reads beside the host's jobs: what was asked and what came of it. Plain numbers, which hold no host.
 #[repr(C)]
 #[derive(Clone, Copy, Debug, PartialEq, Eq)]
@@ -44,8 +66,9 @@ pub struct Delivery {
     pub look: u8,
     /// What is done about fault limits: [`LIMITS_TELL`], [`LIMITS_SKIP`], any other number to refuse.
     pub fault_limits: u8,
-    /// 0 if the part has no READ_VOUT.
-    pub has_read_vout: u8,
+    /// What the part lacks: the sum of [`LACKS_STATUS_WORD`] and [`LACKS_READ_VOUT`], as the caller says, and of
+    /// [`FOUND_NO_STATUS_WORD`] and [`FOUND_NO_READ_VOUT`].
+    pub lacks: u8,
     /// How far READ_VOUT may be from what the output commands, in thousandths of that.
     pub within: u16,
     /// How often all is asked at most until the output does what it is to.
@@ -90,22 +113,16 @@ pub struct FaultBit {
 }
 
 impl Delivery {
-    /// A delivery of an output of which nothing was asked. READ_VOUT may be this many thousandths of what the output commands away from it (50 are
-    /// 5 %), and all is asked at most so often.
-    pub fn new(
-        output: u8,
-        fault_limits: u8,
-        has_read_vout: bool,
-        within: u16,
-        rounds: u16,
-    ) -> Delivery
-        ensures { result ≡ new_delivery output fault_limits has_read_vout within rounds }
+    /// A delivery of an output of which nothing was asked, of a part that lacks this. READ_VOUT may be this many thousandths of what the output
+    /// commands away from it (50 are 5 %), and all is asked at most so often.
+    pub fn new(output: u8, fault_limits: u8, lacks: u8, within: u16, rounds: u16) -> Delivery
+        ensures { result ≡ new_delivery output fault_limits lacks within rounds }
     {
         Delivery {
             output,
             look: LOOK_NOWHERE,
             fault_limits,
-            has_read_vout: if has_read_vout { 1 } else { 0 },
+            lacks,
             within,
             rounds,
             round: 0,
@@ -125,11 +142,36 @@ impl Delivery {
         }
     }
 
+    /// Whether STATUS_WORD is one of the part's registers.
+    pub fn has_status(&self) -> bool
+        ensures { result ≡ spec_has_status self.now }
+    {
+        !self.lacks_any(LACKS_STATUS_WORD_BIT, FOUND_NO_STATUS_WORD_BIT)
+    }
+
     /// Whether READ_VOUT is one of the part's registers.
     pub fn has_vout(&self) -> bool
         ensures { result ≡ spec_has_vout self.now }
     {
-        self.has_read_vout != 0
+        !self.lacks_any(LACKS_READ_VOUT_BIT, FOUND_NO_READ_VOUT_BIT)
+    }
+
+    // Whether one of these two bits says that the part lacks a register.
+    fn lacks_any(&self, said: u8, found: u8) -> bool
+        ensures { result ≡ lacks_any self.now said found }
+    {
+        has_bit(u16::from(self.lacks), said) || has_bit(u16::from(self.lacks), found)
+    }
+
+    /// What a round asks first.
+    pub fn first_question(&self) -> Question
+        ensures { result ≡ spec_first_question self.now }
+    {
+        if self.has_status() {
+            Question::StatusWord
+        } else {
+            Question::ReadVout
+        }
     }
 
     /// Looks at what stands before an order: what was heard before and after an earlier one is forgotten.
@@ -141,7 +183,7 @@ impl Delivery {
             ..Delivery::new(
                 self.output,
                 self.fault_limits,
-                self.has_vout(),
+                self.lacks,
                 self.within,
                 self.rounds,
             )

@@ -1,7 +1,7 @@
 //! What is asked next.
 
 ghost use Rattle.std.specs.Prelude.{◌≡◌};
-ghost use Rattle.pm_delivery.specs.Due.{again_or, asked as spec_asked, asks, asks_limits, asks_of, asks_vout, can_decide as spec_can_decide, due_after as spec_due_after, due_before as spec_due_before};
+ghost use Rattle.pm_delivery.specs.Due.{again_or, asked as spec_asked, asks, asks_limits, asks_of, asks_status, asks_vout, is_sound as spec_is_sound, can_decide as spec_can_decide, due_after as spec_due_after, due_before as spec_due_before};
 ghost use Rattle.pm_delivery.specs.Due.{due_by as spec_due_by, due_in_round as spec_due_in_round, due_of, due_off as spec_due_off, due_on as spec_due_on, due_or as spec_due_or, due_round_over, is_left as spec_is_left};
 
 use crate::delivery::{Delivery, LIMITS_SKIP, LOOK_AFTER, LOOK_BEFORE, LOOK_OFF};
@@ -47,11 +47,22 @@ impl Delivery {
         }
     }
 
+    // STATUS_WORD, if the part has it.
+    fn ask_status(&self, question: Question, passes: u8) -> Option<Question>
+        ensures { result ≡ asks_status self.now passes question }
+    {
+        if self.has_status() {
+            self.ask(question, passes)
+        } else {
+            None
+        }
+    }
+
     // What is asked before an order.
     fn due_before(&self, passes: u8) -> Option<Question>
         ensures { result ≡ spec_due_before self.now passes }
     {
-        self.ask(Question::Before, passes)
+        self.ask_status(Question::Before, passes)
             .or(self.ask_limits(passes))
     }
 
@@ -74,6 +85,9 @@ impl Delivery {
     fn due_off(&self, passes: u8) -> Due
         ensures { result ≡ spec_due_off self.now passes }
     {
+        if !self.has_status() {
+            return Due::Nothing;
+        }
         due_or(
             self.ask(Question::StatusWord, passes),
             if self.is_off() {
@@ -89,8 +103,8 @@ impl Delivery {
         ensures { result ≡ spec_due_on self.now passes power reading }
     {
         match power {
-            Power::On => self.due_after(passes, reading),
-            Power::Off | Power::NotKnown => Due::Nothing,
+            Power::On if self.has_status() || self.has_vout() => self.due_after(passes, reading),
+            _ => Due::Nothing,
         }
     }
 
@@ -117,7 +131,7 @@ impl Delivery {
         ensures { result ≡ spec_due_by self.now passes verdict }
     {
         match verdict {
-            Verdict::Delivers => Due::Nothing,
+            Verdict::Delivers | Verdict::DeliversByVoltage => Due::Nothing,
             Verdict::PowerGoodAlone => self.again_or(
                 self.ask(Question::PowerGoodOn, passes)
                     .or(self.ask(Question::PowerGoodOff, passes)),
@@ -148,7 +162,7 @@ impl Delivery {
     fn due_in_round(&self, passes: u8) -> Option<Question>
         ensures { result ≡ spec_due_in_round self.now passes }
     {
-        self.ask(Question::StatusWord, passes).or(
+        self.ask_status(Question::StatusWord, passes).or(
             self.ask_of(Question::StatusVout, VOUT, passes).or(
                 self.ask_of(Question::StatusIout, IOUT_POUT, passes).or(
                     self.ask_of(Question::StatusInput, INPUT, passes).or(
@@ -182,14 +196,18 @@ impl Delivery {
         }
     }
 
-    // Whether READ_VOUT can decide: the part has it, the output isn't off, and no fault is new.
+    // Whether READ_VOUT can decide: the part has it, and has no STATUS_WORD or nothing speaks against the output by that.
     fn can_decide(&self) -> bool
         ensures { result ≡ spec_can_decide self.now }
     {
-        self.has_vout()
-            && self.status_word.is_good()
-            && !self.is_off()
-            && self.new_fault().is_none()
+        self.has_vout() && (!self.has_status() || self.is_sound())
+    }
+
+    // Whether STATUS_WORD doesn't call the output off, and no fault is new.
+    fn is_sound(&self) -> bool
+        ensures { result ≡ spec_is_sound self.now }
+    {
+        self.status_word.is_good() && !self.is_off() && self.new_fault().is_none()
     }
 }
 

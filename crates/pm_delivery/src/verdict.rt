@@ -1,11 +1,11 @@
 //! What a rail does.
 
 ghost use Rattle.std.specs.Prelude.{◌≡◌, true, false, None};
-ghost use Rattle.pm_delivery.specs.Deliveries.{has as spec_has, has_vout as spec_has_vout, is_off as spec_is_off, lacks_power_good as spec_lacks_power_good};
+ghost use Rattle.pm_delivery.specs.Deliveries.{has as spec_has, has_status as spec_has_status, has_vout as spec_has_vout, is_off as spec_is_off, lacks_power_good as spec_lacks_power_good};
 ghost use Rattle.pm_delivery.specs.Heard.{is_good as spec_is_good};
 ghost use Rattle.pm_delivery.specs.StatusBits.{off, power_good_not};
 ghost use Rattle.pm_delivery.specs.Ended.{once_over, verdict_at as spec_verdict_at, verdict_of};
-ghost use Rattle.pm_delivery.specs.Verdict.{is_unanswered as spec_is_unanswered, not_known as spec_not_known, unanswered as spec_unanswered, verdict_by as spec_verdict_by, verdict_off as spec_verdict_off, verdict_on as spec_verdict_on, verdict_sound as spec_verdict_sound, verdict_with as spec_verdict_with};
+ghost use Rattle.pm_delivery.specs.Verdict.{is_unanswered as spec_is_unanswered, not_known as spec_not_known, unanswered as spec_unanswered, verdict_alone as spec_verdict_alone, verdict_by as spec_verdict_by, verdict_status as spec_verdict_status, verdict_off as spec_verdict_off, verdict_on as spec_verdict_on, verdict_sound as spec_verdict_sound, verdict_with as spec_verdict_with};
 ghost use Rattle.pm_delivery.specs.Deliveries.{new_fault};
 ghost use Rattle.pm_table.specs.Rules.{rule};
 
@@ -23,6 +23,8 @@ pub enum Verdict {
     NotYet,
     /// It delivers: OFF and POWER_GOOD# are 0, no fault is new, and READ_VOUT, if the part has it, is right.
     Delivers,
+    /// READ_VOUT is right, of a part that has no STATUS_WORD: of faults nothing is known.
+    DeliversByVoltage,
     /// It isn't asked: the output is commanded off.
     CommandedOff,
     /// It isn't asked: the output isn't known to be on.
@@ -59,6 +61,10 @@ impl Delivery {
         ensures good { result ≡ Verdict.Delivers → spec_has self.now power_good_not ≡ false }
         ensures sound { result ≡ Verdict.Delivers → new_fault self.now ≡ None }
         ensures right { result ≡ Verdict.Delivers → spec_has_vout self.now ≡ true → reading ≡ Reading.Right }
+        ensures has { result ≡ Verdict.Delivers → spec_has_status self.now ≡ true }
+        ensures voltage { result ≡ Verdict.DeliversByVoltage → reading ≡ Reading.Right }
+        ensures alone { result ≡ Verdict.DeliversByVoltage → spec_has_status self.now ≡ false }
+        ensures commanded { result ≡ Verdict.DeliversByVoltage → power ≡ Power.On }
         ensures gone { result ≡ Verdict.WentOff → spec_has self.now off ≡ true }
     {
         let due = self.due(passes, power, reading);
@@ -73,6 +79,7 @@ impl Delivery {
     fn verdict_off(&self) -> Verdict
         ensures value { result ≡ spec_verdict_off self.now }
         ensures on { result ≡ Verdict.Delivers → true ≡ false }
+        ensures alone { result ≡ Verdict.DeliversByVoltage → true ≡ false }
         ensures gone { result ≡ Verdict.WentOff → spec_is_off self.now ≡ true }
     {
         if !self.status_word.is_good() {
@@ -92,6 +99,45 @@ impl Delivery {
         ensures good { result ≡ Verdict.Delivers → spec_lacks_power_good self.now ≡ false }
         ensures sound { result ≡ Verdict.Delivers → new_fault self.now ≡ None }
         ensures right { result ≡ Verdict.Delivers → spec_has_vout self.now ≡ true → reading ≡ Reading.Right }
+        ensures has { result ≡ Verdict.Delivers → spec_has_status self.now ≡ true }
+        ensures voltage { result ≡ Verdict.DeliversByVoltage → reading ≡ Reading.Right }
+        ensures alone { result ≡ Verdict.DeliversByVoltage → spec_has_status self.now ≡ false }
+        ensures gone { result ≡ Verdict.WentOff → true ≡ false }
+    {
+        if self.has_status() {
+            self.verdict_status(reading)
+        } else {
+            self.verdict_alone(reading)
+        }
+    }
+
+    // What a rail does that is commanded on, of a part without STATUS_WORD.
+    fn verdict_alone(&self, reading: Reading) -> Verdict
+        ensures value { result ≡ spec_verdict_alone self.now reading }
+        ensures on { result ≡ Verdict.Delivers → true ≡ false }
+        ensures voltage { result ≡ Verdict.DeliversByVoltage → reading ≡ Reading.Right }
+        ensures gone { result ≡ Verdict.WentOff → true ≡ false }
+    {
+        if !self.has_vout() {
+            return self.not_known(Question::StatusWord);
+        }
+        match reading {
+            Reading::NotKnown => self.not_known(Question::ReadVout),
+            Reading::Outside => Verdict::OutsideLimits,
+            Reading::Beyond => Verdict::Beyond,
+            Reading::Right => Verdict::DeliversByVoltage,
+        }
+    }
+
+    // What a rail does that is commanded on, by STATUS_WORD and by what that points to.
+    fn verdict_status(&self, reading: Reading) -> Verdict
+        ensures value { result ≡ spec_verdict_status self.now reading }
+        ensures word { result ≡ Verdict.Delivers → spec_is_good self.now.status_word ≡ true }
+        ensures is_not_off { result ≡ Verdict.Delivers → spec_is_off self.now ≡ false }
+        ensures good { result ≡ Verdict.Delivers → spec_lacks_power_good self.now ≡ false }
+        ensures sound { result ≡ Verdict.Delivers → new_fault self.now ≡ None }
+        ensures right { result ≡ Verdict.Delivers → spec_has_vout self.now ≡ true → reading ≡ Reading.Right }
+        ensures alone { result ≡ Verdict.DeliversByVoltage → true ≡ false }
         ensures gone { result ≡ Verdict.WentOff → true ≡ false }
     {
         if !self.status_word.is_good() {
@@ -109,6 +155,7 @@ impl Delivery {
         ensures good { result ≡ Verdict.Delivers → spec_lacks_power_good self.now ≡ false }
         ensures sound { result ≡ Verdict.Delivers → new_fault self.now ≡ None }
         ensures right { result ≡ Verdict.Delivers → spec_has_vout self.now ≡ true → reading ≡ Reading.Right }
+        ensures alone { result ≡ Verdict.DeliversByVoltage → true ≡ false }
         ensures gone { result ≡ Verdict.WentOff → true ≡ false }
     {
         if let Some(fault) = self.new_fault() {
@@ -125,6 +172,7 @@ impl Delivery {
         ensures value { result ≡ spec_verdict_by self.now reading }
         ensures good { result ≡ Verdict.Delivers → spec_lacks_power_good self.now ≡ false }
         ensures right { result ≡ Verdict.Delivers → spec_has_vout self.now ≡ true → reading ≡ Reading.Right }
+        ensures alone { result ≡ Verdict.DeliversByVoltage → true ≡ false }
         ensures gone { result ≡ Verdict.WentOff → true ≡ false }
     {
         if self.has_vout() {
@@ -141,6 +189,7 @@ impl Delivery {
         ensures value { result ≡ spec_verdict_with self.now reading }
         ensures good { result ≡ Verdict.Delivers → spec_lacks_power_good self.now ≡ false }
         ensures right { result ≡ Verdict.Delivers → reading ≡ Reading.Right }
+        ensures alone { result ≡ Verdict.DeliversByVoltage → true ≡ false }
         ensures gone { result ≡ Verdict.WentOff → true ≡ false }
     {
         match reading {
@@ -195,6 +244,8 @@ fn verdict_at(power: Power, due: Due, verdict: Verdict) -> Verdict
     ensures value { result ≡ spec_verdict_at power due verdict }
     ensures on { result ≡ Verdict.Delivers → power ≡ Power.On }
     ensures delivers { result ≡ Verdict.Delivers → verdict ≡ Verdict.Delivers }
+    ensures voltage { result ≡ Verdict.DeliversByVoltage → verdict ≡ Verdict.DeliversByVoltage }
+    ensures commanded { result ≡ Verdict.DeliversByVoltage → power ≡ Power.On }
     ensures gone { result ≡ Verdict.WentOff → verdict ≡ Verdict.WentOff }
 {
     match power {
@@ -208,6 +259,7 @@ fn verdict_at(power: Power, due: Due, verdict: Verdict) -> Verdict
 fn ended(due: Due, verdict: Verdict) -> Verdict
     ensures value { result ≡ once_over due verdict }
     ensures delivers { result ≡ Verdict.Delivers → verdict ≡ Verdict.Delivers }
+    ensures voltage { result ≡ Verdict.DeliversByVoltage → verdict ≡ Verdict.DeliversByVoltage }
     ensures gone { result ≡ Verdict.WentOff → verdict ≡ Verdict.WentOff }
 {
     match due {

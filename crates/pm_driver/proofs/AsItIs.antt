@@ -1,36 +1,31 @@
 -- A new host beside a part as it is, by a life that led there.
-use Rattle.std.proofs.Common.{◌≡◌, ◌<◌, inl, inr, ◌∙◌, ℕ, List, true, ap, ap₂, refl, subst, sym}
+use Rattle.std.proofs.Common.{◌≡◌, ◌<◌, ◌∙◌, ℕ, List, ap, ap₂, refl, subst, sym}
 use Rattle.pm_table.specs.declared.cell.Cell.{Cell}
 use Rattle.pm_device.specs.declared.config.Config.{Config}
 use Rattle.pm_device.specs.History.{start_of}
 use Rattle.pm_world.specs.Honest.{IsSpelled}
-use Rattle.pm_table.specs.declared.cell.Cell.TheVariants.{Out}
-use Rattle.pm_table.specs.declared.reg.Reg.{Reg}
-use Rattle.pm_table.specs.Cell.{is_cell, is_voltage}
+use Rattle.pm_table.specs.Cell.{is_cell}
 use Rattle.pm_model.specs.Settings.{Words, word_at}
-use Rattle.pm_device.specs.Held.{Held, value_for}
+use Rattle.pm_device.specs.Held.{Held}
 use Rattle.pm_host.specs.Refusals.{IsSetup}
 use Rattle.pm_host.specs.Summary.{Summary, start}
-use Rattle.pm_limits.specs.Bounds.{Bounds}
 use Rattle.pm_world.specs.declared.event.Event.{Event}
 use Rattle.pm_world.specs.Lemmas.{now-config}
 use Rattle.pm_world.specs.Life.{now}
-use Rattle.pm_world.specs.Limited.{OwnWithin, WordWithin}
-use Rattle.pm_world.specs.Retelling.{IsOwnWord}
 use Rattle.pm_world.specs.Setup.{setup_of}
 use Rattle.pm_world.specs.Parts.{AreWordsOf, IsReached, stored_config}
-use Rattle.pm_driver.specs.Driven.{HasLife, HasLifeWithin, HasNoRestartSince, IsAsItIs, MayBegin, PartWithin}
+use Rattle.pm_driver.specs.Driven.{HasLife, HasNoRestartSince, IsAsItIs, MayBegin}
 use Rattle.pm_driver.specs.Laws.{LawsOfLives, LivesLeadOn, NewConvertersMayBegin}
-use Rattle.pm_driver.specs.Lives.{IsLife, modes_of}
-use Rattle.pm_driver.proofs.Latched.{settings-of, shape-made-so, shape-so}
-use Rattle.pm_driver.proofs.BegunJobs.{life-shape}
-use Rattle.pm_num.specs.AnyFormat.{Shape, shape_value}
+use Rattle.pm_driver.specs.Lives.{IsLife}
+use Rattle.pm_part_laws.specs.Settings.{modes_of}
+use Rattle.pm_part_laws.specs.Lemmas.Pageless.{settings-of}
+use Rattle.pm_driver.proofs.Latched.{shape-made-so, shape-so}
 use Rattle.pm_table.specs.Address.{IsAddress}
 use Rattle.pm_table.specs.declared.coefficients.Coefficients.{Coefficients}
 use Rattle.pm_table.specs.Coefficients.{coefficient_bytes, coefficients_of}
 use Rattle.pm_device.specs.declared.output_start.OutputStart.{OutputStart}
 use Rattle.std.specs.Prelude.{length, slice_index}
-use Rattle.std.proofs.Common.{◌^◌, ◌≤◌, Some, arith}
+use Rattle.std.proofs.Common.{◌^◌, ◌≤◌, Some}
 use Rattle.std.proofs.lemmas.List.{length-map}
 
 -- a life that led to a part is one of the part as it is
@@ -134,75 +129,7 @@ no-restart laws held passes cell is made =
       since = laws.lists.since (stored_config held.config held.store) passes cell all.0 all.1.steady;
     }
 
--- its words lie within limits that allow those that the part holds and has stored
-are-within : LawsOfLives → (held : Held) (passes output : ℕ) (bounds : Bounds) → IsAsItIs held → IsSetup (setup_of held.config passes) →
-    output < held.config.count → PartWithin held output bounds → HasLifeWithin output bounds (start (setup_of held.config passes)) held
-unfolding has-life
-are-within laws held passes output bounds is made there within =
-    let all = laws.parts held.config passes held.words held.store is.part made in
-    record {
-      has = has-life laws held passes is made;
-      within = own all.0 all.1;
-    }
-  where
-    begun : Config
-    begun = stored_config held.config held.store
-
-    below : output < 8
-    below = let few = is.part.made.few in let here = there in omega (arith, few, here)
-
-    so : (register : Reg) (word other : ℕ) → word ≡ other → WordWithin register bounds (value_for held.config output other) →
-        WordWithin register bounds (value_for (stored_config held.config held.store) output word)
-    so register word other same allows =
-        subst (λ (s : Shape). WordWithin register bounds (shape_value s word))
-        (sym (shape-so (stored_config held.config held.store) held.config
-        (laws.stored.modes held.config held.store is.part.made.places) refl output))
-        (subst (λ (w : ℕ). WordWithin register bounds (value_for held.config output w)) (sym same) allows)
-
-    own : (events : List Event) → IsReached held.config passes held.words held.store events →
-        OwnWithin (stored_config held.config held.store) passes events output bounds
-    own events was register word voltage (inl at_start) =
-        so register word (word_at held.store (Out output register))
-        (at_start ∙ laws.stored.starts held.config held.store output register below) (within.stores register voltage)
-    own events was register word voltage (inr ordered) =
-        so register word (word_at held.words (Out output register)) (was.ordered output register word ordered) (within.holds register voltage)
-
--- Beside a part as it is the new host of a driver has seen no restart, and its words are within limits that allow the part's.
+-- Beside a part as it is the new host of a driver has seen no restart.
 pub begins-since : LawsOfLives → (host : Summary) (held : Held) → MayBegin host held → (cell : Cell) → HasNoRestartSince cell host held
 begins-since laws host held may cell = subst (λ (h : Summary). HasNoRestartSince cell h held) (sym may.made)
     (no-restart laws held may.passes cell may.is may.setup)
-
-pub begins-within : LawsOfLives → (host : Summary) (held : Held) → MayBegin host held → (output : ℕ) (bounds : Bounds) →
-    output < held.config.count → PartWithin held output bounds → HasLifeWithin output bounds host held
-begins-within laws host held may output bounds there within = subst (λ (h : Summary). HasLifeWithin output bounds h held) (sym may.made)
-    (are-within laws held may.passes output bounds may.is may.setup there within)
-
--- Words that were all within limits with an earlier host are so now.
-part-within : LawsOfLives → (was : Summary) (held : Held) (output : ℕ) (bounds : Bounds) → output < held.config.count →
-    HasLifeWithin output bounds was held → PartWithin held output bounds
-part-within laws was held output bounds there lived =
-    let has = lived.has in
-    let is = has.life in
-    let here : output < has.config.count = subst (λ (n : ℕ). output < n)
-    (sym (ap (λ (c : Config). c.count) (sym (now-config has.config has.passes has.events))
-    ∙ ap (λ (d : Held). d.config.count) is.held_is.same)) there in
-    let so : (register : Reg) (word : ℕ) → is_voltage register ≡ true →
-    IsOwnWord has.config has.passes has.events (Out output register) word →
-    WordWithin register bounds (value_for held.config output word) =
-    λ register word voltage own. subst (λ (s : Shape). WordWithin register bounds (shape_value s word)) (life-shape is output)
-    (lived.within register word voltage own) in
-    record {
-      holds = λ register voltage. so register (word_at held.words (Out output register)) voltage
-          (subst (λ (w : Words). IsOwnWord has.config has.passes has.events (Out output register) (word_at w (Out output register)))
-          (ap (λ (d : Held). d.words) is.held_is.same)
-          (laws.orders.own has.config has.passes has.events (Out output register) is.lived here));
-      stores = λ register voltage. so register (word_at held.store (Out output register)) voltage
-          (subst (λ (w : Words). IsOwnWord has.config has.passes has.events (Out output register) (word_at w (Out output register)))
-          (ap (λ (d : Held). d.store) is.held_is.same)
-          (laws.orders.stored has.config has.passes has.events (Out output register) is.lived here));
-    }
-
-pub stays-earlier : LawsOfLives → (host : Summary) (held : Held) → MayBegin host held → (was : Summary) (output : ℕ) (bounds : Bounds) →
-    output < held.config.count → HasLifeWithin output bounds was held → HasLifeWithin output bounds host held
-stays-earlier laws host held may was output bounds there lived =
-    begins-within laws host held may output bounds there (part-within laws was held output bounds there lived)

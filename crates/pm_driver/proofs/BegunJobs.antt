@@ -1,52 +1,43 @@
 -- A job that begins, a host that restarts, and what a driver begins with.
-use Rattle.std.proofs.Common.{◌≡◌, ◌<◌, ℕ, true, List, [], ◌∷◌, ◌++◌, Option, Some, None, refl, sym, ◌∙◌}
+use Rattle.std.proofs.Common.{◌≡◌, ℕ, true, List, [], ◌∷◌, ◌++◌, Option, Some, None, refl, sym, ◌∙◌}
 use Rattle.std.proofs.Common.{◌+◌, ap, arith, subst}
 use Rattle.std.specs.Option.{option_or}
 use Rattle.std.specs.Prelude.{IsSomeAnd}
 use Rattle.pm_device.specs.declared.config.Config.{Config}
-use Rattle.pm_model.specs.Commanded.{commanded}
 use Rattle.pm_model.specs.Settings.{word_at}
-use Rattle.pm_device.specs.Held.{Held, value_for}
-use Rattle.pm_device.specs.History.{start_of}
-use Rattle.pm_device.specs.Start.{IsSound}
+use Rattle.pm_device.specs.Held.{Held}
 use Rattle.pm_host.specs.declared.command.Command.TheVariants.{ClearFaults, StoreUserAll, RestoreUserAll}
 use Rattle.pm_host.specs.declared.job.Job.{Job}
 use Rattle.pm_host.specs.declared.job.JobEnd.{JobEnd}
 use Rattle.pm_host.specs.declared.job.JobEnd.TheVariants.{Differs, Done, Learned}
 use Rattle.pm_host.specs.Jobs.{accepted_job}
-use Rattle.pm_host.specs.Refusals.{IsSetup, is_busy, job_fault}
+use Rattle.pm_host.specs.Refusals.{is_busy, job_fault}
 use Rattle.pm_table.specs.declared.cell.Cell.{Cell}
 use Rattle.pm_table.specs.Cell.{IsCell}
 use Rattle.pm_host.specs.declared.knowledge.Standing.TheVariants.{Confirmed}
 use Rattle.pm_host.specs.Possible.{is_possible}
-use Rattle.pm_host.specs.Summary.{Summary, possible_at, standing_at, next as host_next, start as host_start}
+use Rattle.pm_host.specs.Summary.{Summary, possible_at, standing_at, next as host_next}
 use Rattle.pm_host.specs.Transcript as host
 use Rattle.pm_world.specs.declared.event.Event.{Event}
 use Rattle.pm_world.specs.declared.event.Event.TheVariants.{Check, Clear, Learn, Order, RestartHost, Restore, Store}
 use Rattle.pm_world.specs.Life.{life, now}
-use Rattle.pm_world.specs.Retelling.{CommandsOwn, IsOwnWord}
-use Rattle.pm_world.specs.Setup.{setup_of, start}
-use Rattle.pm_world.specs.State.{State, refused, tells}
+use Rattle.pm_world.specs.State.{refused, tells}
 use Rattle.pm_world.specs.Uncertainty.{job_event}
 use Rattle.pm_driver.specs.Acts.{Act, Began, Call, Called, Looked, Read, Renewed, Wrote, asked_in, told_all}
-use Rattle.pm_limits.specs.Bounds.{Bounds, IsWithin}
-use Rattle.pm_driver.specs.Driven.{HasLife, HasLifeWithin, HasNoRestartSince, IsTrueOf}
+use Rattle.pm_driver.specs.Driven.{HasLife, HasNoRestartSince, IsTrueOf}
 use Rattle.pm_driver.specs.Bus.{restarts_in}
 use Rattle.pm_driver.specs.Ends.{EndSays}
 use Rattle.pm_driver.specs.Laws.{EndsAreTrue, LawsOfLives, LeadsCompose}
 use Rattle.pm_driver.specs.Lives.{Driven, Goes, IsLife, Leads}
 use Rattle.pm_driver.specs.Steps.{JobsLead, RenewalsLead}
-use Rattle.pm_world.specs.Lemmas.{now-config}
 use Rattle.pm_driver.proofs.Composed.{tells-append}
 use Rattle.pm_driver.proofs.Grown.{IsGrown, grown, life-setup, of-life}
-use Rattle.pm_driver.proofs.Latched.{same-of, shape-same}
-use Rattle.pm_num.specs.AnyFormat.{Shape, shape_value}
-use Rattle.pm_model.specs.Settings.{Words}
-use Rattle.pm_device.specs.Held.{shape_for}
+use Rattle.pm_driver.proofs.Latched.{shape-same}
+use Rattle.pm_num.specs.AnyFormat.{Shape}
 use Rattle.pm_host.specs.Summary.{format_at}
 use Rattle.pm_host.specs.declared.job.JobEnd.TheVariants.{Unknown}
 use Rattle.pm_driver.specs.Ends.{Stands}
-use Rattle.pm_driver.specs.Lives.{HaveSameSettings}
+use Rattle.pm_part_laws.specs.Settings.{HaveSameSettings}
 
 -- a job that the host accepted
 begun : {config : Config} {passes : ℕ} {before : List Event} {event : Event} {summary : Summary} {held : Held} (job : host.Job) →
@@ -106,6 +97,13 @@ jobs-lead laws gives held restarts summary bus job free = record {
   lives = λ config passes before life. job-goes laws job free life;
 }
 
+-- a job begins by the event that asks for it
+pub job-events : (laws : LawsOfLives) → {B : Type 0} → (gives : B → Call → B → Type 0) → (held : B → Held) → (restarts : B → ℕ)
+    → (summary : Summary) (bus : B) (job : host.Job) (free : job_fault summary job ≡ None) →
+    (jobs-lead laws gives held restarts summary bus job free).events ≡ job_event job ∷ []
+unfolding jobs-lead
+job-events laws gives held restarts summary bus job free = refl
+
 -- a restart of the host leads on
 pub renewals-lead : LawsOfLives → {B : Type 0} → (gives : B → Call → B → Type 0) → (held : B → Held) → (restarts : B → ℕ)
     → RenewalsLead gives held restarts
@@ -123,43 +121,6 @@ renewals-lead laws gives held restarts summary bus = record {
       let one = grown laws RestartHost (tells host.Restarted) life refl tt refl tt in
       record { is_life = one.is_life; told = one.told; ended = tt };
 }
-
--- a restarted host is new
-pub renewed-new : (summary : Summary) → host_next summary host.Restarted ≡ host_start summary.setup
-unfolding host_next
-renewed-new summary = refl
-
--- a converter as it was made has a life of no event
-pub new-lived : LawsOfLives → (config : Config) (passes : ℕ) → IsSound config → IsSetup (setup_of config passes) →
-    IsLife config passes [] (host_start (setup_of config passes)) (start_of config)
-unfolding start
-new-lived laws config passes sound made =
-    let none = laws.followed.none config passes made in
-    record {
-      lived = record { sound = sound; made = made; legal = tt };
-      host_is = ap (λ (s : State). s.host) none;
-      held_is = same-of (ap (λ (s : State). s.device) none);
-    }
-
--- the format of an output of a life is that of its converter
-pub life-shape : {config : Config} {passes : ℕ} {events : List Event} {summary : Summary} {held : Held} →
-    IsLife config passes events summary held → (output : ℕ) → shape_for config output ≡ shape_for held.config output
-life-shape {config = config} {passes = passes} {events = events} {held = held} is output =
-    ap (λ (c : Config). shape_for c output) (sym (now-config config passes events))
-    ∙ shape-same (now config passes events).device held is.held_is output
-
--- an output whose words lie within limits commands a voltage within them
-limited-of : LawsOfLives → (output : ℕ) (bounds : Bounds) (summary : Summary) (held : Held) →
-    HasLifeWithin output bounds summary held → output < summary.setup.outputs →
-    IsWithin bounds (commanded (value_for held.config output) held.words output)
-limited-of laws output bounds summary held lived there =
-    let has = lived.has in
-    let is = has.life in
-    let stays = laws.limited has.config has.passes has.events has.spelled is.lived in
-    subst (λ (w : Words). IsWithin bounds (commanded (value_for held.config output) w output)) (ap (λ (d : Held). d.words) is.held_is.same)
-    (subst (λ (s : Shape). IsWithin bounds (commanded (shape_value s) (now has.config has.passes has.events).device.words output))
-    (life-shape is output)
-    (stays.limited output bounds [] has.events (subst (λ (s : host.Setup). output < s.outputs) (life-setup is) there) refl lived.within))
 
 -- a cell of a host's outputs is one of the converter's
 there-of : {config : Config} {passes : ℕ} {events : List Event} {summary : Summary} {held : Held} (cell : Cell) →
@@ -191,26 +152,11 @@ since-among laws summary held cell there is =
 
 -- what is true of a host and a converter to which a life led
 pub true-of : LawsOfLives → (summary : Summary) (held : Held) → HasLife summary held → IsTrueOf summary held
-true-of laws summary held has =
-    let is = has.life in
-    record {
-      has = has;
-      confirmed = laws.confirmed has.config has.passes has.events is.lived;
-      possible = laws.possible.held has.config has.passes has.events is.lived;
-      seen = laws.possible.seen has.config has.passes has.events is.lived;
-      formats = laws.formats.agree has.config has.passes has.events has.spelled is.lived;
-      own = λ cell there. subst (λ (d : Held). IsOwnWord has.config has.passes has.events cell (word_at d.words cell)) is.held_is.same
-          (laws.orders.own has.config has.passes has.events cell is.lived there);
-      commanded = λ output there. subst (λ (w : Words). CommandsOwn has.config has.passes has.events output
-          (commanded (value_for held.config output) w output)) (ap (λ (d : Held). d.words) is.held_is.same)
-          (subst (λ (s : Shape). CommandsOwn has.config has.passes has.events output
-          (commanded (shape_value s) (now has.config has.passes has.events).device.words output))
-          (shape-same (now has.config has.passes has.events).device held is.held_is output)
-          (laws.orders.commanded has.config has.passes has.events output is.lived there));
-      limited = λ output bounds lived there. limited-of laws output bounds summary held lived there;
-      stands = since-stands laws summary held;
-      among = since-among laws summary held;
-    }
+true-of laws summary held has = record {
+  has = has;
+  stands = since-stands laws summary held;
+  among = since-among laws summary held;
+}
 
 -- some life led to where a driver leads, if one led to where it began
 pub leads-lived : {B : Type 0} (gives : B → Call → B → Type 0) (held : B → Held) (restarts : B → ℕ) (asked : List Act)

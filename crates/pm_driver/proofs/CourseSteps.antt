@@ -1,440 +1,335 @@
--- The jobs of a course to wanted words over a bus whose calls nothing disturbs: what each leaves to do.
-use Rattle.std.specs.Prelude.{◌≡◌, ◌≢◌, ◌≤◌, ◌<◌, ◌+◌, ◌&&◌, ◌||◌, ◌⊎◌, ℕ, Bool, true, false, not, cond, if◌then◌else◌, refl, List, [], ◌∷◌, Option, Some, None, Ok, is_none, is_some, option_map, unwrap_or, slice_index_or}
-use Rattle.std.proofs.Common.{arith, sym, ◌∙◌, ap, ap₂, subst, inl, inr}
-use Rattle.std.proofs.Math.Path.{fun_ext}
-use Rattle.std.proofs.lemmas.Bool.{not-false}
-use Rattle.pm_num.specs.AnyFormat.{Shape}
-use Rattle.pm_table.specs.declared.cell.Cell.TheVariants.{Out, Protect}
-use Rattle.pm_table.specs.declared.reg.Reg.{Reg}
-use Rattle.pm_table.specs.declared.reg.Reg.TheVariants.{Operation, VoutCommand, VoutMax, MarginHigh, MarginLow, VoutMin}
-use Rattle.pm_table.specs.Cell.{IsCell, cell_accepts, is_voltage, register_code, same_register}
-use Rattle.pm_table.specs.Operation.{selected_register}
-use Rattle.pm_table.specs.Protection.{is_allowed}
-use Rattle.pm_table.specs.Rules.{first}
-use Rattle.pm_model.specs.Settings.{Words, word_at}
+-- A course that goes along with a driver, step by step.
+use Rattle.std.proofs.Common.{◌≡◌, ◌<◌, ◌+◌, ◌||◌, ℕ, Bool, true, false, cond, arith, List, [], ◌∷◌, ◌++◌, Option, Some, None, Result, Ok, is_some, refl, sym, ◌∙◌, ap, subst}
+use Rattle.std.specs.Prelude.{IsSomeAnd}
+use Rattle.std.specs.List.{list_any}
+use Rattle.std.proofs.lemmas.List.{append_assoc}
 use Rattle.pm_device.specs.declared.config.Config.{Config}
-use Rattle.pm_device.specs.Held.{Held as Converter, shape_for, value_for}
+use Rattle.pm_device.specs.Held.{Held}
+use Rattle.pm_host.specs.declared.fault.Untold.{Untold}
 use Rattle.pm_host.specs.declared.job.Job.{Job as Asked}
-use Rattle.pm_host.specs.declared.job.Job.TheVariants.{Order}
-use Rattle.pm_host.specs.declared.job.JobEnd.{JobEnd}
-use Rattle.pm_host.specs.declared.job.JobEnd.TheVariants.{Done}
-use Rattle.pm_host.specs.Known.{Known, known_after, known_possible}
-use Rattle.pm_host.specs.Marks.{Good, Put}
-use Rattle.pm_host.specs.Summary.{Summary}
-use Rattle.pm_host.specs.Transcript as accepted
-use Rattle.pm_limits.specs.declared.output_limits.OutputLimits.{OutputLimits}
-use Rattle.pm_limits.specs.declared.output_limits.OutputLimits.TheVariants.{Unlimited}
+use Rattle.pm_host.specs.declared.job.Job.TheVariants.{Check, Learn, Order, OrderMicro, Send}
+use Rattle.pm_host.specs.declared.stage.Stage.{Stage}
+use Rattle.pm_host.specs.Jobs.{accepted_job}
+use Rattle.pm_host.specs.Laws.{TranscriptsAreFollowed}
+use Rattle.pm_host.specs.Refusals.{is_busy, may_come}
+use Rattle.pm_host.specs.Summary.{Summary, next as host_next, step_of}
+use Rattle.pm_host.specs.Transcript as host
 use Rattle.pm_limits.specs.declared.part_registers.PartRegisters.{PartRegisters}
-use Rattle.pm_limits.specs.Guard.{limits_at}
-use Rattle.pm_limits.specs.Part.{has_register, missing_word}
-use Rattle.pm_world.specs.Bands.{HoldsMissing}
-use Rattle.pm_world.specs.Lemmas.Plans.{last-none}
-use Rattle.pm_rail.specs.declared.apply_end.ApplyEnd.TheVariants.{Stopped}
-use Rattle.pm_rail.specs.declared.apply_end.StopCause.TheVariants.{Refused}
-use Rattle.pm_rail.specs.declared.course.Course.{Course}
-use Rattle.pm_rail.specs.declared.course.Differing.{Differing}
-use Rattle.pm_rail.specs.declared.fault.PlanFault.{PlanFault}
-use Rattle.pm_rail.specs.declared.fault.PlanFault.TheVariants.{Busy, MissingRegister, Protected}
-use Rattle.pm_rail.specs.declared.next.Next.TheVariants.{Job, Ended}
-use Rattle.pm_rail.specs.declared.survey.Survey.{Survey}
-use Rattle.pm_rail.specs.declared.wanted.Wanted.{Wanted}
-use Rattle.pm_rail.specs.Course.{going, going_to, is_carried_out, naming, once_more, order_by, order_next, reading, reading_for, renewed}
-use Rattle.pm_rail.specs.Course.{says, told_of}
-use Rattle.pm_rail.specs.Known.{known_word}
-use Rattle.pm_rail.specs.Laws.{SurveysEndKnown}
-use Rattle.pm_rail.specs.Lemmas.Known.{none-voltage, not-second}
-use Rattle.pm_rail.specs.Lemmas.Steps.{first-of, second-of}
-use Rattle.pm_rail.specs.Lemmas.Surveyed.{has-none}
-use Rattle.pm_rail.specs.Orders.{answer, is_protected, is_wanted_missing, limits_fault, missing_fault, order_of, plan_of, protection_fault, voltages, words_fault}
-use Rattle.pm_rail.specs.Plan.{goal_of, is_due, next_register, put}
-use Rattle.pm_rail.specs.Registers.{Held, Wants, wants_of}
-use Rattle.pm_rail.specs.Survey.{due_job, is_surveyed, nothing_read, wanted_in}
-use Rattle.pm_driver.specs.Acts.{Call}
-use Rattle.pm_driver.specs.Driven.{Driving, HasLife, Runs}
-use Rattle.pm_driver.specs.Rails.{asks_in, surveyed_by}
-use Rattle.pm_driver.specs.Undisturbed.{AreUndisturbed}
-use Rattle.pm_driver.specs.UndisturbedCourses.{FitsPart, held_fault, words_of}
-use Rattle.pm_driver.specs.UndisturbedJobs.{IsOrdered, UndisturbedJobs}
-use Rattle.pm_driver.proofs.CourseOrders.{allows, order-knows, order-todo}
-use Rattle.pm_rail.specs.Lemmas.Places.{below, cell_of, none-read, same_place, total}
-use Rattle.pm_driver.proofs.Places.{other-place, seven, two-cells}
-use Rattle.pm_driver.proofs.PlanTruth.{due-before, due-wanted, dues, fewer, first-none-of, goal-stays, next-is-due, none-due, none-next, none-three, three-none, words-stay}
-use Rattle.pm_driver.proofs.Surveyed.{asked-output, asked-plan}
-use Rattle.pm_driver.proofs.SurveySteps.{At, Knows, LawsOfSurveys, accepts, in-range, is_learned, life-on, need, settled, survey-step, todo}
-use Rattle.pm_driver.proofs.SurveyTruth.{Allows, plan-is, plan_in, same-fits}
+use Rattle.pm_limits.specs.FaultWords.{limit_fault_number}
+use Rattle.pm_limits.specs.Guard.{Guarded, LetsBegin, limits_at}
+use Rattle.pm_rail.specs.Laws.{CoursesEnd}
+use Rattle.pm_course.specs.declared.course_end.CourseEnd.{CourseEnd}
+use Rattle.pm_course.specs.declared.course_end.CourseEnd.TheVariants.{Refused}
+use Rattle.pm_course.specs.Ends.{refusal_of_job}
+use Rattle.pm_course.specs.declared.course_end.CourseNext.{CourseNext}
+use Rattle.pm_course.specs.declared.course_end.CourseNext.TheVariants.{Job}
+use Rattle.pm_course.specs.declared.frame_course.FrameCourse.{FrameCourse}
+use Rattle.pm_course.specs.declared.frames.Sending.{Sending}
+use Rattle.pm_course.specs.FrameCourse.{SaysNext}
+use Rattle.pm_course.specs.Frames.{HandsOut, Hears, IsSent, SaysBy, again, begun, heard, nothing, other, over as has_ended, refused as is_refused}
+use Rattle.pm_course.specs.Heard.{heard_by}
+use Rattle.pm_course.specs.Surprise.{surprises}
+use Rattle.pm_course_laws.specs.FrameLives.{IsFrameCourse, asks, beside, goes_on as still, hears}
+use Rattle.pm_world.specs.declared.event.Event.{Event}
+use Rattle.pm_world.specs.declared.event.Event.TheVariants.{Deliver, Reading, RestartDevice}
+use Rattle.pm_world.specs.Confirmed.{restarts_converter}
+use Rattle.pm_world.specs.Job.{asked_by}
+use Rattle.pm_world.specs.Life.{now}
+use Rattle.pm_world.specs.State.{share_of}
+use Rattle.pm_world.specs.Uncertainty.{job_event}
+use Rattle.pm_driver.specs.Acts.{Began, Call, Called, MayDo, told_of}
+use Rattle.pm_driver.specs.Bus.{AreAll, restarts_in}
+use Rattle.pm_driver.specs.Courses.{Carries, EndsAt, KeepsTo, over, refused}
+use Rattle.pm_driver.specs.Laws.{LawsOfLives}
+use Rattle.pm_driver.specs.Lives.{Driven, IsLife, Leads}
+use Rattle.pm_driver.specs.Steps.{IsCalled}
+use Rattle.pm_driver.proofs.BegunJobs.{begun-busy, job-events, jobs-lead}
+use Rattle.pm_driver.proofs.Composed.{composed-events, leads-compose, leads-nothing, nothing-events}
+use Rattle.pm_driver.proofs.OpenJobs.{still-busy}
+use Rattle.pm_driver.proofs.RanJobs.{guard-begun}
+use Rattle.pm_driver.proofs.SaidJobs.{IsPlain, heard-same, says-end, says-job}
+use Rattle.pm_driver.proofs.SentFrames.{CallEvents, call-events, is_of_bus}
 
-module _ (laws : LawsOfSurveys) (end_known : SurveysEndKnown) {B : Type 0} (gives : B → Call → B → Type 0) (held : B → Converter)
-    (restarts : B → ℕ) (jobs : UndisturbedJobs gives held restarts) (is_so : B → Bool) (all : AreUndisturbed gives held is_so)
-    (output : ℕ) (wanted : Wanted) (part : PartRegisters) (fault : Option PlanFault) (start : Converter) (extra : ℕ) where
-  abbrev pub wanting : Wants
-  wanting = wants_of wanted
+-- ---- where nothing happens, and step after step
 
-  -- the words of the output
-  abbrev pub of_output : Words → Held
-  of_output w register = word_at w (Out output register)
+pub carries-nothing : {B : Type 0} (gives : B → Call → B → Type 0) (held : B → Held) (restarts : B → ℕ) (part : PartRegisters)
+    (c : FrameCourse) (own : Bool) (d : Driven B) → Carries gives held restarts part c own d c own d
+carries-nothing gives held restarts part c own d = record {
+  asked = [];
+  leads = leads-nothing gives held restarts d;
+  steps = λ config passes begun' later before life was.
+      subst (λ (es : List Event). IsFrameCourse config passes part begun' before c own (es ++ later))
+      (sym (nothing-events gives held restarts d)) was;
+}
 
-  abbrev pub goal : Held
-  goal = goal_of (words_of start output) wanting
+pub carries-on : {B : Type 0} (gives : B → Call → B → Type 0) (held : B → Held) (restarts : B → ℕ) (part : PartRegisters)
+    (a b c : FrameCourse) (mine own last : Bool) (x y z : Driven B) → Carries gives held restarts part a mine x b own y →
+    Carries gives held restarts part b own y c last z → Carries gives held restarts part a mine x c last z
+carries-on gives held restarts part a b c mine own last x y z one two = record {
+  asked = two.asked ++ one.asked;
+  leads = leads-compose gives held restarts one.asked two.asked None None x y z one.leads two.leads;
+  steps = λ config passes begun' later before life was.
+      let first = one.leads.events in
+      let second = two.leads.events in
+      let lived = subst (λ (es : List Event). IsLife config passes es y.host (held y.bus)) (sym (append_assoc first later before))
+      (one.leads.lives config passes (later ++ before) life).is_life in
+      subst (λ (es : List Event). IsFrameCourse config passes part begun' before c last es)
+      (sym (ap (λ (l : List Event). l ++ later) (composed-events gives held restarts one.asked two.asked None None x y z one.leads two.leads)
+      ∙ append_assoc second first later))
+      (two.steps config passes begun' (first ++ later) before lived (one.steps config passes begun' later before life was));
+}
 
-  -- what stays of the course, by the limits and by what is held
-  pub record Facts (limits : OutputLimits) (h : Converter) : Type 0 where
-    pub fits : FitsPart part h output wanting
-    pub judged : held_fault limits h output wanting ≡ fault
-    pub at_end : goal_of (words_of h output) wanting ≡ goal
-    pub protects : word_at h.words Protect ≡ word_at start.words Protect
-    pub made : h.config ≡ start.config
-    pub kept : is_some fault ≡ true → h.words ≡ start.words
+-- ---- a job that begins
 
-  -- How many tries are enough: for what is still to be read, the orders, and one more survey; or, where nothing is due or the plan
-  -- is refused, for what is still to be read.
-  abbrev pub Enough : Survey → Bool → Summary → ℕ → Words → Type 0
-  Enough v ordered k spare w =
-      (need v k + spare + dues (of_output w) wanting + 8 + extra ≤ v.left)
-      ⊎ ((ordered ≡ false) × ((dues (of_output w) wanting ≡ 0) ⊎ (is_some fault ≡ true)) × (need v k + spare + extra ≤ v.left))
+-- an event asks for a plain job as it is accepted
+plain-event : (s : Summary) (job : Asked) (accepted : host.Job) → IsPlain job → accepted_job s job ≡ Some accepted →
+    asked_by (job_event accepted) ≡ Some job
+plain-event s (Order cell word) accepted plain is =
+    let same : host.Order cell word ≡ accepted = cc in subst (λ j. asked_by (job_event j) ≡ Some (Order cell word)) same refl
+plain-event s (Check cell) accepted plain is =
+    let same : host.Check cell ≡ accepted = cc in subst (λ j. asked_by (job_event j) ≡ Some (Check cell)) same refl
+plain-event s (Learn output) accepted plain is =
+    let same : host.Learn output ≡ accepted = cc in subst (λ j. asked_by (job_event j) ≡ Some (Learn output)) same refl
+plain-event s (OrderMicro cell x) accepted plain is = absurd plain
+plain-event s (Send command) accepted plain is = absurd plain
 
-  -- how far the course is
-  pub record On (course : Course) (d : Driving B) : Type 0 where
-    pub spare : ℕ
-    pub at : At course.survey d.guard (held d.bus) spare
-    pub own : course.survey.output ≡ output
-    pub plan : course.survey.plan ≡ Some wanted
-    pub byte : course.byte ≡ None
-    pub once : course.twice ≡ None
-    pub part_is : d.guard.registers ≡ part
-    pub facts : Facts (limits_at d.guard output) (held d.bus)
-    pub enough : Enough course.survey course.ordered d.guard.host spare (held d.bus).words
-    pub lived : HasLife d.guard.host (held d.bus)
-    pub so : is_so d.bus ≡ true
+-- what it says by a guard's host is what it says by that of the life
+said-lived : {config : Config} {passes : ℕ} {events : List Event} {held : Held} (g : Guarded) (c is : FrameCourse) (next : CourseNext) →
+    IsLife config passes events g.host held → SaysBy g c next is →
+    SaysNext g.registers (limits_at g c.course.survey.output) (now config passes events).host c next is
+said-lived g c is next life says =
+    subst (λ (s : Summary). SaysNext g.registers (limits_at g c.course.survey.output) s c next is) (sym life.host_is) says
 
-  -- the plan by what is known, once the survey has nothing to ask for
-  pub plan-held : (course : Course) (d : Driving B) → On course d → due_job d.guard.registers course.survey d.guard.host ≡ None →
-      plan_in output wanted d.guard ≡ answer fault (option_map (order_of (of_output (held d.bus).words) wanting)
-      (next_register (value_for (held d.bus).config output) (of_output (held d.bus).words) wanting))
-  plan-held course d on free =
-      subst (λ (o : ℕ). FitsPart d.guard.registers (held d.bus) o wanting →
-      plan_in o wanted d.guard ≡ answer (held_fault (limits_at d.guard o) (held d.bus) o wanting)
-      (option_map (order_of (words_of (held d.bus) o) wanting)
-      (next_register (value_for (held d.bus).config o) (words_of (held d.bus) o) wanting)))
-      on.own (λ fits. plan-is d.guard (held d.bus) course.survey on.spare on.at wanted (ap wanted_in on.plan) free end_known fits
-      (ap is_some on.plan))
-      (subst (λ (p : PartRegisters). FitsPart p (held d.bus) output wanting) (sym on.part_is) on.facts.fits)
-      ∙ ap (λ (f : Option PlanFault). answer f (option_map (order_of (of_output (held d.bus).words) wanting)
-      (next_register (value_for (held d.bus).config output) (of_output (held d.bus).words) wanting))) on.facts.judged
+begun-carries : LawsOfLives → CoursesEnd → {B : Type 0} (gives : B → Call → B → Type 0) (held : B → Held) (restarts : B → ℕ) (bus : B)
+    (g new : Guarded) (c is : FrameCourse) (job : Asked) → SaysBy g c (Job job) is → LetsBegin g job (Ok tt) new →
+    Carries gives held restarts g.registers c false (record { host = g.host; bus = bus }) is true (record { host = new.host; bus = bus })
+begun-carries laws law gives held restarts bus g new c is job says begins = go (accepted_job g.host job) refl begins.ok where
+  plain : IsPlain job
+  plain = (says-job g c law job is says).plain
 
-  -- what is ordered next is the plan's order
-  pub order-is : (course : Course) (d : Driving B) → On course d → (limits : OutputLimits) → limits ≡ limits_at d.guard output →
-      order_next d.guard.registers limits d.guard.host course ≡ plan_in output wanted d.guard
-  order-is course d on limits same =
-      ap (λ (b : Option ℕ). order_by d.guard.registers limits d.guard.host course.survey b) on.byte
-      ∙ ap (λ (p : Option Wanted). if is_none p && is_surveyed d.guard.registers course.survey d.guard.host then Ok None
-      else plan_of d.guard.registers d.guard.host limits course.survey.output (wants_of (wanted_in p))) on.plan
-      ∙ ap₂ (λ (l : OutputLimits) (o : ℕ). plan_of d.guard.registers d.guard.host l o wanting) same on.own
+  go : (o : Option host.Job) → accepted_job g.host job ≡ o →
+      IsSomeAnd o (λ accepted. new.host ≡ host_next g.host (host.Accepted accepted)) →
+      Carries gives held restarts g.registers c false (record { host = g.host; bus = bus }) is true (record { host = new.host; bus = bus })
+  go None e ok = absurd ok
+  go (Some accepted) e ok =
+      let free = (guard-begun g new job begins).free accepted e in
+      subst (λ (s : Summary). Carries gives held restarts g.registers c false (record { host = g.host; bus = bus }) is true
+      (record { host = s; bus = bus })) (sym ok) (record {
+        asked = Began accepted ∷ [];
+        leads = jobs-lead laws gives held restarts g.host bus accepted free;
+        steps = λ config passes begun' later before life was.
+            subst (λ (es : List Event). IsFrameCourse config passes g.registers begun' before is true (es ++ later))
+            (sym (job-events laws gives held restarts g.host bus accepted free))
+            (asks (limits_at g c.course.survey.output) c is false later (job_event accepted) job was
+            (said-lived g c is (Job job) life says) (plain-event g.host job accepted plain e));
+      })
 
-  -- a course that is so far on says what its survey asks for, or orders
-  pub says-is : (course : Course) (d : Driving B) → On course d → (limits : OutputLimits) →
-      says d.guard.registers limits d.guard.host course
-      ≡ reading d.guard.registers limits d.guard.host course (due_job d.guard.registers course.survey d.guard.host)
-  says-is course d on limits =
-      ap (λ (b : Bool). if b then Ended (Stopped (Refused Busy)) else going d.guard.registers limits d.guard.host course course.twice)
-      on.at.idle
-      ∙ ap (λ (t : Option Differing). going d.guard.registers limits d.guard.host course t) on.once
-      ∙ ap (λ (b : Option ℕ). going_to d.guard.registers limits d.guard.host course b) on.byte
-      ∙ ap (λ (m : Option PlanFault). reading_for d.guard.registers limits d.guard.host course m)
-      (ap₂ (λ (p : PartRegisters) (w : Option Wanted). missing_fault p (wants_of (wanted_in w))) on.part_is on.plan ∙ on.facts.fits.wanted)
+-- What a call that hands out a frame comes to, while no job is open: a job of the course is open then, or the course has ended.
+pub record HandedOver {B : Type 0} (gives : B → Call → B → Type 0) (held : B → Held) (restarts : B → ℕ) (bus : B) (g : Guarded)
+    (c : FrameCourse) (sent : Option Sending) (new : Guarded) (is : FrameCourse) : Type 0 where
+  pub carries : is_busy new.host ≡ true → Carries gives held restarts g.registers c false (record { host = g.host; bus = bus }) is true
+      (record { host = new.host; bus = bus })
+  pub sends : is_some sent ≡ is_busy new.host
+  pub ends : is_busy new.host ≡ false → (new ≡ g) × ((end : CourseEnd) × (is.end ≡ Some end) × EndsAt g c end is)
+  pub left : is_busy new.host ≡ true → is.course.survey.left < c.course.survey.left
+  pub fresh : is_busy new.host ≡ true → is.end ≡ None
+  pub output : is.course.survey.output ≡ c.course.survey.output
+  pub limits : new.limits ≡ g.limits
+  pub registers : new.registers ≡ g.registers
+  pub kept : new.host.setup ≡ g.host.setup
 
-  -- the converter that holds the same words is the same to a course
-  same-facts : (limits : OutputLimits) (h new : Converter) → new.words ≡ h.words → new.config ≡ h.config → Facts limits h → Facts limits new
-  same-facts limits h new words config facts = record {
-    fits = same-fits part part new h output output (Some wanted) (Some wanted) refl words config refl refl facts.fits;
-    judged = ap₂ (λ (c : Config) (w : Words). judge c w) config words ∙ facts.judged;
-    at_end = ap (λ (w : Words). goal_of (of_output w) wanting) words ∙ facts.at_end;
-    protects = ap (λ (w : Words). word_at w Protect) words ∙ facts.protects;
-    made = config ∙ facts.made;
-    kept = λ some. words ∙ facts.kept some;
-  }
-    where
-      judge : Config → Words → Option PlanFault
-      judge c w = first (
-          limits_fault limits (value_for c output) wanting ∷
-          words_fault (value_for c output) (of_output w) wanting ∷
-          protection_fault (word_at w Protect) (of_output w) wanting ∷
-          [])
+-- a guard that sends has a job open
+sent-busy : (g : Guarded) (sent : Option Sending) → IsSent g sent → is_some sent ≡ is_busy g.host
+sent-busy g sent is = go g.host.stage sent is where
+  go : (stage : Option Stage) (o : Option Sending) → IsSent (record g { host = record g.host { stage = stage } }) o → is_some o ≡ is_some stage
+  go None o e = ap is_some e
+  go (Some stage) None e = absurd e
+  go (Some stage) (Some sending) e = refl
 
-  -- a job that the survey asks for
-  pub on-read : (course : Course) (old new : Driving B) (job : Asked) (end : JobEnd) → On course old →
-      asks_in course.survey old.guard ≡ Some job → Runs gives held restarts job old (Ok end) new →
-      On (record course { survey = surveyed_by course.survey job end; ordered = course.ordered || false }) new
-  on-read course old new job end on asks runs =
-      let step = survey-step laws gives held restarts jobs is_so all course.survey old new job end on.spare on.lived on.so on.at asks runs in
-      record {
-        spare = step.left;
-        at = step.at;
-        own = asked-output course.survey job end ∙ on.own;
-        plan = asked-plan course.survey job end ∙ on.plan;
-        byte = on.byte;
-        once = on.once;
-        part_is = runs.registers ∙ on.part_is;
-        facts = subst (λ (l : OutputLimits). Facts l (held new.bus))
-            (ap (λ (l : List OutputLimits). slice_index_or l output Unlimited) (sym runs.limits))
-            (same-facts (limits_at old.guard output) (held old.bus) (held new.bus) step.words step.config on.facts);
-        enough = subst (λ (w : Words). Enough (surveyed_by course.survey job end) (course.ordered || false) new.guard.host step.left w)
-            (sym step.words) (go step.left step.less step.tries on.enough);
-        lived = step.lived;
-        so = step.so;
-      }
-    where
-      go : (left : ℕ) → need (surveyed_by course.survey job end) new.guard.host + left + 1
-          ≤ need course.survey old.guard.host + on.spare → (surveyed_by course.survey job end).left + 1 ≡ course.survey.left →
-          Enough course.survey course.ordered old.guard.host on.spare (held old.bus).words →
-          Enough (surveyed_by course.survey job end) (course.ordered || false) new.guard.host left (held old.bus).words
-      go left less tries (inl many) = inl (omega arith)
-      go left less tries (inr last) = let few = last.2 in inr (ap (λ (b : Bool). b || false) last.0, last.1, omega arith)
+pub hands-over : LawsOfLives → CoursesEnd → {B : Type 0} (gives : B → Call → B → Type 0) (held : B → Held) (restarts : B → ℕ) (bus : B)
+    (g new : Guarded) (c is : FrameCourse) (sent : Option Sending) → is_busy g.host ≡ false → HandsOut g c sent new is →
+    HandedOver gives held restarts bus g c sent new is
+hands-over laws law gives held restarts bus g new c is sent idle (again stage sent' stands mine sends) =
+    let busy : is_busy g.host ≡ true = ap is_some stands in cc
+hands-over laws law gives held restarts bus g new c is sent idle (begun job sent' new' is' says begins sends) =
+    let busy : is_busy new'.host ≡ true = begun-busy g.host new'.host job begins.ok in
+    let said = says-job g c law job is' says in
+    record {
+      carries = λ b. begun-carries laws law gives held restarts bus g new' c is' job says begins;
+      sends = sent-busy new' sent' sends;
+      ends = λ none. cc;
+      left = λ b. said.left;
+      fresh = λ b. said.fresh;
+      output = said.output;
+      limits = begins.limits;
+      registers = begins.registers;
+      kept = begins.kept;
+    }
+hands-over laws law gives held restarts bus g new c is sent idle (has_ended end is' says) =
+    let said = says-end g c end is' says in
+    record {
+      carries = λ b. cc;
+      sends = sym idle;
+      ends = λ none. (refl, (end, said.0, over says));
+      left = λ b. cc;
+      fresh = λ b. cc;
+      output = said.1;
+      limits = refl;
+      registers = refl;
+      kept = refl;
+    }
+hands-over laws law gives held restarts bus g new c is sent idle (is_refused job fault is' says refuses) = record {
+  carries = λ b. cc;
+  sends = sym idle;
+  ends = λ none. (refl, (Refused (refusal_of_job (limit_fault_number fault) job), refl, refused job fault is' says refuses refl refl));
+  left = λ b. cc;
+  fresh = λ b. cc;
+  output = refl;
+  limits = refl;
+  registers = refl;
+  kept = refl;
+}
 
-  -- all is read once more
-  on-again : (course : Course) (d : Driving B) → On course d → course.ordered ≡ true →
-      next_register (value_for (held d.bus).config output) (of_output (held d.bus).words) wanting ≡ None → On (once_more course) d
-  unfolding todo
-  on-again course d on ordered none = record {
-    spare = on.spare;
-    at = record {
-      idle = on.at.idle;
-      there = on.at.there;
-      format = on.at.format;
-      knows = record {
-        whole = on.at.knows.whole;
-        true_of = λ p is. let bad = sym is ∙ unread p in cc;
-        calm = on.at.knows.calm;
-      };
-    };
-    own = on.own;
-    plan = on.plan;
-    byte = on.byte;
-    once = on.once;
-    part_is = on.part_is;
-    facts = on.facts;
-    enough = go on.enough;
-    lived = on.lived;
-    so = on.so;
-  }
-    where
-      unread : (p : Option Reg) → settled d.guard.host.known course.survey.output nothing_read p ≡ false
-      unread p = ap (λ (b : Bool). b && is_some (known_word (cell_of course.survey.output p)
-          (known_possible d.guard.host.known (cell_of course.survey.output p)))) (none-read p)
+-- a course goes on once a job of it was carried out
+pub carries-job : {B : Type 0} (gives : B → Call → B → Type 0) (held : B → Held) (restarts : B → ℕ) (bus : B) (part : PartRegisters)
+    (g new : Guarded) (a c is last : FrameCourse) (sent : Option Sending) (x z : Driven B) → is_busy new.host ≡ true →
+    Carries gives held restarts part a false x c false (record { host = g.host; bus = bus }) →
+    HandedOver gives held restarts bus g c sent new is → g.registers ≡ part →
+    Carries gives held restarts new.registers is true (record { host = new.host; bus = bus }) last false z →
+    Carries gives held restarts part a false x last false z
+carries-job gives held restarts bus part g new a c is last sent x z busy so_far handed same job =
+    let middle : Driven _ = record { host = new.host; bus = bus } in
+    carries-on gives held restarts part a is last false true false x middle z
+    (carries-on gives held restarts part a c is false false true x (record { host = g.host; bus = bus }) middle so_far
+    (subst (λ (p : PartRegisters). Carries gives held restarts p c false (record { host = g.host; bus = bus }) is true middle) same
+    (handed.carries busy)))
+    (subst (λ (p : PartRegisters). Carries gives held restarts p is true middle last false z) (handed.registers ∙ same) job)
 
-      go : Enough course.survey course.ordered d.guard.host on.spare (held d.bus).words →
-          Enough (once_more course).survey false d.guard.host on.spare (held d.bus).words
-      go (inl many) =
-          let seven' : total (λ p. not (settled d.guard.host.known course.survey.output nothing_read p)) ≤ total (λ p. true) =
-          below (λ p. true) _ (λ p h. refl) in
-          let all' = seven in
-          inr (refl, inl (none-due (value_for (held d.bus).config output) (of_output (held d.bus).words) wanting none), omega arith)
-      go (inr last) = let bad = sym ordered ∙ last.0 in cc
+-- ---- a frame of the open job
 
-  -- the course as it is asked
-  pub on-renewed : (course : Course) (d : Driving B) → On course d →
-      On (renewed d.guard.registers (limits_at d.guard course.survey.output) d.guard.host course) d
-  on-renewed course d on = go (is_carried_out d.guard.registers (limits_at d.guard course.survey.output) d.guard.host course) refl where
-    none-left : (f : Option PlanFault) (n : Option Reg) (w : Held) → answer f (option_map (order_of w wanting) n) ≡ Ok None → n ≡ None
-    none-left (Some x) n w is = cc
-    none-left None None w is = refl
-    none-left None (Some r) w is = cc
+-- what the converter hears, and what happens beside the bus, leaves a course as it is
+beside-all : {config : Config} {passes : ℕ} {part : PartRegisters} {begun' : FrameCourse} {before : List Event} (c : FrameCourse)
+    (later older : List Event) → AreAll is_of_bus older → IsFrameCourse config passes part begun' before c true later →
+    IsFrameCourse config passes part begun' before c true (older ++ later)
+beside-all c later [] all was = was
+beside-all c later (RestartDevice ∷ older) all was =
+    beside c true (older ++ later) RestartDevice (beside-all c later older all.1 was) tt
+beside-all c later (Reading output code word ∷ older) all was =
+    beside c true (older ++ later) (Reading output code word) (beside-all c later older all.1 was) tt
+beside-all c later (Deliver arrival ∷ older) all was =
+    beside c true (older ++ later) (Deliver arrival) (beside-all c later older all.1 was) tt
+beside-all c later (event ∷ older) all was = let is = all.0 in cc
 
-    due-none : is_surveyed d.guard.registers course.survey d.guard.host ≡ true →
-        due_job d.guard.registers course.survey d.guard.host ≡ None
-    due-none surveyed = empty (due_job d.guard.registers course.survey d.guard.host) (first-of _ _ surveyed) where
-      empty : (o : Option Asked) → is_none o ≡ true → o ≡ None
-      empty None e = refl
-      empty (Some j) e = cc
+-- it and its host were told of the frame that the host was sending
+pub record HeardSo (g : Guarded) (c : FrameCourse) (entry : host.Entry) (new : Guarded) (is : FrameCourse) : Type 0 where
+  pub stage : Stage
+  pub open_at : g.host.stage ≡ Some stage
+  pub next : new.host ≡ host_next g.host entry
+  pub limits : new.limits ≡ g.limits
+  pub registers : new.registers ≡ g.registers
+  pub heard : is ≡ heard_by c g.host.setup.addr stage entry (surprises g.host stage entry) (step_of g.host entry)
 
-    go : (b : Bool) → is_carried_out d.guard.registers (limits_at d.guard course.survey.output) d.guard.host course ≡ b →
-        On (if b then once_more course else course) d
-    go false e = on
-    go true e =
-        let rest = second-of (is_none course.twice) _ (second-of course.ordered _ e) in
-        let surveyed = first-of (is_surveyed d.guard.registers course.survey d.guard.host) _ rest in
-        let last = last-none _ (second-of (is_surveyed d.guard.registers course.survey d.guard.host) _ rest) in
-        on-again course d on (first-of course.ordered _ e) (none-left fault _ (of_output (held d.bus).words)
-        (sym (plan-held course d on (due-none surveyed))
-        ∙ (sym (order-is course d on (limits_at d.guard course.survey.output) (ap (limits_at d.guard) on.own)) ∙ last)))
+pub heard-so : (g new : Guarded) (c : FrameCourse) (entry : host.Entry) (is : FrameCourse) (result : Result (Unit {0}) Untold) → is_busy g.host ≡ true →
+    may_come g.host entry ≡ true → Hears g c entry result new is → HeardSo g c entry new is
+heard-so g new c entry is result busy may (heard stage new' open_at comes next limits registers) = record {
+  stage = stage;
+  open_at = open_at;
+  next = next;
+  limits = limits;
+  registers = registers;
+  heard = refl;
+}
+heard-so g new c entry is result busy may (nothing none) = let idle : is_busy g.host ≡ false = ap is_some none in cc
+heard-so g new c entry is result busy may (other stage open_at not_so) = cc
 
-  -- the order that is due, with the word that is wanted
-  abbrev pub order_due : Driving B → Reg → Asked
-  order_due d r = Order (Out output r) (goal_of (of_output (held d.bus).words) wanting r)
+-- a call of that frame is a step of the course
+pub call-carries : LawsOfLives → {B : Type 0} (gives : B → Call → B → Type 0) (held : B → Held) (restarts : B → ℕ) (call : Call)
+    (g new : Guarded) (c is : FrameCourse) (old after : B) → is_busy g.host ≡ true → MayDo g.host (Called call) →
+    IsCalled call (held old) (restarts old) (held after) (restarts after) → gives old call after → HeardSo g c (told_of call) new is →
+    Carries gives held restarts g.registers c true (record { host = g.host; bus = old }) is (is_busy new.host)
+    (record { host = new.host; bus = after })
+call-carries laws gives held restarts call g new c is old after busy may called so heard' =
+    subst (λ (x : FrameCourse). Carries gives held restarts g.registers c true (record { host = g.host; bus = old }) x (is_busy new.host)
+    (record { host = new.host; bus = after })) (sym heard'.heard)
+    (subst (λ (s : Summary). Carries gives held restarts g.registers c true (record { host = g.host; bus = old }) told_is (is_busy s)
+    (record { host = s; bus = after })) (sym heard'.next) (record { asked = []; leads = leads; steps = steps }))
+  where
+    e : CallEvents call g.host (held old) (restarts old) (held after) (restarts after)
+    e = call-events laws call g.host (held old) (restarts old) (held after) (restarts after) may called
 
-  -- a course that was told how its order ended
-  abbrev pub after_order : Course → Asked → JobEnd → Course
-  after_order course job end = told_of (naming course (Job job)) end
+    told_is : FrameCourse
+    told_is = heard_by c g.host.setup.addr heard'.stage (told_of call) (surprises g.host heard'.stage (told_of call))
+        (step_of g.host (told_of call))
 
-  -- the plan's next order
-  pub on-wrote : (course : Course) (old new : Driving B) (r : Reg) (end : JobEnd) → On course old → fault ≡ None →
-      next_register (value_for (held old.bus).config output) (of_output (held old.bus).words) wanting ≡ Some r →
-      Runs gives held restarts (order_due old r) old (Ok end) new → On (after_order course (order_due old r) end) new
-  on-wrote course old new r end on free next runs = subst (λ (e : JobEnd). On (after_order course (order_due old r) e) new) (sym is.done) (record {
-    spare = on.spare;
-    at = record {
-      idle = ap is_some is.idle;
-      there = subst (λ (s : accepted.Setup). course.survey.output < s.outputs) (sym runs.kept) on.at.there;
-      format = λ shape known'. on.at.format shape
-          (ap (λ (l : List (Option Shape)). slice_index_or l course.survey.output None) (sym is.formats) ∙ known')
-          ∙ ap (λ (c : Config). shape_for c course.survey.output) (sym is.config);
-      knows = subst (λ (k : Known). Knows course.survey.output course.survey.read k (held new.bus).words on.spare) (sym own.known) knows;
-    };
-    own = on.own;
-    plan = on.plan;
-    byte = on.byte;
-    once = on.once;
-    part_is = runs.registers ∙ on.part_is;
-    facts = subst (λ (l : OutputLimits). Facts l (held new.bus))
-        (ap (λ (l : List OutputLimits). slice_index_or l output Unlimited) (sym runs.limits)) facts;
-    enough = enough;
-    lived = life-on gives held restarts (accepted.Order (Out output r) word) end old new runs.leads on.lived;
-    so = is.so;
-  })
-    where
-      -- the judgement found nothing
-      judged : (limits_fault (limits_at old.guard output) (value_for (held old.bus).config output) wanting ≡ None)
-          × (words_fault (value_for (held old.bus).config output) (words_of (held old.bus) output) wanting ≡ None)
-          × (protection_fault (word_at (held old.bus).words Protect) (words_of (held old.bus) output) wanting ≡ None)
-      judged = three-none _ _ _ (on.facts.judged ∙ free)
+    leads : Leads gives held restarts [] None (record { host = g.host; bus = old })
+        (record { host = host_next g.host (told_of call); bus = after })
+    leads = record {
+      acts = Called call ∷ [];
+      events = e.newest ∷ e.older;
+      asks = refl;
+      calls = (old, refl, so);
+      may = (may, tt);
+      host = refl;
+      newest = tt;
+      count = e.count;
+      orders = e.orders;
+      lives = λ config passes before life.
+          let goes = e.goes config passes before life in
+          record { is_life = goes.is_life; told = goes.told; ended = tt };
+    }
 
-      allowed : Allows (word_at (held old.bus).words Protect) (of_output (held old.bus).words) wanting
-      allowed = allows (word_at (held old.bus).words Protect) (of_output (held old.bus).words) wanted judged.2
+    steps : (config : Config) (passes : ℕ) (begun' : FrameCourse) (later before : List Event) →
+        IsLife config passes (later ++ before) g.host (held old) →
+        IsFrameCourse config passes g.registers begun' before c true later →
+        IsFrameCourse config passes g.registers begun' before told_is (is_busy (host_next g.host (told_of call))) ((e.newest ∷ e.older) ++ later)
+    steps config passes begun' later before life was =
+        let told = subst (λ (es : List Event). ((now config passes es).host ≡ g.host)
+        × ((share_of (now config passes es) e.newest).told ≡ Some (told_of call)))
+        (sym (append_assoc e.older later before)) (e.told config passes (later ++ before) life) in
+        let s = (now config passes ((e.older ++ later) ++ before)).host in
+        subst (λ (own : Bool). IsFrameCourse config passes g.registers begun' before told_is own (e.newest ∷ (e.older ++ later)))
+        (still-busy g.host call busy)
+        (subst (λ (x : Summary). IsFrameCourse config passes g.registers begun' before
+        (heard_by c x.setup.addr heard'.stage (told_of call) (surprises x heard'.stage (told_of call)) (step_of x (told_of call)))
+        (still (step_of x (told_of call))) (e.newest ∷ (e.older ++ later))) told.0
+        (hears c (e.older ++ later) e.newest heard'.stage (told_of call) (beside-all c later e.older e.of_bus was) e.alone
+        (ap (λ (x : Summary). x.stage) told.0 ∙ heard'.open_at) told.1))
 
-      word : ℕ
-      word = goal_of (of_output (held old.bus).words) wanting r
+-- what stays then
+pub told-keeps : TranscriptsAreFollowed → CoursesEnd → (g new : Guarded) (c is : FrameCourse) (entry : host.Entry) → HeardSo g c entry new is →
+    KeepsTo g c new is
+told-keeps followed law g new c is entry heard' =
+    let same = heard-same law c g.host.setup.addr heard'.stage entry (surprises g.host heard'.stage entry) (step_of g.host entry) in
+    record {
+      left = ap (λ (x : FrameCourse). x.course.survey.left) heard'.heard ∙ same.left;
+      output = ap (λ (x : FrameCourse). x.course.survey.output) heard'.heard ∙ same.output;
+      fresh = λ ended. same.fresh (sym (ap (λ (x : FrameCourse). x.end) heard'.heard) ∙ ended);
+      limits = heard'.limits;
+      registers = heard'.registers;
+      kept = ap (λ (s : Summary). s.setup) heard'.next ∙ followed.kept g.host entry;
+    }
 
-      due : (is_due (of_output (held old.bus).words) wanting r ≡ true) × (same_register r Operation ≡ false)
-      due = next-is-due (value_for (held old.bus).config output) (of_output (held old.bus).words) wanting r next
+pub keeps-on : (g h i : Guarded) (a b c : FrameCourse) → KeepsTo g a h b → KeepsTo h b i c → KeepsTo g a i c
+keeps-on g h i a b c one two = record {
+  left = two.left ∙ one.left;
+  output = two.output ∙ one.output;
+  fresh = λ ended. one.fresh (two.fresh ended);
+  limits = two.limits ∙ one.limits;
+  registers = two.registers ∙ one.registers;
+  kept = two.kept ∙ one.kept;
+}
 
-      is : IsOrdered held is_so (Out output r) (goal_of (of_output (held old.bus).words) wanting r) old end new
-      is = jobs.order is_so all (Out output r) (goal_of (of_output (held old.bus).words) wanting r) end old new on.lived on.so
-          (allowed r due.0) runs
+-- ---- restarts
 
-      own : IsOrdered held is_so (Out course.survey.output r) (goal_of (of_output (held old.bus).words) wanting r) old end new
-      own = subst (λ (o : ℕ). IsOrdered held is_so (Out o r) (goal_of (of_output (held old.bus).words) wanting r) old end new)
-          (sym on.own) is
+-- no event restarted the converter, if a count stayed
+pub none-restarts : (events : List Event) (was is : ℕ) → restarts_in events + was ≡ is → is ≡ was → list_any restarts_converter events ≡ false
+none-restarts events was is rose same = go events (let none : restarts_in events ≡ 0 = omega arith in none) where
+  one : (b : Bool) (n : ℕ) → cond b 1 0 + n ≡ 0 → (b ≡ false) × (n ≡ 0)
+  one true n e = let no : ⊥ = omega arith in absurd no
+  one false n e = (refl, omega arith)
 
-      differs : (o : ℕ) (q : Option Reg) → same_place (Some r) q ≡ false → cell_of o q ≢ Out o r
-      differs o q two same = two-cells laws.apart o (Some r) q two (sym same)
-
-      there' : (q : Option Reg) → IsCell old.guard.host.setup.outputs (cell_of course.survey.output q)
-      there' (Some x) = on.at.there
-      there' None = tt
-
-      range : (course.survey.output < 8) × IsCell on.lived.config.count (cell_of course.survey.output (Some r))
-      range = in-range course.survey.output (Some r) on.lived on.at.there
-
-      taken : cell_accepts (Out course.survey.output r) (goal_of (of_output (held old.bus).words) wanting r) ≡ true
-      taken =
-          let lived = life-on gives held restarts (accepted.Order (Out output r)
-          (goal_of (of_output (held old.bus).words) wanting r)) end old new runs.leads on.lived in
-          ap (λ (w : ℕ). cell_accepts (Out course.survey.output r) w) (sym own.takes)
-          ∙ accepts laws.origin (Out course.survey.output r) lived (in-range course.survey.output (Some r) lived
-          (subst (λ (s : accepted.Setup). course.survey.output < s.outputs) (sym runs.kept) on.at.there)).1
-
-      others : (q : Option Reg) → same_place (Some r) q ≡ false →
-          word_at (held new.bus).words (cell_of course.survey.output q) ≡ word_at (held old.bus).words (cell_of course.survey.output q)
-      others q two = own.others (cell_of course.survey.output q) (differs course.survey.output q two) (there' q)
-
-      knows : Knows course.survey.output course.survey.read (known_after (known_after old.guard.host.known
-          (Put (Out course.survey.output r) (goal_of (of_output (held old.bus).words) wanting r)))
-          (Good (Out course.survey.output r) (goal_of (of_output (held old.bus).words) wanting r))) (held new.bus).words on.spare
-      knows = order-knows laws.apart laws.places course.survey.output range.0 course.survey.read old.guard.host.known
-          (held old.bus).words (held new.bus).words on.spare on.at.knows (Some r)
-          (goal_of (of_output (held old.bus).words) wanting r) taken own.takes others
-
-      few : todo new.guard.host.known course.survey.output course.survey.read
-          ≤ todo old.guard.host.known course.survey.output course.survey.read
-      few = subst (λ (k : Known). todo k course.survey.output course.survey.read
-          ≤ todo old.guard.host.known course.survey.output course.survey.read) (sym own.known)
-          (order-todo laws.apart laws.places course.survey.output range.0 course.survey.read old.guard.host.known
-          (held old.bus).words (held new.bus).words on.spare on.at.knows (Some r)
-          (goal_of (of_output (held old.bus).words) wanting r) taken own.takes others)
-
-      -- the words of the output are those with the one that was ordered
-      words-are : of_output (held new.bus).words
-          ≡ put (of_output (held old.bus).words) r (goal_of (of_output (held old.bus).words) wanting r)
-      words-are = fun_ext (λ (q : Reg). at-one q (same_register r q) refl) where
-        at-one : (q : Reg) (b : Bool) → same_register r q ≡ b → word_at (held new.bus).words (Out output q)
-            ≡ (if b then goal_of (of_output (held old.bus).words) wanting r else word_at (held old.bus).words (Out output q))
-        at-one q true e = ap (λ (o : Option Reg). word_at (held new.bus).words (Out output (unwrap_or o r)))
-            (other-place (Some r) (Some q) e) ∙ is.takes
-        at-one q false e = is.others (Out output q) (differs output (Some q) e)
-            (subst (λ (o : ℕ). o < old.guard.host.setup.outputs) on.own on.at.there)
-
-      protect-stays : word_at (held new.bus).words Protect ≡ word_at (held old.bus).words Protect
-      protect-stays = is.others Protect (λ same. cc) tt
-
-      -- the register that is ordered is one that the part has
-      has-it : has_register part r ≡ true
-      has-it = not-false (has_register part r) (not-second (is_some (wanting r)) _
-          (none-voltage (λ x. MissingRegister x) (is_wanted_missing part wanting) on.facts.fits.wanted r (volt r due.1))
-          (due-wanted (of_output (held old.bus).words) wanting r due.0))
-        where
-          volt : (x : Reg) → same_register x Operation ≡ false → is_voltage x ≡ true
-          volt Operation e = cc
-          volt VoutCommand e = refl
-          volt VoutMax e = refl
-          volt MarginHigh e = refl
-          volt MarginLow e = refl
-          volt VoutMin e = refl
-
-      missing-stays : HoldsMissing part (held new.bus).config (held new.bus).words output
-      missing-stays q w lacks = go (same_register r q) refl where
-        lacks-old : missing_word part (shape_for (held old.bus).config output) q ≡ Some w
-        lacks-old = ap (λ (c : Config). missing_word part (shape_for c output) q) (sym is.config) ∙ lacks
-
-        go : (b : Bool) → same_register r q ≡ b → word_at (held new.bus).words (Out output q) ≡ w
-        go true e =
-            let same : Some r ≡ Some q = sym (other-place (Some r) (Some q) e) in
-            let has : has_register part q ≡ true = subst (λ (o : Option Reg). has_register part (unwrap_or o r) ≡ true) same has-it in
-            let bad = sym lacks-old ∙ has-none part (shape_for (held old.bus).config output) q has in cc
-        go false e = is.others (Out output q) (differs output (Some q) e)
-            (subst (λ (o : ℕ). o < old.guard.host.setup.outputs) on.own on.at.there) ∙ on.facts.fits.missing q w lacks-old
-
-      facts : Facts (limits_at old.guard output) (held new.bus)
-      facts = record {
-        fits = record {
-          wanted = on.facts.fits.wanted;
-          selected = ap (λ (h : Held). has_register part (selected_register (h Operation))) words-are
-              ∙ ap (λ (b : Bool). has_register part (selected_register (if b then goal_of (of_output (held old.bus).words) wanting r
-              else word_at (held old.bus).words (Out output Operation)))) due.1 ∙ on.facts.fits.selected;
-          missing = missing-stays;
-        };
-        judged = none-three _ _ _
-            (ap (λ (c : Config). limits_fault (limits_at old.guard output) (value_for c output) wanting) is.config ∙ judged.0)
-            (ap₂ (λ (c : Config) (h : Held). words_fault (value_for c output) h wanting) is.config words-are
-            ∙ words-stay (value_for (held old.bus).config output) (of_output (held old.bus).words) wanting r due.1 ∙ judged.1)
-            (first-none-of (λ q. Protected q) (is_protected (word_at (held new.bus).words Protect) (of_output (held new.bus).words) wanting)
-            (λ q. still q (is_due (of_output (held new.bus).words) wanting q) refl) voltages) ∙ sym free;
-        at_end = ap (λ (h : Held). goal_of h wanting) words-are ∙ goal-stays (of_output (held old.bus).words) wanting r
-            ∙ on.facts.at_end;
-        protects = protect-stays ∙ on.facts.protects;
-        made = is.config ∙ on.facts.made;
-        kept = λ some. let bad = sym some ∙ ap is_some free in cc;
-      }
-        where
-          still : (q : Reg) (b : Bool) → is_due (of_output (held new.bus).words) wanting q ≡ b →
-              (b && not (is_allowed (word_at (held new.bus).words Protect) (register_code q))) ≡ false
-          still q false e = refl
-          still q true e = ap not (ap (λ (p : ℕ). is_allowed p (register_code q)) protect-stays
-              ∙ allowed q (due-before (of_output (held old.bus).words) wanting r q
-              (subst (λ (h : Held). is_due h wanting q ≡ true) words-are e)))
-
-      enough : Enough (after_order course (order_due old r) Done).survey (course.ordered || true) new.guard.host on.spare (held new.bus).words
-      enough = go on.enough where
-        go : Enough course.survey course.ordered old.guard.host on.spare (held old.bus).words →
-            Enough (after_order course (order_due old r) Done).survey (course.ordered || true) new.guard.host on.spare (held new.bus).words
-        go (inl many) =
-            let less = fewer (value_for (held old.bus).config output) (of_output (held old.bus).words) wanting r next in
-            let one : dues (of_output (held new.bus).words) wanting + 1 ≤ dues (of_output (held old.bus).words) wanting =
-            subst (λ (h : Held). dues h wanting + 1 ≤ dues (of_output (held old.bus).words) wanting) (sym words-are) less in
-            let few' = few in
-            let same : ◌≡◌ {A = ℕ} (cond (is_learned (after_order course (order_due old r) Done).survey new.guard.host) 0 1)
-            (cond (is_learned course.survey old.guard.host) 0 1) =
-            ap (λ (l : List (Option Shape)). cond {A = ℕ} (course.survey.learned
-            && is_some (slice_index_or l course.survey.output None)) 0 1) is.formats in
-            inl (omega arith)
-        go (inr (unordered, inl none, left')) =
-            let bad = sym next ∙ none-next (value_for (held old.bus).config output) (of_output (held old.bus).words) wanting none in cc
-        go (inr (unordered, inr refused, left')) = let bad = sym refused ∙ ap is_some free in cc
+  go : (es : List Event) → restarts_in es ≡ 0 → list_any restarts_converter es ≡ false
+  go [] e = refl
+  go (event ∷ es) e =
+      let both = one (restarts_converter event) (restarts_in es) e in
+      ap (λ (b : Bool). b || list_any restarts_converter es) both.0 ∙ go es both.1

@@ -19,8 +19,9 @@ use Rattle.pm_world.specs.State.{State, Share, HasWord, device_after, end_after,
 use Rattle.pm_driver.specs.Acts.{Act, told_all, told_by}
 use Rattle.pm_driver.specs.Bus.{AreAll, held_after, held_by, is_beside}
 use Rattle.pm_driver.specs.Laws.{LawsOfLives}
-use Rattle.pm_driver.specs.Lives.{EndsSo, Goes, HaveSameSettings, IsLife}
-use Rattle.pm_driver.proofs.Latched.{IsHeardPageless, after-same}
+use Rattle.pm_driver.specs.Lives.{EndsSo, Goes, IsLife}
+use Rattle.pm_part_laws.specs.Settings.{HaveSameSettings}
+use Rattle.pm_part_laws.specs.Lemmas.Pageless.{IsHeardPageless, after-same}
 
 -- what one more event makes of a life, which tells the ends this
 pub record IsGrown (config : Config) (passes : ℕ) (before : List Event) (event : Event) (share : Share) (host : Summary)

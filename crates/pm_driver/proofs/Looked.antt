@@ -32,14 +32,12 @@ use Rattle.pm_driver.specs.Acts.{Call, IsNoWrite, Looked, Read}
 use Rattle.pm_driver.specs.Bus.{AreAll, IsAsked, held_after, is_beside, restarts_in}
 use Rattle.pm_driver.specs.Driven.{Driving, HasLife, driven}
 use Rattle.pm_driver.specs.Laws.{LawsOfLives}
-use Rattle.pm_driver.specs.Lives.{Driven, Goes, IsLife, Leads}
+use Rattle.pm_driver.specs.Lives.{Goes, IsLife, Leads}
 use Rattle.pm_driver.specs.Looks.{Looks, RequestsAreNoWrites}
 use Rattle.pm_driver.specs.Steps.{LooksLead}
 use Rattle.pm_driver.proofs.Grown.{beside-one, own-address, quiet}
 use Rattle.pm_driver.proofs.Latched.{IsSameButFaults, hears-same, same-by-faults, same-on}
-use Rattle.pm_driver.proofs.NoRestarts.{leads-since}
 use Rattle.pm_driver.proofs.SentFrames.{beside-none, none-asked}
-use Rattle.pm_driver.proofs.WithinLimits.{jobless-within}
 
 -- the converter then holds what it held behind the events beside the bus, but for latched bits
 look-latches : LawsOfLives → (request room came : List ℕ) (host : Summary) (old : Held) (was : ℕ) (new : Held) (count : ℕ) →
@@ -139,20 +137,15 @@ pub looks-so : LawsOfLives → {B : Type 0} (gives : B → Call → B → Type 0
     IsLooked gives held restarts request room answer count old bus →
     Looks gives held restarts request room old (Ok count) answer (record { guard = old.guard; bus = bus })
 looks-so laws gives held restarts lead {request = request} {room = room} {answer = answer} {count = count} {old = old} {bus = bus} is =
-    let leads = looked-leads gives held restarts lead is in
-    let act = Looked request room (take count answer) in
-    let new : Driven _ = record { host = old.guard.host; bus = bus } in
     record {
       fault = ap (λ b. rule b Busy) (sym is.idle);
       fits = is.fits;
       once = is.once;
-      leads = leads;
+      leads = looked-leads gives held restarts lead is;
       err = tt;
       guard = refl;
       settings = settings-so laws request room (take count answer) old.guard.host (held old.bus) (restarts old.bus) (held bus)
           (restarts bus) is.plain is.asked is.has;
-      stays = λ same cell since. leads-since gives held restarts (act ∷ []) None (driven old) new cell leads same since;
-      within = λ output bounds lived. jobless-within laws gives held restarts (act ∷ []) (driven old) new refl leads output bounds lived;
     }
 
 -- ---- requests are no writes

@@ -2,7 +2,7 @@
 use Rattle.std.proofs.Common.{◌≡◌, arith, eqb, true, Bool, ℕ, zero, suc, List, [], ◌∷◌, take, inl, inr, refl, sym, ◌∙◌, ap}
 use Rattle.std.proofs.lemmas.Bool.{eq-eqb}
 use Rattle.pm_driver.specs.Acts.{Read, Wrote}
-use Rattle.pm_driver.specs.Undisturbed.{AreWithoutRestart, JobsRestartNothing, ReadsRestartNothing}
+use Rattle.pm_driver.specs.WithoutRestart.{AreWithoutRestart, JobsRestartNothing, ReadsRestartNothing}
 use Rattle.pm_driver.specs.NeverRestarts.{NeverRestartsStays, PatientNeverRestartsStays, ReadsKeepNeverRestarts, patient_device}
 use Rattle.pm_driver.specs.NeverRestarts.{patient_gives, patient_restarts}
 use Rattle.pm_driver.specs.Patience.{asks_patiently, sends_patiently}

@@ -17,7 +17,7 @@ use Rattle.pm_driver.specs.Driven.{Driving, HasLife, HasNoRestartSince, driven}
 use Rattle.pm_driver.specs.Ends.{cell_read}
 use Rattle.pm_driver.specs.Laws.{EndsAreTrue, RestartsAreCounted}
 use Rattle.pm_driver.specs.Lives.{Driven, Leads}
-use Rattle.pm_driver.specs.Undisturbed.{AreWithoutRestart, JobsRestartNothing, ReadsRestartNothing}
+use Rattle.pm_driver.specs.WithoutRestart.{AreWithoutRestart, JobsRestartNothing, ReadsRestartNothing}
 use Rattle.pm_driver.proofs.BegunJobs.{last-begun}
 use Rattle.pm_driver.proofs.Composed.{tells-append}
 
@@ -61,15 +61,6 @@ leads-since gives held restarts acts end old new cell leads same is =
       since = quiet-since has.config has.passes cell leads.events has.events
           (none-counted (restarts_in leads.events) (restarts old.bus) (restarts new.bus) leads.count same) is.since;
     }
-
--- no restart is counted where a job was carried out and the count stayed
-pub job-since : {B : Type 0} (gives : B → Call → B → Type 0) (held : B → Held) (restarts : B → ℕ) (o : Option host.Job) (end : JobEnd)
-    (old new : Driven B) → IsSomeAnd o (λ begun. Leads gives held restarts (Began begun ∷ []) (Some end) old new) →
-    restarts new.bus ≡ restarts old.bus → (cell : Cell) →
-    HasNoRestartSince cell old.host (held old.bus) → HasNoRestartSince cell new.host (held new.bus)
-job-since gives held restarts None end old new leads same cell is = absurd leads
-job-since gives held restarts (Some begun) end old new leads same cell is =
-    leads-since gives held restarts (Began begun ∷ []) (Some end) old new cell leads same is
 
 -- the converter didn't restart since the reading of a cell with which a job ended, in every case
 pub leads-read : EndsAreTrue → {B : Type 0} (gives : B → Call → B → Type 0) (held : B → Held) (restarts : B → ℕ) (job : host.Job)
@@ -116,8 +107,11 @@ reads-none gives held restarts is_so all request room answer old new (Err fault)
   λ cell is. subst (λ (d : Driving _). HasNoRestartSince cell d.guard.host (held d.bus)) (sym looks.err.0) is,
 )
 reads-none gives held restarts is_so all request room answer old new (Ok count) looks so =
-    let one = all (Read request room (take count answer)) old.bus new.bus so looks.once in
-    (one.1, looks.stays one.0)
+    let one = all (Read request room (take count answer)) old.bus new.bus so looks.once in (
+      one.1,
+      λ cell is. leads-since gives held restarts (Looked request room (take count answer) ∷ []) None (driven old) (driven new) cell
+          looks.leads one.0 is,
+    )
 
 -- a job restarts nothing
 pub jobs-none : {B : Type 0} (gives : B → Call → B → Type 0) (held : B → Held) (restarts : B → ℕ) → JobsRestartNothing gives held restarts
@@ -132,4 +126,4 @@ jobs-none gives held restarts is_so all job old new (Ok end) runs so = go (accep
   go None leads = absurd leads
   go (Some begun) leads =
       let all_of = calls-none gives restarts is_so all old.bus so leads.acts new.bus leads.calls in
-      (all_of.1, runs.stays all_of.0)
+      (all_of.1, λ cell is. leads-since gives held restarts (Began begun ∷ []) (Some end) (driven old) (driven new) cell leads all_of.0 is)

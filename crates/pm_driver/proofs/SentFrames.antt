@@ -1,6 +1,6 @@
 -- A call of the bus, as the events of a life.
 use Rattle.std.proofs.Common.{◌≡◌, ◌+◌, arith, ℕ, Bool, true, not, cond, List, [], ◌∷◌, Option, Some, None, length, refl, sym, ◌∙◌, ap}
-use Rattle.std.proofs.Common.{ap₂, subst}
+use Rattle.std.proofs.Common.{ap₂, subst, ◌++◌, false}
 use Rattle.std.specs.Prelude.{IsSomeAnd, replicate}
 use Rattle.std.proofs.lemmas.List.{length-replicate}
 use Rattle.std.specs.Option.{option_or}
@@ -25,6 +25,7 @@ use Rattle.pm_world.specs.declared.cause.Cause.TheVariants.{WrongKind, NotBetray
 use Rattle.pm_world.specs.declared.event.Event.{Event}
 use Rattle.pm_world.specs.declared.event.Event.TheVariants.{Deliver, Exchange, Finish, Reading, RestartDevice}
 use Rattle.pm_world.specs.Legal.{frame_of, heard_bytes, ending_of, is_legal_hearing, is_legal_return, is_heard_whole, answer_in, back_bytes}
+use Rattle.pm_world.specs.Ended.{begins_other}
 use Rattle.pm_world.specs.Job.{asked_by}
 use Rattle.pm_world.specs.Life.{now}
 use Rattle.pm_world.specs.State.{State, Share, delivered, delivery_cause, end_by, event_cause, exchange_cause, exchanged, finish_cause}
@@ -33,9 +34,10 @@ use Rattle.pm_driver.specs.Acts.{Call, Called, MayDo, Read, Wrote, told_of}
 use Rattle.pm_driver.specs.Bus.{AreAll, answer_of, restarts_in, held_by, is_beside, may_hear}
 use Rattle.pm_driver.specs.Lives.{EndsSo, EndsTold, Goes, IsLife, Leads, jobs_asked, newest_tells, with_job}
 use Rattle.pm_driver.specs.Laws.{LawsOfLives}
-use Rattle.pm_driver.specs.Steps.{CallsGo, FramesLead, IsCalled, StaysOpen, back_of}
+use Rattle.pm_part_laws.specs.Alike.{back_of}
+use Rattle.pm_driver.specs.Steps.{FramesLead, IsCalled, StaysOpen}
 use Rattle.pm_driver.proofs.Grown.{beside-one, goes-on, grown, heard-one, of-life, own-address, quiet}
-use Rattle.pm_driver.proofs.Latched.{ComesBack, IsHeardPageless, comes-same, own-same, request-pageless, write-pageless}
+use Rattle.pm_part_laws.specs.Lemmas.Pageless.{ComesBack, IsHeardPageless, comes-same, own-same, request-pageless, write-pageless}
 use Rattle.pm_driver.proofs.OpenJobs.{stays-open}
 
 -- the room for the whole answer to a message that is being sent
@@ -188,6 +190,26 @@ exchange-tells s request needed arrival back sends =
     } in
     ap (exchanged s arrival back) sends.sending ∙ ap₂ share sends.is.reads (request-frame sends.is)
 
+-- what an exchange makes of both ends, of a life whose converter answers alike
+answer-tells : LawsOfLives → {config : Config} {passes : ℕ} {before : List Event} {host : Summary} {held : Held} →
+    (request room came : List ℕ) (arrival : Arrival) (back : Back) → SendsRequest host request (length room) →
+    IsLife config passes before host held → ComesBack request (length room) held arrival back came →
+    share_of (now config passes before) (Exchange arrival (back_of arrival back came)) ≡ record {
+      heard = Some (device.Hearing (heard_bytes request arrival) (ending_of Restart arrival));
+      told = Some (Got came);
+    }
+answer-tells laws {config = config} {passes = passes} {before = before} {host = host} {held = held} request room came arrival back
+    sends is comes =
+    let s = now config passes before in
+    let alike = own-same laws.requests s.device held host sends.message request is.held_is sends.sending sends.is in
+    let same = comes-same request (length room) held s.device arrival back came alike comes in
+    exchange-tells s request (length room) arrival (back_of arrival back came)
+    (of-life (λ h. SendsRequest h request (length room)) is sends)
+    ∙ ap (λ (b : List ℕ). record {
+      heard = Some (device.Hearing (heard_bytes request arrival) (ending_of Restart arrival));
+      told = Some (Got b);
+    }) same.came_is
+
 -- a request came back
 answered : LawsOfLives → {config : Config} {passes : ℕ} {before : List Event} {host : Summary} {held new : Held} →
     (request room came : List ℕ) (arrival : Arrival) (back : Back) → SendsRequest host request (length room) →
@@ -207,8 +229,7 @@ answered laws {config = config} {passes = passes} {before = before} {host = host
     let share : Share = record { heard = Some hears_so; told = Some (Got came) } in
     let alike = own-same laws.requests s.device held host sends.message request is.held_is sends.sending sends.is in
     let same = comes-same request needed held s.device arrival back came alike comes in
-    let told : share_of s (Exchange arrival so) ≡ share = exchange-tells s request needed arrival so shown
-    ∙ ap (λ (b : List ℕ). record { heard = Some hears_so; told = Some (Got b) }) same.came_is in
+    let told : share_of s (Exchange arrival so) ≡ share = answer-tells laws request room came arrival back sends is comes in
     let one = grown laws (Exchange arrival so) share is
     (exchange-free s request needed arrival so shown legal same.returned) tt told
     (subst (λ a. IsHeardPageless a (Some hears_so)) (own-address is)
@@ -240,14 +261,44 @@ none-asked may none [] all = refl
 none-asked may none (event ∷ events) all =
     ap (λ o. with_job o (jobs_asked events)) (none event all.0) ∙ none-asked may none events all.1
 
--- the events of a call of the frame that the host was sending
+-- what the converter hears, and what happens to it beside the bus
+abbrev pub is_of_bus : Event → Bool
+is_of_bus RestartDevice = true
+is_of_bus (Reading output code word) = true
+is_of_bus (Deliver arrival) = true
+is_of_bus event = false
+
+hears-of-bus : (frame : List ℕ) (event : Event) → may_hear frame event ≡ true → is_of_bus event ≡ true
+hears-of-bus frame RestartDevice is = refl
+hears-of-bus frame (Reading output code word) is = refl
+hears-of-bus frame (Deliver arrival) is = refl
+hears-of-bus frame event is = cc
+
+beside-of-bus : (event : Event) → is_beside event ≡ true → is_of_bus event ≡ true
+beside-of-bus RestartDevice is = refl
+beside-of-bus (Reading output code word) is = refl
+beside-of-bus event is = cc
+
+all-so : (may other : Event → Bool) → ((event : Event) → may event ≡ true → other event ≡ true) → (events : List Event) →
+    AreAll may events → AreAll other events
+all-so may other so [] all = tt
+all-so may other so (event ∷ events) all = (so event all.0, all-so may other so events all.1)
+
+-- The events of a call of the frame that the host was sending: the newest tells the host what the call answered, and those
+-- before it tell it nothing.
 pub record CallEvents (call : Call) (host : Summary) (old : Held) (was : ℕ) (new : Held) (is : ℕ) : Type 0 where
-  pub events : List Event
-  pub newest : newest_tells events ≡ true
-  pub orders : jobs_asked events ≡ []
-  pub count : restarts_in events + was ≡ is
+  pub newest : Event
+  pub older : List Event
+  pub tells_so : newest_tells (newest ∷ older) ≡ true
+  pub alone : begins_other newest ≡ false
+  pub of_bus : AreAll is_of_bus older
+  pub orders : jobs_asked (newest ∷ older) ≡ []
+  pub count : restarts_in (newest ∷ older) + was ≡ is
+  pub told : (config : Config) (passes : ℕ) (before : List Event) → IsLife config passes before host old →
+      ((now config passes (older ++ before)).host ≡ host)
+      × ((share_of (now config passes (older ++ before)) newest).told ≡ Some (told_of call))
   pub goes : (config : Config) (passes : ℕ) (before : List Event) → IsLife config passes before host old →
-      Goes config passes before events (Called call ∷ []) (end_by (step_of host (told_of call))) (host_next host (told_of call)) new
+      Goes config passes before (newest ∷ older) (Called call ∷ []) (end_by (step_of host (told_of call))) (host_next host (told_of call)) new
 
 -- there are such
 pub call-events : LawsOfLives → (call : Call) (host : Summary) (old : Held) (was : ℕ) (new : Held) (count : ℕ) → MayDo host (Called call) →
@@ -256,10 +307,15 @@ pub call-events : LawsOfLives → (call : Call) (host : Summary) (old : Held) (w
 call-events laws (Wrote frame acked) host old was new count may is =
     let sends = sends-write host frame may in
     record {
-      events = Finish acked ∷ is.events;
-      newest = refl;
+      newest = Finish acked;
+      older = is.events;
+      tells_so = refl;
+      alone = refl;
+      of_bus = all-so (may_hear frame) is_of_bus (hears-of-bus frame) is.events is.may;
       orders = none-asked (may_hear frame) (hears-none frame) is.events is.may;
       count = (let rose = is.count in omega arith);
+      told = λ config passes before life.
+          ((quiet frame (may_hear frame) (hear-one laws frame sends) is.events is.may life).is_life.host_is, refl);
       goes = λ config passes before life.
           let heard = subst (λ d. Goes config passes before is.events [] None host d) is.after
           (quiet frame (may_hear frame) (hear-one laws frame sends) is.events is.may life) in
@@ -268,23 +324,24 @@ call-events laws (Wrote frame acked) host old was new count may is =
 call-events laws (Read request room came) host old was new count may is =
     let sends = sends-request host request room may in
     record {
-      events = Exchange is.arrival (back_of is.arrival is.back came) ∷ is.before;
-      newest = refl;
+      newest = Exchange is.arrival (back_of is.arrival is.back came);
+      older = is.before;
+      tells_so = refl;
+      alone = refl;
+      of_bus = all-so is_beside is_of_bus beside-of-bus is.before is.beside_before;
       orders = none-asked is_beside beside-none is.before is.beside_before;
       count = (let rose = is.count in omega arith);
+      told = λ config passes before life.
+          let beside = quiet request is_beside (beside-one laws request) is.before is.beside_before life in (
+            beside.is_life.host_is,
+            ap (λ (w : Share). w.told) (answer-tells laws request room came is.arrival is.back sends beside.is_life
+                (record { returned = is.returned; came_is = is.came_is })),
+          );
       goes = λ config passes before life.
           let beside = quiet request is_beside (beside-one laws request) is.before is.beside_before life in
           goes-on beside (answered laws request room came is.arrival is.back sends beside.is_life is.legal
           (record { returned = is.returned; came_is = is.came_is }) is.after);
     }
-
--- they are those that the call names
-pub calls-go : LawsOfLives → CallsGo
-unfolding call-events
-calls-go laws (Wrote frame acked) host old was new is may called =
-    (call-events laws (Wrote frame acked) host old was new is may called).goes
-calls-go laws (Read request room came) host old was new is may called =
-    (call-events laws (Read request room came) host old was new is may called).goes
 
 -- frames lead on
 pub frames-lead : LawsOfLives → {B : Type 0} → (gives : B → Call → B → Type 0) → (held : B → Held) → (restarts : B → ℕ)
@@ -293,12 +350,12 @@ frames-lead laws gives held restarts call host old new may is so =
     let e = call-events laws call host (held old) (restarts old) (held new) (restarts new) may is in
     record {
       acts = Called call ∷ [];
-      events = e.events;
+      events = e.newest ∷ e.older;
       asks = refl;
       calls = (old, refl, so);
       may = (may, tt);
       host = refl;
-      newest = ends-told (end_by (step_of host (told_of call))) e.events e.newest;
+      newest = ends-told (end_by (step_of host (told_of call))) (e.newest ∷ e.older) e.tells_so;
       count = e.count;
       orders = e.orders;
       lives = e.goes;

@@ -1,66 +1,70 @@
--- A course that a driver carries out, job by job: this project's own choice.
-use Rattle.std.specs.Prelude.{◌≡◌, ◌+◌, ℕ, List, [], ◌++◌, Some, Result, Ok, Err}
+-- A course that hands out frames, carried out over a bus: this project's own choice. Lists are newest first.
+use Rattle.std.specs.Prelude.{◌≡◌, ℕ, Bool, false, List, ◌++◌, Some, None}
+use Rattle.std.specs.List.{list_any}
 use Rattle.pm_device.specs.declared.config.Config.{Config}
 use Rattle.pm_device.specs.Held.{Held}
 use Rattle.pm_host.specs.declared.job.Job.{Job as Asked}
-use Rattle.pm_host.specs.declared.job.JobEnd.{JobEnd}
-use Rattle.pm_host.specs.Jobs.{accepted_job}
+use Rattle.pm_host.specs.Refusals.{is_busy}
+use Rattle.pm_limits.specs.declared.part_registers.PartRegisters.{PartRegisters}
 use Rattle.pm_limits.specs.declared.fault.LimitFault.{LimitFault}
-use Rattle.pm_limits.specs.Guard.{guard_fault}
-use Rattle.pm_rail.specs.declared.wanted.Wanted.{Wanted}
-use Rattle.pm_rail.specs.declared.apply_end.ApplyEnd.{ApplyEnd}
-use Rattle.pm_rail.specs.declared.course.Course.{Course}
-use Rattle.pm_rail.specs.declared.next.Next.TheVariants.{Job, Ended}
-use Rattle.pm_rail.specs.Course.{after_by, course_of, next_by, told_of}
+use Rattle.pm_limits.specs.FaultWords.{limit_fault_number}
+use Rattle.pm_limits.specs.Guard.{Guarded, guard_fault}
+use Rattle.pm_course.specs.declared.course_end.CourseEnd.{CourseEnd}
+use Rattle.pm_course.specs.declared.course_end.CourseEnd.TheVariants.{Reached, Refused}
+use Rattle.pm_course.specs.declared.course_end.CourseNext.TheVariants.{Ended, Job}
+use Rattle.pm_course.specs.declared.frame_course.FrameCourse.{FrameCourse}
+use Rattle.pm_course.specs.Ends.{refusal_of_job}
+use Rattle.pm_course.specs.FrameCourse.{refused_by}
+use Rattle.pm_course.specs.Frames.{SaysBy}
+use Rattle.pm_course_laws.specs.FrameLives.{IsFrameCourse}
 use Rattle.pm_world.specs.declared.event.Event.{Event}
-use Rattle.pm_world.specs.Courses.{IsCourse}
-use Rattle.pm_driver.specs.Acts.{Call}
-use Rattle.pm_driver.specs.Bus.{restarts_in}
-use Rattle.pm_driver.specs.Driven.{Driving, Runs}
-use Rattle.pm_driver.specs.Lives.{IsLife}
-use Rattle.pm_driver.specs.Rails.{events_in}
+use Rattle.pm_world.specs.Confirmed.{restarts_converter}
+use Rattle.pm_driver.specs.Acts.{Act, Call}
+use Rattle.pm_driver.specs.Driven.{Driving, driven}
+use Rattle.pm_driver.specs.Lives.{Driven, IsLife, Leads}
 
--- Jobs that a course named, one after another, each carried out and its end told.
-pub data Courses {B : Type 0} (gives : B → Call → B → Type 0) (held : B → Held) (restarts : B → ℕ) (begun : Course) (first : Driving B) : Course → Driving B → Type 0 where
-  no_job : Courses gives held restarts begun first begun first
-  one_more : (course : Course) (job : Asked) (end : JobEnd) (middle last : Driving B) →
-      Courses gives held restarts begun first course middle → next_by middle.guard course ≡ Job job →
-      Runs gives held restarts job middle (Ok end) last →
-      Courses gives held restarts begun first (told_of (after_by middle.guard course) end) last
+-- A driver leads from one host and bus to others, asked for some jobs, and a course goes along with it. In each life that led
+-- to the old ones, whenever the course began in it and whether or not its job was open (`mine`), the driver's events are
+-- further steps of it, and whether its job is open then is known (`own`).
+pub record Carries {B : Type 0} (gives : B → Call → B → Type 0) (held : B → Held) (restarts : B → ℕ) (part : PartRegisters)
+    (was : FrameCourse) (mine : Bool) (old : Driven B) (is : FrameCourse) (own : Bool) (new : Driven B) : Type 0 where
+  pub asked : List Act
+  pub leads : Leads gives held restarts asked None old new
+  pub steps : (config : Config) (passes : ℕ) (begun : FrameCourse) (later before : List Event) →
+      IsLife config passes (later ++ before) old.host (held old.bus) →
+      IsFrameCourse config passes part begun before was mine later →
+      IsFrameCourse config passes part begun before is own (leads.events ++ later)
 
--- A driver carries out what a course names until it has ended, or until the guard refuses what it names: then that took a try,
--- and wasn't begun.
-pub data Completes {B : Type 0} (gives : B → Call → B → Type 0) (held : B → Held) (restarts : B → ℕ) (begun : Course) (old : Driving B) : Result ApplyEnd LimitFault → Course → Driving B → Type 0 where
-  ends : (course : Course) (end : ApplyEnd) (new : Driving B) → Courses gives held restarts begun old course new →
-      next_by new.guard course ≡ Ended end → Completes gives held restarts begun old (Ok end) (after_by new.guard course) new
-  refused : (course : Course) (job : Asked) (fault : LimitFault) (new : Driving B) → Courses gives held restarts begun old course new →
-      next_by new.guard course ≡ Job job → guard_fault new.guard job ≡ Some fault →
-      Completes gives held restarts begun old (Err fault) (after_by new.guard course) new
+-- What stays while a course's open job is carried out: the course's output and the tries that it has left, that it hasn't reached
+-- its end, the limits and registers of the guard, and what its host was made for.
+pub record KeepsTo (old : Guarded) (was : FrameCourse) (new : Guarded) (is : FrameCourse) : Type 0 where
+  pub left : is.course.survey.left ≡ was.course.survey.left
+  pub output : is.course.survey.output ≡ was.course.survey.output
+  pub fresh : is.end ≡ Some Reached → was.end ≡ Some Reached
+  pub limits : new.limits ≡ old.limits
+  pub registers : new.registers ≡ old.registers
+  pub kept : new.host.setup ≡ old.host.setup
 
--- the events of the lives that they lead through, newest first
-abbrev pub events_of : {B : Type 0} {gives : B → Call → B → Type 0} {held : B → Held} {restarts : B → ℕ} {begun : Course} {first : Driving B} {course : Course} {last : Driving B} →
-    Courses gives held restarts begun first course last → List Event
-events_of no_job = []
-events_of {gives = gives} {held = held} {restarts = restarts} (one_more course job end middle last before names runs) =
-    events_in gives held restarts end middle last (accepted_job middle.guard.host job) runs.leads ++ events_of before
+-- A course ends by a guard whose host has no job open: it says that end (`over`), or a job that the guard refuses (`refused`).
+pub data EndsAt (g : Guarded) (last : FrameCourse) (end : CourseEnd) (is : FrameCourse) : Type 0 where
+  over : SaysBy g last (Ended end) is → EndsAt g last end is
+  refused : (job : Asked) (fault : LimitFault) (after : FrameCourse) → SaysBy g last (Job job) after → guard_fault g job ≡ Some fault →
+      end ≡ Refused (refusal_of_job (limit_fault_number fault) job) → is ≡ refused_by last (limit_fault_number fault) job →
+      EndsAt g last end is
 
--- Over every life that led to the driver's host and converter, what a driver carries out is a course of that life, by the
--- events that the bus counts the restarts among: all that is true of courses in lives is true of it.
-pub record IsLivedCourse {B : Type 0} (held : B → Held) (restarts : B → ℕ) (begun : Course) (old : Driving B) (course : Course)
-    (new : Driving B) (config : Config) (passes : ℕ) (events before : List Event) : Type 0 where
-  pub lived : IsLife config passes (events ++ before) new.guard.host (held new.bus)
-  pub is_course : IsCourse config passes old.guard.registers begun before course events
-  pub count : restarts_in events + restarts old.bus ≡ restarts new.bus
+-- What carrying a course out does, while no job is open: the driver leads to where the course has ended, by steps of the course
+-- only (`carries`), of which the last is its end (`last`, `ends`). If that is Reached, it is so of the course that was carried out and
+-- wasn't so before (`fresh`). The converter didn't restart by its events where the bus counted no restart (`steady`). No job is open
+-- then (`idle`). The course's output stays, and so do the driver's limits and registers, and what its host was made for.
+pub record RunsCourse {B : Type 0} (gives : B → Call → B → Type 0) (held : B → Held) (restarts : B → ℕ) (old : Driving B)
+    (was : FrameCourse) (end : CourseEnd) (new : Driving B) (is : FrameCourse) : Type 0 where
+  pub last : FrameCourse
+  pub carries : Carries gives held restarts old.guard.registers was false (driven old) last false (driven new)
+  pub ends : EndsAt new.guard last end is
+  pub fresh : last.end ≡ Some Reached → was.end ≡ Some Reached
+  pub steady : restarts new.bus ≡ restarts old.bus → list_any restarts_converter carries.leads.events ≡ false
+  pub idle : is_busy new.guard.host ≡ false
+  pub output : is.course.survey.output ≡ was.course.survey.output
+  pub limits : new.guard.limits ≡ old.guard.limits
   pub registers : new.guard.registers ≡ old.guard.registers
-
-abbrev pub CoursesAreLived : {B : Type 0} → (B → Call → B → Type 0) → (B → Held) → (B → ℕ) → Type 0
-CoursesAreLived {B = B} gives held restarts = (begun course : Course) (old new : Driving B) →
-    (runs : Courses gives held restarts begun old course new) →
-    (config : Config) (passes : ℕ) (before : List Event) → IsLife config passes before old.guard.host (held old.bus) →
-    IsLivedCourse held restarts begun old course new config passes (events_of runs) before
-
--- What carrying a plan out does: what a course to its words names is carried out, until the course has ended so.
-pub record Finishes {B : Type 0} (gives : B → Call → B → Type 0) (held : B → Held) (restarts : B → ℕ) (output : ℕ) (wanted : Wanted) (tries : ℕ) (old : Driving B) (end : ApplyEnd) (new : Driving B) : Type 0 where
-  pub course : Course
-  pub runs : Courses gives held restarts (course_of output wanted tries) old course new
-  pub says : next_by new.guard course ≡ Ended end
+  pub kept : new.guard.host.setup ≡ old.guard.host.setup

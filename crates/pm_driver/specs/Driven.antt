@@ -1,17 +1,13 @@
 -- What holds of a driver between two calls, what each call of it does, and what is true of it with no event in
 -- sight: this project's own choice.
-use Rattle.std.specs.Prelude.{◌≡◌, ◌<◌, ℕ, true, false, List, [], ◌∷◌, Some, IfSome, IsSomeAnd, Result, IfOk, OnOk, OnErr}
+use Rattle.std.specs.Prelude.{◌≡◌, ℕ, true, false, List, [], ◌∷◌, Some, IfSome, IsSomeAnd, Result, IfOk, OnOk, OnErr}
 use Rattle.std.specs.Result.{result_err}
 use Rattle.pm_table.specs.declared.cell.Cell.{Cell}
-use Rattle.pm_table.specs.declared.cell.Cell.TheVariants.{Out}
-use Rattle.pm_table.specs.declared.reg.Reg.{Reg}
-use Rattle.pm_table.specs.Cell.{IsCell, is_voltage}
-use Rattle.pm_model.specs.Commanded.{commanded}
+use Rattle.pm_table.specs.Cell.{IsCell}
 use Rattle.pm_model.specs.Settings.{word_at}
 use Rattle.pm_device.specs.declared.config.Config.{Config}
-use Rattle.pm_device.specs.Held.{Held, value_for}
+use Rattle.pm_device.specs.Held.{Held}
 use Rattle.pm_host.specs.declared.job.Job.{Job}
-use Rattle.pm_host.specs.declared.job.Job.TheVariants.{Order, OrderMicro}
 use Rattle.pm_host.specs.declared.job.JobEnd.{JobEnd}
 use Rattle.pm_host.specs.Frames.{frames_left}
 use Rattle.pm_host.specs.Jobs.{accepted_job}
@@ -20,18 +16,11 @@ use Rattle.pm_host.specs.declared.knowledge.Standing.TheVariants.{Confirmed}
 use Rattle.pm_host.specs.Possible.{is_possible}
 use Rattle.pm_host.specs.Summary.{Summary, possible_at, standing_at, start}
 use Rattle.pm_limits.specs.declared.fault.LimitFault.{LimitFault}
-use Rattle.pm_limits.specs.declared.output_limits.OutputLimits.{OutputLimits}
-use Rattle.pm_limits.specs.declared.output_limits.OutputLimits.TheVariants.{Between}
-use Rattle.pm_limits.specs.Bounds.{Bounds, IsWithin, is_wider}
-use Rattle.pm_limits.specs.Guard.{Guarded, guard_fault, limits_at}
+use Rattle.pm_limits.specs.Guard.{Guarded, guard_fault}
 use Rattle.pm_world.specs.declared.event.Event.{Event}
-use Rattle.pm_world.specs.Confirmed.{ConfirmedIsHeld, restarted_since}
-use Rattle.pm_world.specs.Honest.{FormatsAgree, IsSpelled}
-use Rattle.pm_world.specs.Life.{now}
-use Rattle.pm_world.specs.Limited.{OwnWithin, WordWithin}
+use Rattle.pm_world.specs.Confirmed.{restarted_since}
+use Rattle.pm_world.specs.Honest.{IsSpelled}
 use Rattle.pm_world.specs.Parts.{IsPart}
-use Rattle.pm_world.specs.Possible.{PossibleIsHeld, SeenIsTrue}
-use Rattle.pm_world.specs.Retelling.{CommandsOwn, IsOwnWord}
 use Rattle.pm_world.specs.Setup.{setup_of}
 use Rattle.pm_driver.specs.Acts.{Began, Call}
 use Rattle.pm_driver.specs.Ends.{EndSays, cell_read}
@@ -54,35 +43,17 @@ pub record HasLife (host : Summary) (held : Held) : Type 0 where
   pub spelled : IsSpelled config
   pub life : IsLife config passes events host held
 
--- Some life led to this host and this converter (`HasLife`), and in it each start word of an output's voltages, and each
--- that was ordered for one, has a value within these limits.
-pub record HasLifeWithin (output : ℕ) (bounds : Bounds) (host : Summary) (held : Held) : Type 0 where
-  pub has : HasLife host held
-  pub within : OwnWithin has.config has.passes has.events output bounds
-
 -- Some life led to them in which the converter didn't restart since the host's last good answer for this cell; where
 -- there was none, it never did.
 pub record HasNoRestartSince (cell : Cell) (host : Summary) (held : Held) : Type 0 where
   pub has : HasLife host held
   pub since : restarted_since has.config has.passes cell has.events ≡ false
 
--- an output's limits let through nothing that these don't
-abbrev pub AreAsNarrow : OutputLimits → Bounds → Type 0
-AreAsNarrow (Between own) bounds = is_wider bounds own ≡ false
-AreAsNarrow limits bounds = ⊥
-
 -- A part as it is, whatever came before: made soundly, by numbers that are those of bytes, with words held and stored that its
 -- cells accept. What it starts with, PAGE, the readings and the latched status bits are any.
 pub record IsAsItIs (held : Held) : Type 0 where
   pub part : IsPart held.config held.words held.store
   pub spelled : IsSpelled held.config
-
--- Limits allow each word of an output's voltages that the part holds or has stored.
-pub record PartWithin (held : Held) (output : ℕ) (bounds : Bounds) : Type 0 where
-  pub holds : (register : Reg) → is_voltage register ≡ true →
-      WordWithin register bounds (value_for held.config output (word_at held.words (Out output register)))
-  pub stores : (register : Reg) → is_voltage register ≡ true →
-      WordWithin register bounds (value_for held.config output (word_at held.store (Out output register)))
 
 -- A driver may begin beside a part as it is: the host is as new, made for the part's address and outputs, and for any passes.
 pub record MayBegin (host : Summary) (held : Held) : Type 0 where
@@ -91,38 +62,9 @@ pub record MayBegin (host : Summary) (held : Held) : Type 0 where
   pub setup : IsSetup (setup_of held.config passes)
   pub made : host ≡ start (setup_of held.config passes)
 
--- the job orders a word, or a voltage, for a voltage register of this output
-abbrev pub OrdersFor : ℕ → Job → Type 0
-OrdersFor output (Order (Out of register) word) = (of ≡ output) × (is_voltage register ≡ true)
-OrdersFor output (OrderMicro (Out of register) microvolts) = (of ≡ output) × (is_voltage register ≡ true)
-OrdersFor output job = ⊥
-
--- no output is ordered for
-abbrev pub OfNone : ℕ → Type 0
-OfNone other = ⊥
-
--- this output alone is ordered for
-abbrev pub OfOne : ℕ → ℕ → Type 0
-OfOne output other = other ≡ output
-
--- An output whose words were all within some limits keeps that: one that isn't ordered for whatever its own limits are, and one
--- that is where these are as narrow.
-abbrev pub StaysWithin : {B : Type 0} → (B → Held) → (ℕ → Type 0) → Driving B → Driving B → Type 0
-StaysWithin held ordered old new = (output : ℕ) (bounds : Bounds) →
-    (ordered output → AreAsNarrow (limits_at old.guard output) bounds) →
-    HasLifeWithin output bounds old.guard.host (held old.bus) →
-    HasLifeWithin output bounds new.guard.host (held new.bus)
-
--- Each cell since whose reading the converter didn't restart stays one, where the bus counted no restart.
-abbrev pub StaysRead : {B : Type 0} → (B → Held) → (B → ℕ) → Driving B → Driving B → Type 0
-StaysRead held restarts old new = restarts new.bus ≡ restarts old.bus → (cell : Cell) →
-    HasNoRestartSince cell old.guard.host (held old.bus) → HasNoRestartSince cell new.guard.host (held new.bus)
-
 -- What a call does that asks for a job. It is refused exactly where the host or its limits refuse the job, and then
 -- nothing changes. Otherwise the job is carried out: the driver leads to where it ended, no frame is left, and what
--- the end is worth holds. Where all words of an output were within limits that its own are as narrow as, they still
--- are (`within`). Of the cell that it ends with the reading of, the converter didn't restart since (`read`), and of
--- each cell that it didn't restart since the reading of, it didn't still where the bus counted no restart (`stays`).
+-- the end is worth holds. Of the cell that it ends with the reading of, the converter didn't restart since (`read`).
 pub record Runs {B : Type 0} (gives : B → Call → B → Type 0) (held : B → Held) (restarts : B → ℕ) (job : Job) (old : Driving B) (result : Result JobEnd LimitFault) (new : Driving B) : Type 0 where
   pub fault : result_err result ≡ guard_fault old.guard job
   pub leads : IfOk result (λ end. IsSomeAnd (accepted_job old.guard.host job)
@@ -131,34 +73,17 @@ pub record Runs {B : Type 0} (gives : B → Call → B → Type 0) (held : B →
       (λ begun. EndSays begun new.guard.host (held new.bus) end))
   pub read : IfOk result (λ end. IsSomeAnd (accepted_job old.guard.host job)
       (λ begun. IfSome (cell_read begun end) (λ cell. HasNoRestartSince cell new.guard.host (held new.bus))))
-  pub stays : StaysRead held restarts old new
   pub over : OnOk result (frames_left new.guard.host ≡ 0)
   pub err : OnErr result (new ≡ old)
   pub limits : new.guard.limits ≡ old.guard.limits
   pub registers : new.guard.registers ≡ old.guard.registers
   pub kept : new.guard.host.setup ≡ old.guard.host.setup
-  pub within : StaysWithin held (λ output. OrdersFor output job) old new
 
--- What holds of a host and a converter to which a life led: the laws of lives, each of this one. What the host
--- calls confirmed and possible is true of the converter (`confirmed`, `possible`), it saw no restart that didn't
--- happen (`seen`), each cell has a word of its own (`own`), each output commands the value of one of its own
--- words (`commanded`), and the formats that the host learned are the converter's (`formats`). An output whose words all
--- lie within limits commands a voltage within them (`limited`). Where the converter didn't restart since a cell was
--- read, what the host calls confirmed of it is held (`stands`), and what is held is possible (`among`).
+-- What holds of a host and a converter to which a life led. Where the converter didn't restart since a cell was read, what
+-- the host calls confirmed of it is held (`stands`), and what is held is possible (`among`).
 pub record IsTrueOf (host : Summary) (held : Held) : Type 0 where
   pub has : HasLife host held
-  pub confirmed : ConfirmedIsHeld has.config has.passes has.events (now has.config has.passes has.events)
-  pub possible : PossibleIsHeld has.config has.passes has.events (now has.config has.passes has.events)
-  pub seen : SeenIsTrue has.config has.passes has.events (now has.config has.passes has.events)
-  pub formats : FormatsAgree has.config has.passes has.events
-  pub own : (cell : Cell) → IsCell has.config.count cell →
-      IsOwnWord has.config has.passes has.events cell (word_at held.words cell)
-  pub limited : (output : ℕ) (bounds : Bounds) → HasLifeWithin output bounds host held → output < host.setup.outputs →
-      IsWithin bounds (commanded (value_for held.config output) held.words output)
   pub stands : (cell : Cell) (word : ℕ) → IsCell host.setup.outputs cell → HasNoRestartSince cell host held →
       standing_at host cell ≡ Confirmed word → word_at held.words cell ≡ word
   pub among : (cell : Cell) → IsCell host.setup.outputs cell → HasNoRestartSince cell host held →
       is_possible (word_at held.words cell) (possible_at host cell) ≡ true
-  pub commanded : (output : ℕ) → output < has.config.count →
-      CommandsOwn has.config has.passes has.events output
-      (commanded (value_for held.config output) held.words output)

@@ -1,7 +1,6 @@
 -- The laws of a driver, over the definitions alone.
 use Rattle.std.specs.Prelude.{◌≡◌, ℕ, true, false, IfSome, List, ◌++◌, length, Option, Some}
 use Rattle.pm_frame.specs.Laws.{BetrayalIsRefused, DamageIsRefused, RequestsAreExact, WritesAreExact}
-use Rattle.pm_limits.specs.Bounds.{Bounds}
 use Rattle.pm_device.specs.declared.config.Config.{Config}
 use Rattle.pm_device.specs.Held.{Held}
 use Rattle.pm_device.specs.Start.{IsSound}
@@ -15,26 +14,22 @@ use Rattle.pm_world.specs.declared.event.Event.{Event}
 use Rattle.pm_table.specs.declared.cell.Cell.{Cell}
 use Rattle.pm_world.specs.Confirmed.{restarted_since}
 use Rattle.pm_world.specs.Honest.{IsSpelled}
-use Rattle.pm_world.specs.Laws.{ConfirmedSettingsAreHeld, LearnedFormatsAreTrue, ListsSayEnough, LivesAreFollowed, LivesAreOrders, PossibleWordsAreHeld}
+use Rattle.pm_world.specs.Laws.{ConfirmedSettingsAreHeld, LearnedFormatsAreTrue, ListsSayEnough, LivesAreFollowed, PossibleWordsAreHeld}
 use Rattle.pm_world.specs.Parts.{LivesLeaveParts, PartsAreReached, StartsAreParts, StoredConfigsStartSo}
 use Rattle.pm_world.specs.Life.{life, now}
 use Rattle.pm_world.specs.Lived.{IsLived}
-use Rattle.pm_world.specs.Limited.{StartsWithin}
-use Rattle.pm_world.specs.LimitLaws.{LivesStayLimited}
 use Rattle.pm_world.specs.Setup.{setup_of}
 use Rattle.pm_driver.specs.Acts.{Act, Call}
-use Rattle.pm_driver.specs.Driven.{HasLife, HasLifeWithin, HasNoRestartSince, IsAsItIs, MayBegin}
+use Rattle.pm_driver.specs.Driven.{HasLife, HasNoRestartSince, IsAsItIs, MayBegin}
 use Rattle.pm_driver.specs.Ends.{EndSays, cell_read}
 use Rattle.pm_driver.specs.Lives.{Driven, Leads, newest_tells}
 
 -- the laws of lives, of frames and of hearings that a driver keeps its promises by
 pub record LawsOfLives : Type 0 where
   pub followed : LivesAreFollowed
-  pub orders : LivesAreOrders
   pub formats : LearnedFormatsAreTrue
   pub confirmed : ConfirmedSettingsAreHeld
   pub possible : PossibleWordsAreHeld
-  pub limited : LivesStayLimited
   pub requests : RequestsAreExact
   pub writes : WritesAreExact
   pub damage : DamageIsRefused
@@ -77,12 +72,6 @@ abbrev pub NewConvertersMayBegin : Type 0
 NewConvertersMayBegin = (config : Config) (passes : ℕ) →
     length config.starts ≡ 8 → IsSound config → IsSpelled config → IsSetup (setup_of config passes) →
     MayBegin (start (setup_of config passes)) (history.start_of config)
-
--- A converter as it was made has all words of an output's voltages within limits, if its start words for them lie there.
-abbrev pub NewConvertersAreWithin : Type 0
-NewConvertersAreWithin = (config : Config) (passes output : ℕ) (bounds : Bounds) →
-    IsSound config → IsSpelled config → IsSetup (setup_of config passes) → StartsWithin config output bounds →
-    HasLifeWithin output bounds (start (setup_of config passes)) (history.start_of config)
 
 -- What any life left is a part beside which a new host may begin, whatever the passes of the earlier one were.
 abbrev pub LivesLeadOn : Type 0

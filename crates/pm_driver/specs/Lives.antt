@@ -1,8 +1,7 @@
 -- What a driver's acts come to, over every life that may have led to where they began: this project's own choice.
 -- Lists are newest first.
-use Rattle.std.specs.Prelude.{◌≡◌, ◌+◌, ℕ, Bool, true, false, List, [], ◌∷◌, ◌++◌, map, Option, Some, None}
+use Rattle.std.specs.Prelude.{◌≡◌, ◌+◌, ℕ, Bool, true, false, List, [], ◌∷◌, ◌++◌, Option, Some, None}
 use Rattle.pm_device.specs.declared.config.Config.{Config}
-use Rattle.pm_device.specs.declared.output_start.OutputStart.{OutputStart}
 use Rattle.pm_device.specs.Held.{Held}
 use Rattle.pm_host.specs.declared.job.Job.{Job}
 use Rattle.pm_host.specs.declared.job.JobEnd.{JobEnd}
@@ -13,6 +12,7 @@ use Rattle.pm_world.specs.Job.{asked_by}
 use Rattle.pm_world.specs.Life.{life, now}
 use Rattle.pm_world.specs.Lived.{IsLived}
 use Rattle.pm_world.specs.Uncertainty.{job_event}
+use Rattle.pm_part_laws.specs.Settings.{HaveSameSettings}
 use Rattle.pm_driver.specs.Bus.{restarts_in}
 use Rattle.pm_driver.specs.Acts.{Act, Began, Call, AreCalls, AreDone, asked_in, host_by, told_all}
 
@@ -20,26 +20,6 @@ use Rattle.pm_driver.specs.Acts.{Act, Began, Call, AreCalls, AreDone, asked_in, 
 pub record Driven (B : Type 0) : Type 0 where
   pub host : Summary
   pub bus : B
-
--- a converter that starts with the words of another, and has the other's PAGE, readings and latched status bits
-abbrev pub moved : Held → Held → Held
-moved held other = record held {
-  config = record held.config { starts = other.config.starts; protect = other.config.protect };
-  page = other.page;
-  readings = other.readings;
-  cut = other.cut;
-  faults = other.faults;
-}
-
--- the VOUT_MODE bytes of a configuration's outputs
-abbrev pub modes_of : Config → List ℕ
-modes_of config = map (λ (start : OutputStart). start.mode) config.starts
-
--- The converters are made alike, hold the same words and have the same stored. The words that they start with, PAGE, the
--- readings and the latched status bits may differ: no frame of a host depends on any of them.
-pub record HaveSameSettings (one other : Held) : Type 0 where
-  pub same : one ≡ moved other one
-  pub modes : modes_of one.config ≡ modes_of other.config
 
 -- Events that were lived through, and lead to this host and to this converter's words and store. The converter's PAGE and
 -- readings may be any that something before the host left, and so may the status bits that are latched.

@@ -1,7 +1,6 @@
 -- What a read does that is no job, and which bytes it may send: this project's own choice.
 use Rattle.std.specs.Prelude.{◌≡◌, ◌≤◌, ℕ, List, [], ◌∷◌, length, take, false, None, Result, IfOk, OnErr}
 use Rattle.std.specs.Result.{result_err}
-use Rattle.pm_table.specs.declared.cell.Cell.{Cell}
 use Rattle.pm_table.specs.Commands.{is_written}
 use Rattle.pm_table.specs.Rules.{rule}
 use Rattle.pm_frame.specs.declared.message.Message.{Message}
@@ -11,17 +10,15 @@ use Rattle.pm_device.specs.Held.{Held}
 use Rattle.pm_host.specs.declared.fault.HostFault.{HostFault}
 use Rattle.pm_host.specs.declared.fault.HostFault.TheVariants.{Busy}
 use Rattle.pm_host.specs.Refusals.{is_busy}
-use Rattle.pm_limits.specs.Bounds.{Bounds}
 use Rattle.pm_driver.specs.Acts.{Call, IsNoWrite, Looked, Read}
-use Rattle.pm_driver.specs.Driven.{Driving, HasLifeWithin, HasNoRestartSince, driven}
+use Rattle.pm_driver.specs.Driven.{Driving, driven}
 use Rattle.pm_driver.specs.Lives.{Leads}
 
 -- What a read that is no job does. It is refused with H3 exactly where a job is open, and then nothing changes, in the
 -- room neither. Otherwise it is one call of the bus, with this request and this room, and its answer is that of the bus
 -- (`once`, `fits`). The host isn't told of it, and it and its limits stay (`guard`). Each life that led to the driver leads
 -- on, by restarts of the converter and readings alone (`leads`). While the bus counts no restart, each setting, the store and
--- PAGE stay (`settings`), and a cell since whose reading the converter didn't restart stays one (`stays`). Words that lie
--- within limits do in any case (`within`).
+-- PAGE stay (`settings`).
 pub record Looks {B : Type 0} (gives : B → Call → B → Type 0) (held : B → Held) (restarts : B → ℕ) (request room : List ℕ) (old : Driving B) (result : Result ℕ HostFault) (answer : List ℕ) (new : Driving B) : Type 0 where
   pub fault : result_err result ≡ rule (is_busy old.guard.host) Busy
   pub fits : IfOk result (λ count. count ≤ length answer)
@@ -31,10 +28,6 @@ pub record Looks {B : Type 0} (gives : B → Call → B → Type 0) (held : B �
   pub err : OnErr result ((new ≡ old) × (answer ≡ room))
   pub guard : new.guard ≡ old.guard
   pub settings : restarts new.bus ≡ restarts old.bus → kept_in (held new.bus) ≡ kept_in (held old.bus)
-  pub stays : restarts new.bus ≡ restarts old.bus → (cell : Cell) →
-      HasNoRestartSince cell old.guard.host (held old.bus) → HasNoRestartSince cell new.guard.host (held new.bus)
-  pub within : (output : ℕ) (bounds : Bounds) → HasLifeWithin output bounds old.guard.host (held old.bus) →
-      HasLifeWithin output bounds new.guard.host (held new.bus)
 
 -- No beginning is a write to any address: of up to two bytes, which the request of a plain read or a block read of any code
 -- has (`short`), of bytes whose code isn't written (`unwritten`), as PAGE_PLUS_READ of any page and code, and of the request of a

@@ -7,17 +7,10 @@ use Rattle.pm_host.specs.declared.host.Step.TheVariants.{Next}
 use Rattle.pm_host.specs.Refusals.{is_busy, job_fault}
 use Rattle.pm_host.specs.Summary.{Summary, next as host_next, step_of}
 use Rattle.pm_host.specs.Transcript.{Job, Accepted, Restarted}
-use Rattle.pm_device.specs.declared.config.Config.{Config}
-use Rattle.pm_world.specs.declared.event.Arrival.{Arrival}
-use Rattle.pm_world.specs.declared.event.Arrival.TheVariants.{Whole}
-use Rattle.pm_world.specs.declared.event.Back.{Back}
-use Rattle.pm_world.specs.declared.event.Back.TheVariants as back
-use Rattle.pm_world.specs.declared.event.Event.{Event}
-use Rattle.pm_world.specs.declared.event.Event.TheVariants.{Exchange, Finish}
 use Rattle.pm_world.specs.State.{end_by}
 use Rattle.pm_driver.specs.Acts.{Began, Call, Called, Looked, MayDo, Read, Renewed, Wrote, told_of}
 use Rattle.pm_driver.specs.Bus.{IsSent, IsAsked}
-use Rattle.pm_driver.specs.Lives.{Goes, IsLife, Leads}
+use Rattle.pm_driver.specs.Lives.{Leads}
 
 -- how the job ended with a step
 abbrev pub end_in : Option Step → Option JobEnd
@@ -33,25 +26,6 @@ StaysOpen step host = Unit {0}
 abbrev pub IsCalled : Call → Held → ℕ → Held → ℕ → Type 0
 IsCalled (Wrote frame acked) old was new is = IsSent frame old was new is
 IsCalled (Read request room came) old was new is = IsAsked request (length room) old was came new is
-
--- What came back of a request, by how that arrived: of one that came whole a part of its answer, and of any other these
--- bytes, which may tell of bits that are latched.
-abbrev pub back_of : Arrival → Back → List ℕ → Back
-back_of Whole so came = so
-back_of arrival so came = back.Bytes (record { items = came })
-
--- the events of a call, by what the bus did
-abbrev pub events_by : (call : Call) (old : Held) (was : ℕ) (new : Held) (is : ℕ) → IsCalled call old was new is → List Event
-events_by (Wrote frame acked) old was new is called = Finish acked ∷ called.events
-events_by (Read request room came) old was new is called = Exchange called.arrival (back_of called.arrival called.back came) ∷ called.before
-
--- A call of the frame that the host was sending carries a life on by just the events that `events_by` names.
-abbrev pub CallsGo : Type 0
-CallsGo = (call : Call) (host : Summary) (old : Held) (was : ℕ) (new : Held) (is : ℕ) → MayDo host (Called call) →
-    (called : IsCalled call old was new is) → (config : Config) (passes : ℕ) (before : List Event) →
-    IsLife config passes before host old →
-    Goes config passes before (events_by call old was new is called) (Called call ∷ [])
-    (end_by (step_of host (told_of call))) (host_next host (told_of call)) new
 
 -- A call of the frame that the host was sending, whose answer the host is told, leads on.
 abbrev pub FramesLead : {B : Type 0} → (B → Call → B → Type 0) → (B → Held) → (B → ℕ) → Type 0

@@ -25,14 +25,10 @@ mod simulated_bus;
 pub use dead_bus::DeadBus;
 pub use fault::Fault;
 pub use laws::{
-    courses_go_through, never_restarts_stays, orders_go_through, parts_compose,
-    patient_never_restarts_stays, patient_orders_go_through, reads_keep_never_restarts,
+    never_restarts_stays, parts_compose, patient_never_restarts_stays, reads_keep_never_restarts,
     requests_may_be_lost,
 };
 pub use patient::Patient;
-pub use plans::{
-    apply_through, order_patiently_through, order_through, read_without_restart,
-    run_patiently_without_restart, run_without_restart,
-};
+pub use plans::{read_without_restart, run_patiently_without_restart, run_without_restart};
 pub use retrying::Retrying;
 pub use simulated_bus::{SimulatedBus, driver_over};

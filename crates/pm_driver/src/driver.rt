@@ -1,27 +1,29 @@
-ghost use Rattle.std.specs.Prelude.{◌≡◌, ◌≤◌, ◌<◌, ℕ, List, [], ◌∷◌, None, OnOk, OnErr, length, replicate};
+ghost use Rattle.std.specs.Prelude.{◌≡◌, ◌≤◌, ◌<◌, [], ◌∷◌, None, false, true, OnOk, OnErr, length, replicate};
 ghost use Rattle.std.specs.Result.{result_err};
 ghost use Rattle.pm_host.specs.declared.job.Job.TheVariants as asked;
 ghost use Rattle.pm_host.specs.declared.command.Command.TheVariants as command;
 ghost use Rattle.pm_host.specs.Frames.{frames_left};
-ghost use Rattle.pm_host.specs.Summary.{Summary};
+ghost use Rattle.pm_host.specs.Refusals.{is_busy as spec_is_busy};
 ghost use Rattle.pm_table.specs.declared.cell.Cell.{Cell as Place};
 ghost use Rattle.pm_limits.specs.declared.output_limits.OutputLimits.TheVariants.{Unlimited};
-ghost use Rattle.pm_limits.specs.Bounds.{Bounds};
 ghost use Rattle.pm_limits.specs.Guard.{narrow_fault, narrowed, unlimited, unlimited_fault};
 ghost use Rattle.pm_limits.specs.Part.{all_registers};
+ghost use Rattle.pm_course.specs.Ends.{busy_end};
 ghost use Rattle.pm_driver.specs.Acts.{IsNoWrite, Renewed};
-ghost use Rattle.pm_driver.specs.Driven.{HasLifeWithin, HasNoRestartSince, IsTrueOf, MayBegin, PartWithin, Runs, driven};
+ghost use Rattle.pm_driver.specs.Courses.{RunsCourse};
+ghost use Rattle.pm_driver.specs.Driven.{HasNoRestartSince, IsTrueOf, MayBegin, Runs, driven};
 ghost use Rattle.pm_driver.specs.Lives.{Leads};
 ghost use Rattle.pm_driver.specs.Looks.{Looks};
 
 use crate::bus::Bus;
-use crate::frames::carry_out;
+use crate::frames::{carry_course, carry_out};
 use crate::laws::{
     ends_are_true, jobs_lead, laws_of_lives, leads_compose, looks_lead, renewals_lead,
 };
+use pm_course::{CourseEnd, FrameCourse, Refusal};
 use pm_host::{Command, Host, HostFault, Job, JobEnd};
 use pm_limits::{Guard, LimitFault};
-use pm_rail::{PlanFault, PlanOrder, Wanted, begin_next, plans_are_accepted};
+use pm_rail::PlanFault;
 use pm_table::Cell;
 use std::marker::Model;
 
@@ -51,12 +53,6 @@ impl<B: Bus> Driver<B> {
         requires { MayBegin host (B.held bus) }
         ensures guard { result.guard ≡ record { host = host; limits = replicate 8 Unlimited; registers = all_registers } }
         ensures bus { result.bus ≡ bus }
-        ensures within { (was : Summary) (output : ℕ) (bounds : Bounds) → was.setup ≡ host.setup →
-            HasLifeWithin output bounds was (B.held bus) → HasLifeWithin output bounds host (B.held bus) }
-        ensures begun { (output : ℕ) (bounds : Bounds) → output < host.setup.outputs → PartWithin (B.held bus) output bounds →
-            HasLifeWithin output bounds result.guard.host (B.held result.bus) }
-        ensures earlier { (was : Summary) (output : ℕ) (bounds : Bounds) → output < host.setup.outputs →
-            HasLifeWithin output bounds was (B.held bus) → HasLifeWithin output bounds result.guard.host (B.held result.bus) }
         ensures since { (cell : Place) → HasNoRestartSince cell result.guard.host (B.held result.bus) }
     {
         Driver::guarded(Guard::over(host), bus)
@@ -66,22 +62,11 @@ impl<B: Bus> Driver<B> {
     /// may hold and have stored any words that its cells accept, and have any PAGE, readings and latched status bits, whatever
     /// was there before. A converter as it was made is such a part
     /// ([`new_converters_may_begin`](crate::new_converters_may_begin)), and any life leaves one
-    /// ([`lives_lead_on`](crate::lives_lead_on)).
-    ///
-    /// An output's words lie within its limits here (`begun`) and after each call if the limits allow the words that the part holds and has
-    /// stored. The output then commands a voltage within them: [`laws`](Driver::laws), `limited`. Its words lie within them here, too, if
-    /// they did with an earlier host, with the same passes (`within`) or others (`earlier`). The part didn't restart since any cell was
-    /// read (`since`).
+    /// ([`lives_lead_on`](crate::lives_lead_on)). The part didn't restart since any cell was read (`since`).
     pub fn guarded(guard: Guard, bus: B) -> Driver<B>
         requires { MayBegin guard.host (B.held bus) }
         ensures guard { result.guard ≡ guard }
         ensures bus { result.bus ≡ bus }
-        ensures within { (was : Summary) (output : ℕ) (bounds : Bounds) → was.setup ≡ guard.host.setup →
-            HasLifeWithin output bounds was (B.held bus) → HasLifeWithin output bounds guard.host (B.held bus) }
-        ensures begun { (output : ℕ) (bounds : Bounds) → output < guard.host.setup.outputs → PartWithin (B.held bus) output bounds →
-            HasLifeWithin output bounds result.guard.host (B.held result.bus) }
-        ensures earlier { (was : Summary) (output : ℕ) (bounds : Bounds) → output < guard.host.setup.outputs →
-            HasLifeWithin output bounds was (B.held bus) → HasLifeWithin output bounds result.guard.host (B.held result.bus) }
         ensures since { (cell : Place) → HasNoRestartSince cell result.guard.host (B.held result.bus) }
     {
         laws_of_lives();
@@ -96,7 +81,6 @@ impl<B: Bus> Driver<B> {
         ends_are_true();
         jobs_lead::<B>();
         leads_compose::<B>();
-        laws_of_lives();
         self.guard.begin(job)?;
         match carry_out(&mut self.guard, &mut self.bus) {
             Some(end) => Ok(end),
@@ -155,6 +139,27 @@ impl<B: Bus> Driver<B> {
         self.run(Job::Send(Command::RestoreUserAll))
     }
 
+    /// Carries a course out, frame after frame, until it has ended: to voltages and words, to a byte of OPERATION, or to nothing,
+    /// which is a survey. It answers how it ended. `Refused` with H3 if a job is open; nothing changes then. The output is there.
+    ///
+    /// What it does is steps of that course only, in each life that led to the driver. So what the laws of `pm_course_laws` say of
+    /// courses holds of it, as [`frame_courses_hold_in_lives`](pm_course_laws::frame_courses_hold_in_lives).
+    pub fn run_course(&mut self, course: &mut FrameCourse) -> CourseEnd
+        requires { course.old.course.survey.output < self.old.guard.host.setup.outputs }
+        ensures runs { spec_is_busy self.old.guard.host ≡ false →
+            RunsCourse B.gives B.held B.restarts self.old course.old result self.new course.new }
+        ensures busy { spec_is_busy self.old.guard.host ≡ true →
+            (result ≡ busy_end) × (self.new ≡ self.old) × (course.new ≡ course.old) }
+    {
+        if self.is_busy() {
+            return CourseEnd::Refused(Refusal {
+                number: PlanFault::Busy.number(),
+                register: None,
+            });
+        }
+        carry_course(&mut self.guard, &mut self.bus, course)
+    }
+
     /// Reads what no job asks for, as a status or a measured value: one [`Bus::read`] of this request, of which the host hears
     /// nothing. How many bytes came, the read address with them; [`read_plain`](pm_frame::read_plain) and
     /// [`read_block`](pm_frame::read_block) judge them. H3 if a job is open; nothing changes then. There is room for a byte at
@@ -166,7 +171,7 @@ impl<B: Bus> Driver<B> {
     /// the request of a message that reads ([`requests_are_no_writes`](crate::requests_are_no_writes)).
     ///
     /// The converter latches bits of STATUS_CML at most. Settings, store and PAGE stay, unless it restarts, which the bus
-    /// counts; what the host calls confirmed holds on as between two jobs.
+    /// counts.
     ///
     /// STATUS_WORD of the output that PAGE selects, output 0 once the part started:
     ///
@@ -198,18 +203,12 @@ impl<B: Bus> Driver<B> {
     pub fn restart(&mut self)
         ensures leads { Leads B.gives B.held B.restarts (Renewed ∷ []) None (driven self.old) (driven self.new) }
         ensures bus { self.new.bus ≡ self.old.bus }
-        ensures since { (cell : Place) → HasNoRestartSince cell self.old.guard.host (B.held self.old.bus) →
-            HasNoRestartSince cell self.new.guard.host (B.held self.new.bus) }
         ensures over { frames_left self.new.guard.host ≡ 0 }
         ensures limits { self.new.guard.limits ≡ self.old.guard.limits }
         ensures registers { self.new.guard.registers ≡ self.old.guard.registers }
         ensures kept { self.new.guard.host.setup ≡ self.old.guard.host.setup }
-        ensures within { (output : ℕ) (bounds : Bounds) →
-            HasLifeWithin output bounds self.old.guard.host (B.held self.old.bus) →
-            HasLifeWithin output bounds self.new.guard.host (B.held self.new.bus) }
     {
         renewals_lead::<B>();
-        laws_of_lives();
         self.guard.restart();
     }
 
@@ -250,6 +249,13 @@ impl<B: Bus> Driver<B> {
         ensures { result.now ≡ self.now.bus }
     {
         &self.bus
+    }
+
+    // Whether a job is open.
+    fn is_busy(&self) -> bool
+        ensures { result ≡ spec_is_busy self.now.guard.host }
+    {
+        self.host().stage().is_some()
     }
 
     /// Says what is true of the host and the converter, which some life led to. Does nothing.

@@ -1,23 +1,19 @@
 //! The laws of a driver: each is the contract of a function that does nothing when it runs.
 
-ghost use Rattle.pm_driver.specs.Laws.{EndsAreTrue, LeadsCompose, NewConvertersAreWithin, NewConvertersMayBegin};
-ghost use Rattle.pm_driver.specs.Laws.{LawsOfLives, LivesLeadOn, RestartsAreCounted};
+ghost use Rattle.pm_driver.specs.Laws.{EndsAreTrue, LawsOfLives, LeadsCompose, LivesLeadOn, NewConvertersMayBegin, RestartsAreCounted};
 ghost use Rattle.pm_driver.specs.Looks.{RequestsAreNoWrites};
-ghost use Rattle.pm_driver.specs.Since.{PartsCommandTheirOwn};
-ghost use Rattle.pm_driver.specs.Surprises.{OneSurpriseAtMost};
-ghost use Rattle.pm_driver.specs.Steps.{CallsGo, FramesLead, JobsLead, LooksLead, RenewalsLead};
-ghost use Rattle.pm_driver.specs.Undisturbed.{JobsRestartNothing, ReadsRestartNothing, UndisturbedOrdersAreDone, WholeFramesAreLegal};
+ghost use Rattle.pm_driver.specs.Steps.{FramesLead, JobsLead, LooksLead, RenewalsLead};
+ghost use Rattle.pm_driver.specs.WithoutRestart.{JobsRestartNothing, ReadsRestartNothing};
 
 use crate::bus::Bus;
-use crate::undisturbed_laws::undisturbed_jobs;
 use pm_device::{requests_latch_at_most, writes_reach_one_cell};
 use pm_frame::{betrayal_is_refused, damage_is_refused, requests_are_exact, writes_are_exact};
-use pm_host::{possible_words_are_followed, transcripts_are_followed};
+use pm_host::transcripts_are_followed;
 use pm_table::cells_are_told_apart;
 use pm_world::{
-    confirmed_settings_are_held, events_are_lived, learned_formats_are_true, lists_say_enough,
-    lives_are_followed, lives_are_orders, lives_leave_parts, lives_stay_limited, parts_are_reached,
-    possible_words_are_held, starts_are_parts, stored_configs_start_so,
+    confirmed_settings_are_held, learned_formats_are_true, lists_say_enough, lives_are_followed,
+    lives_leave_parts, parts_are_reached, possible_words_are_held, starts_are_parts,
+    stored_configs_start_so,
 };
 
 /// What `pm_world` says of each life, and the crates below of frames and hearings, which the laws below are had from.
@@ -25,11 +21,9 @@ pub(crate) fn laws_of_lives()
     ensures { LawsOfLives }
 {
     lives_are_followed();
-    lives_are_orders();
     learned_formats_are_true();
     confirmed_settings_are_held();
     possible_words_are_held();
-    lives_stay_limited();
     requests_are_exact();
     writes_are_exact();
     damage_is_refused();
@@ -65,17 +59,6 @@ pub fn ends_are_true()
     laws_of_lives();
 }
 
-/// Between two answers of a life that surprise the host, the converter restarted. At most one answer after a moment
-/// surprises, whatever else happened, if the converter didn't restart since the first good answer after that moment.
-pub fn one_surprise_at_most()
-    ensures { OneSurpriseAtMost }
-{
-    cells_are_told_apart();
-    possible_words_are_followed();
-    possible_words_are_held();
-    events_are_lived();
-}
-
 /// No beginning of a request is a write: of up to two bytes, as a plain read or a block read of any code sends, of bytes whose
 /// code isn't written, and of a message that reads. What
 /// [`Driver::read`](crate::Driver::read) asks of its request.
@@ -93,40 +76,11 @@ pub fn new_converters_may_begin()
     laws_of_lives();
 }
 
-/// A converter as it was made has all words of an output's voltages within limits, if its start words for them lie
-/// there.
-pub fn new_converters_are_within()
-    ensures { NewConvertersAreWithin }
-{
-    laws_of_lives();
-}
-
 /// What any life left is a part beside which a new host may begin, whatever the passes of the earlier one were.
 pub fn lives_lead_on()
     ensures { LivesLeadOn }
 {
     laws_of_lives();
-}
-
-/// Each output commands a value of words that the part held or had stored as the driver began, or that were ordered since for
-/// that same output. Each of its registers holds such a word, and has one stored. This holds whatever the driver was asked for
-/// since it began beside a part as it is, and whatever its bus lost, cut, damaged, repeated or restarted.
-pub fn parts_command_their_own<B: Bus>()
-    ensures { PartsCommandTheirOwn B.gives B.held B.restarts }
-{
-    laws_of_lives();
-}
-
-/// Frames that come whole are legal: what a bus that disturbs nothing does meets its contract.
-pub fn whole_frames_are_legal()
-    ensures { WholeFramesAreLegal }
-{}
-
-/// An order that WRITE_PROTECT allows is done over a bus whose calls nothing disturbs, and the converter holds its word.
-pub fn undisturbed_orders_are_done<B: Bus>()
-    ensures { UndisturbedOrdersAreDone B.gives B.held B.restarts }
-{
-    undisturbed_jobs::<B>();
 }
 
 /// What the host confirms of a cell that was read is held over a bus whose calls restart nothing: no job ends that.
@@ -139,13 +93,6 @@ pub fn jobs_restart_nothing<B: Bus>()
 pub fn reads_restart_nothing<B: Bus>()
     ensures { ReadsRestartNothing B.gives B.held B.restarts }
 {}
-
-/// A call of the frame that the host was sending carries a life on by just the events that the bus's clause names.
-pub(crate) fn calls_go()
-    ensures { CallsGo }
-{
-    laws_of_lives();
-}
 
 /// A call of the frame that the host was sending leads on, once the host has heard its answer.
 pub(crate) fn frames_lead<B: Bus>()

@@ -60,7 +60,7 @@ extern "C" {
 #define PM_HOST_SIZE 2064
 #define PM_COURSE_VERSION 1
 #define PM_COURSE_SIZE 104
-#define PM_DELIVERY_VERSION 1
+#define PM_DELIVERY_VERSION 2
 #define PM_DELIVERY_SIZE 66
 #define PM_STAIRS_VERSION 1
 #define PM_STAIRS_SIZE 272
@@ -231,7 +231,8 @@ enum {
                            * order. Of a survey: all that decides what the output commands is known. Of a byte that turns the output
                            * off: its order was read back. None of this is promised if the part restarted since the course began. An
                            * output with wanted words then commands a value between its start value and what is wanted, or as far
-                           * as the wanted limits if the stored VOUT_MAX or VOUT_MIN cuts the stored word */
+                           * as the wanted limits if the stored VOUT_MAX or VOUT_MIN cuts the stored word; if the stored OPERATION
+                           * selects the register that the held one did, and nothing else was ordered of the output */
     PM_REFUSED = 2,       /* `number` says why, and `code` of which register, or 0. Nothing more is ordered, and before the first
                            * order nothing was written */
     PM_STILL_DIFFERS = 3, /* an order of the register `code` was read back as another word a second time, now as `word` */
@@ -272,6 +273,16 @@ typedef struct {
 /* What a delivery does about fault limits: a word at or beyond one is refused (P8); it is only noted; they aren't read. */
 enum { PM_FAULT_LIMITS_REFUSE = 0, PM_FAULT_LIMITS_TELL = 1, PM_FAULT_LIMITS_SKIP = 2 };
 
+/* What a part lacks, in `lacks` of a delivery: what its data sheet says that it lacks, which the caller says, and what it was found to lack. Only
+ * what the caller says makes an end without it good. */
+enum {
+    PM_LACKS_STATUS_WORD = 1,
+    PM_LACKS_READ_VOUT = 2,
+    PM_FOUND_NO_STATUS_WORD = 4,
+    PM_FOUND_NO_READ_VOUT = 8,
+    PM_SILENT_STATUS_WORD = 16 /* it gave no answer before the first order, after which the part answered: pm_delivery_ask's own note */
+};
+
 /* What an output does, and not what its registers hold: a delivery, in memory of yours. Its fields are there to be read, so that what
  * was heard can be shown; only the calls write them. A call asks first for its mark and version, and answers PM_NO_DELIVERY if one
  * lacks. It may be copied, and holds no host and no pointer. */
@@ -280,7 +291,7 @@ typedef struct {
     uint8_t output;
     uint8_t look;          /* 0 nothing was looked at, 1 before an order, 2 after one, 3 after one that turned the output off */
     uint8_t fault_limits;  /* PM_FAULT_LIMITS_REFUSE, or another of these */
-    uint8_t has_read_vout; /* 0 if the part has no READ_VOUT */
+    uint8_t lacks;         /* the sum of PM_LACKS_ and PM_FOUND_NO_ numbers */
     uint16_t within;       /* thousandths of what the output commands that READ_VOUT may be away from it: 50 are 5 % */
     uint16_t rounds;       /* how often all is asked at most until the output does what it is to */
     uint16_t round;        /* which of these it is, from 0 */
@@ -293,7 +304,7 @@ typedef struct {
 
 typedef char pm_delivery_has_its_size[sizeof(pm_delivery) == PM_DELIVERY_SIZE ? 1 : -1];
 
-/* What an output does. Good ends are PM_DELIVERS, and PM_WENT_OFF after an order that turned it off. */
+/* What an output does. Good ends are PM_DELIVERS, PM_DELIVERS_BY_READ_VOUT, and PM_WENT_OFF after an order that turned it off. */
 enum {
     PM_NOT_YET = 0,            /* something is left to ask, or nothing was looked at */
     PM_DELIVERS = 1,           /* OFF and POWER_GOOD# are 0, no fault is new, READ_VOUT is within the limits and near what it commands */
@@ -306,11 +317,14 @@ enum {
     PM_BEYOND = 7,             /* READ_VOUT is farther than `within` from what the output commands */
     PM_POWER_GOOD_ALONE = 8,   /* READ_VOUT is right, and POWER_GOOD# is 1: `power_good_on` says at which voltage it would be 0 */
     PM_NO_POWER_GOOD = 9,      /* POWER_GOOD# is 1, of a part without READ_VOUT */
-    PM_DELIVERY_NOT_KNOWN = 10, /* the register `code` gave no good answer: `fault` says what was wrong with the last one. With READ_VOUT
-                                * and a `fault` of 0: it was good, and what the output commands isn't known */
+    PM_DELIVERY_NOT_KNOWN = 10, /* the register `code` gave no good answer: `fault` says what was wrong with the last one. A `fault` of 0 of
+                                * STATUS_WORD: it wasn't asked, since `lacks` has it; of READ_VOUT: it was good, and what the output
+                                * commands isn't known */
     PM_WENT_OFF = 11,          /* OFF is 1 after an order that turned the output off */
     PM_STILL_ON = 12,          /* OFF is 0 after such an order */
-    PM_BEYOND_FAULT_LIMIT = 13 /* only of pm_host_deliver: P8, nothing was ordered. `code` and `word` are those of the limit */
+    PM_BEYOND_FAULT_LIMIT = 13, /* only of pm_host_deliver: P8, nothing was ordered. `code` and `word` are those of the limit */
+    PM_DELIVERS_BY_READ_VOUT = 14 /* of a part without STATUS_WORD: READ_VOUT is within the limits and near what it commands. Of faults
+                                   * nothing is known */
 };
 typedef struct {
     uint8_t kind;
@@ -353,7 +367,7 @@ typedef struct {
 
 typedef char pm_stairs_step_has_its_size[sizeof(pm_stairs_step) == PM_STAIRS_STEP_SIZE ? 1 : -1];
 
-/* How stairs ended; kind 0 if they go on. PM_REACHED if each step is over, PM_REFUSED to PM_OTHER_SOURCE as the course of the step
+/* How stairs ended; kind 0 if they go on. PM_REACHED if each step is over, or was left by pm_stairs_skip, PM_REFUSED to PM_OTHER_SOURCE as the course of the step
  * `step` ended, or: */
 enum {
     PM_STEP_CHANGED = 7,    /* its next order isn't due by the words with which it began: the format changed, or another orders beside it */
@@ -377,7 +391,8 @@ typedef struct {
 typedef struct {
     uint16_t mark, version;
     uint16_t tries;   /* how many jobs each step has at most */
-    uint16_t begun;   /* how many steps have begun or were left: the outputs stand on this stair, that of the newest step or on the one before */
+    uint16_t begun;   /* how many steps have begun or were left. But for those that were left, the outputs stand on this stair, that of the
+                       * newest step, or on the one before */
     uint8_t host;     /* the place of the host that the next call takes, and on whose bus the frame goes */
     uint8_t is_down;  /* 1 of a way down */
     uint8_t unused[6];
@@ -547,7 +562,8 @@ uint8_t pm_course_microvolts(pm_course *course, uint8_t output, uint8_t code, in
 
 /* To a byte of OPERATION. One that turns the output off is ordered at once, whatever is known: that is the first frame, nothing is
  * read before it, and neither format, limits nor WRITE_PROTECT stand in its way. One that leaves it on is ordered after a survey
- * and reads of WRITE_PROTECT and of the register that it selects, by its limits (L8, L5). */
+ * and reads of WRITE_PROTECT and of the register that it selects, by its limits (L8, L5). At the margins A8h and 98h the part acts on
+ * faults, at A4h and 94h it ignores them. */
 PM_MUST_USE
 uint8_t pm_course_power(pm_course *course, uint8_t output, uint8_t byte, uint16_t tries);
 
@@ -567,18 +583,19 @@ uint8_t pm_course_accept(pm_course *course, const pm_host *host, uint32_t microv
 
 /* What is to be sent now: the frame of the course's job, which stays the same until it hears what became of it; if none is
  * open, the course begins its next job first. 0, or PM_ENDED, and then PM_NOTHING, if it has ended: pm_course_ended says how. It
- * ends with H3 if another job is open, and goes on once that is over, and with H4 if the host has no such output. PM_NO_HOST,
- * PM_NO_COURSE, and then PM_NOTHING. */
+ * ends with H3 if another job is open, and goes on once that is over. PM_NO_HOST, PM_NO_COURSE, H4 if the host has no such output, and
+ * then PM_NOTHING; the course hasn't ended, and nothing changes. */
 PM_MUST_USE
 uint8_t pm_course_frame(pm_course *course, pm_host *host, pm_sending *sending);
 
 /* What became of that frame, which the host hears too: the host's step, as pm_host_write_ended and pm_host_read_ended answer it.
- * PM_NO_HOST, PM_NO_COURSE, PM_OTHER_FRAME. */
+ * PM_NO_HOST, PM_NO_COURSE, H4 if the host has no such output, PM_OTHER_FRAME; then nothing changes. */
 pm_step pm_course_write_ended(pm_course *course, pm_host *host, uint8_t acked);
 pm_step pm_course_read_ended(pm_course *course, pm_host *host, const uint8_t *bytes, uint64_t count);
 
 /* The same, and what is to be sent next, as pm_course_frame hands it out: one call is cheaper than two. It is PM_NOTHING once the course
- * has ended, and, if `stops` isn't 0, before an order: that doesn't begin, and pm_course_frame begins it. */
+ * has ended, and, if `stops` isn't 0, before an order: that doesn't begin, and pm_course_frame begins it. It is refused as the call
+ * above. */
 pm_step pm_course_after_write(pm_course *course, pm_host *host, uint8_t acked, uint8_t stops, pm_sending *sending);
 pm_step pm_course_after_read(pm_course *course, pm_host *host, const uint8_t *bytes, uint64_t count, uint8_t stops,
                              pm_sending *sending);
@@ -587,7 +604,7 @@ pm_step pm_course_after_read(pm_course *course, pm_host *host, const uint8_t *by
 uint8_t pm_course_ended(const pm_course *course, pm_course_end *end);
 
 /* Which job it would begin now: 0, or PM_ENDED with PM_JOB_NONE if it would end. Nothing begins, and nothing changes. PM_NO_HOST,
- * PM_NO_COURSE; then nothing is written. */
+ * PM_NO_COURSE, H4 if the host has no such output; then nothing is written. */
 uint8_t pm_course_next(const pm_course *course, const pm_host *host, pm_course_job *next);
 
 /* Which of its jobs is under way: the last that it began, and PM_JOB_NONE once that one's end was given. PM_NO_COURSE; then nothing is
@@ -606,11 +623,10 @@ uint8_t pm_course_goal(const pm_course *course, const pm_host *host, uint8_t cod
  * may hold it off. A delivery asks the part, by reads of PAGE_PLUS beside the host's jobs; it writes nothing, and no job hears of
  * it. pm_host_deliver, at the end of this header, has the loop. */
 
-/* Makes a delivery of an output, whatever stood in the memory. `within` and `rounds` are as in pm_delivery; 1000 thousandths at most
- * count. H4 for an output above 7; then nothing is written. */
+/* Makes a delivery of an output, whatever stood in the memory. `lacks` is what the part lacks by its data sheet, mostly 0, `within` and
+ * `rounds` are as in pm_delivery; 1000 thousandths at most count. H4 for an output above 7; then nothing is written. */
 PM_MUST_USE
-uint8_t pm_delivery_new(pm_delivery *delivery, uint8_t output, uint8_t fault_limits, uint8_t has_read_vout, uint16_t within,
-                        uint16_t rounds);
+uint8_t pm_delivery_new(pm_delivery *delivery, uint8_t output, uint8_t fault_limits, uint8_t lacks, uint16_t within, uint16_t rounds);
 
 /* Begins to look at what stands before the first order of a call: STATUS_WORD, and the fault limits and warnings unless they are
  * skipped. Once a call is enough: limits and `before` stay until it is asked for again. Ask for it before no order that turns the
@@ -625,8 +641,8 @@ uint8_t pm_delivery_after(pm_delivery *delivery, uint8_t off);
 
 /* The request that is to be sent now, the same until it has heard what came back. 0; or PM_ENDED, and then PM_NOTHING, if nothing is
  * left to ask. Each question is asked at most as many times as the host has passes, until a good answer comes. If the output
- * doesn't do yet what it is to, all is asked again, at most `rounds` times: `round` isn't 0 then and `status_word.asked` is, and the
- * caller waits before it sends that. PM_NO_HOST, PM_NO_DELIVERY, H4, and then PM_NOTHING. */
+ * doesn't do yet what it is to, all is asked again, at most `rounds` times: `round` has grown by one then, and the caller waits before
+ * it sends that. A register that `lacks` has isn't asked. PM_NO_HOST, PM_NO_DELIVERY, H4, and then PM_NOTHING. */
 PM_MUST_USE
 uint8_t pm_delivery_frame(pm_delivery *delivery, const pm_host *host, pm_sending *sending);
 
@@ -735,9 +751,10 @@ uint8_t pm_read_paged(uint8_t address, uint8_t page, uint8_t code, uint8_t size,
 
 /* ---- Stairs ---- */
 
-/* Steps of several outputs of at most eight hosts, one after another: each output stands on a stair or on the next one, in the list's
- * order, whatever is lost, cut or repeated. A step begins only if the one before is over by what its host knows then. Begin no job
- * and no restore of these outputs meanwhile. */
+/* Steps of several outputs of at most eight hosts, one after another. On a way up a step begins only if the one before is over by what its host
+ * knows then. Over one host each output then stands on a stair or on the next one, in the list's order, whatever is lost, cut or repeated,
+ * while the part doesn't restart and nobody else orders: this is proved. Over several hosts it is tested. Begin no job and no restore of
+ * these outputs meanwhile. */
 
 /* Makes stairs, whatever stood in the memory: no step has begun, and each has at most this many jobs. If `is_down` isn't 0 it is a way
  * down. It notes no way back, and reads nothing before an order that turns an output off. It goes on after a restart of a part, and
@@ -809,55 +826,86 @@ static inline uint64_t pm_answer(const pm_sending *frame, uint8_t *answer, pm_re
     return came == 0 || came > room ? 0 : came + 1;
 }
 
-/* A register that is asked in each round: whether any answer came, and in how many rounds none did. */
+/* A register that is asked in each round: whether any answer ever came; if not, whether this round is silent, and how many were. */
 typedef struct {
     int has_answered, is_silent, silent_rounds;
 } pm_silence;
 
 /* What came of it once more. */
 static inline void pm_silence_hear(pm_silence *silence, const pm_heard *heard) {
-    silence->is_silent = heard->asked != 0 && heard->fault == PM_NO_ANSWER;
     silence->has_answered |= heard->asked != 0 && heard->fault != PM_NO_ANSWER;
+    silence->is_silent = heard->asked != 0 && heard->fault == PM_NO_ANSWER && !silence->has_answered;
 }
 
-/* A round has ended. Whether the part lacks the register: no answer at all came in two. */
-static inline int pm_silence_lasts(pm_silence *silence) {
-    silence->silent_rounds += silence->is_silent;
+/* A round has ended, after which the part answered another read or not. Whether it lacks the register: that never answered, and was silent
+ * in two rounds after which the part did. */
+static inline int pm_silence_lasts(pm_silence *silence, int is_there) {
+    silence->silent_rounds += silence->is_silent && is_there;
     silence->is_silent = 0;
     return silence->silent_rounds >= 2 && !silence->has_answered;
 }
 
-/* Asks all that a delivery has to ask. `pause` may be NULL. A part that gives no answer at all for READ_VOUT in two rounds is asked no more
- * for that. One that gives none for STATUS_WORD is asked nothing more, and the verdict stays PM_NOT_YET; the look before an order
- * counts as a round. 0, or why a call was refused. */
+/* Whether a part gives a good answer for OPERATION: if it gives none, silence says nothing of which registers it lacks. */
+static inline int pm_is_there(uint8_t address, uint8_t output, uint8_t tries, pm_read read, void *context) {
+    pm_sending frame;
+    pm_block block;
+    uint8_t answer[8];
+    if (pm_paged_request(address, output, PM_OPERATION, 1, &frame) != PM_OK)
+        return 0;
+    for (; tries != 0; tries--)
+        if (pm_read_paged(address, output, PM_OPERATION, 1, answer, pm_answer(&frame, answer, read, context), &block) == PM_OK)
+            return 1;
+    return 0;
+}
+
+/* A round of a delivery has ended: a register that turned out to be missing is asked no more. */
+static inline void pm_round_ended(pm_delivery *delivery, pm_silence *status_word, pm_silence *read_vout, uint8_t address, uint8_t tries,
+                                  pm_read read, void *context) {
+    int is_there = (status_word->is_silent || read_vout->is_silent) && pm_is_there(address, delivery->output, tries, read, context);
+    if (pm_silence_lasts(status_word, is_there))
+        delivery->lacks |= PM_FOUND_NO_STATUS_WORD;
+    if (pm_silence_lasts(read_vout, is_there))
+        delivery->lacks |= PM_FOUND_NO_READ_VOUT;
+}
+
+/* Asks all that a delivery has to ask. `pause` may be NULL. STATUS_WORD or READ_VOUT that gives no answer at all in two rounds, after each of
+ * which the part gives a good one for OPERATION, is one that it lacks, and is asked no more. The look before an order counts as a round.
+ * 0, or why a call was refused. */
 PM_MUST_USE
 static inline uint8_t pm_delivery_ask(pm_delivery *delivery, const pm_host *host, pm_read read, pm_pause pause, void *context) {
     pm_silence status_word = {0, 0, 0}, read_vout = {0, 0, 0};
     pm_sending frame;
     uint8_t answer[8];
-    uint8_t number;
+    uint8_t address = 0, tries = delivery->before.asked;
     pm_silence_hear(&status_word, &delivery->before);
-    (void)pm_silence_lasts(&status_word);
-    while ((number = pm_delivery_frame(delivery, host, &frame)) == PM_OK) {
-        if (delivery->round != 0 && delivery->status_word.asked == 0) {
-            if (pm_silence_lasts(&status_word))
-                return PM_OK;
-            if (pm_silence_lasts(&read_vout))
-                delivery->has_read_vout = 0;
-            if (pause)
+    (void)pm_silence_lasts(&status_word, delivery->lacks & PM_SILENT_STATUS_WORD);
+    for (;;) {
+        uint8_t lacks = delivery->lacks;
+        uint16_t round = delivery->round;
+        uint8_t number = pm_delivery_frame(delivery, host, &frame);
+        if (number != PM_OK && number != PM_ENDED)
+            return number;
+        if (number == PM_ENDED || delivery->round != round) {
+            pm_round_ended(delivery, &status_word, &read_vout, address, tries, read, context);
+            if (number == PM_OK && pause)
                 pause(context);
+            if (delivery->lacks != lacks)
+                continue;
         }
+        if (number == PM_ENDED)
+            break;
+        address = (uint8_t)(frame.bytes[0] >> 1);
         number = pm_delivery_read_ended(delivery, host, answer, pm_answer(&frame, answer, read, context));
         if (number != PM_OK)
             return number;
         pm_silence_hear(&status_word, &delivery->status_word);
         pm_silence_hear(&read_vout, &delivery->read_vout);
+        tries = status_word.is_silent ? delivery->status_word.asked : read_vout.is_silent ? delivery->read_vout.asked : tries;
     }
-    if (pm_silence_lasts(&status_word))
-        delivery->status_word.asked = 0;
-    if (pm_silence_lasts(&read_vout))
-        delivery->has_read_vout = 0;
-    return number == PM_ENDED ? (uint8_t)PM_OK : number;
+    if (delivery->look == 1 && delivery->before.asked != 0 && delivery->before.fault == PM_NO_ANSWER &&
+        pm_is_there(address, delivery->output, delivery->before.asked, read, context))
+        delivery->lacks |= PM_SILENT_STATUS_WORD;
+    return PM_OK;
 }
 
 /* Judges what a course asks for of VOUT_COMMAND and the margins, or what the byte of one selects: the first fault limit, and the first
@@ -917,6 +965,7 @@ static inline uint8_t pm_delivery_before_order(pm_delivery *delivery, const pm_c
     if (pm_is_off_order(&next))
         return PM_OK;
     if (delivery->before.asked == 0) {
+        delivery->lacks &= (uint8_t)~PM_SILENT_STATUS_WORD;
         number = pm_delivery_before(delivery);
         if (number == PM_OK)
             number = pm_delivery_ask(delivery, host, read, NULL, context);
@@ -971,11 +1020,11 @@ static inline pm_step pm_host_run(pm_host *host, pm_write write, pm_read read, v
     return pm_carry_out(host, NULL, NULL, write, read, context);
 }
 
-/* How a course ended once it was carried out: PM_REFUSED also if a call was refused with this number. */
+/* How a course ended once it was carried out, which answered this number: PM_REFUSED also if a call was refused with it. */
 PM_MUST_USE
 static inline pm_course_end pm_course_end_of(const pm_course *course, uint16_t number) {
     pm_course_end end = {0, 0, 0, 0, 0, 0};
-    if (pm_course_ended(course, &end) != PM_OK || end.kind == 0) {
+    if (number != PM_ENDED || pm_course_ended(course, &end) != PM_OK) {
         end.kind = PM_REFUSED;
         end.number = (uint8_t)number;
     }
@@ -983,7 +1032,7 @@ static inline pm_course_end pm_course_end_of(const pm_course *course, uint16_t n
 }
 
 /* Carries a course out, and says how it ended: PM_REFUSED also if the memory holds no host (PM_NO_HOST) or no course
- * (PM_NO_COURSE). What its output does then isn't asked: pm_host_deliver does. */
+ * (PM_NO_COURSE), and if the host has no such output (H4). What its output does then isn't asked: pm_host_deliver does. */
 PM_MUST_USE
 static inline pm_course_end pm_host_run_course(pm_host *host, pm_course *course, pm_write write, pm_read read, void *context) {
     pm_step step = pm_carry_out(host, course, NULL, write, read, context);
@@ -991,8 +1040,8 @@ static inline pm_course_end pm_host_run_course(pm_host *host, pm_course *course,
 }
 
 /* The same with a delivery of the course's output. A course that ended well has done what is wanted if pm_is_delivered: `delivered` is
- * PM_DELIVERS, or PM_WENT_OFF of one that turned the output off; an output that is commanded off isn't asked. A part whose READ_VOUT
- * gives no answer at all in two rounds is judged as one without. PM_REFUSED with P8, and
+ * PM_DELIVERS, or PM_WENT_OFF of one that turned the output off; an output that is commanded off isn't asked. A part that was found to lack
+ * STATUS_WORD or READ_VOUT is judged by the other; by neither it isn't known what the output does. PM_REFUSED with P8, and
  * PM_BEYOND_FAULT_LIMIT, if nothing was ordered since what is wanted is at or beyond a fault limit; the course itself goes on, once
  * that was moved and the delivery made anew. After a bad end `delivered` is PM_NOT_YET. Each call of one chain hands over the same
  * delivery of an output, so that it knows which faults stood before the chain. */
@@ -1018,11 +1067,6 @@ static inline pm_course_end pm_host_deliver(pm_host *host, pm_course *course, pm
         number = pm_delivery_ask(delivery, host, read, pause, context);
     if (number == PM_OK)
         number = pm_delivery_verdict(delivery, host, delivered);
-    if (number == PM_OK && delivered->kind == PM_NOT_YET) {
-        delivered->kind = PM_DELIVERY_NOT_KNOWN;
-        delivered->code = 0x79;
-        delivered->fault = PM_NO_ANSWER;
-    }
     if (number != PM_OK) {
         end.kind = PM_REFUSED;
         end.number = number;
@@ -1087,13 +1131,15 @@ static inline uint8_t pm_run_stairs(pm_stairs *stairs, pm_host *const *hosts, vo
     return number;
 }
 
-/* Whether an output does what it is to by this verdict, isn't asked since it isn't commanded on, or can't be judged, since its part has no
- * STATUS_WORD: pm_delivery_ask left it unasked. PM_POWER_GOOD_ALONE is for the caller to judge. */
+/* Whether an output does what it is to by this verdict, isn't asked since it isn't commanded on, or can't be asked, since its caller said
+ * that the part has neither STATUS_WORD nor READ_VOUT; after an order that turned it off, that it has no STATUS_WORD. One that was only
+ * found to lack them isn't known to deliver, nor to be off. PM_POWER_GOOD_ALONE is for the caller to judge. */
 PM_MUST_USE
 static inline int pm_is_delivered(const pm_delivery *delivery, const pm_delivered *delivered) {
-    int is_absent = delivered->kind == PM_DELIVERY_NOT_KNOWN && delivered->code == 0x79 && delivery->status_word.asked == 0;
-    return is_absent || delivered->kind == PM_DELIVERS || delivered->kind == PM_WENT_OFF || delivered->kind == PM_COMMANDED_OFF
-        || delivered->kind == PM_NOT_KNOWN_ON;
+    int needs = delivery->look == 3 ? PM_LACKS_STATUS_WORD : PM_LACKS_STATUS_WORD | PM_LACKS_READ_VOUT;
+    int is_unasked = delivered->kind == PM_DELIVERY_NOT_KNOWN && delivered->code == 0x79 && (delivery->lacks & needs) == needs;
+    return is_unasked || delivered->kind == PM_DELIVERS || delivered->kind == PM_DELIVERS_BY_READ_VOUT ||
+           delivered->kind == PM_WENT_OFF || delivered->kind == PM_COMMANDED_OFF || delivered->kind == PM_NOT_KNOWN_ON;
 }
 #endif
 

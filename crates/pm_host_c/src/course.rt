@@ -3,7 +3,7 @@
 ghost use Rattle.std.specs.Prelude.{◌≡◌, ◌≢◌, not, ◌==◌};
 ghost use Rattle.pm_host.specs.Transcript.{Finished, Got};
 ghost use Rattle.pm_course.specs.FrameCourse.{to_byte, to_survey};
-ghost use Rattle.pm_calls.specs.Course.{begun_number, job_answer, kept_number, voltage_begun, voltage_number, want_number, wanted_more, words_course, AcceptsIn, HandsOut, TellsAndSends, TellsCourse, WouldBegin};
+ghost use Rattle.pm_calls.specs.Course.{begun_number, job_answer, kept_number, voltage_begun, voltage_number, want_number, wanted_more, words_course, AcceptsIn, HandsOutIn, HearsIn, HearsOnIn, WouldBegin};
 ghost use Rattle.pm_memory.specs.CourseEnd.{end_answer};
 ghost use Rattle.pm_memory.specs.Guard.{guard_of};
 ghost use Rattle.pm_memory.specs.CourseImage.{course_image, course_in, course_version};
@@ -147,27 +147,29 @@ pub extern "C" fn pm_course_accept(
     accept(course, host, microvolts)
 }
 
-/// What a course would begin now: 0 and the job, 95h if it would end. It changes nothing. E0h, E9h.
+/// What a course would begin now: 0 and the job, 95h if it would end. It changes nothing. E0h, E9h, H4 if the host doesn't have the
+/// course's output.
 #[unsafe(no_mangle)]
 pub extern "C" fn pm_course_next(
     course: &CourseImage,
     host: &GuardImage,
     next: &mut CourseJobImage,
 ) -> u8
-    ensures { WouldBegin (guard_of host.now) (course_in course.now) next.old result next.new }
+    ensures { WouldBegin host.now course.now next.old result next.new }
 {
     would_begin(course, host, next)
 }
 
 /// The frame of a course's open job; if none is open, what is next is begun. 95h once it has ended, also if the limits or the
-/// host refuse what it would begin. E0h, E9h; then, and once it has ended, it is nothing.
+/// host refuse what it would begin. E0h, E9h, H4 if the host doesn't have the course's output: then nothing changes. It is nothing then,
+/// and once the course has ended.
 #[unsafe(no_mangle)]
 pub extern "C" fn pm_course_frame(
     course: &mut CourseImage,
     host: &mut GuardImage,
     sending: &mut SendingImage,
 ) -> u8
-    ensures { HandsOut host.old course.old result host.new course.new sending.new }
+    ensures { HandsOutIn host.old course.old result host.new course.new sending.new }
 {
     hand_out(course, host, sending)
 }
@@ -185,33 +187,33 @@ pub extern "C" fn pm_course_job_now(course: &CourseImage, now: &mut CourseJobIma
     ACCEPTED
 }
 
-/// A write was sent, and acknowledged or not (0). E0h, E9h, E2h if no write is being sent.
+/// A write was sent, and acknowledged or not (0). E0h, E9h, H4, E2h if no write is being sent; then nothing changes.
 #[unsafe(no_mangle)]
 pub extern "C" fn pm_course_write_ended(
     course: &mut CourseImage,
     host: &mut GuardImage,
     acked: u8,
 ) -> HostStep
-    ensures { TellsCourse host.old course.old (Finished (not (acked == 0))) result host.new course.new }
+    ensures { HearsIn host.old course.old (Finished (not (acked == 0))) result host.new course.new }
 {
     tell(course, host, Told::Finished { acked: acked != 0 })
 }
 
-/// A request was sent, and these bytes came back, the read address first; none if there was no answer. E0h, E9h, E2h if
-/// no request is being sent.
+/// A request was sent, and these bytes came back, the read address first; none if there was no answer. E0h, E9h, H4, E2h if
+/// no request is being sent; then nothing changes.
 #[unsafe(no_mangle)]
 pub extern "C" fn pm_course_read_ended(
     course: &mut CourseImage,
     host: &mut GuardImage,
     bytes: &[u8],
 ) -> HostStep
-    ensures { TellsCourse host.old course.old (Got bytes.now) result host.new course.new }
+    ensures { HearsIn host.old course.old (Got bytes.now) result host.new course.new }
 {
     tell(course, host, Told::Got(bytes))
 }
 
 /// A write was sent, and acknowledged or not (0); and what is to be sent next, as `pm_course_frame` hands it out. It is nothing once the
-/// course has ended, and, if `stops` isn't 0, if an order is next, which then doesn't begin. E0h, E9h, E2h if no write is
+/// course has ended, and, if `stops` isn't 0, if an order is next, which then doesn't begin. E0h, E9h, H4, E2h if no write is
 /// being sent; then nothing changes, and it is nothing.
 #[unsafe(no_mangle)]
 pub extern "C" fn pm_course_after_write(
@@ -221,14 +223,14 @@ pub extern "C" fn pm_course_after_write(
     stops: u8,
     sending: &mut SendingImage,
 ) -> HostStep
-    ensures { TellsAndSends (not (stops == 0)) host.old course.old (Finished (not (acked == 0))) result host.new course.new sending.new }
+    ensures { HearsOnIn (not (stops == 0)) host.old course.old (Finished (not (acked == 0))) result host.new course.new sending.new }
 {
     let told = Told::Finished { acked: acked != 0 };
     tell_and_send(course, host, told, stops != 0, sending)
 }
 
 /// A request was sent, and these bytes came back, the read address first; none if there was no answer. And what is to be sent next,
-/// as by `pm_course_after_write`. E0h, E9h, E2h if no request is being sent; then nothing changes, and it is nothing.
+/// as by `pm_course_after_write`. E0h, E9h, H4, E2h if no request is being sent; then nothing changes, and it is nothing.
 #[unsafe(no_mangle)]
 pub extern "C" fn pm_course_after_read(
     course: &mut CourseImage,
@@ -237,7 +239,7 @@ pub extern "C" fn pm_course_after_read(
     stops: u8,
     sending: &mut SendingImage,
 ) -> HostStep
-    ensures { TellsAndSends (not (stops == 0)) host.old course.old (Got bytes.now) result host.new course.new sending.new }
+    ensures { HearsOnIn (not (stops == 0)) host.old course.old (Got bytes.now) result host.new course.new sending.new }
 {
     tell_and_send(course, host, Told::Got(bytes), stops != 0, sending)
 }

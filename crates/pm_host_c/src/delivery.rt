@@ -10,7 +10,7 @@ ghost use Rattle.pm_calls.specs.Delivery.{read_delivery, read_number, with_deliv
 
 use pm_calls::delivery::{due, put, refusal};
 use pm_calls::numbers::{ACCEPTED, ENDED, NO_DELIVERY, OTHER_FRAME};
-use pm_delivery::{Delivery, Due, Question, answer_of};
+use pm_delivery::{Delivery, Due, answer_of};
 use pm_host::HostFault;
 use pm_memory::{DeliveryImage, GuardImage, SendingImage};
 use std::mem::size_of;
@@ -31,24 +31,24 @@ pub extern "C" fn pm_delivery_version() -> u16
     DeliveryImage::VERSION
 }
 
-/// Makes a delivery of an output, of which nothing was asked. H4 for an output above 7.
+/// Makes a delivery of an output, of which nothing was asked, of a part that lacks this. H4 for an output above 7.
 #[unsafe(no_mangle)]
 pub extern "C" fn pm_delivery_new(
     delivery: &mut DeliveryImage,
     output: u8,
     fault_limits: u8,
-    has_read_vout: u8,
+    lacks: u8,
     within: u16,
     rounds: u16,
 ) -> u8
     ensures number { result ≡ begun_number output }
-    ensures made { result ≡ 0 → delivery.new ≡ delivery_image (new_delivery output fault_limits (not (has_read_vout == 0)) within rounds) }
+    ensures made { result ≡ 0 → delivery.new ≡ delivery_image (new_delivery output fault_limits lacks within rounds) }
     ensures refused { result ≢ 0 → delivery.new ≡ delivery.old }
 {
     if 8 <= output {
         return HostFault::UnknownOutput.number();
     }
-    let made = Delivery::new(output, fault_limits, has_read_vout != 0, within, rounds);
+    let made = Delivery::new(output, fault_limits, lacks, within, rounds);
     *delivery = DeliveryImage::of(made);
     ACCEPTED
 }
@@ -94,7 +94,7 @@ pub extern "C" fn pm_delivery_frame(
         delivery.new ≡ frame_delivery delivery.old refusal (due_at host.now delivery.old.delivery) }
     ensures sending { let refusal = asked_number host.now delivery.old in
         IsAsking host.now.host.state.address delivery.old.delivery.output
-        (frame_question refusal (due_at host.now delivery.old.delivery)) sending.new }
+        (frame_question refusal delivery.old.delivery (due_at host.now delivery.old.delivery)) sending.new }
 {
     let number = refusal(delivery, host);
     if number != ACCEPTED {
@@ -113,7 +113,7 @@ pub extern "C" fn pm_delivery_frame(
             put(
                 host.host.state.address,
                 delivery.delivery.output,
-                Question::StatusWord,
+                delivery.delivery.first_question(),
                 sending,
             )
         }

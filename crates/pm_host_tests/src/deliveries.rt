@@ -38,7 +38,7 @@ fn each_question_reads_its_register(rt: HostRuntime) {
 
 // A delivery of an output whose STATUS_WORD was 0000h before its order.
 fn after_order() -> Delivery {
-    let mut delivery = Delivery::new(0, 0, true, 50, 1);
+    let mut delivery = Delivery::new(0, 0, 0, 50, 1);
     delivery.look_before();
     delivery.hear(Question::Before, Ok(0));
     delivery.look_after(false);
@@ -127,7 +127,7 @@ fn each_fault_of_a_status_register_decides(rt: HostRuntime) {
 
 #[test]
 fn a_fault_that_stood_before_decides_nothing(rt: HostRuntime) {
-    let mut delivery = Delivery::new(0, 0, true, 50, 1);
+    let mut delivery = Delivery::new(0, 0, 0, 50, 1);
     delivery.look_before();
     delivery.hear(Question::Before, Ok(0x8020));
     delivery.look_after(false);
@@ -140,7 +140,7 @@ fn a_fault_that_stood_before_decides_nothing(rt: HostRuntime) {
 
 #[test]
 fn a_fault_of_which_nobody_knows_since_when_decides(rt: HostRuntime) {
-    let mut delivery = Delivery::new(0, 0, true, 50, 1);
+    let mut delivery = Delivery::new(0, 0, 0, 50, 1);
     delivery.look_before();
     delivery.hear(Question::Before, Err(0x35));
     delivery.look_after(false);
@@ -156,7 +156,7 @@ fn a_fault_of_which_nobody_knows_since_when_decides(rt: HostRuntime) {
 
 #[test]
 fn nothing_is_asked_before_an_order_twice(rt: HostRuntime) {
-    let mut delivery = Delivery::new(0, 0, true, 50, 1);
+    let mut delivery = Delivery::new(0, 0, 0, 50, 1);
     delivery.look_before();
     for question in [
         Question::Before,
@@ -171,4 +171,71 @@ fn nothing_is_asked_before_an_order_twice(rt: HostRuntime) {
     }
     let due = delivery.due(2, Power::On, Reading::NotKnown);
     equal(&rt, &due, &Due::Nothing, &1);
+}
+
+// What a part lacks, by the bits of the caller and of what was found, and what is asked first after an order, and what is said then by a reading
+// that is right.
+static LACKING: [(u8, Due, Verdict); 7] = [
+    (0, Due::Ask(Question::StatusWord), Verdict::NotYet),
+    (2, Due::Ask(Question::StatusWord), Verdict::NotYet), // READ_VOUT, says the caller
+    (8, Due::Ask(Question::StatusWord), Verdict::NotYet), // READ_VOUT, as was found
+    (1, Due::Ask(Question::ReadVout), Verdict::DeliversByVoltage), // STATUS_WORD, says the caller
+    (4, Due::Ask(Question::ReadVout), Verdict::DeliversByVoltage), // STATUS_WORD, as was found
+    (3, Due::Nothing, Verdict::NotKnown(Question::StatusWord, 0)), // both, says the caller
+    (12, Due::Nothing, Verdict::NotKnown(Question::StatusWord, 0)), // both, as was found
+];
+
+// A delivery after an order, of a part that lacks this.
+fn lacking(lacks: u8) -> Delivery {
+    let mut delivery = Delivery::new(0, 0, lacks, 50, 3);
+    delivery.look_after(false);
+    delivery
+}
+
+#[test]
+fn a_part_without_status_word_is_judged_by_read_vout_alone(rt: HostRuntime) {
+    for (lacks, first, verdict) in &LACKING {
+        let mut delivery = lacking(*lacks);
+        let due = delivery.due(2, Power::On, Reading::NotKnown);
+        equal(&rt, &due, first, lacks);
+        if *first == Due::Ask(Question::ReadVout) {
+            delivery.hear(Question::ReadVout, Ok(0x1000));
+        }
+        let said = delivery.verdict(2, Power::On, Reading::Right);
+        equal(&rt, &said, verdict, lacks);
+    }
+}
+
+#[test]
+fn a_reading_alone_decides_or_is_asked_again(rt: HostRuntime) {
+    for (reading, verdict) in [
+        (Reading::Outside, Verdict::OutsideLimits),
+        (Reading::Beyond, Verdict::Beyond),
+        (Reading::NotKnown, Verdict::NotKnown(Question::ReadVout, 0)),
+    ] {
+        let mut delivery = lacking(4);
+        delivery.hear(Question::ReadVout, Ok(0x1000));
+        let due = delivery.due(1, Power::On, reading);
+        equal(&rt, &due, &Due::Again, &reading);
+        delivery.begin_again();
+        delivery.begin_again();
+        delivery.hear(Question::ReadVout, Ok(0x1000));
+        let said = delivery.verdict(1, Power::On, reading);
+        equal(&rt, &said, &verdict, &reading);
+        let said = delivery.verdict(1, Power::Off, reading);
+        equal(&rt, &said, &Verdict::CommandedOff, &reading);
+    }
+}
+
+#[test]
+fn an_output_that_was_turned_off_isn_t_known_to_be_off_without_status_word(rt: HostRuntime) {
+    for lacks in [1, 4] {
+        let mut delivery = lacking(lacks);
+        delivery.look_after(true);
+        let due = delivery.due(2, Power::Off, Reading::NotKnown);
+        equal(&rt, &due, &Due::Nothing, &lacks);
+        let said = delivery.verdict(2, Power::Off, Reading::NotKnown);
+        let wanted = Verdict::NotKnown(Question::StatusWord, 0);
+        equal(&rt, &said, &wanted, &lacks);
+    }
 }

@@ -17,6 +17,8 @@ mod driver;
 mod host;
 #[cfg(test)]
 mod limits;
+#[cfg(test)]
+mod sequences;
 
 #[cfg(test)]
 mod checks {

@@ -1,5 +1,6 @@
 mod Found
 mod WholeParts
-mod Since
-mod ManyTries
+mod Tries
 mod Begins
+mod Led
+mod WishesHeld

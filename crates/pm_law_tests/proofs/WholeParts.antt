@@ -20,7 +20,7 @@ use Rattle.pm_world.specs.Plans.{PlansHoldInLives}
 use Rattle.pm_world.specs.State.{asked}
 use Rattle.pm_world.specs.Surveys.{MissingUnread}
 
-lacks-none : WholePartsMissNothing → (register : Reg) → has_register all_registers register ≡ false → ⊥
+pub lacks-none : WholePartsMissNothing → (register : Reg) → has_register all_registers register ≡ false → ⊥
 lacks-none law register lacks =
     let has = rule-none (not (has_register all_registers register)) MissingRegister (law.checked (Out 0 register)) in
     let bad = sym has ∙ ap not lacks in cc
@@ -37,8 +37,8 @@ pub whole-holds : PlansHoldInLives → (part : PartRegisters) → part ≡ all_r
 whole-holds law part whole config words output =
     subst (λ (p : PartRegisters). HoldsMissing p config words output) (sym whole) (law.whole config words output)
 
--- No check is of a register that such a part lacks.
-has-all : (register : Reg) → has_register all_registers register ≡ true
+-- It has each register, so no check is of one that it lacks.
+pub has-all : (register : Reg) → has_register all_registers register ≡ true
 has-all Operation = refl
 has-all VoutCommand = refl
 has-all VoutMax = refl

@@ -1,7 +1,9 @@
 -- What the crate promises.
 pub mod ByName
-pub mod Rails
+pub mod Beside
+pub mod Drivers
 pub mod FrameCourses
 pub mod Late
 pub mod Restarts
 pub mod Stairs
+pub mod Progress

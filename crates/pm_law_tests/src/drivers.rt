@@ -1,34 +1,34 @@
 //! A driver over a simulated bus: what the host confirms is held while a plan restarts nothing, also if a status is read
-//! between two orders, and an order over an empty plan is done. Both hold over a patient bus, too, whose adapter is a
-//! simulated bus. A reading over any bus stays one while that counts no restart.
+//! between two orders, and over a patient bus whose adapter is a simulated one. A reading over any bus stays one while that
+//! counts no restart, and a course over it is worth what the laws of courses in lives say. A new host may begin beside the part that a
+//! driver leaves.
 
-ghost use Rattle.std.specs.Prelude.{◌≡◌, ℕ, true, IfSome, OnOk};
+ghost use Rattle.std.specs.Prelude.{◌≡◌, ◌<◌, ℕ, false, IfOk, IfSome, length};
 ghost use Rattle.pm_table.specs.declared.cell.Cell.{Cell as Place};
 ghost use Rattle.pm_table.specs.Cell.{IsCell};
 ghost use Rattle.pm_model.specs.Settings.{word_at};
-ghost use Rattle.pm_device.specs.History.{start_of};
 ghost use Rattle.pm_host.specs.declared.knowledge.Standing.TheVariants.{Confirmed};
-ghost use Rattle.pm_host.specs.Summary.{standing_at, start};
-ghost use Rattle.pm_limits.specs.Bounds.{Bounds};
-ghost use Rattle.pm_world.specs.Limited.{StartsWithin};
-ghost use Rattle.pm_world.specs.Setup.{setup_of};
-ghost use Rattle.pm_driver.specs.Driven.{HasLifeWithin, HasNoRestartSince};
+ghost use Rattle.pm_host.specs.Refusals.{is_busy};
+ghost use Rattle.pm_host.specs.Summary.{standing_at};
+ghost use Rattle.pm_limits.specs.Part.{all_registers};
+ghost use Rattle.pm_law_tests.specs.Drivers.{WishesAreHeld};
+ghost use Rattle.pm_driver.specs.Driven.{HasNoRestartSince, MayBegin};
 ghost use Rattle.pm_driver.specs.NeverRestarts.{NeverRestarts, PatientNeverRestarts};
 ghost use Rattle.pm_driver.specs.Plan.{restarts_of};
-ghost use Rattle.pm_driver.specs.PlanEnds.{IsAllowed, PatientWentThrough, WentThrough, is_ready};
 
-use crate::own_loop::both_ends;
-use pm_device::{Config, Converter};
+use pm_course::{CourseEnd, FrameCourse, Wishes};
+use pm_course_laws::frame_courses_hold_in_lives;
+use pm_device::Config;
 use pm_driver::{
-    Bus, Driver, Fault, Patient, SimulatedBus, carry_out, driver_over, new_converters_are_within,
-    order_patiently_through, order_through, read_without_restart, requests_are_no_writes,
-    restarts_are_counted, run_patiently_without_restart, run_without_restart,
+    Bus, Driver, Fault, Patient, SimulatedBus, carry_out, driver_over, lives_lead_on,
+    read_without_restart, requests_are_no_writes, restarts_are_counted,
+    run_patiently_without_restart, run_without_restart,
 };
 use pm_frame::code_request;
-use pm_host::{Host, Job, JobEnd};
-use pm_limits::{Guard, LimitFault};
+use pm_host::{Host, HostFault, Job, JobEnd};
+use pm_limits::{Guard, whole_parts_miss_nothing};
 use pm_table::{Cell, Code, Reg};
-use pm_world::SetupFault;
+use pm_world::plans_hold_in_lives;
 
 /// What the host confirms is held if the plan has no restart.
 pub fn confirmed_is_held<'a>(driver: &Driver<SimulatedBus<'a>>)
@@ -71,35 +71,6 @@ pub fn orders_around_a_read<'a>(
     Some(driver)
 }
 
-/// The first order over an empty plan is done, and the converter holds its word, if WRITE_PROTECT allows it and nothing
-/// refuses it.
-pub fn first_order<'a>(
-    c: Config,
-    passes: u8,
-    cell: Cell,
-    word: u16,
-) -> Option<(Driver<SimulatedBus<'a>>, Result<JobEnd, LimitFault>)>
-    requires { IsAllowed cell (start_of c) }
-    ensures { IfSome result (λ made. WentThrough cell word made.1 made.0) }
-{
-    let mut driver = driver_over(c, passes, &[])?;
-    let ended = order_through(&mut driver, cell, word);
-    Some((driver, ended))
-}
-
-/// An order over a patient bus that has a try, over a plan at its end, is done, too.
-pub fn patient_order<'a>(
-    driver: &mut Driver<Patient<SimulatedBus<'a>>>,
-    cell: Cell,
-    word: u16,
-) -> Result<JobEnd, LimitFault>
-    requires ready { is_ready driver.old.bus ≡ true }
-    requires allowed { IsAllowed cell driver.old.bus.adapter.device }
-    ensures { PatientWentThrough cell word result driver.new }
-{
-    order_patiently_through(driver, cell, word)
-}
-
 /// Two checks over a patient bus whose adapter's plan has no restart.
 pub fn patient_checks<'a>(driver: &mut Driver<Patient<SimulatedBus<'a>>>)
     requires { PatientNeverRestarts driver.old }
@@ -119,11 +90,41 @@ pub fn a_reading_that_stays<B: Bus>(guard: &mut Guard, bus: &mut B) -> Option<Jo
     carry_out(guard, bus)
 }
 
-/// Beside a converter as it was made, whose start words lie within limits, a host may begin with these limits.
-pub fn a_new_converter_within_limits(c: Config, passes: u8) -> Result<(Converter, Host), SetupFault>
-    ensures { OnOk result ((output : ℕ) (bounds : Bounds) → StartsWithin c output bounds →
-        HasLifeWithin output bounds (start (setup_of c passes)) (start_of c)) }
+/// The converter holds the word of each wish after a course over any bus that ended `Reached`, if the bus counted no restart meanwhile
+/// and the part has every register.
+pub fn a_course_over_a_bus<B: Bus>(
+    driver: &mut Driver<B>,
+    output: u8,
+    wishes: &Wishes,
+    tries: u16,
+) -> CourseEnd
+    requires idle { is_busy driver.old.guard.host ≡ false }
+    requires there { output < driver.old.guard.host.setup.outputs }
+    requires whole { driver.old.guard.registers ≡ all_registers }
+    ensures { WishesAreHeld B.held B.restarts output wishes.now driver.old result driver.new }
 {
-    new_converters_are_within();
-    both_ends(c, passes)
+    // law: what a course is worth in each life
+    frame_courses_hold_in_lives();
+    plans_hold_in_lives();
+    whole_parts_miss_nothing();
+    let mut course = FrameCourse::new(output, wishes, tries);
+    driver.run_course(&mut course)
+}
+
+/// A host with other passes, made for the part that a driver leaves, after whatever that did: it may begin beside that part.
+pub fn a_host_that_begins_anew<B: Bus>(
+    driver: &Driver<B>,
+    address: u8,
+    outputs: u8,
+    passes: u8,
+) -> Result<Host, HostFault>
+    requires places { length (B.held driver.now.bus).config.starts ≡ 8 }
+    requires address { address ≡ (B.held driver.now.bus).config.addr }
+    requires outputs { outputs ≡ (B.held driver.now.bus).config.count }
+    ensures { IfOk result (λ host. MayBegin host (B.held driver.now.bus)) }
+{
+    // law: what a life left is a part beside which a host may begin
+    lives_lead_on();
+    driver.laws();
+    Host::new(address, outputs, passes)
 }

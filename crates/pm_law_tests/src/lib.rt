@@ -23,22 +23,22 @@
 //! - `good`: what frames that come whole make of an open job, and how it ends once all of them do.
 //! - `whole`: a job that is open after a run ends by frames that come whole.
 //! - `moves`: what moves a setting or the store.
-//! - `plans`: what plans and surveys of rails are worth, and that between two answers that surprise the converter restarted.
+//! - `plans`: what plans and surveys of rails are worth.
 //! - `boards`: hosts and converters in pairs on one bus, each as if it had no neighbours.
 //! - `own_loop`: events that a caller's own loop lets happen.
 //! - `frame_courses`: what a course that hands out frames is worth.
-//! - `rails`: what a survey and a plan over any bus are worth.
-//! - `beginnings`: what limits and an output's own words are worth to a host that begins beside a part as it is.
+//! - `progress`: that a course which hands out frames gets there, and what its end is worth by its last survey.
+//! - `beside`: what a host knows, and what it orders comes to, beside a part as it is while anybody reads it.
 //! - `restarts`: what a course is worth if the part restarts before it has ended.
 //! - `late`: what a host's words are worth beside a part that takes each write late.
+//! - `sequences`: what a list of steps is worth whose rails are looked at.
 //! - `stairs`: what steps of several outputs are worth, up, back, and wherever they stop.
-//! - `standing`: what the band of a driver's output is worth, after a survey and at any moment at which it stands.
-//! - `undisturbed`: what a survey, a plan and a course to a byte of OPERATION come to over a bus that disturbs nothing.
-//! - `drivers`: what a driver over a simulated bus, or over a patient one, makes of orders.
+//! - `drivers`: what a driver makes of orders over a bus that restarts nothing, what a course over a bus is worth, and beside what a
+//!   host may begin.
 #![tactic(auto)]
 
 pub mod bands;
-pub mod beginnings;
+pub mod beside;
 pub mod boards;
 pub mod damage;
 pub mod drivers;
@@ -60,11 +60,10 @@ pub mod own_loop;
 pub mod packets;
 pub mod parts;
 pub mod plans;
-pub mod rails;
+pub mod progress;
 pub mod restarts;
+pub mod sequences;
 pub mod stairs;
-pub mod standing;
-pub mod undisturbed;
 pub mod whole;
 
 pub use laws::laws_by_name;

@@ -1,15 +1,12 @@
-//! What plans and surveys of rails are worth after a run and a step that follows it, what a rail does across a restart, and what restart
-//! two answers that surprise show.
+//! What plans and surveys of rails are worth after a run and a step that follows it, and what a rail does across a restart.
 
 ghost use Rattle.std.specs.Prelude.{◌∷◌, IfOk, OnSome, reverse};
 ghost use Rattle.pm_world.specs.Across.{KeepsBetween};
 ghost use Rattle.pm_world.specs.Plans.{KeepsPlans};
 ghost use Rattle.pm_world.specs.Surveys.{FollowsSurveys, KeepsSurveys};
-ghost use Rattle.pm_driver.specs.Surprises.{SurprisesShowRestarts};
 
 use crate::further::run_and_step;
 use pm_device::Config;
-use pm_driver::one_surprise_at_most;
 use pm_world::{
     Event, SetupFault, World, plans_hold_in_lives, restarts_keep_between, surveys_hold_in_lives,
 };
@@ -38,19 +35,6 @@ pub fn surveys_after_a_step(
     ensures keeps { IfOk result (λ found. OnSome found (KeepsSurveys c passes (more.now ∷ reverse events.now))) }
 {
     surveys_hold_in_lives();
-    run_and_step(c, passes, events, more)
-}
-
-/// The converter restarted between any two answers that surprised, after a run and a step.
-pub fn surprises_after_a_step(
-    c: Config,
-    passes: u8,
-    events: &[Event],
-    more: &Event,
-) -> Result<Option<World>, SetupFault>
-    ensures { IfOk result (λ found. OnSome found (SurprisesShowRestarts c passes (more.now ∷ reverse events.now))) }
-{
-    one_surprise_at_most();
     run_and_step(c, passes, events, more)
 }
 

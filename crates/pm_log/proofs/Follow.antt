@@ -1,5 +1,5 @@
 -- Lines that are accepted, and the acts that they are.
-use Rattle.std.proofs.Common.{◌≡◌, ℕ, Bool, true, false, List, [], ◌∷◌, ◌++◌, Option, Some, None, Result, Ok, Err, refl, sym, ◌∙◌, ap, subst}
+use Rattle.std.proofs.Common.{◌≡◌, ◌+◌, length, ℕ, Bool, true, false, List, [], ◌∷◌, ◌++◌, Option, Some, None, Result, Ok, Err, refl, sym, ◌∙◌, ap, subst}
 use Rattle.std.specs.Prelude.{IsSomeAnd, IfSome, option_map, reverse, is_none}
 use Rattle.std.specs.Option.{option_map_or}
 use Rattle.std.proofs.lemmas.Bool.{and_parts}
@@ -22,8 +22,10 @@ use Rattle.pm_check.specs.declared.fault.ActFault.TheVariants as act_fault
 use Rattle.pm_check.specs.declared.fault.CheckFault.TheVariants as check
 use Rattle.pm_check.specs.Log.{Accepts, Checks, MightComeFrom, act_next, all_after, is_claimed, is_own, told_fault}
 use Rattle.pm_log.specs.Jobs.{job_in}
+use Rattle.pm_limits.specs.declared.part_registers.PartRegisters.{PartRegisters}
+use Rattle.pm_log.specs.Answered.{answer_in, with_answer}
 use Rattle.pm_log.specs.Laws.{Log, at_hand, held_by, known_of, known_by, log_of_lines, log_told, log_with, told_of, with_job, with_restart, with_transfer}
-use Rattle.pm_log.specs.Logs.{Known, begun_with, claimed, headed, is_address, judged, told as heard, told_with, unknown}
+use Rattle.pm_log.specs.Logs.{Known, begun_with, claimed, distrusted, headed, is_address, judged, told as heard, told_with, unknown, with_claim}
 use Rattle.pm_log.specs.Replays.{begun_by, first_told, fits, free, is_answer, named_told, transferred}
 use Rattle.pm_log.specs.declared.fault.LogFault.{LogFault}
 use Rattle.pm_log.specs.declared.log_line.LogLine.{LogLine}
@@ -107,13 +109,13 @@ free_comes st acts come = go (is_busy (all_after st acts)) refl
 -- ---- a line
 
 -- a log whose host could be made, and whose acts might come
-abbrev Comes : Log → Type 0
+abbrev pub Comes : Log → Type 0
 Comes log = (setup_fault log.setup.outputs log.setup.passes ≡ None) × MightComeFrom (start log.setup) log.acts
 
 -- what is known is what a host holds that heard the acts
-record Follows (log : Option Log) (known : Known) : Type 0 where
-  held : known.host ≡ option_map held_by log
-  come : IfSome log Comes
+pub record Follows (log : Option Log) (known : Known) : Type 0 where
+  pub held : known.host ≡ option_map held_by log
+  pub come : IfSome log Comes
 
 -- what two results hold is one
 ok_one : (r : Result (Summary × Bool) LogFault) (t s : Summary) (u b : Bool) → r ≡ Ok (t, u) → r ≡ Ok (s, b) → s ≡ t
@@ -185,18 +187,19 @@ takes st acts frame came s is_told come is = go (fits (all_after st acts) frame 
 -- ---- a line
 
 -- what two results hold is one, and one that has refused doesn't
-same_known : (r : Result Known LogFault) (a b : Known) → r ≡ Ok a → r ≡ Ok b → b ≡ a
+pub same_known : (r : Result Known LogFault) (a b : Known) → r ≡ Ok a → r ≡ Ok b → b ≡ a
 same_known r a b made is = cc
 
 -- the host of the log hears a transfer
-told_follows : (log : Option Log) (known new : Known) (frame : List ℕ) (came : Told) → Follows log known →
-    heard known known.host frame (entry_told came) ≡ Ok new → Follows (option_map (log_told frame came) log) new
-told_follows None known new frame came was is =
+told_follows : (number : ℕ) (log : Option Log) (known new : Known) (frame : List ℕ) (came : Told) → Follows log known →
+    heard number known known.host frame (entry_told came) ≡ Ok new → Follows (option_map (log_told frame came) log) new
+told_follows number None known new frame came was is =
     let none = rw was.held at is in absurd (cc)
-told_follows (Some log) known new frame came was is =
+told_follows number (Some log) known new frame came was is =
     go (transferred (held_by log) frame (entry_told came)) refl (rw was.held at is)
   where
-    go : (r : Result (Summary × Bool) LogFault) → transferred (held_by log) frame (entry_told came) ≡ r → told_with known r ≡ Ok new →
+    go : (r : Result (Summary × Bool) LogFault) → transferred (held_by log) frame (entry_told came) ≡ r →
+        told_with known (with_answer number known.answers (answer_in (held_by log).setup.addr frame (entry_told came))) r ≡ Ok new →
         Follows (Some (log_told frame came log)) new
     go (Err fault) at is = absurd (cc)
     go (Ok (s, is_told)) at is =
@@ -218,60 +221,93 @@ headed_follows : (known new : Known) (setup : host.Setup) (b : Bool) → is_addr
 headed_follows known new setup true at is = begun_follows known new setup (setup_fault setup.outputs setup.passes) refl (rw at at is)
 headed_follows known new setup false at is = let bad = rw at at is in absurd (cc)
 
--- a claim that is known changes no host
-claimed_known : (known new : Known) (s : Summary) (claim : Claim) (b : Bool) → is_claimed s claim ≡ b →
-    claimed known (Some s) claim ≡ Ok new → (is_claimed s claim ≡ true) × (new.host ≡ known.host)
-claimed_known known new s claim true at is = (at, ap (λ (k : Known). k.host) (same_known _ _ _ refl (rw at at is)))
-claimed_known known new s claim false at is = let bad = rw at at is in absurd (cc)
+-- a claim that is accepted: nothing is against what it says of the part, it is known, and what is known then
+pub record IsAccepted (known new : Known) (s : Summary) (claim : Claim) : Type 0 where
+  pub trusted : distrusted known s.setup.addr claim ≡ None
+  pub claimed_is : is_claimed s claim ≡ true
+  pub after : new ≡ with_claim known s.setup.addr claim
+
+claimed_by : (known new : Known) (s : Summary) (claim : Claim) (f : Option LogFault) (b : Bool) → distrusted known s.setup.addr claim ≡ f →
+    is_claimed s claim ≡ b → claimed known (Some s) claim ≡ Ok new → IsAccepted known new s claim
+claimed_by known new s claim (Some fault) b why at is = let bad = rw why at is in absurd (cc)
+claimed_by known new s claim None true why at is =
+    record { trusted = why; claimed_is = at; after = same_known _ _ _ refl (rw (why, at) at is) }
+claimed_by known new s claim None false why at is = let bad = rw (why, at) at is in absurd (cc)
+
+pub claimed_known : (known new : Known) (s : Summary) (claim : Claim) → claimed known (Some s) claim ≡ Ok new →
+    IsAccepted known new s claim
+claimed_known known new s claim is =
+    claimed_by known new s claim (distrusted known s.setup.addr claim) (is_claimed s claim) refl refl is
 
 claim_follows : (log : Option Log) (known new : Known) (claim : Claim) → Follows log known → claimed known known.host claim ≡ Ok new →
     Follows log new
 claim_follows None known new claim was is = let none = rw was.held at is in absurd (cc)
 claim_follows (Some log) known new claim was is =
-    let kept = claimed_known known new (held_by log) claim (is_claimed (held_by log) claim) refl
-    (subst (λ (o : Option Summary). claimed known o claim ≡ Ok new) was.held is) in
-    record { held = kept.1 ∙ was.held; come = was.come }
+    let kept = claimed_known known new (held_by log) claim (subst (λ (o : Option Summary). claimed known o claim ≡ Ok new) was.held is) in
+    record { held = ap (λ (k : Known). k.host) kept.after ∙ was.held; come = was.come }
 
 -- one line more
-line_follows : (log : Option Log) (known new : Known) (line : LogLine) → Follows log known → judged known line ≡ Ok new →
+line_follows : (number : ℕ) (log : Option Log) (known new : Known) (line : LogLine) → Follows log known → judged number known line ≡ Ok new →
     Follows (log_with log line) new
-line_follows log known new Note was is = subst (λ (k : Known). Follows log k) (sym (same_known _ _ _ refl is)) was
-line_follows log known new (Head addr outputs passes) was is =
+line_follows number log known new Note was is = subst (λ (k : Known). Follows log k) (sym (same_known _ _ _ refl is)) was
+line_follows number log known new (Head addr outputs passes) was is =
     headed_follows known new (record { addr = addr; outputs = outputs; passes = passes }) (is_address addr) refl is
-line_follows log known new (Claimed claim) was is = claim_follows log known new claim was is
-line_follows log known new (Sent parts) was is = sent parts.read refl
+line_follows number log known new (Claimed claim) was is = claim_follows log known new claim was is
+line_follows number log known new (Sent parts) was is = sent parts.read refl
   where
     sent : (read : Option (List ℕ)) → parts.read ≡ read → Follows (option_map (log_told parts.write (told_of parts.read)) log) new
-    sent None at = rw at (told_follows log known new parts.write (told.Finished true) was (rw at at is))
-    sent (Some bytes) at = rw at (told_follows log known new parts.write (told.Got (at_hand bytes)) was (rw at at is))
-line_follows log known new (Failed write) was is = told_follows log known new write (told.Finished false) was is
+    sent None at = rw at (told_follows number log known new parts.write (told.Finished true) was (rw at at is))
+    sent (Some bytes) at = rw at (told_follows number log known new parts.write (told.Got (at_hand bytes)) was (rw at at is))
+line_follows number log known new (Failed write) was is = told_follows number log known new write (told.Finished false) was is
 
 -- lines one after another
-follows : (lines : List LogLine) (known : Known) → known_of lines ≡ Ok known → Follows (log_of_lines lines) known
-follows [] known is = record { held = ap (λ (k : Known). k.host) (same_known _ _ _ refl is); come = tt }
-follows (line ∷ before) known is = go (known_of before) refl is (λ was at. follows before was at)
+pub follows : (allowed : List PartRegisters) (lines : List LogLine) (known : Known) → known_of allowed lines ≡ Ok known →
+    Follows (log_of_lines lines) known
+follows allowed [] known is = record { held = ap (λ (k : Known). k.host) (same_known _ _ _ refl is); come = tt }
+follows allowed (line ∷ before) known is = go (known_of allowed before) refl is (λ was at. follows allowed before was at)
   where
-    go : (r : Result Known LogFault) → known_of before ≡ r → known_by r line ≡ Ok known →
-        ((was : Known) → known_of before ≡ Ok was → Follows (log_of_lines before) was) → Follows (log_with (log_of_lines before) line) known
-    go (Ok was) at is so_far = line_follows (log_of_lines before) was known line (so_far was at) is
+    go : (r : Result Known LogFault) → known_of allowed before ≡ r → known_by (length before + 1) r line ≡ Ok known →
+        ((was : Known) → known_of allowed before ≡ Ok was → Follows (log_of_lines before) was) →
+        Follows (log_with (log_of_lines before) line) known
+    go (Ok was) at is so_far = line_follows (length before + 1) (log_of_lines before) was known line (so_far was at) is
     go (Err fault) at is so_far = absurd (cc)
 
 -- ---- the law
 
 -- lines before lines that are accepted are accepted
-before_is : (later before : List LogLine) (known : Known) → known_of (later ++ before) ≡ Ok known →
-    (was : Known) × (known_of before ≡ Ok was)
-before_is [] before known is = (known, is)
-before_is (line ∷ later) before known is = go (known_of (later ++ before)) refl is (λ mid at. before_is later before mid at)
+before_is : (allowed : List PartRegisters) (later before : List LogLine) (known : Known) → known_of allowed (later ++ before) ≡ Ok known →
+    (was : Known) × (known_of allowed before ≡ Ok was)
+before_is allowed [] before known is = (known, is)
+before_is allowed (line ∷ later) before known is =
+    go (known_of allowed (later ++ before)) refl is (λ mid at. before_is allowed later before mid at)
   where
-    go : (r : Result Known LogFault) → known_of (later ++ before) ≡ r → known_by r line ≡ Ok known →
-        ((mid : Known) → known_of (later ++ before) ≡ Ok mid → (was : Known) × (known_of before ≡ Ok was)) →
-        (was : Known) × (known_of before ≡ Ok was)
+    go : (r : Result Known LogFault) → known_of allowed (later ++ before) ≡ r → known_by (length (later ++ before) + 1) r line ≡ Ok known →
+        ((mid : Known) → known_of allowed (later ++ before) ≡ Ok mid → (was : Known) × (known_of allowed before ≡ Ok was)) →
+        (was : Known) × (known_of allowed before ≡ Ok was)
     go (Ok mid) at is earlier = earlier mid at
     go (Err fault) at is earlier = absurd (cc)
 
+-- a claim in lines that are accepted: what was known before it, and after it
+pub record ClaimIn (allowed : List PartRegisters) (before : List LogLine) (claim : Claim) : Type 0 where
+  pub was : Known
+  pub new : Known
+  pub at : known_of allowed before ≡ Ok was
+  pub claims : claimed was was.host claim ≡ Ok new
+
+pub claim_in : (allowed : List PartRegisters) (later before : List LogLine) (claim : Claim) (known : Known) →
+    known_of allowed (later ++ Claimed claim ∷ before) ≡ Ok known → ClaimIn allowed before claim
+claim_in allowed later before claim known is = at_claim (before_is allowed later (Claimed claim ∷ before) known is)
+  where
+    at_claim : (was : Known) × (known_of allowed (Claimed claim ∷ before) ≡ Ok was) → ClaimIn allowed before claim
+    at_claim (new, at) = go (known_of allowed before) refl at
+      where
+        go : (r : Result Known LogFault) → known_of allowed before ≡ r → known_by (length before + 1) r (Claimed claim) ≡ Ok new →
+            ClaimIn allowed before claim
+        go (Ok was) at is = record { was = was; new = new; at = at; claims = is }
+        go (Err fault) at is = absurd (cc)
+
 -- what `check` says of acts, oldest first
-accepts_acts : (log : Log) (claim : Claim) → Comes log → is_claimed (held_by log) claim ≡ true →
+pub accepts_acts : (log : Log) (claim : Claim) → Comes log → is_claimed (held_by log) claim ≡ true →
     Accepts log.setup (reverse log.acts) (claim ∷ [])
 accepts_acts log claim come known =
     let same = reverse-reverse log.acts in
@@ -281,7 +317,7 @@ accepts_acts log claim come known =
       claimed = (subst (λ (acts : List Act). is_claimed (all_after (start log.setup) acts) claim ≡ true) (sym same) known, tt);
     }
 
-refuses_acts : (log : Log) (claim : Claim) → Comes log → is_claimed (held_by log) claim ≡ false →
+pub refuses_acts : (log : Log) (claim : Claim) → Comes log → is_claimed (held_by log) claim ≡ false →
     Checks log.setup (reverse log.acts) (claim ∷ []) (Err (check.Claim 0))
 refuses_acts log claim come unknown =
     let same = reverse-reverse log.acts in (
@@ -291,37 +327,8 @@ refuses_acts log claim come unknown =
       subst (λ (acts : List Act). is_claimed (all_after (start log.setup) acts) claim ≡ false) (sym same) unknown,
     )
 
-claim_accepted : (log : Option Log) (known new : Known) (claim : Claim) → Follows log known → claimed known known.host claim ≡ Ok new →
-    IsSomeAnd log (λ l. Accepts l.setup (reverse l.acts) (claim ∷ []))
-claim_accepted None known new claim was is = let none = rw was.held at is in absurd (cc)
-claim_accepted (Some log) known new claim was is =
-    accepts_acts log claim was.come
-    (claimed_known known new (held_by log) claim (is_claimed (held_by log) claim) refl
-    (subst (λ (o : Option Summary). claimed known o claim ≡ Ok new) was.held is)).0
-
-pub accepts : (later before : List LogLine) (claim : Claim) (known : Known) → known_of (later ++ Claimed claim ∷ before) ≡ Ok known →
-    IsSomeAnd (log_of_lines before) (λ log. Accepts log.setup (reverse log.acts) (claim ∷ []))
-accepts later before claim known is = at_claim (before_is later (Claimed claim ∷ before) known is)
-  where
-    at_claim : (was : Known) × (known_of (Claimed claim ∷ before) ≡ Ok was) →
-        IsSomeAnd (log_of_lines before) (λ log. Accepts log.setup (reverse log.acts) (claim ∷ []))
-    at_claim (new, at) = go (known_of before) refl at
-      where
-        go : (r : Result Known LogFault) → known_of before ≡ r → known_by r (Claimed claim) ≡ Ok new →
-            IsSomeAnd (log_of_lines before) (λ log. Accepts log.setup (reverse log.acts) (claim ∷ []))
-        go (Ok was) at is = claim_accepted (log_of_lines before) was new claim (follows before was at) is
-        go (Err fault) at is = absurd (cc)
-
-unclaimed : (known : Known) (s : Summary) (claim : Claim) (fault : LogFault) (b : Bool) → is_claimed s claim ≡ b →
-    claimed known (Some s) claim ≡ Err fault → is_claimed s claim ≡ false
-unclaimed known s claim fault true at is = let bad = rw at at is in absurd (cc)
-unclaimed known s claim fault false at is = at
-
-pub refuses : (before : List LogLine) (claim : Claim) (known : Known) (log : Log) (fault : LogFault) → known_of before ≡ Ok known →
-    log_of_lines before ≡ Some log → judged known (Claimed claim) ≡ Err fault →
-    Checks log.setup (reverse log.acts) (claim ∷ []) (Err (check.Claim 0))
-refuses before claim known log fault at some is =
-    let was = subst (λ (o : Option Log). Follows o known) some (follows before known at) in
-    refuses_acts log claim was.come
-    (unclaimed known (held_by log) claim fault (is_claimed (held_by log) claim) refl
-    (subst (λ (o : Option Summary). claimed known o claim ≡ Err fault) was.held is))
+-- a claim that isn't accepted, though nothing is against what it says of the part, isn't known
+pub unclaimed : (known : Known) (s : Summary) (claim : Claim) (fault : LogFault) (b : Bool) → is_claimed s claim ≡ b →
+    distrusted known s.setup.addr claim ≡ None → claimed known (Some s) claim ≡ Err fault → is_claimed s claim ≡ false
+unclaimed known s claim fault true at none is = let bad = rw (none, at) at is in absurd (cc)
+unclaimed known s claim fault false at none is = at

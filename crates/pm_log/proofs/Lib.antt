@@ -1,6 +1,9 @@
+mod Claims
 mod EmptyLog
 mod EndLemmas
 mod Follow
 mod Pieces
 mod Pushes
 mod TextLemmas
+mod Trust
+mod TrustedText

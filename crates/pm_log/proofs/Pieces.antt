@@ -6,18 +6,19 @@ use Rattle.std.proofs.KnownBytes.{Consumes-nil, Consumes-trans}
 use Rattle.std.proofs.lemmas.List.{nil_from_length}
 use Rattle.pm_lines.specs.declared.fault.TextFault.{TextFault}
 use Rattle.pm_lines.specs.declared.fault.TextFault.TheVariants.{Syntax, BadHex, TooLong, Read, Write, Memory, Setup}
+use Rattle.pm_limits.specs.declared.part_registers.PartRegisters.{PartRegisters}
 use Rattle.pm_log.specs.TakenLogs.{StopsPiece, Taken, TakesPiece}
 use Rattle.pm_log.specs.Texts.{Breaks, IsAll, Kept, most_bytes, no_byte, with_byte}
 use Rattle.pm_log.proofs.TextLemmas.{kept_more, taken_is}
 
 -- nothing was read yet
-pub taken_none : (r : Option (List ℕ)) (kept : Kept) → kept ≡ no_byte → Taken r r [] kept
-taken_none r kept fresh = record { given = Consumes-nil r; kept_is = fresh; short = omega arith }
+pub taken_none : (allowed : List PartRegisters) (r : Option (List ℕ)) (kept : Kept) → kept ≡ no_byte allowed → Taken allowed r r [] kept
+taken_none allowed r kept fresh = record { given = Consumes-nil r; kept_is = fresh; short = omega arith }
 
-module _ (r0 r1 : Option (List ℕ)) (front : List ℕ) (old : Kept) (taken : Taken r0 r1 front old) where
+module _ (allowed : List PartRegisters) (r0 r1 : Option (List ℕ)) (front : List ℕ) (old : Kept) (taken : Taken allowed r0 r1 front old) where
   -- as many bytes were taken as the reader gave
   pub taken_now : old.taken ≡ length front
-  taken_now = ap (λ (k : Kept). k.taken) taken.kept_is ∙ taken_is front
+  taken_now = ap (λ (k : Kept). k.taken) taken.kept_is ∙ taken_is allowed front
 
   pub room_now : old.taken ≤ most_bytes
   room_now = let now = taken_now in let short = taken.short in omega (arith, now, short)
@@ -32,14 +33,14 @@ module _ (r0 r1 : Option (List ℕ)) (front : List ℕ) (old : Kept) (taken : Ta
 
   module _ (r2 : Option (List ℕ)) where
     -- a piece more
-    pub taken_more : (new : Kept) (count : ℕ) (piece : TakesPiece r1 r2 old new count) → Taken r0 r2 (front ++ piece.bytes) new
+    pub taken_more : (new : Kept) (count : ℕ) (piece : TakesPiece r1 r2 old new count) → Taken allowed r0 r2 (front ++ piece.bytes) new
     taken_more new count piece =
         let now = taken_now in
         let size = length-append front piece.bytes in
         let room = piece.room in
         record {
           given = Consumes-trans r0 r1 r2 front piece.bytes taken.given piece.given;
-          kept_is = piece.taken_is ∙ ap (λ (k : Kept). fold with_byte k piece.bytes) taken.kept_is ∙ kept_more front piece.bytes;
+          kept_is = piece.taken_is ∙ ap (λ (k : Kept). fold with_byte k piece.bytes) taken.kept_is ∙ kept_more allowed front piece.bytes;
           short = omega (arith, now, size, room);
         }
 
@@ -60,11 +61,11 @@ module _ (r0 r1 : Option (List ℕ)) (front : List ℕ) (old : Kept) (taken : Ta
     broken (Setup reason) never = absurd never
 
 -- a piece more is as many bytes more
-pub grown : (r0 r1 r2 : Option (List ℕ)) (front : List ℕ) (old new : Kept) (taken : Taken r0 r1 front old) (count : ℕ) →
+pub grown : (allowed : List PartRegisters) (r0 r1 r2 : Option (List ℕ)) (front : List ℕ) (old new : Kept) (taken : Taken allowed r0 r1 front old) (count : ℕ) →
     TakesPiece r1 r2 old new count → new.taken ≡ old.taken + count
-grown r0 r1 r2 front old new taken count piece =
-    let before = taken_now r0 r1 front old taken in
-    let after = taken_now r0 r2 (front ++ piece.bytes) new (taken_more r0 r1 front old taken r2 new count piece) in
+grown allowed r0 r1 r2 front old new taken count piece =
+    let before = taken_now allowed r0 r1 front old taken in
+    let after = taken_now allowed r0 r2 (front ++ piece.bytes) new (taken_more allowed r0 r1 front old taken r2 new count piece) in
     let size = length-append front piece.bytes in
     let same = piece.count_is in
     omega (arith, before, after, size, same)

@@ -10,6 +10,7 @@ use Rattle.pm_trace.specs.Marks.{ended, since}
 use Rattle.pm_trace.specs.Lemmas.Marks.{ended-mark, ended-other, since-mark, since-other, split-ended}
 use Rattle.pm_trace.specs.Lemmas.Said.{last_kept}
 use Rattle.pm_text.specs.declared.scenario.fault.ScenarioFault.{ScenarioFault}
+use Rattle.pm_limits.specs.declared.part_registers.PartRegisters.{PartRegisters}
 use Rattle.pm_log.specs.Laws.{TextLines, known_by, known_of, ok_line}
 use Rattle.pm_log.specs.Lines.{said}
 use Rattle.pm_log.specs.Logs.{Checked, Known, at_end, has_head, judged, known_with, line_said, max_line, no_line, nothing, or_refused, read_judged, with_line}
@@ -49,7 +50,7 @@ front_said number line = go (nat_lt max_line (length line)) refl
 
 front_known : (log : Result Known Refusal) (number : ℕ) (line : List ℕ) → known_with log (number, kept_front line) ≡ known_with log (number, line)
 front_known (Err refusal) number line = refl
-front_known (Ok known) number line = ap (λ (r : Result LogLine ScenarioFault). or_refused number (read_judged known r)) (front_said number line)
+front_known (Ok known) number line = ap (λ (r : Result LogLine ScenarioFault). or_refused number (read_judged number known r)) (front_said number line)
 
 front_line : (checked : Checked) (line : List ℕ) → with_line checked (kept_front line) ≡ with_line checked line
 unfolding with_line
@@ -83,70 +84,70 @@ front_none = take_all (max_line + 1) [] (omega arith)
 -- ---- bytes one after another
 
 -- what is kept of bytes, by the lines that ended and the one that goes on
-abbrev state : List ℕ → Kept
-state bytes = record {
+abbrev state : List PartRegisters → List ℕ → Kept
+state allowed bytes = record {
   line = kept_front (since is_line_feed bytes);
   taken = length bytes;
-  checked = checked_lines (ended is_line_feed bytes);
+  checked = checked_lines allowed (ended is_line_feed bytes);
 }
 
 one_more : (front : List ℕ) (byte : ℕ) → length front + 1 ≡ length (front ++ byte ∷ [])
 one_more front byte = let size = length-append front (byte ∷ []) in omega arith
 
-state_more : (front : List ℕ) (byte : ℕ) → with_byte (state front) byte ≡ state (front ++ byte ∷ [])
+state_more : (allowed : List PartRegisters) (front : List ℕ) (byte : ℕ) → with_byte (state allowed front) byte ≡ state allowed (front ++ byte ∷ [])
 unfolding with_byte
-state_more front byte = go (is_line_feed byte) refl
+state_more allowed front byte = go (is_line_feed byte) refl
   where
-    go : (b : Bool) → is_line_feed byte ≡ b → with_byte (state front) byte ≡ state (front ++ byte ∷ [])
+    go : (b : Bool) → is_line_feed byte ≡ b → with_byte (state allowed front) byte ≡ state allowed (front ++ byte ∷ [])
     go true is =
         let line : [] ≡ kept_front (since is_line_feed (front ++ byte ∷ []))
         = sym front_none ∙ ap kept_front (sym (since-mark is_line_feed front byte is)) in
-        let checked : with_line (checked_lines (ended is_line_feed front)) (kept_front (since is_line_feed front))
-        ≡ checked_lines (ended is_line_feed (front ++ byte ∷ []))
-        = front_line (checked_lines (ended is_line_feed front)) (since is_line_feed front)
-        ∙ sym (ap checked_lines (ended-mark is_line_feed front byte is)
-        ∙ fold-append with_line no_line (ended is_line_feed front) (since is_line_feed front ∷ [])) in
+        let checked : with_line (checked_lines allowed (ended is_line_feed front)) (kept_front (since is_line_feed front))
+        ≡ checked_lines allowed (ended is_line_feed (front ++ byte ∷ []))
+        = front_line (checked_lines allowed (ended is_line_feed front)) (since is_line_feed front)
+        ∙ sym (ap (checked_lines allowed) (ended-mark is_line_feed front byte is)
+        ∙ fold-append with_line (no_line allowed) (ended is_line_feed front) (since is_line_feed front ∷ [])) in
         rw is (λ i. record { line = line i; taken = one_more front byte i; checked = checked i })
     go false other =
         let line : line_with (kept_front (since is_line_feed front)) byte ≡ kept_front (since is_line_feed (front ++ byte ∷ []))
         = front_more (since is_line_feed front) byte ∙ ap kept_front (sym (since-other is_line_feed front byte other)) in
-        let checked : checked_lines (ended is_line_feed front) ≡ checked_lines (ended is_line_feed (front ++ byte ∷ []))
-        = ap checked_lines (sym (ended-other is_line_feed front byte other)) in
+        let checked : checked_lines allowed (ended is_line_feed front) ≡ checked_lines allowed (ended is_line_feed (front ++ byte ∷ []))
+        = ap (checked_lines allowed) (sym (ended-other is_line_feed front byte other)) in
         rw other (λ i. record { line = line i; taken = one_more front byte i; checked = checked i })
 
-all_kept : (front rest : List ℕ) → fold with_byte (state front) rest ≡ state (front ++ rest)
-all_kept front [] = ap state (sym (append-nil front))
-all_kept front (byte ∷ rest) =
-    ap (λ (k : Kept). fold with_byte k rest) (state_more front byte) ∙ all_kept (front ++ byte ∷ []) rest
-    ∙ ap state (append_assoc front (byte ∷ []) rest)
+all_kept : (allowed : List PartRegisters) (front rest : List ℕ) → fold with_byte (state allowed front) rest ≡ state allowed (front ++ rest)
+all_kept allowed front [] = ap (state allowed) (sym (append-nil front))
+all_kept allowed front (byte ∷ rest) =
+    ap (λ (k : Kept). fold with_byte k rest) (state_more allowed front byte) ∙ all_kept allowed (front ++ byte ∷ []) rest
+    ∙ ap (state allowed) (append_assoc front (byte ∷ []) rest)
 
-kept_state : (bytes : List ℕ) → kept_of bytes ≡ state bytes
-kept_state bytes = ap (λ (l : List ℕ). fold with_byte (record { line = l; taken = 0; checked = no_line }) bytes) (sym front_none) ∙ all_kept [] bytes
+kept_state : (allowed : List PartRegisters) (bytes : List ℕ) → kept_of allowed bytes ≡ state allowed bytes
+kept_state allowed bytes = ap (λ (l : List ℕ). fold with_byte (record { line = l; taken = 0; checked = no_line allowed }) bytes) (sym front_none) ∙ all_kept allowed [] bytes
 
 -- what is kept counts the bytes
-pub taken_is : (bytes : List ℕ) → (kept_of bytes).taken ≡ length bytes
-taken_is bytes = ap (λ (k : Kept). k.taken) (kept_state bytes)
+pub taken_is : (allowed : List PartRegisters) (bytes : List ℕ) → (kept_of allowed bytes).taken ≡ length bytes
+taken_is allowed bytes = ap (λ (k : Kept). k.taken) (kept_state allowed bytes)
 
 -- what is kept of further bytes
-pub kept_more : (front rest : List ℕ) → fold with_byte (kept_of front) rest ≡ kept_of (front ++ rest)
-kept_more front rest = sym (fold-append with_byte no_byte front rest)
+pub kept_more : (allowed : List PartRegisters) (front rest : List ℕ) → fold with_byte (kept_of allowed front) rest ≡ kept_of allowed (front ++ rest)
+kept_more allowed front rest = sym (fold-append with_byte (no_byte allowed) front rest)
 
 -- at the end
 lines_are : (text : List ℕ) → raw_lines text ≡ ended is_line_feed text ++ cond (has_bytes (since is_line_feed text)) (since is_line_feed text ∷ []) []
 lines_are text = ap without_empty_last (split-ended is_line_feed text) ∙ last_kept (ended is_line_feed text) (since is_line_feed text)
 
-state_end : (text : List ℕ) → finished (state text) ≡ checked_lines (raw_lines text)
-state_end text = rw (front_some (since is_line_feed text)) (go (has_bytes (since is_line_feed text)) ∙ sym (ap checked_lines (lines_are text)))
+state_end : (allowed : List PartRegisters) (text : List ℕ) → finished (state allowed text) ≡ checked_lines allowed (raw_lines text)
+state_end allowed text = rw (front_some (since is_line_feed text)) (go (has_bytes (since is_line_feed text)) ∙ sym (ap (checked_lines allowed) (lines_are text)))
   where
-    go : (b : Bool) → cond b (with_line (checked_lines (ended is_line_feed text)) (kept_front (since is_line_feed text))) (checked_lines (ended is_line_feed text))
-        ≡ checked_lines (ended is_line_feed text ++ cond b (since is_line_feed text ∷ []) [])
-    go true = front_line (checked_lines (ended is_line_feed text)) (since is_line_feed text)
-        ∙ sym (fold-append with_line no_line (ended is_line_feed text) (since is_line_feed text ∷ []))
-    go false = ap checked_lines (sym (append-nil (ended is_line_feed text)))
+    go : (b : Bool) → cond b (with_line (checked_lines allowed (ended is_line_feed text)) (kept_front (since is_line_feed text))) (checked_lines allowed (ended is_line_feed text))
+        ≡ checked_lines allowed (ended is_line_feed text ++ cond b (since is_line_feed text ∷ []) [])
+    go true = front_line (checked_lines allowed (ended is_line_feed text)) (since is_line_feed text)
+        ∙ sym (fold-append with_line (no_line allowed) (ended is_line_feed text) (since is_line_feed text ∷ []))
+    go false = ap (checked_lines allowed) (sym (append-nil (ended is_line_feed text)))
 
-pub finished_is : (text : List ℕ) → ended_log (finished (kept_of text)) ≡ log_of text
+pub finished_is : (allowed : List PartRegisters) (text : List ℕ) → ended_log (finished (kept_of allowed text)) ≡ log_of allowed text
 unfolding log_of
-finished_is text = ap (λ (k : Kept). ended_log (finished k)) (kept_state text) ∙ ap ended_log (state_end text)
+finished_is allowed text = ap (λ (k : Kept). ended_log (finished k)) (kept_state allowed text) ∙ ap ended_log (state_end allowed text)
 
 -- ---- the lines of a text that is accepted
 
@@ -156,11 +157,12 @@ unfolding with_line
 stays [] n refusal = refl
 stays (text ∷ lines) n refusal = stays lines (n + 1) refusal
 
--- the lines of a text, and what they come to
-record ReadLines (n : ℕ) (lines : List (List ℕ)) (before : List LogLine) (known : Known) : Type 0 where
-  said : List LogLine
-  read : map line_said (enumerate_from (n + 1) lines) ≡ map ok_line said
-  come : known_of (reverse said ++ before) ≡ Ok known
+module _ (allowed : List PartRegisters) where
+  -- the lines of a text, and what they come to
+  record ReadLines (n : ℕ) (lines : List (List ℕ)) (before : List LogLine) (known : Known) : Type 0 where
+    said : List LogLine
+    read : map line_said (enumerate_from (n + 1) lines) ≡ map ok_line said
+    come : known_of allowed (reverse said ++ before) ≡ Ok known
 
 same_log : (r : Result Known Refusal) (a b : Known) → r ≡ Ok a → r ≡ Ok b → a ≡ b
 same_log r a b made is = cc
@@ -171,49 +173,63 @@ no_refusal r refusal known is other = absurd (cc)
 ok_fault : Known → Result Known LogFault
 ok_fault known = Ok known
 
--- one line before the others
-first_line : (n : ℕ) (text : List ℕ) (lines : List (List ℕ)) (before : List LogLine) (line : LogLine) (known : Known) →
-    line_said (n + 1, text) ≡ Ok line → ReadLines (n + 1) lines (line ∷ before) known → ReadLines n (text ∷ lines) before known
-first_line n text lines before line known is rest = record {
-  said = line ∷ rest.said;
-  read = rw is (ap (λ (l : List (Result LogLine ScenarioFault)). Ok line ∷ l) rest.read);
-  come = ap known_of (joined (reverse-append (line ∷ []) rest.said)) ∙ rest.come;
-}
-  where
-    joined : reverse (line ∷ rest.said) ≡ reverse rest.said ++ line ∷ [] → reverse (line ∷ rest.said) ++ before ≡ reverse rest.said ++ line ∷ before
-    joined same = ap (λ (l : List LogLine). l ++ before) same ∙ append_assoc (reverse rest.said) (line ∷ []) before
+one_longer : (n : ℕ) (line : LogLine) (before : List LogLine) → length before ≡ n → length (line ∷ before) ≡ n + 1
+one_longer n line before size = omega (arith, size)
 
--- what is left to say of the lines after the first
-abbrev Rest : ℕ → List (List ℕ) → List LogLine → Known → Type 0
-Rest n lines before known = (next : Known) (line : LogLine) → known_of (line ∷ before) ≡ Ok next →
-    (fold with_line (record { ended = n + 1; log = Ok next }) lines).log ≡ Ok known → ReadLines (n + 1) lines (line ∷ before) known
+module _ (allowed : List PartRegisters) where
+  -- one line before the others
+  first_line : (n : ℕ) (text : List ℕ) (lines : List (List ℕ)) (before : List LogLine) (line : LogLine) (known : Known) →
+      line_said (n + 1, text) ≡ Ok line → ReadLines allowed (n + 1) lines (line ∷ before) known →
+      ReadLines allowed n (text ∷ lines) before known
+  first_line n text lines before line known is rest = record {
+    said = line ∷ rest.said;
+    read = rw is (ap (λ (l : List (Result LogLine ScenarioFault)). Ok line ∷ l) rest.read);
+    come = ap (known_of allowed) (joined (reverse-append (line ∷ []) rest.said)) ∙ rest.come;
+  }
+    where
+      joined : reverse (line ∷ rest.said) ≡ reverse rest.said ++ line ∷ [] → reverse (line ∷ rest.said) ++ before ≡ reverse rest.said ++ line ∷ before
+      joined same = ap (λ (l : List LogLine). l ++ before) same ∙ append_assoc (reverse rest.said) (line ∷ []) before
 
-judged_line : (n : ℕ) (text : List ℕ) (lines : List (List ℕ)) (was known : Known) (before : List LogLine) (line : LogLine)
-    (r : Result Known LogFault) → known_of before ≡ Ok was → line_said (n + 1, text) ≡ Ok line → judged was line ≡ r →
-    (fold with_line (record { ended = n + 1; log = or_refused (n + 1) r }) lines).log ≡ Ok known →
-    Rest n lines before known → ReadLines n (text ∷ lines) before known
-judged_line n text lines was known before line (Ok next) at said is left rest =
-    first_line n text lines before line known said
-    (rest next line (ap (λ (r : Result Known LogFault). known_by r line) at ∙ is) left)
-judged_line n text lines was known before line (Err fault) at said is left rest =
-    no_refusal _ _ known (stays lines (n + 1) (record { line = n + 1; fault = fault })) left
+  -- what is left to say of the lines after the first
+  abbrev Rest : ℕ → List (List ℕ) → List LogLine → Known → Type 0
+  Rest n lines before known = (next : Known) (line : LogLine) → known_of allowed (line ∷ before) ≡ Ok next →
+      (fold with_line (record { ended = n + 1; log = Ok next }) lines).log ≡ Ok known →
+      ReadLines allowed (n + 1) lines (line ∷ before) known
 
-said_line : (n : ℕ) (text : List ℕ) (lines : List (List ℕ)) (was known : Known) (before : List LogLine)
-    (r : Result LogLine ScenarioFault) → known_of before ≡ Ok was → line_said (n + 1, text) ≡ r →
-    (fold with_line (record { ended = n + 1; log = or_refused (n + 1) (read_judged was r) }) lines).log ≡ Ok known →
-    Rest n lines before known → ReadLines n (text ∷ lines) before known
-said_line n text lines was known before (Ok line) at said left rest =
-    judged_line n text lines was known before line (judged was line) at said refl left rest
-said_line n text lines was known before (Err fault) at said left rest =
-    no_refusal _ _ known (stays lines (n + 1) (record { line = n + 1; fault = Line fault })) left
+  -- what was known of the lines before, whose number this is
+  record Was (n : ℕ) (before : List LogLine) (was : Known) : Type 0 where
+    size : length before ≡ n
+    at : known_of allowed before ≡ Ok was
 
-read_lines : (lines : List (List ℕ)) (n : ℕ) (was known : Known) (before : List LogLine) → known_of before ≡ Ok was →
-    (fold with_line (record { ended = n; log = Ok was }) lines).log ≡ Ok known → ReadLines n lines before known
-unfolding with_line ok_fault
-read_lines [] n was known before at is = record { said = []; read = refl; come = at ∙ ap ok_fault (same_log _ _ _ refl is) }
-read_lines (text ∷ lines) n was known before at is =
-    said_line n text lines was known before (line_said (n + 1, text)) at refl is
-    (λ next line come left. read_lines lines (n + 1) next known (line ∷ before) come left)
+  judged_line : (n : ℕ) (text : List ℕ) (lines : List (List ℕ)) (was known : Known) (before : List LogLine) (line : LogLine)
+      (r : Result Known LogFault) → Was n before was → line_said (n + 1, text) ≡ Ok line → judged (n + 1) was line ≡ r →
+      (fold with_line (record { ended = n + 1; log = or_refused (n + 1) r }) lines).log ≡ Ok known →
+      Rest n lines before known → ReadLines allowed n (text ∷ lines) before known
+  judged_line n text lines was known before line (Ok next) so_far said is left rest =
+      first_line n text lines before line known said
+      (rest next line (ap (λ (r : Result Known LogFault). known_by (length before + 1) r line) so_far.at
+      ∙ ap (λ (m : ℕ). judged (m + 1) was line) so_far.size ∙ is) left)
+  judged_line n text lines was known before line (Err fault) so_far said is left rest =
+      no_refusal _ _ known (stays lines (n + 1) (record { line = n + 1; fault = fault })) left
+
+  said_line : (n : ℕ) (text : List ℕ) (lines : List (List ℕ)) (was known : Known) (before : List LogLine)
+      (r : Result LogLine ScenarioFault) → Was n before was → line_said (n + 1, text) ≡ r →
+      (fold with_line (record { ended = n + 1; log = or_refused (n + 1) (read_judged (n + 1) was r) }) lines).log ≡ Ok known →
+      Rest n lines before known → ReadLines allowed n (text ∷ lines) before known
+  said_line n text lines was known before (Ok line) so_far said left rest =
+      judged_line n text lines was known before line (judged (n + 1) was line) so_far said refl left rest
+  said_line n text lines was known before (Err fault) so_far said left rest =
+      no_refusal _ _ known (stays lines (n + 1) (record { line = n + 1; fault = Line fault })) left
+
+  read_lines : (lines : List (List ℕ)) (n : ℕ) (was known : Known) (before : List LogLine) → Was n before was →
+      (fold with_line (record { ended = n; log = Ok was }) lines).log ≡ Ok known → ReadLines allowed n lines before known
+  unfolding with_line ok_fault
+  read_lines [] n was known before so_far is =
+      record { said = []; read = refl; come = so_far.at ∙ ap ok_fault (same_log _ _ _ refl is) }
+  read_lines (text ∷ lines) n was known before so_far is =
+      said_line n text lines was known before (line_said (n + 1, text)) so_far refl is
+      (λ next line come left. read_lines lines (n + 1) next known (line ∷ before)
+      (record { size = one_longer n line before so_far.size; at = come }) left)
 
 -- a text that is accepted has a head
 ended_ok : (n : ℕ) (log : Result Known Refusal) (known : Known) → at_end n log ≡ Ok known → log ≡ Ok known
@@ -224,12 +240,14 @@ ended_ok n (Ok was) known is = go was.host refl is
     go None at is = absurd (cc)
     go (Some s) at is = is
 
-pub text_lines : (text : List ℕ) (known : Known) → log_of text ≡ Ok known → TextLines text known
+pub text_lines : (allowed : List PartRegisters) (text : List ℕ) (known : Known) → log_of allowed text ≡ Ok known →
+    TextLines allowed text known
 unfolding log_of
-text_lines text known is =
-    let found = read_lines (raw_lines text) 0 nothing known [] refl (ended_ok _ (checked_lines (raw_lines text)).log known is) in
+text_lines allowed text known is =
+    let found = read_lines allowed (raw_lines text) 0 (nothing allowed) known [] (record { size = refl; at = refl })
+    (ended_ok _ (checked_lines allowed (raw_lines text)).log known is) in
     record {
       lines = found.said;
       read = found.read;
-      come = ap known_of (sym (append-nil (reverse found.said))) ∙ found.come;
+      come = ap (known_of allowed) (sym (append-nil (reverse found.said))) ∙ found.come;
     }

@@ -1,6 +1,7 @@
 -- A log and the acts that it says: what its lines come to is what `pm_check` says of its acts and claims. Lists of lines and of
 -- acts are newest first. This project's own choice.
-use Rattle.std.specs.Prelude.{◌≡◌, ℕ, true, false, if◌then◌else◌, List, [], ◌∷◌, ◌++◌, reverse, Option, Some, None, IsSomeAnd, option_map, Result, Ok, Err}
+use Rattle.std.specs.Prelude.{◌≡◌, ℕ, ◌+◌, Bool, true, false, not, ◌&&◌, ◌||◌, ◌==◌, if◌then◌else◌, List, [], ◌∷◌, ◌++◌, length, reverse, Option, Some, None, IsSomeAnd, option_map, Result, Ok, Err}
+use Rattle.std.specs.Option.{option_map_or}
 use denote.Ref.{Bor}
 use Rattle.pm_host.specs.declared.host.Told.{Told}
 use Rattle.pm_host.specs.declared.host.Told.TheVariants as told
@@ -12,12 +13,21 @@ use Rattle.pm_host.specs.Transcript.{Setup}
 use Rattle.pm_check.specs.declared.act.Act.{Act}
 use Rattle.pm_check.specs.declared.act.Act.TheVariants as act
 use Rattle.pm_check.specs.declared.claim.Claim.{Claim}
+use Rattle.pm_check.specs.declared.claim.Claim.TheVariants.{Holds, Commands}
 use Rattle.pm_check.specs.declared.fault.CheckFault.TheVariants as check
 use Rattle.pm_check.specs.Log.{Accepts, Checks, all_after}
+use Rattle.pm_limits.specs.declared.part_registers.PartRegisters.{PartRegisters}
+use Rattle.pm_limits.specs.Part.{has_register}
+use Rattle.pm_table.specs.Cell.{same_cell}
+use Rattle.pm_table.specs.declared.cell.Cell.{Cell}
+use Rattle.pm_table.specs.declared.cell.Cell.TheVariants.{Out}
+use Rattle.pm_table.specs.declared.reg.Reg.{Reg}
+use Rattle.pm_log.specs.Answered.{answer_in}
 use Rattle.pm_log.specs.Jobs.{job_in}
+use Rattle.pm_log.specs.Lacks.{part_at}
 use Rattle.std.specs.Prelude.{map}
 use Rattle.std.specs.List.{enumerate_from}
-use Rattle.pm_log.specs.Logs.{Known, judged, line_said, nothing}
+use Rattle.pm_log.specs.Logs.{Known, came_of, judged, line_said, nothing}
 use Rattle.pm_log.specs.Texts.{log_of, raw_lines}
 use Rattle.pm_text.specs.declared.scenario.fault.ScenarioFault.{ScenarioFault}
 use Rattle.pm_log.specs.Replays.{fits, is_answer}
@@ -78,35 +88,79 @@ log_of_lines (line ∷ before) = log_with (log_of_lines before) line
 
 -- ---- what lines come to
 
-abbrev pub known_by : Result Known LogFault → LogLine → Result Known LogFault
-known_by (Ok known) line = judged known line
-known_by (Err fault) line = Err fault
+-- a line of this number more
+abbrev pub known_by : ℕ → Result Known LogFault → LogLine → Result Known LogFault
+known_by number (Ok known) line = judged number known line
+known_by number (Err fault) line = Err fault
 
-abbrev pub known_of : List LogLine → Result Known LogFault
-known_of [] = Ok nothing
-known_of (line ∷ before) = known_by (known_of before) line
+-- what lines come to for a receiver who lets parts lack these registers
+abbrev pub known_of : List PartRegisters → List LogLine → Result Known LogFault
+known_of allowed [] = Ok (nothing allowed)
+known_of allowed (line ∷ before) = known_by (length before + 1) (known_of allowed before) line
+
+-- ---- what is said of a part
+
+-- in the line the part at this address answers for the cell
+abbrev pub answers : ℕ → Cell → LogLine → Bool
+answers addr cell (Sent parts) = option_map_or (λ answered. same_cell answered cell) (answer_in addr parts.write (came_of parts.read)) false
+answers addr cell _ = false
+
+-- it does so in a line since the last head
+abbrev pub answered_since : ℕ → Cell → List LogLine → Bool
+answered_since addr cell [] = false
+answered_since addr cell (Head head outputs passes ∷ before) = false
+answered_since addr cell (line ∷ before) = answers addr cell line || answered_since addr cell before
+
+-- A claim after these lines says of the part of the last head that it lacks only registers that the receiver lets it lack, and for which it
+-- didn't answer since that head.
+pub record IsLacking (allowed : List PartRegisters) (addr : ℕ) (before : List LogLine) (output : ℕ) (part : PartRegisters) : Type 0 where
+  pub permitted : (register : Reg) → has_register part register ≡ false → has_register (part_at allowed addr) register ≡ false
+  pub unanswered : (register : Reg) → has_register part register ≡ false → answered_since addr (Out output register) before ≡ false
+
+abbrev pub IsTrusted : List PartRegisters → ℕ → List LogLine → Claim → Type 0
+IsTrusted allowed addr before (Holds cell word) = Unit {0}
+IsTrusted allowed addr before (Commands output part least most) = IsLacking allowed addr before output part
+
+-- a claim in these lines says of the part at this address that it lacks the register
+abbrev pub claims_lack : Option Log → ℕ → Reg → Claim → Bool
+claims_lack log addr register (Holds cell word) = false
+claims_lack log addr register (Commands output part least most) =
+    option_map_or (λ log. log.setup.addr == addr) log false && not (has_register part register)
+
+abbrev pub are_lacking : ℕ → Reg → List LogLine → Bool
+are_lacking addr register [] = false
+are_lacking addr register (Claimed claim ∷ before) =
+    claims_lack (log_of_lines before) addr register claim || are_lacking addr register before
+are_lacking addr register (line ∷ before) = are_lacking addr register before
 
 -- ---- the law
 
--- A claim in lines that are accepted is accepted by `check` of the acts of the lines before it; and a claim that isn't known after
--- lines that are accepted is the one that `check` names.
+-- A claim in lines that are accepted is accepted by `check` of the acts of the lines before it, and says that the part lacks no other
+-- registers than the receiver lets it lack, for none of which it answered; a claim that isn't accepted after lines that are is one that
+-- says more than that, or the one that `check` names; and a register is named as lacking exactly if an accepted claim says it.
 pub record LinesAreChecked : Type 0 where
-  pub accepted : (later before : List LogLine) (claim : Claim) (known : Known) → known_of (later ++ Claimed claim ∷ before) ≡ Ok known →
-      IsSomeAnd (log_of_lines before) (λ log. Accepts log.setup (reverse log.acts) (claim ∷ []))
-  pub refused : (before : List LogLine) (claim : Claim) (known : Known) (log : Log) (fault : LogFault) → known_of before ≡ Ok known →
-      log_of_lines before ≡ Some log → judged known (Claimed claim) ≡ Err fault →
+  pub accepted : (allowed : List PartRegisters) (later before : List LogLine) (claim : Claim) (known : Known) →
+      known_of allowed (later ++ Claimed claim ∷ before) ≡ Ok known →
+      IsSomeAnd (log_of_lines before) (λ log. Accepts log.setup (reverse log.acts) (claim ∷ [])
+      × IsTrusted allowed log.setup.addr before claim)
+  pub refused : (allowed : List PartRegisters) (before : List LogLine) (number : ℕ) (claim : Claim) (known : Known) (log : Log)
+      (fault : LogFault) → known_of allowed before ≡ Ok known → log_of_lines before ≡ Some log →
+      judged number known (Claimed claim) ≡ Err fault → IsTrusted allowed log.setup.addr before claim →
       Checks log.setup (reverse log.acts) (claim ∷ []) (Err (check.Claim 0))
+  pub lacking : (allowed : List PartRegisters) (lines : List LogLine) (known : Known) (addr : ℕ) (register : Reg) →
+      known_of allowed lines ≡ Ok known → has_register (part_at known.without addr) register ≡ not (are_lacking addr register lines)
 
 abbrev pub ok_line : LogLine → Result LogLine ScenarioFault
 ok_line line = Ok line
 
 -- The lines of a text that is accepted: each says something, and they come to what is known.
-pub record TextLines (text : List ℕ) (known : Known) : Type 0 where
+pub record TextLines (allowed : List PartRegisters) (text : List ℕ) (known : Known) : Type 0 where
   pub lines : List LogLine
   pub read : map line_said (enumerate_from 1 (raw_lines text)) ≡ map ok_line lines
-  pub come : known_of (reverse lines) ≡ Ok known
+  pub come : known_of allowed (reverse lines) ≡ Ok known
 
 -- A text that is accepted is lines that are, and each claim in it is accepted by `check` of the acts of the lines before it.
 pub record LogsAreChecked : Type 0 where
-  pub lines : (text : List ℕ) (known : Known) → log_of text ≡ Ok known → TextLines text known
+  pub lines : (allowed : List PartRegisters) (text : List ℕ) (known : Known) → log_of allowed text ≡ Ok known →
+      TextLines allowed text known
   pub claims : LinesAreChecked

@@ -1,6 +1,8 @@
 -- What the crate promises.
+pub mod Answered
 pub mod Holdings
 pub mod Jobs
+pub mod Lacks
 pub mod Laws
 pub mod Lines
 pub mod Logs

@@ -11,27 +11,41 @@ use Rattle.pm_host.specs.Transcript.{Setup, Entry, Finished, Got}
 use Rattle.pm_check.specs.declared.claim.Claim.{Claim}
 use Rattle.pm_check.specs.declared.claim.Claim.TheVariants.{Holds, Commands}
 use Rattle.pm_check.specs.Log.{is_claimed}
+use Rattle.pm_limits.specs.declared.part_registers.PartRegisters.{PartRegisters}
 use Rattle.pm_lines.specs.Lines.{Numbered, without_return}
 use Rattle.pm_text.specs.declared.scenario.fault.ScenarioFault.{ScenarioFault}
 use Rattle.pm_text.specs.declared.scenario.fault.ScenarioFault.TheVariants.{Syntax}
+use Rattle.pm_log.specs.Answered.{answer_in, belied, no_answers, with_answer}
+use Rattle.pm_log.specs.Lacks.{has_all, lacking_more, lacks_nothing, not_allowed, part_at}
 use Rattle.pm_log.specs.Lines.{said}
 use Rattle.pm_log.specs.Replays.{transferred}
 use Rattle.pm_log.specs.declared.checked.Refusal.{Refusal}
 use Rattle.pm_log.specs.declared.fault.LogFault.{LogFault}
-use Rattle.pm_log.specs.declared.fault.LogFault.TheVariants.{Line, NoHead, Address, Setup as NoHost, Word, Voltage}
+use Rattle.pm_log.specs.declared.fault.LogFault.TheVariants.{Line, NoHead, Address, Setup as NoHost, Answered, Lacks, Word, Voltage}
 use Rattle.pm_log.specs.declared.log_line.LogLine.{LogLine}
 use Rattle.pm_log.specs.declared.log_line.LogLine.TheVariants.{Note, Head, Claimed, Sent, Failed}
 
 -- ---- what is known
 
--- what the host of the last head holds, and how many claims were accepted and transfers heard
+-- what the host of the last head holds, the line of the part's last good answer for each cell since then, and how many claims were
+-- accepted and transfers heard; what the receiver lets parts lack, and what accepted claims say that parts lack
 pub record Known : Type 0 where
   pub host : Option Summary
+  pub answers : List (Option ℕ)
   pub claims : ℕ
   pub transfers : ℕ
+  pub allowed : List PartRegisters
+  pub without : List PartRegisters
 
-abbrev pub nothing : Known
-nothing = record { host = None; claims = 0; transfers = 0 }
+abbrev pub nothing : List PartRegisters → Known
+nothing allowed = record {
+  host = None;
+  answers = no_answers;
+  claims = 0;
+  transfers = 0;
+  allowed = allowed;
+  without = lacks_nothing;
+}
 
 -- ---- a head
 
@@ -40,7 +54,7 @@ is_address addr = nat_le 0x08 addr && nat_le addr 0x77
 
 abbrev pub begun_with : Known → Option HostFault → Setup → Result Known LogFault
 begun_with known (Some fault) setup = Err (NoHost fault)
-begun_with known None setup = Ok (record known { host = Some (start setup) })
+begun_with known None setup = Ok (record known { host = Some (start setup); answers = no_answers })
 
 abbrev pub headed : Known → Setup → Result Known LogFault
 headed known setup = if is_address setup.addr then begun_with known (setup_fault setup.outputs setup.passes) setup
@@ -57,10 +71,34 @@ abbrev pub unknown : Summary → Claim → LogFault
 unknown s (Holds cell word) = Word cell word (left_possible s cell)
 unknown s (Commands output part least most) = Voltage output least most
 
+-- Why a claim isn't looked at, which says that the part at an address lacks registers: it answered a read of one, or the receiver doesn't allow one.
+abbrev pub lacking_fault : ℕ → PartRegisters → Option LogFault
+lacking_fault addr left = if has_all left then None else Some (Lacks addr left)
+
+abbrev pub answered_or : Option (Cell × ℕ) → ℕ → Option LogFault → Option LogFault
+answered_or (Some (cell, line)) addr fault = Some (Answered addr cell line)
+answered_or None addr fault = fault
+
+abbrev pub distrusted : Known → ℕ → Claim → Option LogFault
+distrusted known addr (Holds cell word) = None
+distrusted known addr (Commands output part least most) = answered_or (belied known.answers part output) addr
+    (lacking_fault addr (not_allowed (part_at known.allowed addr) part))
+
+-- a claim was accepted, of the part at this address
+abbrev pub lacking_by : List PartRegisters → ℕ → Claim → List PartRegisters
+lacking_by without addr (Holds cell word) = without
+lacking_by without addr (Commands output part least most) = lacking_more without addr part
+
+abbrev pub with_claim : Known → ℕ → Claim → Known
+with_claim known addr claim = record known { claims = known.claims + 1; without = lacking_by known.without addr claim }
+
+abbrev pub trusted : Option LogFault → Known → Summary → Claim → Result Known LogFault
+trusted (Some fault) known s claim = Err fault
+trusted None known s claim = if is_claimed s claim then Ok (with_claim known s.setup.addr claim) else Err (unknown s claim)
+
 abbrev pub claimed : Known → Option Summary → Claim → Result Known LogFault
 claimed known None claim = Err NoHead
-claimed known (Some s) claim = if is_claimed s claim then Ok (record known { claims = known.claims + 1 })
-    else Err (unknown s claim)
+claimed known (Some s) claim = trusted (distrusted known s.setup.addr claim) known s claim
 
 -- ---- a transfer
 
@@ -68,13 +106,16 @@ abbrev pub one_if : Bool → ℕ
 one_if false = 0
 one_if true = 1
 
-abbrev pub told_with : Known → Result (Summary × Bool) LogFault → Result Known LogFault
-told_with known (Ok (s, is_told)) = Ok (record { host = Some s; claims = known.claims; transfers = known.transfers + one_if is_told })
-told_with known (Err fault) = Err fault
+abbrev pub told_with : Known → List (Option ℕ) → Result (Summary × Bool) LogFault → Result Known LogFault
+told_with known answers (Ok (s, is_told)) =
+    Ok (record known { host = Some s; answers = answers; transfers = known.transfers + one_if is_told })
+told_with known answers (Err fault) = Err fault
 
-abbrev pub told : Known → Option Summary → List ℕ → Entry → Result Known LogFault
-told known None frame entry = Err NoHead
-told known (Some s) frame entry = told_with known (transferred s frame entry)
+-- a transfer of the line with this number
+abbrev pub told : ℕ → Known → Option Summary → List ℕ → Entry → Result Known LogFault
+told number known None frame entry = Err NoHead
+told number known (Some s) frame entry =
+    told_with known (with_answer number known.answers (answer_in s.setup.addr frame entry)) (transferred s frame entry)
 
 -- what came of a packet: an answer, or the acknowledgement of a write
 abbrev pub came_of : Option (List ℕ) → Entry
@@ -83,17 +124,17 @@ came_of None = Finished true
 
 -- ---- a line
 
--- what is known with one line more, or why it isn't accepted
-abbrev pub judged : Known → LogLine → Result Known LogFault
-judged known Note = Ok known
-judged known (Head addr outputs passes) = headed known (record { addr = addr; outputs = outputs; passes = passes })
-judged known (Claimed claim) = claimed known known.host claim
-judged known (Sent parts) = told known known.host parts.write (came_of parts.read)
-judged known (Failed write) = told known known.host write (Finished false)
+-- what is known with one line more, of this number, or why it isn't accepted
+abbrev pub judged : ℕ → Known → LogLine → Result Known LogFault
+judged number known Note = Ok known
+judged number known (Head addr outputs passes) = headed known (record { addr = addr; outputs = outputs; passes = passes })
+judged number known (Claimed claim) = claimed known known.host claim
+judged number known (Sent parts) = told number known known.host parts.write (came_of parts.read)
+judged number known (Failed write) = told number known known.host write (Finished false)
 
-abbrev pub read_judged : Known → Result LogLine ScenarioFault → Result Known LogFault
-read_judged known (Ok line) = judged known line
-read_judged known (Err fault) = Err (Line fault)
+abbrev pub read_judged : ℕ → Known → Result LogLine ScenarioFault → Result Known LogFault
+read_judged number known (Ok line) = judged number known line
+read_judged number known (Err fault) = Err (Line fault)
 
 -- the most bytes that a line may have, with a carriage return
 unfoldable pub max_line : ℕ
@@ -110,8 +151,8 @@ pub record Checked : Type 0 where
   pub ended : ℕ
   pub log : Result Known Refusal
 
-abbrev pub no_line : Checked
-no_line = record { ended = 0; log = Ok nothing }
+abbrev pub no_line : List PartRegisters → Checked
+no_line allowed = record { ended = 0; log = Ok (nothing allowed) }
 
 abbrev pub or_refused : ℕ → Result Known LogFault → Result Known Refusal
 or_refused number (Ok known) = Ok known
@@ -120,7 +161,7 @@ or_refused number (Err fault) = Err (record { line = number; fault = fault })
 -- what is known with one line more: nothing changes after the first that isn't accepted
 abbrev pub known_with : Result Known Refusal → Numbered → Result Known Refusal
 known_with (Err refusal) line = Err refusal
-known_with (Ok known) line = or_refused line.0 (read_judged known (line_said line))
+known_with (Ok known) line = or_refused line.0 (read_judged line.0 known (line_said line))
 
 unfoldable pub with_line : Checked → List ℕ → Checked
 with_line checked text = record { ended = checked.ended + 1; log = known_with checked.log (checked.ended + 1, text) }

@@ -4,12 +4,13 @@ use Rattle.std.specs.List.{fold}
 use Rattle.std.specs.Io.KnownBytes.{Consumes, IsAtEnd}
 use Rattle.pm_lines.specs.declared.fault.TextFault.{TextFault}
 use Rattle.pm_lines.specs.declared.fault.TextFault.TheVariants.{TooLong, Read, Memory}
+use Rattle.pm_limits.specs.declared.part_registers.PartRegisters.{PartRegisters}
 use Rattle.pm_log.specs.Texts.{Kept, kept_of, most_bytes, with_byte}
 
--- the reader gave these bytes, and they were taken
-pub record Taken (old new : Option (List ℕ)) (bytes : List ℕ) (kept : Kept) : Type 0 where
+-- the reader gave these bytes, and they were taken, by what the receiver lets parts lack
+pub record Taken (allowed : List PartRegisters) (old new : Option (List ℕ)) (bytes : List ℕ) (kept : Kept) : Type 0 where
   pub given : Consumes old new bytes
-  pub kept_is : kept ≡ kept_of bytes
+  pub kept_is : kept ≡ kept_of allowed bytes
   pub short : length bytes ≤ most_bytes
 
 -- the reader gave this many bytes, none only at its end, and they were taken

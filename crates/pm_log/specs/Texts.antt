@@ -7,6 +7,7 @@ use Rattle.pm_lines.specs.Engine.{Run}
 use Rattle.pm_lines.specs.Streams.{AppendsFront}
 use Rattle.pm_lines.specs.declared.fault.TextFault.{TextFault}
 use Rattle.pm_lines.specs.declared.fault.TextFault.TheVariants.{TooLong, Read, Write, Memory}
+use Rattle.pm_limits.specs.declared.part_registers.PartRegisters.{PartRegisters}
 use Rattle.pm_log.specs.Logs.{Checked, Known, at_end, max_line, no_line, with_line}
 use Rattle.pm_log.specs.Verdicts.{end_of, verdict_text}
 use Rattle.pm_log.specs.declared.checked.Refusal.{Refusal}
@@ -18,22 +19,22 @@ use Rattle.pm_log.specs.declared.checking.LogEnd.{LogEnd}
 abbrev pub raw_lines : List ℕ → List (List ℕ)
 raw_lines text = without_empty_last (slice_split is_line_feed text)
 
--- what lines come to
-abbrev pub checked_lines : List (List ℕ) → Checked
-checked_lines lines = fold with_line no_line lines
+-- what lines come to, by what the receiver lets parts lack
+abbrev pub checked_lines : List PartRegisters → List (List ℕ) → Checked
+checked_lines allowed lines = fold with_line (no_line allowed) lines
 
 -- what a text comes to, what is written of it, and how that ends
 abbrev pub ended : Checked → Result Known Refusal
 ended checked = at_end checked.ended checked.log
 
-unfoldable pub log_of : List ℕ → Result Known Refusal
-log_of text = ended (checked_lines (raw_lines text))
+unfoldable pub log_of : List PartRegisters → List ℕ → Result Known Refusal
+log_of allowed text = ended (checked_lines allowed (raw_lines text))
 
-abbrev pub log_text : List ℕ → List ℕ
-log_text text = verdict_text (log_of text)
+abbrev pub log_text : List PartRegisters → List ℕ → List ℕ
+log_text allowed text = verdict_text (log_of allowed text)
 
-abbrev pub log_end : List ℕ → LogEnd
-log_end text = end_of (log_of text)
+abbrev pub log_end : List PartRegisters → List ℕ → LogEnd
+log_end allowed text = end_of (log_of allowed text)
 
 -- ---- bytes one after another
 
@@ -43,8 +44,8 @@ pub record Kept : Type 0 where
   pub taken : ℕ
   pub checked : Checked
 
-abbrev pub no_byte : Kept
-no_byte = record { line = []; taken = 0; checked = no_line }
+abbrev pub no_byte : List PartRegisters → Kept
+no_byte allowed = record { line = []; taken = 0; checked = no_line allowed }
 
 -- a line that is too long is kept with one byte more than it may have
 abbrev pub line_with : List ℕ → ℕ → List ℕ
@@ -55,8 +56,8 @@ with_byte kept byte = if is_line_feed byte
     then record { line = []; taken = kept.taken + 1; checked = with_line kept.checked kept.line }
     else record { line = line_with kept.line byte; taken = kept.taken + 1; checked = kept.checked }
 
-abbrev pub kept_of : List ℕ → Kept
-kept_of bytes = fold with_byte no_byte bytes
+abbrev pub kept_of : List PartRegisters → List ℕ → Kept
+kept_of allowed bytes = fold with_byte (no_byte allowed) bytes
 
 -- a last line without a line feed ends
 abbrev pub finished : Kept → Checked
@@ -82,16 +83,16 @@ Breaks old new Read = (front : List ℕ) × Consumes old new front
 Breaks old new Memory = (front : List ℕ) × (0 < length front) × Consumes old new front
 Breaks old new _ = ⊥
 
--- How a check of a log ends that was given streams which hadn't failed: the line was written that the whole text asks for,
--- the writer failed at it, or nothing was written.
-module _ {R W : Type 0} (run : Run R W) where
+-- How a check of a log ends that was given streams which hadn't failed, by what the receiver lets parts lack: the line was written that
+-- the whole text asks for, the writer failed at it, or nothing was written.
+module _ {R W : Type 0} (allowed : List PartRegisters) (run : Run R W) where
   abbrev pub GaveAll : List ℕ → Type 0
   GaveAll input = IsAll (run.remaining run.reader.inner) (run.remaining run.reader'.inner) input
 
   abbrev pub LogEnds : Result LogEnd TextFault → Type 0
   LogEnds (Ok end) = IsFalse run.reader'.failed × IsFalse run.writer'.failed × (input : List ℕ) × GaveAll input
-      × (end ≡ log_end input) × Appends (run.contents run.writer.inner) (run.contents run.writer'.inner) (log_text input)
+      × (end ≡ log_end allowed input) × Appends (run.contents run.writer.inner) (run.contents run.writer'.inner) (log_text allowed input)
   LogEnds (Err Write) = IsFalse run.reader'.failed × IsTrue run.writer'.failed × (input : List ℕ) × GaveAll input
-      × AppendsFront (run.contents run.writer.inner) (run.contents run.writer'.inner) (log_text input)
+      × AppendsFront (run.contents run.writer.inner) (run.contents run.writer'.inner) (log_text allowed input)
   LogEnds (Err fault) = (run.writer' ≡ run.writer) × (IsTrue run.reader'.failed ↔ (fault ≡ Read))
       × Breaks (run.remaining run.reader.inner) (run.remaining run.reader'.inner) fault

@@ -3,6 +3,7 @@ ghost use Rattle.pm_log.specs.Holdings.{refusal_of};
 ghost use Rattle.pm_log.specs.Logs.{line_said};
 
 use crate::fault::LogFault;
+use crate::lacks::Lacks;
 use crate::log_line::{LogLine, read_log_line};
 use crate::log_text::MAX_LINE;
 use crate::open_log::OpenLog;
@@ -45,13 +46,13 @@ impl Checked {
     ghost use Rattle.std.specs.Prelude.{◌<◌, ◌≤◌, ◌^◌, Ok, OnErr, None, Some, IfSome, IfNone, MatchResult};
     ghost use Rattle.pm_log.specs.Logs.{at_end, no_line, with_line};
 
-    /// No line.
-    pub fn new() -> Checked
-        ensures { result ≡ no_line }
+    /// No line, for a receiver who lets parts lack these registers.
+    pub fn new(allowed: &Lacks) -> Checked
+        ensures { result ≡ no_line allowed.now.parts }
     {
         Checked {
             ended: 0,
-            so_far: OpenLog::new(),
+            so_far: OpenLog::new(allowed),
             refusal: None,
         }
     }
@@ -82,7 +83,7 @@ impl Checked {
         let number = self.ended + 1;
         if self.refusal.is_none() {
             self.refusal = match line_of(alloc, number, text)? {
-                Ok(line) => refused(number, self.so_far.take(&line)),
+                Ok(line) => refused(number, self.so_far.take(number, &line)),
                 Err(fault) => refused(number, Err(LogFault::Line(fault))),
             };
         }

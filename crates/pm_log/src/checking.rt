@@ -2,11 +2,13 @@
 ghost use Rattle.std.specs.Prelude.{◌≡◌, ◌+◌, ◌≤◌, ◌↔◌, List, [], ℕ, IsFalse, IsTrue, IfErr, IfOk, MatchResult, OnOk, length, string_bytes};
 ghost use Rattle.std.specs.List.{fold};
 ghost use Rattle.std.specs.Io.KnownBytes.{IsAtEnd};
+ghost use Rattle.pm_limits.specs.declared.part_registers.PartRegisters.{PartRegisters};
 ghost use Rattle.pm_lines.specs.Engine.{over};
 ghost use Rattle.pm_log.specs.Texts.{Breaks, LogEnds, ended, finished, log_text, most_bytes, no_byte, with_byte};
 ghost use Rattle.pm_log.specs.TakenLogs.{Taken, TakesPiece, StopsBytes, StopsPiece};
 ghost use Rattle.pm_log.specs.Verdicts.{end_of as spec_end_of, verdict_text};
 
+use crate::lacks::Lacks;
 use crate::log_text::LogText;
 use crate::verdict_text::push_verdict;
 use pm_lines::{Sink, Source, TextFault};
@@ -31,6 +33,9 @@ pub enum LogEnd {
 /// Reads a log to its end, and writes one line: `accepted: 3 claims, 41 transfers`, or `line 17: ` and why that line isn't
 /// accepted. It takes no more memory for a longer log.
 ///
+/// A claim that says that the part lacks registers is accepted only if the receiver allows each of them, and the part answered for none
+/// of them. The line then ends in `; without VOUT_MIN of 58 by --lacks`.
+///
 /// # Errors
 ///
 /// X3 after 2^63 bytes, X4 if the reader failed, X5 if the writer did, and X6. Then nothing was written, but for
@@ -39,13 +44,14 @@ pub fn check_log<R: Read, W: Write>(
     alloc: Global,
     reader: &mut Source<R>,
     writer: &mut Sink<W>,
+    allowed: &Lacks,
 ) -> Result<LogEnd, TextFault>
     requires reader { IsFalse reader.old.failed }
     requires writer { IsFalse writer.old.failed }
-    ensures { LogEnds (over R.remaining reader.old reader.new W.contents writer.old writer.new) result }
+    ensures { LogEnds allowed.now.parts (over R.remaining reader.old reader.new W.contents writer.old writer.new) result }
 {
-    let mut log = LogText::new(alloc);
-    check_all(alloc, reader, writer, &mut log)
+    let mut log = LogText::new(alloc, allowed);
+    check_all(alloc, reader, writer, allowed, &mut log)
 }
 
 // The body of `check_log`; what it keeps is borrowed so that it is dropped on every path.
@@ -53,14 +59,15 @@ fn check_all<R: Read, W: Write>(
     alloc: Global,
     reader: &mut Source<R>,
     writer: &mut Sink<W>,
+    allowed: &Lacks,
     log: &mut LogText,
 ) -> Result<LogEnd, TextFault>
     requires reader { IsFalse reader.old.failed }
     requires writer { IsFalse writer.old.failed }
-    requires fresh { log.old ≡ no_byte }
-    ensures { LogEnds (over R.remaining reader.old reader.new W.contents writer.old writer.new) result }
+    requires fresh { log.old ≡ no_byte allowed.now.parts }
+    ensures { LogEnds allowed.now.parts (over R.remaining reader.old reader.new W.contents writer.old writer.new) result }
 {
-    take_all(alloc, reader, log)?;
+    take_all(alloc, reader, allowed, log)?;
     if log.taken() == 0 {
         // the text of a verdict takes memory, which is asked for only if a byte was read
         writer.put(empty_verdict().as_bytes())?;
@@ -75,12 +82,13 @@ fn check_all<R: Read, W: Write>(
 fn take_all<R: Read>(
     alloc: Global,
     reader: &mut Source<R>,
+    allowed: &Lacks,
     log: &mut LogText,
 ) -> Result<(), TextFault>
     requires reader { IsFalse reader.old.failed }
-    requires fresh { log.old ≡ no_byte }
+    requires fresh { log.old ≡ no_byte allowed.now.parts }
     ensures all { OnOk result (IsFalse reader.new.failed × (input : List ℕ)
-        × Taken (R.remaining reader.old.inner) (R.remaining reader.new.inner) input log.new
+        × Taken allowed.now.parts (R.remaining reader.old.inner) (R.remaining reader.new.inner) input log.new
         × IsAtEnd (R.remaining reader.new.inner)) }
     ensures breaks { IfErr result (λ fault. (IsTrue reader.new.failed ↔ (fault ≡ TextFault.Read))
         × Breaks (R.remaining reader.old.inner) (R.remaining reader.new.inner) fault) }
@@ -130,7 +138,7 @@ fn take_bytes(alloc: Global, log: &mut LogText, bytes: &[u8]) -> Result<(), Text
 // The verdict of no byte.
 #[tactic(auto, using(crate::proofs::EmptyLog::empty_text))]
 fn empty_verdict() -> &'static str
-    ensures { result.now ≡ log_text [] }
+    ensures { (allowed : List PartRegisters) → result.now ≡ log_text allowed [] }
 {
     "line 1: no #log line stands before it\n"
 }

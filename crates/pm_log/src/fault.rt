@@ -1,5 +1,6 @@
 use pm_frame::FrameFault;
 use pm_host::{HostFault, Possible};
+use pm_limits::PartRegisters;
 use pm_table::Cell;
 use pm_text::ScenarioFault;
 
@@ -20,6 +21,17 @@ pub enum LogFault {
     NoJob,
     /// H4 to H6: the packet begins a job that the host refuses.
     Refused(HostFault),
+    /// A claim says that the part at this address lacks the register, for which it answered on this line.
+    Answered {
+        addr: u8,
+        cell: Cell,
+        line: u64,
+    },
+    /// A claim says that the part at this address lacks registers, and the receiver doesn't allow it of those that this part lacks.
+    Lacks {
+        addr: u8,
+        part: PartRegisters,
+    },
     /// The cell isn't known to hold the word; these words are possible, or any if the cell isn't there.
     Word {
         cell: Cell,

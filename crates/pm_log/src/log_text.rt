@@ -1,6 +1,7 @@
 ghost use Rattle.std.specs.Prelude.{◌≡◌};
 
 use crate::checked::Checked;
+use crate::lacks::Lacks;
 use pm_lines::TextFault;
 use std::alloc::Global;
 use std::marker::Model;
@@ -35,14 +36,14 @@ impl LogText {
     ghost use Rattle.pm_log.specs.Logs.{at_end, with_line};
     ghost use Rattle.pm_log.specs.Texts.{ended, finished, no_byte, with_byte};
 
-    /// No byte. Takes no memory.
-    pub fn new(alloc: Global) -> LogText
-        ensures { result ≡ no_byte }
+    /// No byte, for a receiver who lets parts lack these registers. Takes no memory.
+    pub fn new(alloc: Global, allowed: &Lacks) -> LogText
+        ensures { result ≡ no_byte allowed.now.parts }
     {
         LogText {
             line: Vec::new(alloc),
             taken: 0,
-            checked: Checked::new(),
+            checked: Checked::new(allowed),
         }
     }
 

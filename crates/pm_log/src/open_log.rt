@@ -1,7 +1,12 @@
-ghost use Rattle.std.specs.Prelude.{◌≡◌, Some, Ok, Err, MatchResult};
+ghost use Rattle.std.specs.Prelude.{◌≡◌, ◌<◌, Some, Ok, Err, MatchResult};
+ghost use Rattle.pm_host.specs.Told.{entry_told};
+ghost use Rattle.pm_log.specs.Answered.{answer_in as spec_answer_in};
+ghost use Rattle.pm_table.specs.Address.{IsAddress};
 ghost use Rattle.pm_log.specs.Logs.{left_possible, unknown as spec_unknown};
 
+use crate::answers::{Answers, answered_cell};
 use crate::fault::LogFault;
+use crate::lacks::{Lacks, has_all, not_allowed};
 use crate::log_line::LogLine;
 use crate::transfer::take_transfer;
 use pm_check::{Claim, is_claimed};
@@ -9,12 +14,16 @@ use pm_host::{Host, Possible, Told};
 use pm_table::{Cell, address_ok};
 use std::marker::Model;
 
-/// What is known after lines that were accepted: the host of the last head, and how many claims and transfers there were.
+/// What is known after lines that were accepted: the host of the last head, how many claims and transfers there were, and which registers
+/// parts lack by those claims.
 #[derive(Debug, Drop)]
 pub struct OpenLog {
     host: Option<Host>,
+    answers: Answers,
     claims: u64,
     transfers: u64,
+    allowed: Lacks,
+    without: Lacks,
 }
 
 impl Model for OpenLog {
@@ -22,22 +31,31 @@ impl Model for OpenLog {
 
     ghost Value = { Known };
 
-    ghost view = { λ o. record { host = o.host; claims = o.claims; transfers = o.transfers } };
+    ghost view = { λ o. record {
+      host = o.host;
+      answers = o.answers;
+      claims = o.claims;
+      transfers = o.transfers;
+      allowed = o.allowed.parts;
+      without = o.without.parts;
+    } };
 }
 
 impl OpenLog {
     ghost use Rattle.std.specs.Prelude.{◌+◌, ◌<◌, ◌≤◌, ◌^◌, IfOk, is_some};
-    ghost use Rattle.pm_host.specs.Told.{entry_told};
-    ghost use Rattle.pm_log.specs.Logs.{claimed, headed, judged, nothing, told};
+    ghost use Rattle.pm_log.specs.Logs.{claimed, distrusted, headed, judged, nothing, told};
 
-    /// No line.
-    pub(crate) fn new() -> OpenLog
-        ensures { result ≡ nothing }
+    /// No line, for a receiver who lets parts lack these registers.
+    pub(crate) fn new(allowed: &Lacks) -> OpenLog
+        ensures { result ≡ nothing allowed.now.parts }
     {
         OpenLog {
             host: None,
+            answers: Answers::new(),
             claims: 0,
             transfers: 0,
+            allowed: *allowed,
+            without: Lacks::nothing(),
         }
     }
 
@@ -62,12 +80,19 @@ impl OpenLog {
         self.transfers
     }
 
-    /// Takes what a line says, or answers why it isn't accepted. Then what is known isn't said, but for the counts.
-    pub(crate) fn take(&mut self, line: &LogLine) -> Result<(), LogFault>
+    /// Which registers parts lack by the claims that were accepted.
+    pub fn without(&self) -> &Lacks
+        ensures { result.now.parts ≡ self.now.without }
+    {
+        &self.without
+    }
+
+    /// Takes what the line with this number says, or answers why it isn't accepted. Then what is known isn't said, but for the counts.
+    pub(crate) fn take(&mut self, number: u64, line: &LogLine) -> Result<(), LogFault>
         requires claims { self.old.claims + 1 < 2 ^ 64 }
         requires transfers { self.old.transfers + 1 < 2 ^ 64 }
-        ensures judged { MatchResult result (λ _. judged self.old line.now ≡ Ok self.new)
-            (λ fault. judged self.old line.now ≡ Err fault) }
+        ensures judged { MatchResult result (λ _. judged number self.old line.now ≡ Ok self.new)
+            (λ fault. judged number self.old line.now ≡ Err fault) }
         ensures claims { self.new.claims ≤ self.old.claims + 1 }
         ensures transfers { self.new.transfers ≤ self.old.transfers + 1 }
     {
@@ -80,10 +105,16 @@ impl OpenLog {
             } => self.begin(*addr, *outputs, *passes),
             LogLine::Claimed(claim) => self.claim(*claim),
             LogLine::Sent(parts) => match &parts.read {
-                Some(read) => self.tell(parts.write.as_slice(), Told::Got(read.as_slice())),
-                None => self.tell(parts.write.as_slice(), Told::Finished { acked: true }),
+                Some(read) => self.tell(number, parts.write.as_slice(), Told::Got(read.as_slice())),
+                None => self.tell(
+                    number,
+                    parts.write.as_slice(),
+                    Told::Finished { acked: true },
+                ),
             },
-            LogLine::Failed(write) => self.tell(write.as_slice(), Told::Finished { acked: false }),
+            LogLine::Failed(write) => {
+                self.tell(number, write.as_slice(), Told::Finished { acked: false })
+            }
         }
     }
 
@@ -101,6 +132,7 @@ impl OpenLog {
         match Host::new(addr, outputs, passes) {
             Ok(host) => {
                 self.host = Some(host);
+                self.answers = Answers::new();
                 Ok(())
             }
             Err(fault) => Err(LogFault::Setup(fault)),
@@ -118,33 +150,82 @@ impl OpenLog {
         let Some(host) = &self.host else {
             return Err(LogFault::NoHead);
         };
+        let addr = address(host);
+        if let Some(fault) = self.distrusted(addr, claim) {
+            return Err(fault);
+        }
         if !is_claimed(host, claim) {
             return Err(unknown(host, claim));
         }
         self.claims += 1;
+        if let Claim::Commands { part, .. } = claim {
+            self.without.add(addr, part);
+        }
         Ok(())
     }
 
+    // Why a claim isn't looked at, which says that the part at this address lacks registers.
+    fn distrusted(&self, addr: u8, claim: Claim) -> Option<LogFault>
+        requires { addr < 128 }
+        ensures { result ≡ distrusted self.now addr claim }
+    {
+        let Claim::Commands { output, part, .. } = claim else {
+            return None;
+        };
+        if let Some((cell, line)) = self.answers.belied(part, output) {
+            return Some(LogFault::Answered { addr, cell, line });
+        }
+        let left = not_allowed(self.allowed.part(addr), part);
+        if has_all(left) {
+            None
+        } else {
+            Some(LogFault::Lacks { addr, part: left })
+        }
+    }
+
     // A transfer came.
-    fn tell(&mut self, frame: &[u8], came: Told<'_>) -> Result<(), LogFault>
+    fn tell(&mut self, number: u64, frame: &[u8], came: Told<'_>) -> Result<(), LogFault>
         requires { self.old.transfers + 1 < 2 ^ 64 }
         ensures judged { MatchResult result
-            (λ _. told self.old self.old.host frame.now (entry_told came.entry) ≡ Ok self.new)
-            (λ fault. told self.old self.old.host frame.now (entry_told came.entry) ≡ Err fault) }
+            (λ _. told number self.old self.old.host frame.now (entry_told came.entry) ≡ Ok self.new)
+            (λ fault. told number self.old self.old.host frame.now (entry_told came.entry) ≡ Err fault) }
         ensures claims { self.new.claims ≡ self.old.claims }
         ensures transfers { self.new.transfers ≤ self.old.transfers + 1 }
     {
         let Some(host) = &mut self.host else {
             return Err(LogFault::NoHead);
         };
+        let cell = answer_in(address(host), frame, came);
         match take_transfer(host, frame, came) {
-            Ok(true) => {
-                self.transfers += 1;
+            Ok(is_told) => {
+                self.answers.add(number, cell);
+                self.transfers += u64::from(is_told);
                 Ok(())
             }
-            Ok(false) => Ok(()),
             Err(fault) => Err(fault),
         }
+    }
+}
+
+// The address of a host's part.
+fn address(host: &Host) -> u8
+    ensures address { result ≡ host.now.setup.addr }
+    ensures part { IsAddress result }
+    ensures short { result < 128 }
+{
+    // law: the address of a host is one that a part may have
+    let _state = host.state();
+    host.address()
+}
+
+// The cell for which the part at an address answered.
+fn answer_in(addr: u8, frame: &[u8], came: Told<'_>) -> Option<Cell>
+    requires { IsAddress addr }
+    ensures { result ≡ spec_answer_in addr frame.now (entry_told came.entry) }
+{
+    match came {
+        Told::Got(bytes) => answered_cell(addr, frame, bytes),
+        Told::Finished { .. } => None,
     }
 }
 

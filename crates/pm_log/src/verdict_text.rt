@@ -1,13 +1,15 @@
 //! The line that says what a log comes to.
-ghost use Rattle.std.specs.Prelude.{◌≡◌, ◌++◌, OnOk, codes, string_bytes};
+ghost use Rattle.std.specs.Prelude.{◌≡◌, ◌++◌, IfOk, OnOk, codes, string_bytes};
 ghost use Rattle.pm_log.specs.Verdicts as spec;
 
 use crate::checked::{Checked, Refusal};
 use crate::fault::LogFault;
+use crate::lacks::{Lacks, has_all};
 use crate::open_log::OpenLog;
 use pm_host::Possible;
+use pm_limits::PartRegisters;
 use pm_lines::{TextFault, push_decimal, push_hex, push_hex_word, push_signed};
-use pm_table::Cell;
+use pm_table::{Cell, Reg};
 use std::alloc::AllocError;
 
 /// Appends `accepted: 3 claims, 41 transfers`, or which line isn't accepted, and why; with its line feed.
@@ -34,10 +36,96 @@ fn push_words(text: &mut String, checked: &Checked) -> Result<(), AllocError>
 fn push_accepted(text: &mut String, known: &OpenLog) -> Result<(), AllocError>
     ensures { OnOk result (string_bytes text.new ≡ string_bytes text.old ++ spec.accepted_text known.now) }
 {
+    push_counts(text, known)?;
+    push_trusted(text, known.without())
+}
+
+// `accepted: 3 claims, 41 transfers`
+#[tactic(auto, using(pm_lines::specs::Lemmas::Joins::joins), unfolding(crate::specs::Verdicts::counted_text))]
+fn push_counts(text: &mut String, known: &OpenLog) -> Result<(), AllocError>
+    ensures { OnOk result (string_bytes text.new ≡ string_bytes text.old ++ spec.counted_text known.now) }
+{
     text.push_str("accepted: ")?;
     push_counted(text, known.claims(), "claim")?;
     text.push_str(", ")?;
     push_counted(text, known.transfers(), "transfer")
+}
+
+// Which registers parts lack by the claims that were accepted, address by address.
+fn push_trusted(text: &mut String, without: &Lacks) -> Result<(), AllocError>
+    ensures { OnOk result (string_bytes text.new ≡ string_bytes text.old ++ spec.trusted_below without.now.parts 128) }
+{
+    for addr in 0..128u8 {
+        push_trusted_at(text, addr, without.part(addr))?;
+    }
+    Ok(())
+}
+
+// `; without VOUT_MAX VOUT_MIN of 58 by --lacks`, if the part lacks any.
+#[tactic(auto, using(pm_lines::specs::Lemmas::Joins::joins))]
+fn push_trusted_at(text: &mut String, addr: u8, part: PartRegisters) -> Result<(), AllocError>
+    ensures { OnOk result (string_bytes text.new ≡ string_bytes text.old ++ spec.trusted_at addr part) }
+{
+    if has_all(part) {
+        return Ok(());
+    }
+    push_taken(text, addr, part)
+}
+
+#[tactic(auto, using(pm_lines::specs::Lemmas::Joins::joins), unfolding(crate::specs::Verdicts::taken_text))]
+fn push_taken(text: &mut String, addr: u8, part: PartRegisters) -> Result<(), AllocError>
+    ensures { OnOk result (string_bytes text.new ≡ string_bytes text.old ++ spec.taken_text addr part) }
+{
+    text.push_str("; without")?;
+    push_missing(text, part, " ", " ")?;
+    push_taken_of(text, addr)
+}
+
+// ` of 58 by --lacks`
+#[tactic(auto, using(pm_lines::specs::Lemmas::Joins::joins), unfolding(crate::specs::Verdicts::taken_of))]
+fn push_taken_of(text: &mut String, addr: u8) -> Result<(), AllocError>
+    ensures { OnOk result (string_bytes text.new ≡ string_bytes text.old ++ spec.taken_of addr) }
+{
+    text.push_str(" of ")?;
+    push_hex(text, addr)?;
+    text.push_str(" by --lacks")
+}
+
+// The names of the registers that a part lacks, each after a mark: the first after one of its own.
+#[tactic(auto, using(pm_lines::specs::Lemmas::Joins::joins), unfolding(crate::specs::Verdicts::missing_names))]
+fn push_missing(
+    text: &mut String,
+    part: PartRegisters,
+    first: &str,
+    next: &str,
+) -> Result<(), AllocError>
+    ensures { OnOk result (string_bytes text.new ≡ string_bytes text.old ++ spec.missing_names part first.now next.now) }
+{
+    let mark = push_missing_name(text, part, Reg::VoutMax, first, next)?;
+    let mark = push_missing_name(text, part, Reg::MarginHigh, mark, next)?;
+    let mark = push_missing_name(text, part, Reg::MarginLow, mark, next)?;
+    push_missing_name(text, part, Reg::VoutMin, mark, next)?;
+    Ok(())
+}
+
+// The name of a register after a mark, if the part lacks it; and the mark of the next one.
+#[tactic(auto, using(pm_lines::specs::Lemmas::Joins::joins))]
+fn push_missing_name<'a>(
+    text: &mut String,
+    part: PartRegisters,
+    register: Reg,
+    mark: &'a str,
+    next: &'a str,
+) -> Result<&'a str, AllocError>
+    ensures named { OnOk result (string_bytes text.new ≡ string_bytes text.old ++ spec.missing_name part register mark.entry.now) }
+    ensures mark { IfOk result (λ found. found.now ≡ spec.mark_after part register mark.entry.now next.entry.now) }
+{
+    if part.has(register) {
+        return Ok(mark);
+    }
+    text.push_str(mark)?;
+    text.push_str(Cell::Out(0, register).name())?;
+    Ok(next)
 }
 
 // `1 claim`, `3 claims`
@@ -76,6 +164,8 @@ fn push_fault(text: &mut String, fault: &LogFault) -> Result<(), AllocError>
         LogFault::Frame(fault) => push_frame(text, fault.words()),
         LogFault::NoJob => text.push_str("no job of a host sends this packet"),
         LogFault::Refused(fault) => push_job(text, fault.words()),
+        LogFault::Answered { addr, cell, line } => push_belied(text, *addr, *cell, *line),
+        LogFault::Lacks { addr, part } => push_lacks(text, *addr, *part),
         LogFault::Word {
             cell,
             word,
@@ -111,6 +201,68 @@ fn push_job(text: &mut String, words: &str) -> Result<(), AllocError>
 {
     text.push_str("no host begins this job: ")?;
     text.push_str(words)
+}
+
+// `the writer says that 58 lacks`
+#[tactic(auto, using(pm_lines::specs::Lemmas::Joins::joins), unfolding(crate::specs::Verdicts::says_lacks))]
+fn push_says(text: &mut String, addr: u8) -> Result<(), AllocError>
+    ensures { OnOk result (string_bytes text.new ≡ string_bytes text.old ++ spec.says_lacks addr) }
+{
+    text.push_str("the writer says that ")?;
+    push_hex(text, addr)?;
+    text.push_str(" lacks")
+}
+
+// `the writer says that 58 lacks VOUT_MAX: 0 VOUT_MAX answered on line 5`
+#[tactic(auto, using(pm_lines::specs::Lemmas::Joins::joins), unfolding(crate::specs::Verdicts::belied_text))]
+fn push_belied(text: &mut String, addr: u8, cell: Cell, line: u64) -> Result<(), AllocError>
+    ensures { OnOk result (string_bytes text.new ≡ string_bytes text.old ++ spec.belied_text addr cell line) }
+{
+    push_says(text, addr)?;
+    text.push_str(" ")?;
+    text.push_str(cell.name())?;
+    text.push_str(": ")?;
+    push_answered(text, cell, line)
+}
+
+// `0 VOUT_MAX answered on line 5`
+#[tactic(auto, using(pm_lines::specs::Lemmas::Joins::joins), unfolding(crate::specs::Verdicts::answered_on))]
+fn push_answered(text: &mut String, cell: Cell, line: u64) -> Result<(), AllocError>
+    ensures { OnOk result (string_bytes text.new ≡ string_bytes text.old ++ spec.answered_on cell line) }
+{
+    push_place(text, cell)?;
+    text.push_str(cell.name())?;
+    push_on_line(text, line)
+}
+
+// ` answered on line 5`
+#[tactic(auto, using(pm_lines::specs::Lemmas::Joins::joins), unfolding(crate::specs::Verdicts::on_line))]
+fn push_on_line(text: &mut String, line: u64) -> Result<(), AllocError>
+    ensures { OnOk result (string_bytes text.new ≡ string_bytes text.old ++ spec.on_line line) }
+{
+    text.push_str(" answered on line ")?;
+    push_decimal(text, line)
+}
+
+// `the writer says that 58 lacks VOUT_MAX VOUT_MIN: --lacks=58:VOUT_MAX,VOUT_MIN if its data sheet says so`
+#[tactic(auto, using(pm_lines::specs::Lemmas::Joins::joins), unfolding(crate::specs::Verdicts::lacks_text))]
+fn push_lacks(text: &mut String, addr: u8, part: PartRegisters) -> Result<(), AllocError>
+    ensures { OnOk result (string_bytes text.new ≡ string_bytes text.old ++ spec.lacks_text addr part) }
+{
+    push_says(text, addr)?;
+    push_missing(text, part, " ", " ")?;
+    push_option(text, addr, part)
+}
+
+// `: --lacks=58:VOUT_MAX,VOUT_MIN if its data sheet says so`
+#[tactic(auto, using(pm_lines::specs::Lemmas::Joins::joins), unfolding(crate::specs::Verdicts::lacks_option))]
+fn push_option(text: &mut String, addr: u8, part: PartRegisters) -> Result<(), AllocError>
+    ensures { OnOk result (string_bytes text.new ≡ string_bytes text.old ++ spec.lacks_option addr part) }
+{
+    text.push_str(": --lacks=")?;
+    push_hex(text, addr)?;
+    push_missing(text, part, ":", ",")?;
+    text.push_str(" if its data sheet says so")
 }
 
 // `0 VOUT_COMMAND isn't known to hold 34CD: possible 1000 34CD`

@@ -2,7 +2,7 @@
 
 use crate::checks::equal;
 use pm_lines::{Sink, Source, TextFault};
-use pm_log::check_log;
+use pm_log::{Lacks, check_log};
 use std::alloc::Global;
 use std::io::{Read, Write};
 
@@ -13,7 +13,7 @@ fn checked<R: Read + Drop, W: Write + Drop>(
     paper: W,
 ) -> Result<W, TextFault> {
     let mut sink = Sink::new(paper);
-    check_log(alloc, &mut Source::new(log), &mut sink)?;
+    check_log(alloc, &mut Source::new(log), &mut sink, &Lacks::nothing())?;
     Ok(sink.into_inner()) // accepted: 1 claim, 1 transfer
 }
 

@@ -6,6 +6,8 @@
 mod checks;
 #[cfg(test)]
 mod example;
+#[cfg(test)]
+mod lacking;
 pub mod law_uses;
 #[cfg(test)]
 mod logs;

@@ -2,11 +2,11 @@
 
 use crate::checks::equal;
 use pm_lines::{Sink, Source, TextFault};
-use pm_log::{LogEnd, check_log};
+use pm_log::{Lacks, LogEnd, check_log};
 use std::alloc::Global;
 
 /// A log, and what is written of it.
-static LOGS: [(&str, &str); 42] = [
+static LOGS: [(&str, &str); 41] = [
     // No log.
     ("", "line 1: no #log line stands before it\n"),
     ("\n## nothing\n", "line 3: no #log line stands before it\n"),
@@ -147,10 +147,6 @@ static LOGS: [(&str, &str); 42] = [
         "accepted: 1 claim, 5 transfers\n",
     ),
     (
-        "#log 58 2 2\nB0 06 02 00 20 / B1 01 14 4E\nB0 06 02 00 01 / B1 01 80 73\nB0 06 02 00 21 / B1 02 CD 34 B9\nB0 06 02 00 24 / B1 02 00 40 1B\n#commands 0 3300048 to 3300049 uV without VOUT_MIN\n",
-        "accepted: 1 claim, 4 transfers\n",
-    ),
-    (
         "#log 58 2 2\nB0 06 02 00 20 / B1 01 14 4E\nB0 06 02 00 01 / B1 01 80 73\nB0 06 02 00 21 / B1 02 CD 34 B9\nB0 06 02 00 24 / B1 02 00 40 1B\n#commands 0 3300048 to 3300049 uV\n",
         "line 6: output 0 isn't known to command 3300048 to 3300049 uV\n",
     ),
@@ -164,7 +160,7 @@ static LOGS: [(&str, &str); 42] = [
 fn written(alloc: Global, log: &str) -> (Result<LogEnd, TextFault>, Vec<u8>) {
     let mut source = Source::new(log.as_bytes());
     let mut sink = Sink::new(Vec::new(alloc));
-    let end = check_log(alloc, &mut source, &mut sink);
+    let end = check_log(alloc, &mut source, &mut sink, &Lacks::nothing());
     (end, sink.into_inner())
 }
 

@@ -1,2 +1,4 @@
+mod HeldImage
+mod Hosts
 mod Kept
 pub mod Courses

@@ -8,7 +8,7 @@ abbrev pub delivery_mark : ℕ
 delivery_mark = 0x5044
 
 abbrev pub delivery_version : ℕ
-delivery_version = 1
+delivery_version = 2
 
 abbrev pub delivery_image : Delivery → DeliveryImage
 delivery_image d = record { mark = delivery_mark; version = delivery_version; delivery = d }

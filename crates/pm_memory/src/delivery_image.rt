@@ -22,7 +22,7 @@ impl DeliveryImage {
     pub const MARK: u16 = 0x5044;
 
     /// The number of the layout.
-    pub const VERSION: u16 = 1;
+    pub const VERSION: u16 = 2;
 
     /// The image of a delivery.
     pub fn of(delivery: Delivery) -> DeliveryImage

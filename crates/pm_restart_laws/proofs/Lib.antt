@@ -1,4 +1,2 @@
 -- Lemmas of this crate.
-mod Moments
-mod Written
-mod Between
+mod Restarts

@@ -153,8 +153,8 @@ fn refused_with(job: Job, fault: LimitFault) -> Came
     Came::Stopped(StepEnd::Course(CourseEnd::Refused(refusal)))
 }
 
-// Whether an answer shows that the part restarted.
-fn shows_restart(guard: &Guard, bytes: &[u8]) -> bool
+/// Whether an answer to the open job shows that the part restarted.
+pub fn shows_restart(guard: &Guard, bytes: &[u8]) -> bool
     ensures { result ≡ spec_shows_restart guard.now (Got bytes.now) }
 {
     let host = guard.host();

@@ -21,10 +21,10 @@ mod step;
 mod way_back;
 
 pub use due::Due;
-pub use frames::Came;
+pub use frames::{Came, shows_restart};
 pub use said::{Said, StepEnd};
 pub use sequence::{Placed, Sequence, Turn};
 pub use sight::Sight;
 pub use stairs::{Move, Stairs, Under};
 pub use step::{Act, Step, WordAct, WordStep};
-pub use way_back::{StepCheck, check, way_back_fault};
+pub use way_back::{StepCheck, check, goal, way_back_fault};

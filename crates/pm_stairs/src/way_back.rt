@@ -133,8 +133,8 @@ fn lasting(fault: PlanFault) -> Option<PlanFault>
     }
 }
 
-// The words that a way back leads to: of a byte that leaves the output on the word of the register that it selects, if that is known.
-fn goal(host: &State, back: &WordStep) -> Option<Wanted>
+/// The words that a step leads to: of a byte that leaves the output on the word of the register that it selects, if that is known.
+pub fn goal(host: &State, back: &WordStep) -> Option<Wanted>
     requires { back.now.output < 8 }
     ensures { result ≡ goal_at (held None host.now) back.now.output back.now.act }
 {

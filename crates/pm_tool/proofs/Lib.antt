@@ -1,5 +1,6 @@
 pub mod EndLemmas
 pub mod GivenOptions
+mod LackingLemmas
 pub mod LogLemmas
 pub mod OneText
 pub mod PartLemmas

@@ -23,6 +23,8 @@ use Rattle.pm_tool.specs.Refusals.{no_words_status}
 use Rattle.pm_tool.specs.NumberFaults.{refusal_status}
 use Rattle.pm_tool.specs.Telling.{tell_fault_status}
 use Rattle.pm_tool.specs.declared.commandline.tell_fault.TellFault.{TellFault}
+use Rattle.pm_limits.specs.declared.part_registers.PartRegisters.{PartRegisters}
+use Rattle.pm_log.specs.declared.lacks.Lacks.{Lacks}
 use Rattle.pm_tool.specs.declared.commandline.choice.Chosen.{Chosen}
 use Rattle.pm_tool.specs.declared.commandline.choice.Chosen.TheVariants.{Hear, Replay, Decode, Check, Number as NumberChosen}
 use Rattle.pm_tool.specs.declared.numbers.fault.NumberFault.{NumberFault}
@@ -31,7 +33,7 @@ use Rattle.pm_tool.specs.declared.numbers.fault.NumberFault.TheVariants.{OneOf, 
 use Rattle.pm_tool.specs.declared.commandline.tell_fault.TellFault.TheVariants.{VoutAlone, Vout, ReadingsAlone, Readings, GapAlone, Gap}
 use Rattle.pm_tool.specs.declared.text_commands.TextCommand.{TextCommand}
 use Rattle.pm_tool.specs.declared.text_commands.TextCommand.TheVariants as command
-use Rattle.pm_tool.specs.Execution.{End, Printed, Hinted, CutShort, Refused, Broken, Misused, EngineRuns, TellRuns, CheckRuns, CommandRuns}
+use Rattle.pm_tool.specs.Execution.{End, Printed, Hinted, CutShort, Refused, Broken, Misused, EngineRuns, TellRuns, CheckEnds, CheckRuns, CommandRuns}
 use Rattle.pm_tool.specs.Execution.{AskedEnds, NumberEnds, ChoiceEnds, UsageEnds, ParserEnds, WordsEnd, OptionsEnd, LineEnds, RunEnds}
 use Rattle.pm_tool.specs.Execution.{decode_status, log_status, no_words_end, replay_status, status_of, told_as, wants_memory}
 
@@ -100,14 +102,14 @@ telling_ends options remaining old new (Broken text words) runs = omega arith
 telling_ends options remaining old new (Refused status words) runs = absurd runs
 telling_ends options remaining old new (Misused text) runs = absurd runs
 
-check_ends : {R : Type 0} (remaining : R → Option (List ℕ)) (old new : Held R) (end : End)
-    → CheckRuns remaining old new end → status_of end ≤ 2
-check_ends remaining old new (Printed status text) (failed, input, gave, is, shown) = kept status _ is (of_log _)
-check_ends remaining old new (Hinted status text words) runs = absurd runs
-check_ends remaining old new (CutShort text) runs = omega arith
-check_ends remaining old new (Refused status words) (is, fault, said, reader, why) = kept status 1 is (omega arith)
-check_ends remaining old new (Broken text words) runs = absurd runs
-check_ends remaining old new (Misused text) runs = absurd runs
+check_ends : {R : Type 0} (allowed : List PartRegisters) (remaining : R → Option (List ℕ)) (old new : Held R) (end : End)
+    → CheckRuns allowed remaining old new end → status_of end ≤ 2
+check_ends allowed remaining old new (Printed status text) (failed, input, gave, is, shown) = kept status _ is (of_log _)
+check_ends allowed remaining old new (Hinted status text words) runs = absurd runs
+check_ends allowed remaining old new (CutShort text) runs = omega arith
+check_ends allowed remaining old new (Refused status words) (is, fault, said, reader, why) = kept status 1 is (omega arith)
+check_ends allowed remaining old new (Broken text words) runs = absurd runs
+check_ends allowed remaining old new (Misused text) runs = absurd runs
 
 command_ends : {R : Type 0} (asked : TextCommand) (remaining : R → Option (List ℕ)) (old new : Held R) (end : End)
     → CommandRuns asked remaining old new end → status_of end ≤ 2
@@ -115,7 +117,7 @@ command_ends command.Hear remaining old new end runs = engine_ends hearing (λ _
 command_ends command.Replay remaining old new end runs = engine_ends replaying replay_status of_replay remaining old new end runs
 command_ends command.Decode remaining old new end runs = engine_ends decoding decode_status of_decode remaining old new end runs
 command_ends (command.Tell options) remaining old new end runs = telling_ends options remaining old new end runs
-command_ends command.Check remaining old new end runs = check_ends remaining old new end runs
+command_ends (command.Check lacks) remaining old new end runs = check_ends lacks.parts remaining old new end runs
 
 asked_ends : {R : Type 0} (remaining : R → Option (List ℕ)) (old new : Held R) (given : Result TellOptions TellFault) (end : End)
     → AskedEnds remaining old new given end → status_of end ≤ 2
@@ -130,12 +132,17 @@ number_ends question (Refused status words) (fault, is, wrote, why) = kept statu
 number_ends question (Broken text words) runs = absurd runs
 number_ends question (Misused text) runs = absurd runs
 
+lacks_ends : {R : Type 0} (remaining : R → Option (List ℕ)) (old new : Held R) (lacks : Option Lacks) (end : End)
+    → CheckEnds remaining old new lacks end → status_of end ≤ 2
+lacks_ends remaining old new (Some lacks) end runs = command_ends (command.Check lacks) remaining old new end runs
+lacks_ends remaining old new None end (same, is) = kept (status_of end) 2 (ap status_of is) (omega arith)
+
 choice_ends : {R : Type 0} (remaining : R → Option (List ℕ)) (old new : Held R) (chosen : Chosen) (end : End)
     → ChoiceEnds remaining old new chosen end → status_of end ≤ 2
 choice_ends remaining old new Hear end runs = command_ends command.Hear remaining old new end runs
 choice_ends remaining old new Replay end runs = command_ends command.Replay remaining old new end runs
 choice_ends remaining old new Decode end runs = command_ends command.Decode remaining old new end runs
-choice_ends remaining old new Check end runs = command_ends command.Check remaining old new end runs
+choice_ends remaining old new (Check lacks) end runs = lacks_ends remaining old new lacks end runs
 choice_ends remaining old new (NumberChosen format word micro) end (same, runs) = number_ends _ end runs
 
 -- ---- the command line

@@ -4,11 +4,12 @@ use Rattle.std.specs.Prelude.{Option, Result, MatchResult, codes, find, map, opt
 use Rattle.std.specs.Prelude.{unwrap_or}
 use Rattle.std.specs.List.{list_any}
 use Rattle.std.specs.Str.{bytes_eq}
-use Rattle.clap.specs.Words.{App, Row, Text, first_of, kind_of, new_app, with_rule}
+use Rattle.clap.specs.Words.{App, Row, Text, all_of, first_of, kind_of, new_app, with_rule}
 use Rattle.clap.specs.Words.{with_subcommand}
 use Rattle.clap.specs.declared.error.Error.{Error}
 use Rattle.clap.specs.declared.error.kind.ErrorKind.TheVariants.{OutOfMemory}
-use Rattle.pm_tool.specs.Options.{option_rule}
+use Rattle.pm_tool.specs.Lacking.{lacks_asked}
+use Rattle.pm_tool.specs.Options.{list_rule, option_rule}
 use Rattle.pm_tool.specs.declared.commandline.choice.Chosen.{Chosen}
 use Rattle.pm_tool.specs.declared.commandline.choice.Chosen.TheVariants.{Hear, Replay, Decode, Check, Number}
 
@@ -17,6 +18,9 @@ use Rattle.pm_tool.specs.declared.commandline.choice.Chosen.TheVariants.{Hear, R
 abbrev pub number_app : App
 number_app = with_rule (with_rule (with_rule (new_app (codes "number"))
     (option_rule (codes "format"))) (option_rule (codes "word"))) (option_rule (codes "micro"))
+
+abbrev pub check_app : App
+check_app = with_rule (new_app (codes "check")) (list_rule (codes "lacks"))
 
 -- a subcommand is required, there is none called `help`, and there is a version
 abbrev pub with_required_subcommand : App → App
@@ -34,9 +38,9 @@ with_plain app name = with_subcommand app (new_app name).top
 
 -- the whole command line
 abbrev pub pmb : App
-pmb = with_subcommand (with_plain (with_plain (with_plain (with_plain
+pmb = with_subcommand (with_subcommand (with_plain (with_plain (with_plain
     (with_required_subcommand (new_app (codes "pmb"))) (codes "hear")) (codes "replay")) (codes "decode"))
-    (codes "check")) number_app.top
+    check_app.top) number_app.top
 
 -- the names of the subcommands
 abbrev pub IsCommandName : Text → Type 0
@@ -49,7 +53,7 @@ abbrev pub Asks : Text → List Row → Chosen → Type 0
 Asks name rows Hear = name ≡ codes "hear"
 Asks name rows Replay = name ≡ codes "replay"
 Asks name rows Decode = name ≡ codes "decode"
-Asks name rows Check = name ≡ codes "check"
+Asks name rows (Check lacks) = (name ≡ codes "check") × (lacks ≡ lacks_asked (unwrap_or (all_of (codes "lacks") rows) []))
 Asks name rows (Number format word micro) = (name ≡ codes "number")
     × (format.now ≡ unwrap_or (first_of (codes "format") rows) [])
     × (option_map (λ s. s.now) word ≡ first_of (codes "word") rows)
@@ -103,7 +107,7 @@ abbrev pub HasValuesOf : List Given → Chosen → Type 0
 HasValuesOf given Hear = ⊥
 HasValuesOf given Replay = ⊥
 HasValuesOf given Decode = ⊥
-HasValuesOf given Check = ⊥
+HasValuesOf given (Check lacks) = ⊥
 HasValuesOf given (Number format word micro) =
     (format.now ≡ unwrap_or (text_of format_option given) [])
     × (option_map (λ s. s.now) word ≡ text_of word_option given)

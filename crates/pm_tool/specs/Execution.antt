@@ -21,7 +21,9 @@ use Rattle.pm_decode.specs.LongEngine.{Breaks, GaveAll, IsCut}
 use Rattle.pm_decode.specs.declared.hints.Hint.{Hint}
 use Rattle.pm_decode.specs.declared.hints.Hint.TheVariants.{Beyond, NoTimes, NoGoodPacket, NoPec}
 use Rattle.pm_capture.specs.declared.options.TellOptions.{TellOptions}
+use Rattle.pm_limits.specs.declared.part_registers.PartRegisters.{PartRegisters}
 use Rattle.pm_log.specs.Texts.{IsAll, log_end, log_text}
+use Rattle.pm_log.specs.declared.lacks.Lacks.{Lacks}
 use Rattle.pm_log.specs.Texts.{Breaks as LogBreaks}
 use Rattle.pm_log.specs.declared.checking.LogEnd.{LogEnd}
 use Rattle.pm_log.specs.declared.checking.LogEnd.TheVariants.{Accepted as LogAccepted, Refused as LogRefused}
@@ -206,17 +208,19 @@ module _ {R : Type 0} (options : TellOptions) (remaining : R → Option (List �
 
 -- ---- `check`
 
--- how a check of a log ends, by what its reader gave: the line of the whole log was printed, or nothing was
-abbrev pub CheckRuns : {R : Type 0} → (R → Option (List ℕ)) → Held R → Held R → End → Type 0
-CheckRuns remaining old new (Printed status text) = IsFalse new.failed × (input : List ℕ)
-    × IsAll (remaining old.inner) (remaining new.inner) input × (status ≡ log_status (log_end input)) × (text ≡ log_text input)
-CheckRuns remaining old new (Hinted status text words) = ⊥
-CheckRuns remaining old new (CutShort text) = IsFalse new.failed × (input : List ℕ)
-    × IsAll (remaining old.inner) (remaining new.inner) input × (text ≡ log_text input)
-CheckRuns remaining old new (Refused status words) = (status ≡ 1) × (fault : TextFault) × (words ≡ text_refusal fault)
+-- how a check of a log ends, by what the receiver lets parts lack and what its reader gave: the line of the whole log was printed, or
+-- nothing was
+abbrev pub CheckRuns : {R : Type 0} → List PartRegisters → (R → Option (List ℕ)) → Held R → Held R → End → Type 0
+CheckRuns allowed remaining old new (Printed status text) = IsFalse new.failed × (input : List ℕ)
+    × IsAll (remaining old.inner) (remaining new.inner) input × (status ≡ log_status (log_end allowed input))
+    × (text ≡ log_text allowed input)
+CheckRuns allowed remaining old new (Hinted status text words) = ⊥
+CheckRuns allowed remaining old new (CutShort text) = IsFalse new.failed × (input : List ℕ)
+    × IsAll (remaining old.inner) (remaining new.inner) input × (text ≡ log_text allowed input)
+CheckRuns allowed remaining old new (Refused status words) = (status ≡ 1) × (fault : TextFault) × (words ≡ text_refusal fault)
     × (IsTrue new.failed ↔ (fault ≡ Read)) × LogBreaks (remaining old.inner) (remaining new.inner) fault
-CheckRuns remaining old new (Broken text words) = ⊥
-CheckRuns remaining old new (Misused text) = ⊥
+CheckRuns allowed remaining old new (Broken text words) = ⊥
+CheckRuns allowed remaining old new (Misused text) = ⊥
 
 -- ---- any of these
 
@@ -226,7 +230,7 @@ CommandRuns command.Hear remaining old new end = EngineRuns hearing (λ _. 0) re
 CommandRuns command.Replay remaining old new end = EngineRuns replaying replay_status remaining old new end
 CommandRuns command.Decode remaining old new end = EngineRuns decoding decode_status remaining old new end
 CommandRuns (command.Tell options) remaining old new end = TellRuns options remaining old new end
-CommandRuns command.Check remaining old new end = CheckRuns remaining old new end
+CommandRuns (command.Check lacks) remaining old new end = CheckRuns lacks.parts remaining old new end
 
 -- how a run ends that asks for a telling, or for none that can be: then nothing is read
 abbrev pub AskedEnds : {R : Type 0} → (R → Option (List ℕ)) → Held R → Held R → Result TellOptions TellFault → End → Type 0
@@ -260,12 +264,20 @@ NumberEnds asked (Misused text) = ⊥
 
 -- ---- the command line
 
+-- how `check` ends: nothing is read if a text of `--lacks` can't be
+abbrev pub bad_lacks : List ℕ
+bad_lacks = codes "bad lacks: give an address and VOUT_MAX, VOUT_MARGIN_HIGH, VOUT_MARGIN_LOW or VOUT_MIN, as 58:VOUT_MAX,VOUT_MIN"
+
+abbrev pub CheckEnds : {R : Type 0} → (R → Option (List ℕ)) → Held R → Held R → Option Lacks → End → Type 0
+CheckEnds remaining old new (Some lacks) end = CommandRuns (command.Check lacks) remaining old new end
+CheckEnds remaining old new None end = (new ≡ old) × (end ≡ Refused 2 bad_lacks)
+
 -- how the command that was chosen ends; `number` reads nothing
 abbrev pub ChoiceEnds : {R : Type 0} → (R → Option (List ℕ)) → Held R → Held R → Chosen → End → Type 0
 ChoiceEnds remaining old new Hear end = CommandRuns command.Hear remaining old new end
 ChoiceEnds remaining old new Replay end = CommandRuns command.Replay remaining old new end
 ChoiceEnds remaining old new Decode end = CommandRuns command.Decode remaining old new end
-ChoiceEnds remaining old new Check end = CommandRuns command.Check remaining old new end
+ChoiceEnds remaining old new (Check lacks) end = CheckEnds remaining old new lacks end
 ChoiceEnds remaining old new (NumberChosen format word micro) end = (new ≡ old)
     × NumberEnds (asked_by format word micro) end
 

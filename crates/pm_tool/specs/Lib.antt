@@ -3,6 +3,7 @@ pub mod Arguments
 pub mod Commandline
 pub mod Execution
 pub mod HeardText
+pub mod Lacking
 pub mod NumberFaults
 pub mod NumberText
 pub mod Options

@@ -1,7 +1,7 @@
 //! What the words of a command line choose, by the rules of `clap`.
 //!
-//! One level of subcommands, of which one is required: `hear`, `replay`, `decode`, `check`, and `number`
-//! with its three options.
+//! One level of subcommands, of which one is required: `hear`, `replay`, `decode`, `check` with an option that may be given
+//! several times, and `number` with its three options.
 //! The options are optional for the parser, since which of them belong together is for `number` to
 //! judge.
 //!
@@ -12,11 +12,13 @@ ghost use Rattle.clap.specs.Walk.{texts};
 ghost use Rattle.clap.specs.Words.{FailsBy, HasKind, fault_of, found_of, kind_of, rows_of};
 ghost use Rattle.clap.specs.Words.{subcommand_of, takes};
 ghost use Rattle.pm_tool.specs.Commandline.{Asks, Given, HasValuesOf, IsCommandName};
+ghost use Rattle.pm_tool.specs.Lacking.{lacks_asked};
 ghost use Rattle.pm_tool.specs.Commandline.{UnlessMemory, is_once, number_words, pmb};
 
 mod choice;
 mod commands;
 mod helps;
+mod lacks;
 mod options;
 mod readings;
 mod tell_fault;
@@ -26,6 +28,7 @@ pub use choice::Chosen;
 use clap::error::ErrorKind;
 use clap::{ArgMatches, Error};
 use commands::pmb_command;
+use lacks::read_lacks;
 use options::text_of;
 use std::alloc::Global;
 pub use tell_fault::TellFault;
@@ -58,7 +61,7 @@ pub fn chosen<'a>(alloc: Global, words: &'a [&'a str]) -> Result<Chosen<'a>, Err
     ensures decode { (program : List ℕ) → texts words.entry.now ≡ program ∷ codes "decode" ∷ []
         → UnlessMemory result (λ chosen. chosen ≡ Chosen.Decode) }
     ensures check { (program : List ℕ) → texts words.entry.now ≡ program ∷ codes "check" ∷ []
-        → UnlessMemory result (λ chosen. chosen ≡ Chosen.Check) }
+        → UnlessMemory result (λ chosen. chosen ≡ Chosen.Check (lacks_asked [])) }
     ensures number { (program : List ℕ) (given : List Given) → is_once given ≡ true
         → texts words.entry.now ≡ number_words program given
         → UnlessMemory result (HasValuesOf given) }
@@ -92,7 +95,9 @@ fn choice_of<'a>(name: &str, found: &ArgMatches<'a>) -> Chosen<'a>
         "hear" => Chosen::Hear,
         "replay" => Chosen::Replay,
         "decode" => Chosen::Decode,
-        "check" => Chosen::Check,
+        "check" => Chosen::Check {
+            lacks: read_lacks(found.get_strs("lacks")),
+        },
         "number" => Chosen::Number {
             format: text_of(found, "format"),
             word: found.get_str("word"),

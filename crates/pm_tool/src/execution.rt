@@ -8,7 +8,7 @@ ghost use Rattle.clap.specs.Words.{kind_of};
 ghost use Rattle.pm_tool.specs.Arguments.{arguments_of};
 ghost use Rattle.pm_tool.specs.Refusals.{Says};
 ghost use Rattle.pm_decode.specs.declared.hints.Hint.TheVariants.{Beyond};
-ghost use Rattle.pm_tool.specs.Execution.{CommandRuns, End, IsDone, IsEnd, NumberEnds, RunEnds, UsageEnds};
+ghost use Rattle.pm_tool.specs.Execution.{CheckEnds, CommandRuns, End, IsDone, IsEnd, NumberEnds, RunEnds, UsageEnds};
 ghost use Rattle.pm_tool.specs.Execution.{OptionsEnd, TellEnds};
 ghost use Rattle.pm_tool.specs.Execution.{CutShort, IsToldDone, Printed, hint_words, refusal_line, unwritten_words, wants_memory};
 ghost use Rattle.pm_tool.specs.Question.{asked_by};
@@ -21,6 +21,7 @@ use crate::text_commands::{TextCommand, Unwritten};
 use crate::text_faults::say_fault;
 use crate::usage::{Usage, usage_of};
 use pm_decode::Hint;
+use pm_log::Lacks;
 use pm_text::{Sink, Source, TextFault};
 use std::alloc::Global;
 use std::env::Args;
@@ -29,6 +30,10 @@ use std::process::ExitCode;
 
 /// The program's name, as it begins each line on standard error.
 const NAME: &str = "pmb";
+
+/// What is said of a text of `--lacks` that can't be read.
+const BAD_LACKS: &str =
+    "bad lacks: give an address and VOUT_MAX, VOUT_MARGIN_HIGH, VOUT_MARGIN_LOW or VOUT_MIN, as 58:VOUT_MAX,VOUT_MIN";
 
 /// Runs the program over what `env::args` gave, and over standard input, output and error, as `run` does. `main`
 /// hands on what its runtime has: no clause can say what a terminal, a pipe or a file gives or takes. None of the
@@ -100,7 +105,7 @@ pub fn run<R: Read, W: Write, E: Write>(
         Ok(Chosen::Hear) => run_engine(TextCommand::Hear, alloc, input, output, errors),
         Ok(Chosen::Replay) => run_engine(TextCommand::Replay, alloc, input, output, errors),
         Ok(Chosen::Decode) => run_engine(TextCommand::Decode, alloc, input, output, errors),
-        Ok(Chosen::Check) => run_engine(TextCommand::Check, alloc, input, output, errors),
+        Ok(Chosen::Check { lacks }) => run_check(alloc, lacks, input, output, errors),
         Ok(
             Chosen::Number {
                 format,
@@ -129,6 +134,29 @@ fn run_engine<R: Read, W: Write, E: Write>(
     match command.run(alloc, input, output) {
         Ok(written) => done_with(output, errors, written.status, written.hint),
         Err(refusal) => refuse_text(errors, &refusal),
+    }
+}
+
+// `pmb check` for a receiver who lets parts lack these registers, if the texts of `--lacks` could be read.
+fn run_check<R: Read, W: Write, E: Write>(
+    alloc: Global,
+    lacks: Option<Lacks>,
+    input: &mut Source<R>,
+    output: &mut Sink<W>,
+    errors: &mut Sink<E>,
+) -> u8
+    requires input { IsFalse input.old.failed }
+    requires output { IsFalse output.old.failed }
+    requires errors { IsFalse errors.old.failed }
+    ensures { (end : End) × CheckEnds R.remaining input.old input.new lacks end
+        × IsEnd W.contents E.contents output.old output.new errors.old errors.new result end }
+{
+    match lacks {
+        Some(lacks) => run_engine(TextCommand::Check(lacks), alloc, input, output, errors),
+        None => {
+            say(errors, NAME, BAD_LACKS);
+            2
+        }
     }
 }
 

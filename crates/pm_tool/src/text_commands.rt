@@ -7,7 +7,7 @@ ghost use Rattle.pm_tool.specs.Outcome.{hearing};
 
 use crate::script::hear;
 use pm_decode::{Hint, TellOptions, decode, tell};
-use pm_log::{LogEnd, check_log};
+use pm_log::{Lacks, LogEnd, check_log};
 use pm_text::{DecodeEnd, ReplayEnd, Sink, Source, TextFault, replay};
 use std::alloc::Global;
 use std::io::{Read, Write};
@@ -23,8 +23,8 @@ pub(crate) enum TextCommand {
     Decode,
     /// `pmb decode` with these options: the same status, and what may be wrong.
     Tell(TellOptions),
-    /// `pmb check`: status 1 if a line of the log isn't accepted.
-    Check,
+    /// `pmb check` for a receiver who lets parts lack these registers: status 1 if a line of the log isn't accepted.
+    Check(Lacks),
 }
 
 /// How a command ended that wrote its text whole.
@@ -62,7 +62,7 @@ impl TextCommand {
             TextCommand::Replay => run_replay(alloc, reader, writer),
             TextCommand::Decode => run_decode(alloc, reader, writer),
             TextCommand::Tell(options) => run_tell(alloc, reader, writer, options),
-            TextCommand::Check => run_check(alloc, reader, writer),
+            TextCommand::Check(lacks) => run_check(alloc, reader, writer, lacks),
         }
     }
 }
@@ -151,12 +151,13 @@ fn run_check<R: Read, W: Write>(
     alloc: Global,
     reader: &mut Source<R>,
     writer: &mut Sink<W>,
+    lacks: &Lacks,
 ) -> Result<Written, Unwritten>
     requires reader { IsFalse reader.old.failed }
     requires writer { IsFalse writer.old.failed }
-    ensures { Runs (CheckRuns R.remaining reader.old reader.new) W.contents writer.old writer.new result }
+    ensures { Runs (CheckRuns lacks.now.parts R.remaining reader.old reader.new) W.contents writer.old writer.new result }
 {
-    match check_log(alloc, reader, writer) {
+    match check_log(alloc, reader, writer, lacks) {
         Ok(end) => Ok(Written {
             status: status_of_log(end),
             hint: None,

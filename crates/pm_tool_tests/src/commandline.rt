@@ -1,4 +1,5 @@
 use crate::checks::is_true;
+use pm_log::Lacks;
 use pm_tool::{Chosen, chosen};
 use std::process::Abort;
 use std::test::Fail;
@@ -19,7 +20,10 @@ fn commands_are_chosen_by_their_names(rt: HostRuntime) -> Result<(), Fail> {
     is_chosen(&rt, &["pmb", "hear"], Chosen::Hear)?;
     is_chosen(&rt, &["pmb", "replay"], Chosen::Replay)?;
     is_chosen(&rt, &["pmb", "decode"], Chosen::Decode)?;
-    is_chosen(&rt, &["pmb", "check"], Chosen::Check)
+    let none = Chosen::Check {
+        lacks: Some(Lacks::nothing()),
+    };
+    is_chosen(&rt, &["pmb", "check"], none)
 }
 
 #[test]

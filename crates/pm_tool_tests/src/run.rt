@@ -97,6 +97,125 @@ fn every_status_has_its_texts(rt: HostRuntime) {
     ends_unread(&rt, ErrorKind::InvalidData, 2, "pmb: bad arguments\n");
 }
 
+/// A log of a part's own answers. Its VOUT_MAX holds it at 1 V, and the claim says that it has none.
+const WITHOUT: &str =
+    "#log 58 2 2\nB0 06 02 00 20 / B1 01 14 4E\nB0 06 02 00 01 / B1 01 80 73\nB0 06 02 00 21 / B1 02 CD 34 B9\n#commands 0 3300048 to 3300049 uV without VOUT_MAX VOUT_MIN\n";
+
+/// The same log in which VOUT_MAX was read.
+const BELIED: &str =
+    "#log 58 2 2\nB0 06 02 00 20 / B1 01 14 4E\nB0 06 02 00 01 / B1 01 80 73\nB0 06 02 00 21 / B1 02 CD 34 B9\nB0 06 02 00 24 / B1 02 00 10 AC\n#commands 0 3300048 to 3300049 uV without VOUT_MAX VOUT_MIN\n";
+
+const BAD_LACKS: &str =
+    "pmb: bad lacks: give an address and VOUT_MAX, VOUT_MARGIN_HIGH, VOUT_MARGIN_LOW or VOUT_MIN, as 58:VOUT_MAX,VOUT_MIN\n";
+
+/// Options of `check`, the log, the status, and what is written on standard output.
+static CHECKS: [(&[&str], &str, u8, &str); 10] = [
+    (
+        &[],
+        WITHOUT,
+        1,
+        "line 5: the writer says that 58 lacks VOUT_MAX VOUT_MIN: --lacks=58:VOUT_MAX,VOUT_MIN if its data sheet says so\n",
+    ),
+    (
+        &["--lacks=58:VOUT_MAX,VOUT_MIN"],
+        WITHOUT,
+        0,
+        "accepted: 1 claim, 3 transfers; without VOUT_MAX VOUT_MIN of 58 by --lacks\n",
+    ),
+    // In any order, twice, in several options, with an address in either case and a slash for the colon.
+    (
+        &["--lacks", "58/VOUT_MIN,VOUT_MAX,VOUT_MIN"],
+        WITHOUT,
+        0,
+        "accepted: 1 claim, 3 transfers; without VOUT_MAX VOUT_MIN of 58 by --lacks\n",
+    ),
+    (
+        &[
+            "--lacks=58:VOUT_MIN",
+            "--lacks=6a:VOUT_MIN",
+            "--lacks=58:VOUT_MAX",
+        ],
+        WITHOUT,
+        0,
+        "accepted: 1 claim, 3 transfers; without VOUT_MAX VOUT_MIN of 58 by --lacks\n",
+    ),
+    (
+        &["--lacks=58:VOUT_MIN"],
+        WITHOUT,
+        1,
+        "line 5: the writer says that 58 lacks VOUT_MAX: --lacks=58:VOUT_MAX if its data sheet says so\n",
+    ),
+    (
+        &["--lacks=59:VOUT_MAX,VOUT_MIN"],
+        WITHOUT,
+        1,
+        "line 5: the writer says that 58 lacks VOUT_MAX VOUT_MIN: --lacks=58:VOUT_MAX,VOUT_MIN if its data sheet says so\n",
+    ),
+    (
+        &["--lacks=58:VOUT_MAX,VOUT_MARGIN_HIGH,VOUT_MARGIN_LOW,VOUT_MIN"],
+        WITHOUT,
+        0,
+        "accepted: 1 claim, 3 transfers; without VOUT_MAX VOUT_MIN of 58 by --lacks\n",
+    ),
+    (
+        &["--lacks=58:VOUT_MARGIN_HIGH,VOUT_MARGIN_LOW"],
+        WITHOUT,
+        1,
+        "line 5: the writer says that 58 lacks VOUT_MAX VOUT_MIN: --lacks=58:VOUT_MAX,VOUT_MIN if its data sheet says so\n",
+    ),
+    (
+        &[],
+        BELIED,
+        1,
+        "line 6: the writer says that 58 lacks VOUT_MAX: 0 VOUT_MAX answered on line 5\n",
+    ),
+    (
+        &["--lacks=58:VOUT_MAX,VOUT_MIN"],
+        BELIED,
+        1,
+        "line 6: the writer says that 58 lacks VOUT_MAX: 0 VOUT_MAX answered on line 5\n",
+    ),
+];
+
+/// A text of `--lacks` that can't be read.
+static NO_LACKS: [&str; 16] = [
+    "--lacks=",
+    "--lacks=58",
+    "--lacks=58:",
+    "--lacks=:VOUT_MAX",
+    "--lacks=VOUT_MAX",
+    "--lacks=58:VOUT_MAX,",
+    "--lacks=58:,VOUT_MAX",
+    "--lacks=58:VOUT_MAX VOUT_MIN",
+    "--lacks=58:vout_max",
+    "--lacks=58:VOUT_COMMAND",
+    "--lacks=58:OPERATION",
+    "--lacks=58:VOUT_MAX:VOUT_MIN",
+    "--lacks=07:VOUT_MAX",
+    "--lacks=78:VOUT_MAX",
+    "--lacks=0x58:VOUT_MAX",
+    "--lacks=58:VOUT_MAX,59:VOUT_MAX",
+];
+
+#[test]
+fn every_status_of_check_has_its_texts(rt: HostRuntime) -> Result<(), Fail> {
+    for &(options, log, status, output) in &CHECKS {
+        let mut words = vec![in rt.alloc(); "pmb"; 1]?;
+        words.push("check")?;
+        for option in options {
+            words.push(option)?;
+        }
+        ends(&rt, words.as_slice(), log, status, (output, ""));
+    }
+    for &option in &NO_LACKS {
+        ends(&rt, &["pmb", "check", option], WITHOUT, 2, ("", BAD_LACKS));
+    }
+    // A faulty text counts wherever it stands.
+    let words = ["pmb", "check", "--lacks=58:VOUT_MAX", "--lacks=58"];
+    ends(&rt, &words, WITHOUT, 2, ("", BAD_LACKS));
+    Ok(())
+}
+
 /// An option of `number`, the status, and what is written on both streams.
 static NUMBERS: [(&str, u8, &str, &str); 6] = [
     ("--word=87FF", 0, "word 87FF value -1/65536 micro -16\n", ""),

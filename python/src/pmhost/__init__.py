@@ -12,7 +12,7 @@ from ._version import __version__
 from .bus import LinuxBus, ModelBus, NoBus, NoTransfer, PatientBus, Smbus2Bus
 from .course import Course, CourseEnd, Job, Wanted
 from .device import Device
-from .errors import (Differs, FrameRefused, HostRefused, LimitRefused, MemoryRefused, NoFormat, NotDone, NumberRefused, OtherSource,
+from .errors import (Differs, FrameRefused, HostRefused, LimitRefused, MarginRefused, MemoryRefused, NoFormat, NotDone, NumberRefused, OtherSource,
                      PartRefused, PlanRefused, PmhostError, Refused, SetupRefused, Spent, Unknown)
 from .host import Host
 from .packets import Packet, code_request, pec, read_answer, read_block, read_plain, read_request, read_write
@@ -26,7 +26,7 @@ from .voltages import Voltage
 
 __all__ = [
     "Band", "Bus", "CODES", "Course", "CourseEnd", "Delivered", "Device", "Differs", "Format", "FrameRefused", "Host",
-    "HostRefused", "Job", "Known", "LINEAR11", "LimitRefused", "Limits", "LinuxBus", "Looks", "MemoryRefused", "ModelBus",
+    "HostRefused", "Job", "Known", "LINEAR11", "LimitRefused", "Limits", "LinuxBus", "Looks", "MarginRefused", "MemoryRefused", "ModelBus",
     "ModelPart", "ModelPartBus", "NoBus", "NoFormat", "NoTransfer", "NoWayBack", "NotDelivered", "NotDone", "NumberRefused", "OtherSource",
     "Output", "Packet", "PartRefused", "PatientBus", "PlanRefused", "PmhostError", "RailState", "Refused", "Sending",
     "SetupRefused", "Smbus2Bus", "Spent", "Stairs", "StairsEnd", "StairsStep", "Step", "Transfers", "Unknown", "Voltage", "Wanted", "__version__", "code_request",

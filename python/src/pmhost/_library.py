@@ -17,7 +17,7 @@ HOST_VERSION = 6
 HOST_SIZE = 2064
 COURSE_VERSION = 1
 COURSE_SIZE = 104
-DELIVERY_VERSION = 1
+DELIVERY_VERSION = 2
 STAIRS_VERSION = 1
 PART_SIZE = 372
 CELLS = 49
@@ -114,7 +114,7 @@ QUESTIONS = ("before", "ov_fault_limit", "ov_warn_limit", "uv_warn_limit", "uv_f
 
 class DeliveryImage(c.Structure):
     _fields_ = [("mark", c.c_uint16), ("version", c.c_uint16), ("output", c.c_uint8), ("look", c.c_uint8), ("fault_limits", c.c_uint8),
-                ("has_read_vout", c.c_uint8), ("within", c.c_uint16), ("rounds", c.c_uint16), ("round", c.c_uint16)] + [
+                ("lacks", c.c_uint8), ("within", c.c_uint16), ("rounds", c.c_uint16), ("round", c.c_uint16)] + [
                     (name, HeardImage) for name in QUESTIONS]
 
 

@@ -9,6 +9,7 @@ from typing import TYPE_CHECKING, Any, Iterable, Mapping, NoReturn, Optional, Un
 from . import _library as at
 from ._library import library
 from .errors import Differs, NoFormat, OtherSource, Spent, accepted, name_of, refusal
+from .operation import ON, avsbus, margin_byte, selected_by
 from .values import CODES, NAMES, code_of, frame_bytes, whole
 from .voltages import GivenVoltage, given_microvolts
 
@@ -105,6 +106,8 @@ class Course:
         # Whether it brings OPERATION to a byte that turns the output off, and by which registers it may command a voltage.
         self.turns_off = False
         self.goals: tuple[str, ...] = GOALS
+        # The margin that it is to, if the part acts on faults there.
+        self.guarded: Optional[str] = None
 
     @classmethod
     def survey(cls, output: int, tries: int = SURVEY_TRIES) -> Course:
@@ -135,7 +138,15 @@ class Course:
         """To a byte of OPERATION. One that turns the output off is ordered at once, before anything is read."""
         made = cls(output, tries)
         accepted(library.pm_course_power(REFERENCE(made._image), output, whole(byte, 0, 0xFF, "byte"), tries))
-        made.turns_off = byte < 0x80
+        made.turns_off = byte < ON
+        return made
+
+    @classmethod
+    def margin(cls, output: int, side: str, tries: int = TRIES, ignore_faults: bool = False) -> Course:
+        """To the margin `high` or `low`, by OPERATION A8h or 98h, at which the part acts on faults; to A4h or 94h with `ignore_faults`."""
+        byte = margin_byte(side, ignore_faults)
+        made = cls.power(output, byte, tries)
+        made.guarded = None if ignore_faults else selected_by(byte)
         return made
 
     def _aims_at(self, registers: Iterable[str | int]) -> None:
@@ -164,7 +175,7 @@ class Course:
     # ---- Frames ----
 
     def next(self, host: Host) -> Optional[Job]:
-        """The job that it would begin now, None if it would end."""
+        """The job that it would begin now, None if it would end. H4 if the host has no such output."""
         found = at.CourseJobImage()
         number = library.pm_course_next(REFERENCE(self._image), host.reference, REFERENCE(found))
         if number == ENDED:
@@ -173,7 +184,7 @@ class Course:
         return job_of(found)
 
     def frame(self, host: Host) -> Optional[Sending]:
-        """What to send now, None once it has ended."""
+        """What to send now, None once it has ended. H4 if the host has no such output: nothing changes then."""
         found = at.SendingImage()
         number = library.pm_course_frame(REFERENCE(self._image), host.reference, REFERENCE(found))
         if number == ENDED:
@@ -232,7 +243,7 @@ class Course:
         """Another course, which stands if this one does."""
         other = Course(self.output, self.tries)
         other.load(self.save())
-        other.turns_off, other.goals = self.turns_off, self.goals
+        other.turns_off, other.goals, other.guarded = self.turns_off, self.goals, self.guarded
         return other
 
     # ---- Its end ----
@@ -285,8 +296,3 @@ def end_in(memory: bytes) -> Optional[CourseEnd]:
 def in_hexadecimal(register: Optional[str], word: int) -> str:
     """A word in two digits if its register has one byte, otherwise in four."""
     return f"{word:02X}" if register in ("OPERATION", "WRITE_PROTECT") else f"{word:04X}"
-
-
-def avsbus(byte: int) -> str:
-    """That a byte of OPERATION selects AVSBus, if its bits 5:4 are 11."""
-    return ", AVSBus" if byte & 0x30 == 0x30 else ""

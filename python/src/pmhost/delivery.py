@@ -3,13 +3,13 @@ from __future__ import annotations
 
 import ctypes
 from dataclasses import dataclass
-from typing import TYPE_CHECKING, Optional
+from typing import TYPE_CHECKING, Iterable, Optional
 
 from . import _library as at
 from ._library import library
 from .course import NO_ANSWER, Course
 from .errors import PlanRefused, accepted, name_of, refusal
-from .values import frame_bytes, whole
+from .values import LOOKED_AT, frame_bytes, whole
 
 if TYPE_CHECKING:
     from .host import Host
@@ -19,7 +19,9 @@ REFERENCE = ctypes.byref
 ENDED, NO_GOAL = 0x95, 0xED
 FAULT_LIMITS = {"refuse": 0, "tell": 1, "skip": 2}
 VERDICTS = ("not yet", "delivers", "commanded off", "not known to be on", "off", "fault", "outside", "beyond", "power good alone",
-            "no power good", "not known", "went off", "still on")
+            "no power good", "not known", "went off", "still on", "beyond a fault limit", "delivers by READ_VOUT")
+# The bits of a register that a part lacks, as its caller says and as was found.
+LACKS = dict(zip(LOOKED_AT, ((1, 4), (2, 8))))
 # The registers that are asked for, by their command codes.
 NAMES = {0x40: "VOUT_OV_FAULT_LIMIT", 0x42: "VOUT_OV_WARN_LIMIT", 0x43: "VOUT_UV_WARN_LIMIT", 0x44: "VOUT_UV_FAULT_LIMIT",
          0x5E: "POWER_GOOD_ON", 0x5F: "POWER_GOOD_OFF", 0x79: "STATUS_WORD", 0x7A: "STATUS_VOUT", 0x7B: "STATUS_IOUT", 0x7C: "STATUS_INPUT",
@@ -66,14 +68,16 @@ def fault_words(number: int) -> str:
 class Delivery:
     """What an output does. `look_before` asks for what stands before the first order, `look_after` for what the output does then. While
     `frame` hands out a request, send it and say by `read_ended` what came. READ_VOUT may be `within` thousandths away from what the
-    output commands, and all is asked `rounds` times at most."""
+    output commands, and all is asked `rounds` times at most. `lacks` names which of STATUS_WORD and READ_VOUT the part doesn't have by its
+    data sheet, `found` which it was found to lack earlier."""
 
-    def __init__(self, output: int, fault_limits: str = "refuse", has_read_vout: bool = True, within: int = 50, rounds: int = 1) -> None:
+    def __init__(self, output: int, fault_limits: str = "refuse", lacks: Iterable[str] = (), within: int = 50, rounds: int = 1,
+                 found: Iterable[str] = ()) -> None:
         self._image = at.DeliveryImage()
         if fault_limits not in FAULT_LIMITS:
             raise ValueError(f"fault_limits: {fault_limits!r} isn't one of {', '.join(FAULT_LIMITS)}")
         accepted(library.pm_delivery_new(REFERENCE(self._image), whole(output, 0, 7, "output"), FAULT_LIMITS[fault_limits],
-                                         bool(has_read_vout), whole(within, 0, 1000, "within"), whole(rounds, 1, 0xFFFF, "rounds")))
+                                         sum(LACKS[it][0] for it in set(lacks)) + sum(LACKS[it][1] for it in set(found)), whole(within, 0, 1000, "within"), whole(rounds, 1, 0xFFFF, "rounds")))
 
     def look_before(self) -> None:
         """What stands before an order is looked at."""
@@ -83,9 +87,9 @@ class Delivery:
         """What the output does is looked at, after an order that turned it off or after any other."""
         accepted(library.pm_delivery_after(REFERENCE(self._image), is_off))
 
-    def without_read_vout(self) -> None:
-        """The part turned out to have no READ_VOUT: it is asked no more."""
-        self._image.has_read_vout = 0
+    def found_to_lack(self, register: str) -> None:
+        """The part turned out to have no STATUS_WORD or no READ_VOUT: it is asked no more."""
+        self._image.lacks |= LACKS[register][1]
 
     @property
     def round(self) -> int:

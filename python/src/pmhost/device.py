@@ -10,9 +10,10 @@ from .course import SURVEY_TRIES, TRIES, Course, Job, Wanted
 from .errors import Differs, NotDone, Refused, Unknown
 from .host import Host
 from .look import Delivered, Look, Looks, NotDelivered
+from .operation import OFF, ON
 from .states import Bus, Known, RailState, Step
 from .transfers import Transfers
-from .values import CODES, NAMES, code_of
+from .values import CODES, LOOKED_AT, NAMES, code_of
 from .voltages import GivenVoltage, Voltage
 
 
@@ -31,12 +32,6 @@ def alone(call: Callable[Words, Made]) -> Callable[Words, Made]:
     return waiting
 
 
-# Bytes of OPERATION.
-ON, OFF, MARGINS = 0x80, 0x00, {"high": 0xA8, "low": 0x94}
-# Its bits of which one is 1 where an output that is on isn't at VOUT_COMMAND.
-ANOTHER = 0x30
-
-
 class Device:
     """A part on a bus, through a host of its own. `address` has seven bits, 08h to 77h, `outputs` is 1 to 8, and a job is tried at most
     `passes` times, 1 to 15.
@@ -50,7 +45,7 @@ class Device:
 
     `limits` gives outputs a least and a most: no order beyond them leaves this host, and `set_limits` can narrow them. {1: None} says that
     output 1 has none; an output that isn't named is ordered no voltage (L8). `lacks` names registers that the part doesn't have, as
-    ("VOUT_MIN",). A voltage is a text with its unit, as "3.3V" or "850mV", or a Voltage, which is what is given back.
+    ("VOUT_MIN", "READ_VOUT"). A voltage is a text with its unit, as "3.3V" or "850mV", or a Voltage, which is what is given back.
 
     An order, a survey and a margin look at the rail after their end, and raise NotDelivered if it doesn't deliver what it is commanded
     to; `delivered` has what was read last. `looks` says how; None doesn't look.
@@ -65,12 +60,12 @@ class Device:
             if not callable(getattr(bus, name, None)):
                 raise TypeError(f"bus: {bus!r} has no call {name}: see pmhost.Bus")
         lacks = tuple(lacks)
-        self.bus, self.host = bus, Host(address, outputs, passes, lacks)
+        self.bus, self.host = bus, Host(address, outputs, passes, [it for it in lacks if it not in LOOKED_AT])
         self.transfers, self.lock = Transfers(), threading.RLock()
         # How rails are looked at, what was seen last, and the registers beside the host's that the part turned out not to have.
         self.looks, self.absent = looks, set[str]()
         self.delivered: Delivered | None = None
-        self.lacks = frozenset(NAMES[code_of(register)] for register in lacks)
+        self.lacks = frozenset(str(it) if it in LOOKED_AT else NAMES[code_of(it)] for it in lacks)
         for output, pair in dict(limits or {}).items():
             if pair is None:
                 self.no_limits(output)
@@ -286,11 +281,11 @@ class Device:
         """Orders OPERATION 00h at once, before anything is read. No limit refuses it."""
         return self.complete(Course.power(output, OFF, tries), job=f"off {output}")
 
-    def margin(self, output: int, side: str, tries: int = TRIES) -> RailState:
-        """Brings OPERATION to A8h or 94h, by which the output commands its margin `high` or `low`. It is refused as `turn_on` is."""
-        if side not in MARGINS:
-            raise ValueError(f"side: {side!r} isn't high or low")
-        return self.complete(Course.power(output, MARGINS[side], tries), job=f"margin {output} {side}")
+    def margin(self, output: int, side: str, tries: int = TRIES, ignore_faults: bool = False) -> RailState:
+        """Brings OPERATION to A8h or 98h, by which the output commands its margin `high` or `low` and the part acts on faults. It is refused
+        as `turn_on` is; and MarginRefused is raised if the margin's own fault limit, VOUT_OV_FAULT_LIMIT or VOUT_UV_FAULT_LIMIT, isn't known to
+        be 1 % of what is commanded now away. With `ignore_faults` OPERATION is A4h or 94h, and that isn't asked for."""
+        return self.complete(Course.margin(output, side, tries, ignore_faults), job=f"margin {output} {side}")
 
     # ---- Commands ----
 

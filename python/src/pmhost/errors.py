@@ -137,6 +137,22 @@ class NotDone(PmhostError):
         return type(self), (str(self), self.kind, self.word, self.possible, self.register)
 
 
+class MarginRefused(PmhostError):
+    """A margin at which the part acts on faults, and whose own fault limit, `register`, isn't known to be 1 % of what is commanded away: nothing
+    was ordered. `said` says why, and `advice` what to do, with the words that ignore faults."""
+
+    def __init__(self, register: str, said: str, advice: str) -> None:
+        self.register, self.said, self.advice = register, said, advice
+        super().__init__(f"{said}: {self.do('ignore_faults=True')}")
+
+    def __reduce__(self) -> tuple[object, ...]:
+        return type(self), (self.register, self.said, self.advice)
+
+    def do(self, ignoring: str) -> str:
+        """What to do, with these words for what ignores faults."""
+        return self.advice.format(ignoring)
+
+
 class Differs(NotDone):
     """An order whose word wasn't read back: another was, `word`. Of a course: at the second time that its register differed."""
 

@@ -12,11 +12,11 @@ from .bus.linux import Trace, in_hex
 from .errors import PmhostError
 from .host import Host
 from .states import Sending
+from .values import MISSABLE
 
 # The bytes of a line of a note: the rest of a long one is left out.
 MOST_NOTE = 1000
 ONE_BYTE = ("OPERATION", "WRITE_PROTECT")
-MISSABLE = ("VOUT_MAX", "VOUT_MARGIN_HIGH", "VOUT_MARGIN_LOW", "VOUT_MIN")
 
 
 def note_of(words: str) -> str:

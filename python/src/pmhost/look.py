@@ -7,10 +7,10 @@ from typing import TYPE_CHECKING, Optional
 from . import clock, voltages
 from .bus.ones import is_ones
 from .delivery import FAULT_LIMITS, LIMITS, NAMES, Delivery, Verdict, goal_of
-from .errors import NotDone, PlanRefused
+from .errors import MarginRefused, NotDone, PlanRefused
 from .host import Host
 from .status import BITS, names_of
-from .values import CODES, whole
+from .values import CODES, LOOKED_AT, whole
 
 if TYPE_CHECKING:
     from .course import Course, Job
@@ -20,9 +20,11 @@ if TYPE_CHECKING:
 # Milliseconds before all is asked again; each further wait is twice as long.
 FIRST_WAIT = 10
 # Verdicts that aren't asked about again, and are no fault of the rail's.
-WELL = ("delivers", "commanded off", "not known to be on", "went off")
+WELL = ("delivers", "delivers by READ_VOUT", "commanded off", "not known to be on", "went off")
 # The status registers that STATUS_WORD may point to, by their fields.
 STATUS = {"status_vout": 0x7A, "status_iout": 0x7B, "status_input": 0x7C, "status_temperature": 0x7D}
+# The fault limit of a margin, by its field, and how near it may be to the margin, in thousandths of what is commanded.
+MARGIN_LIMITS, NEAR = {"VOUT_MARGIN_HIGH": "ov_fault_limit", "VOUT_MARGIN_LOW": "uv_fault_limit"}, 10
 # The bits of STATUS_WORD that say a fault or point to one.
 FAULTS = {"VOUT", "IOUT_POUT", "INPUT", "VOUT_OV_FAULT", "IOUT_OC_FAULT", "VIN_UV_FAULT", "TEMPERATURE"}
 
@@ -68,16 +70,18 @@ class NotDelivered(NotDone):
 
 @dataclass
 class Delivered:
-    """What a rail does, by its last answers. `is_absent` says that the part has no STATUS_WORD, and `is_told` that this was said before;
-    `limits` are those that it is outside of; `status` is STATUS_WORD, `before` what it was before the first order; `registers` has the
-    status registers that were read, `notes` what is said of limits."""
+    """What a rail does, by its last answers. `is_off` says that it was turned off; `lacks` which of STATUS_WORD and READ_VOUT the part
+    doesn't have, as the caller says, and `found` which it was found to lack; `limits` are those that it is outside of; `status` is
+    STATUS_WORD, `before` what it was before the first order; `registers` has the status registers that were read, `notes` what is said of
+    limits."""
 
     output: int
     verdict: Verdict
     how: Looks
     limits: Optional[tuple[int, int]] = None
-    is_absent: bool = False
-    is_told: bool = False
+    is_off: bool = False
+    lacks: frozenset[str] = frozenset()
+    found: frozenset[str] = frozenset()
     status: Optional[int] = None
     before: Optional[int] = None
     registers: dict[str, int] = field(default_factory=dict)
@@ -88,7 +92,22 @@ class Delivered:
     def is_bad(self) -> bool:
         """Whether the rail doesn't do what it is to, or isn't known to."""
         kind = self.verdict.kind
-        return kind not in WELL and not self.is_absent and not (kind == "power good alone" and self.how.power_good == "tell")
+        return kind not in WELL and not self.is_unasked and not (kind == "power good alone" and self.how.power_good == "tell")
+
+    @property
+    def _needed(self) -> tuple[str, ...]:
+        """The registers of which one has to answer for it to be known: of an output that was turned off STATUS_WORD."""
+        return LOOKED_AT[:1] if self.is_off else LOOKED_AT
+
+    @property
+    def is_missing(self) -> bool:
+        """Whether nothing is known of it, since the part lacks what it would be known by."""
+        return self.verdict.kind == "not known" and self.verdict.register == "STATUS_WORD" and self.lacks | self.found >= set(self._needed)
+
+    @property
+    def is_unasked(self) -> bool:
+        """Whether that is so by what the caller said of the part, and not by what was found: then it isn't bad."""
+        return self.is_missing and self.lacks >= set(self._needed)
 
     @property
     def status_words(self) -> str:
@@ -109,31 +128,33 @@ class Delivered:
                 "outside": "READ_VOUT is outside the limits", "beyond": "READ_VOUT isn't what the output commands",
                 "power good alone": "power good is missing", "still on": "the part says that it is on"}.get(kind)
         if said is None:
-            return f"whether the rail delivers isn't known: {bit.register}: {bit.fault or 'no good answer'}"
+            does = "is off" if self.is_off else "delivers"
+            return f"whether the rail {does} isn't known: {self.lacking if self.is_missing else f'{bit.register}: ' + (bit.fault or 'no good answer')}"
         return f"{said}: `why` says more"
 
     @property
     def said(self) -> str:
-        """What it does, in words that stand by themselves; nothing if the same was said before."""
-        words = "" if self.is_absent and self.is_told else self._verdict_words()
-        return "; ".join([*[words] * bool(words), *self.notes])
+        """What it does, in words that stand by themselves."""
+        return "; ".join([self._verdict_words(), *self.notes])
 
     @property
     def words(self) -> str:
         """The same for the end of a line that says what is commanded."""
         has_none = self.verdict.kind in ("commanded off", "not known to be on")
         said = "; ".join(self.notes) if has_none else self.said
-        return f"{', ' if self.verdict.kind == 'delivers' else '; '}{said}" if said else ""
+        return f"{', ' if self.verdict.kind.startswith('delivers') else '; '}{said}" if said else ""
 
     def _verdict_words(self) -> str:
         found, kind = self.verdict, self.verdict.kind
         read = "" if found.microvolts is None else f"READ_VOUT {voltages.shown(found.microvolts)}"
         if kind == "delivers":
             return f"delivers {voltages.shown(found.microvolts) if read else 'by STATUS_WORD'}{self._rest()}"
+        if kind == "delivers by READ_VOUT" and found.microvolts is not None:
+            return f"delivers {voltages.shown(found.microvolts)} by READ_VOUT"
         if kind == "outside" and self.limits is not None:
             return f"{read} is OUTSIDE {voltages.shown(self.limits[0])} to {voltages.shown(self.limits[1])}{self._rest()}"
         if kind == "not known":
-            return f"delivery not known: {self._unknown()}"
+            return f"{'commanded off; not known to be off' if self.is_off else 'delivery not known'}: {self._unknown()}"
         return {"off": f"{self.status_words}: the rail is off",
                 "fault": f"{self.status_words}: {name_of_bit(found)} came with this call",
                 "beyond": f"{read} is more than {self.how.within / 10:g}% away from what is commanded{self._rest()}",
@@ -147,7 +168,12 @@ class Delivered:
         found = self.verdict
         if found.register == "READ_VOUT" and not found.fault:
             return "what the output commands isn't known"
-        return f"{found.register} gave no good answer{': ' * bool(found.fault)}{found.fault}"
+        return self.lacking if self.is_missing else f"{found.register} gave no good answer: {found.fault}"
+
+    @property
+    def lacking(self) -> str:
+        """What the part lacks, as the caller says or as was found."""
+        return f"the part {'lacks' if self.is_unasked else 'seems to lack'} {' and '.join(self._needed)}"
 
     def _missing(self) -> str:
         """Power good is missing, and at which voltage it begins."""
@@ -172,19 +198,30 @@ def name_of_bit(found: Verdict) -> str:
     return ", ".join(names_of(found.register, 1 << found.bit)) if found.register in BITS else ""
 
 
+def has_room(margin: int | None, limit: int | None, band: tuple[int, int] | None, is_high: bool) -> bool:
+    """Whether a margin is known not to be near its own fault limit, by the band of what is commanded: once the order has begun, one end is what
+    is commanded now, and the other the margin. All in microvolts; a limit of None is beyond what the library says, and near no margin."""
+    if limit is None or margin is None or band is None:
+        return limit is None
+    least, greatest = band
+    now = greatest if greatest - margin > margin - least else least
+    return (limit - margin if is_high else margin - limit) * 1000 >= NEAR * abs(now)
+
+
 class Look:
     """Of an output of a part: `before` ahead of its first order, `after` after its end."""
 
     def __init__(self, part: Device, output: int, how: Looks) -> None:
         self.part, self.output, self.how = part, output, how
-        self.delivery = Delivery(output, how.fault_limits, "READ_VOUT" not in part.absent, how.within, how.rounds)
+        self.lacks = frozenset(LOOKED_AT) & part.lacks
+        self.delivery = Delivery(output, how.fault_limits, self.lacks, how.within, how.rounds, frozenset(LOOKED_AT) & part.absent)
         self.has_looked_before, self.notes = False, list[str]()
         # The registers that gave any answer, and the rounds in which one gave none at all, with whether the part answered after it.
         self.answered, self.silent = set[str](), dict[tuple[str, int], bool]()
 
     def before(self, course: Course, order: Job) -> None:
         """Reads what stands before the first order, unless that turns the output off. P8 if the course's goal is at or beyond a fault
-        limit."""
+        limit, and MarginRefused if it is a margin that may trip the rail."""
         if self.has_looked_before or order.register == "OPERATION" and (order.word or 0) < 0x80:
             return
         self.delivery.look_before()
@@ -197,12 +234,14 @@ class Look:
         self.judge(course, order)
 
     def judge(self, course: Course, order: Job | None = None) -> None:
-        """P8 if the course's goal is at or beyond a fault limit, by what was read before. The goal of a register whose order is due is
-        that order's word."""
+        """P8 if the course's goal is at or beyond a fault limit, by what was read before, and MarginRefused. The goal of a register whose order
+        is due is that order's word."""
         for register in course.goals:
             word = order.word if order and order.register == register else goal_of(course, self.part.host, CODES[register])
             if word is not None:
                 self._judge(register, word)
+        if course.guarded is not None:
+            self._judge_margin(course, course.guarded)
 
     def _judge(self, register: str, word: int) -> None:
         """P8, or a note."""
@@ -215,6 +254,23 @@ class Look:
             if limit is not None:
                 self.notes.append(f"{register} {self._told(word)} is at or beyond {limit[0]} {self._told(limit[1])}")
 
+    def _judge_margin(self, course: Course, register: str) -> None:
+        """MarginRefused if a margin's own fault limit isn't known, or is near: the rail may trip, since the part acts on faults."""
+        question = MARGIN_LIMITS[register]
+        heard, limit = self.delivery.heard(question), NAMES[LIMITS[question]]
+        if heard.word is None and heard.asked:
+            raise MarginRefused(limit, f"{limit} gave no good answer: the rail may trip", "ask again, or give {} if the part has none")
+        if heard.word is None:
+            raise MarginRefused(limit, f"{limit} wasn't read: the rail may trip", "have fault limits read, or give {}")
+        host, word = self.part.host, goal_of(course, self.part.host, CODES[register])
+        form, band = host.format(self.output), host.rail(self.output).band
+        margin, fault = (None if form is None else form.told(each) for each in (word, heard.word))
+        ends = None if band is None else (band.least.microvolts, band.greatest.microvolts)
+        if not has_room(margin, fault, ends, register == "VOUT_MARGIN_HIGH"):
+            named = register if word is None else f"{register} {self._told(word)}"
+            raise MarginRefused(limit, f"{named} leaves less than {NEAR / 10:g}% of what is commanded now to {limit}, which is "
+                                f"{self._told(heard.word)}: the rail may trip", "move the limit or the margin, or give {}")
+
     def _told(self, word: int) -> str:
         """A word's volts, or its digits."""
         form = self.part.host.format(self.output)
@@ -222,20 +278,15 @@ class Look:
 
     def after(self, is_off: bool = False) -> Delivered:
         """Reads what the rail does."""
-        is_told = "STATUS_WORD" in self.part.absent
         self.delivery.look_after(is_off)
-        if not is_told:
-            self._ask()
+        self._ask()
         host, found = self.part.host, self.delivery.verdict(self.part.host)
-        is_absent = found.kind in ("not yet", "not known") and "STATUS_WORD" in self.part.absent
-        if is_absent:
-            found = Verdict("not known", "STATUS_WORD")
         limits = host.limits(self.output) if found.kind == "outside" else None
         registers = {NAMES[code]: word for name, code in STATUS.items() if (word := self.delivery.heard(name).word) is not None}
         begins = self.delivery.heard("power_good_on").word
         form = None if begins is None else host.format(self.output)
         return Delivered(self.output, found, self.how, None if limits is None else (limits.least.microvolts, limits.most.microvolts),
-                         is_absent, is_told, self.delivery.heard("status_word").word, self.delivery.heard("before").word, registers,
+                         is_off, self.lacks, frozenset(LOOKED_AT) & self.part.absent, self.delivery.heard("status_word").word, self.delivery.heard("before").word, registers,
                          None if form is None else form.told(begins), self.notes)
 
     # ---- Frames ----
@@ -248,12 +299,10 @@ class Look:
                 clock.wait(wait / 1000)
                 turn, wait = self.delivery.round, 2 * wait
             self.delivery.read_ended(self.part.host, self._read(sending))
-            if self._is_silent("status_word"):
-                self.part.absent.add("STATUS_WORD")
-                return
-            if self._is_silent("read_vout"):
-                self.part.absent.add("READ_VOUT")
-                self.delivery.without_read_vout()
+            for register in LOOKED_AT:
+                if self._is_silent(register.lower()):
+                    self.part.absent.add(register)
+                    self.delivery.found_to_lack(register)
 
     def _is_silent(self, question: str) -> bool:
         """Whether a register that is asked after an order gave no answer at all in two rounds, that before the order among them."""

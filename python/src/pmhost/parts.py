@@ -18,12 +18,11 @@ from dataclasses import dataclass
 from typing import TypeGuard
 
 from .reserved import why_reserved
+from .values import LOOKED_AT, MISSABLE
 
 ADDRESS = re.compile(r"(?:0[xX])?([0-9A-Fa-f]{2})[hH]?\Z")
 NAME = re.compile(r"[A-Za-z0-9_.+-]{1,32}\Z")
 MODEL_BUS = "model"
-# The registers that a part may lack.
-MISSABLE = ("VOUT_MAX", "VOUT_MARGIN_HIGH", "VOUT_MARGIN_LOW", "VOUT_MIN")
 KEYS = ("bus", "address", "outputs", "model", "lacks", "ready", "protect")
 READY = re.compile("([0-9A-Fa-f]{2}):([0-9A-Fa-f]{2})")
 PROTECTIONS = ("80", "40", "20")
@@ -87,8 +86,8 @@ def ready_of(word: str) -> tuple[int, int]:
 
 def lacks_of(at: str, names: object) -> tuple[str, ...]:
     """The registers that a part doesn't have."""
-    if not isinstance(names, list) or any(name not in MISSABLE for name in names):
-        raise BadRails(f"{at}: give a list of {', '.join(MISSABLE)}")
+    if not isinstance(names, list) or any(name not in MISSABLE + LOOKED_AT for name in names):
+        raise BadRails(f"{at}: give a list of {', '.join(MISSABLE + LOOKED_AT)}")
     return tuple(names)
 
 

@@ -6,7 +6,8 @@ from dataclasses import dataclass, field
 from typing import Callable, Iterable
 
 from . import clock
-from .device import ON, Device
+from .device import Device
+from .operation import ON
 from .rails import Rail
 from .way import Knowledge
 

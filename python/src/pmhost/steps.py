@@ -22,8 +22,8 @@ NOT_ON = ("commanded off", "not known to be on", "went off")
 
 def why_not_before(name: str, found: Delivered) -> str:
     """Why a rail doesn't deliver after which another one is to begin, by what was seen of it; nothing if it does."""
-    if found.is_absent:
-        return f"{name} has to deliver first, which isn't known: STATUS_WORD gives no answer"
+    if found.is_missing:
+        return f"{name} has to deliver first, which isn't known: {found.lacking}"
     if found.is_bad or found.verdict.kind in NOT_ON:
         return f"{name} has to deliver first: {found.why or found.verdict.kind}{found.words}"
     return ""

@@ -6,10 +6,11 @@ from dataclasses import dataclass, field
 from typing import Callable
 
 from . import probe
-from .course import Course, CourseEnd, Job, avsbus
-from .device import MARGINS, ON, Device
+from .course import Course, CourseEnd, Job
+from .device import Device
 from .errors import LimitRefused
 from .host import Host
+from .operation import avsbus, ignores_faults, selected_by
 from .packets import Packet
 from .reads import Reads
 from .states import Bus, Known, Step
@@ -31,8 +32,9 @@ OFF_TRIES = 4
 @dataclass
 class Commanded:
     """What an output commands, by what is known. Voltages are in microvolts; what isn't known is None. `value` is that of the
-    selected register, `form` the format of its words, and `cells` has what is known of each register. After a course `missing` has the
-    register that gave no good answer, and why, and `unended` says why it came to no end otherwise."""
+    selected register, `form` the format of its words, and `cells` has what is known of each register. `ignores_faults` says whether OPERATION
+    has the part ignore faults. After a course `missing` has the register that gave no good answer, and why, and `unended` says why it came to
+    no end otherwise."""
 
     selected: str | None = None
     value: int | None = None
@@ -45,6 +47,7 @@ class Commanded:
     unended: str = ""
     form: Format | None = None
     cells: dict[str, Known] = field(default_factory=dict)
+    ignores_faults: bool | None = None
 
     @property
     def is_within(self) -> bool | None:
@@ -69,7 +72,7 @@ class Commanded:
 
     def would(self, operation: int) -> int | None:
         """What it would command by a byte of OPERATION, if that is known."""
-        selected = {ON: "VOUT_COMMAND", MARGINS["high"]: "VOUT_MARGIN_HIGH", MARGINS["low"]: "VOUT_MARGIN_LOW"}.get(operation)
+        selected = selected_by(operation)
         words = [] if selected is None else [self.only_word(each) for each in (selected, "VOUT_MIN", "VOUT_MAX")]
         values = [None if self.form is None else self.form.told(word) for word in words]
         return None if not values or None in values else min(max(each for each in values[:2] if each is not None), values[2] or 0)
@@ -88,6 +91,8 @@ def commanded(part: Device, output: int) -> Commanded:
     found = Commanded(is_on=state.is_on, limits=None if limits is None else (limits.least.microvolts, limits.most.microvolts),
                       limits_state=None if limits is None else state.limits_state, form=form,
                       cells={it.register: it for it in part.known_cells() if it.output in (None, output)})
+    byte = found.only_word("OPERATION")
+    found.ignores_faults = None if byte is None else ignores_faults(byte)
     if state.band is not None:
         found.least, found.greatest = state.band.least.microvolts, state.band.greatest.microvolts
     if state.is_on is not None and state.selected in CODES:

@@ -258,12 +258,16 @@ fn each_course_sends_the_frames_of_its_row_and_ends_so() {
 fn each_course_goes_the_same_way_in_a_loop_of_ones_own() {
     each_row(|host, course, bus| loop {
         let step = match course.frame(host) {
-            Sending::Nothing => return end_of(course.end().unwrap()),
-            Sending::Write(frame) => {
+            Err(refusal) => {
+                assert_eq!((course.end(), course.next(host)), (None, None), "a refused course goes on");
+                return format!("refused {refusal} 00");
+            }
+            Ok(Sending::Nothing) => return end_of(course.end().unwrap()),
+            Ok(Sending::Write(frame)) => {
                 let acked = bus.transaction(0x58, &mut [Operation::Write(&frame[1..])]).is_ok();
                 course.write_ended(host, acked)
             }
-            Sending::Request { frame, answer } => {
+            Ok(Sending::Request { frame, answer }) => {
                 let mut bytes = [0xB1, 0, 0, 0, 0, 0, 0, 0];
                 let came = bus.transaction(0x58, &mut [Operation::Write(&frame[1..]), Operation::Read(&mut bytes[1..answer])]);
                 course.read_ended(host, if came.is_ok() { &bytes[..answer] } else { &[] })

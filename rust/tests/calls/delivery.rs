@@ -112,7 +112,7 @@ fn delivered(wrong: &'static str, what: &str, fault_limits: FaultLimits) -> (Str
         microvolts => Course::voltage(0, Register::VoutCommand, microvolts.parse().unwrap(), COURSE_TRIES),
     }
     .unwrap();
-    let options = DeliveryOptions { fault_limits, has_read_vout: true, rounds: 3, ..DeliveryOptions::default() };
+    let options = DeliveryOptions { fault_limits, rounds: 3, ..DeliveryOptions::default() };
     let mut delivery = Delivery::new(0, &options).unwrap();
     let said = match host.deliver(&mut course, &mut delivery, &mut rail, || ()) {
         Ok(verdict) => format!("well: {verdict}"),
@@ -158,8 +158,16 @@ fn an_end_says_what_the_rail_does() {
         ),
         ("o", "survey", Refuse, "well: delivers 1V; STATUS_WORD 8020 VOUT, VOUT_OV_FAULT", 0),
         ("g", "1100000", Refuse, "READ_VOUT 1.100097V; STATUS_WORD 0800 POWER_GOOD#: power good begins at 1.199951V", 1),
+        (
+            "g",
+            "1199951",
+            Refuse,
+            "READ_VOUT 1.199951V; STATUS_WORD 0800 POWER_GOOD#: power good is missing, and begins at 1.199951V; \
+             VOUT_COMMAND 1.199951V is at or beyond VOUT_OV_WARN_LIMIT 1.199951V",
+            1,
+        ),
         ("l", "1100000", Refuse, "READ_VOUT 0.98999V is more than 5% away from what is commanded", 1),
-        ("s", "1100000", Refuse, "well: delivery not known: STATUS_WORD gave no good answer", 1),
+        ("s", "1100000", Refuse, "well: delivers 1.100097V by READ_VOUT", 1),
         ("q", "1100000", Refuse, "delivery not known: STATUS_WORD gave no good answer: no answer", 1),
         ("v", "1100000", Refuse, "well: delivers by STATUS_WORD", 1),
         ("vg", "1100000", Refuse, "STATUS_WORD 0800 POWER_GOOD#: power good is missing", 1),
@@ -195,7 +203,7 @@ fn a_register_is_missing_after_two_rounds_and_no_sooner() {
         ("v", 1, "delivery not known: READ_VOUT gave no good answer: no answer"),
         ("v", 2, "delivers by STATUS_WORD"),
         // The look before an order is a round of STATUS_WORD.
-        ("s", 1, "delivery not known: STATUS_WORD gave no good answer"),
+        ("s", 1, "delivers 1.100097V by READ_VOUT"),
         ("q", 1, "delivery not known: STATUS_WORD gave no good answer: no answer"),
     ] {
         let (mut host, mut delivery) = host_and_delivery(rounds, true);
@@ -230,7 +238,7 @@ fn nothing_is_asked_before_an_order_that_turns_the_output_off() {
         let mut rail = Rail::of("", 0x80);
         let mut course = Course::power(0, 0x00, COURSE_TRIES).unwrap();
         if is_begun {
-            assert!(matches!(course.frame(&mut host), Sending::Write(_)));
+            assert!(matches!(course.frame(&mut host), Ok(Sending::Write(_))));
         }
         let found = host.deliver(&mut course, &mut delivery, &mut rail, || ()).unwrap();
         assert_eq!(

@@ -75,6 +75,15 @@ impl Bus for Watched {
     }
 }
 
+// Each job of a course over a silent bus is one read here.
+#[test]
+fn a_course_has_sixty_four_jobs_if_a_caller_says_nothing_else() {
+    let (mut host, mut bus) = (free(0x58, 1, 1), Scripted::new(&[Fails(&[])]));
+    let spent = host.run_course(&mut Course::survey(0, COURSE_TRIES).unwrap(), &mut bus).unwrap_err();
+    assert!(matches!(spent, NotReached::Spent { .. }), "{spent}");
+    assert_eq!(bus.frames.len(), 64);
+}
+
 fn host() -> Host {
     free(0x58, 2, 3)
 }

@@ -107,8 +107,13 @@ impl Row {
         part
     }
 
+    /// The codes that the host is told the part lacks.
+    fn lacks(&self) -> impl Iterator<Item = &'static str> + '_ {
+        self.all("lacks").flatten()
+    }
+
     fn host(&self) -> Host {
-        let lacks: Vec<Register> = self.all("lacks").map(|words| register_of(words[0])).collect();
+        let lacks: Vec<Register> = self.lacks().filter(|code| *code == "2B").map(register_of).collect();
         let mut host = Host::without(ADDRESS, 2, 3, &lacks).unwrap();
         let (least, most) = self.said("band").and_then(|band| band.split_once(' ')).unwrap_or(("800000", "1300000"));
         host.set_limits(0, Limits { least: least.parse().unwrap(), most: most.parse().unwrap() }).unwrap();
@@ -127,7 +132,8 @@ impl Row {
         DeliveryOptions {
             fault_limits,
             power_good,
-            has_read_vout: true,
+            has_status_word: self.lacks().all(|code| code != "79"),
+            has_read_vout: self.lacks().all(|code| code != "8B"),
             within: number("within", 50),
             rounds: number("rounds", 7),
         }
@@ -204,6 +210,7 @@ fn kind_of(verdict: &Verdict) -> &'static str {
         Verdict::NotKnown { .. } => "not-known",
         Verdict::WentOff => "went-off",
         Verdict::StillOn => "still-on",
+        Verdict::DeliversByReadVout { .. } => "delivers-by-READ_VOUT",
     }
 }
 

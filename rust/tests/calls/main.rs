@@ -223,6 +223,33 @@ fn reads_of_any_code_are_judged() {
     assert_eq!(Block::read(0x58, 0x99, &[0xB1, 33, 0, 0]), Err(Refusal::F4WrongCount));
 }
 
+#[test]
+fn a_read_of_thirty_two_bytes_hands_over_each() {
+    let all: Vec<u8> = (1..=32).collect();
+    let ended = |request: &[u8], answer: Vec<u8>| {
+        let sum = pec(&[request, &answer].concat());
+        [&answer[..], &[sum]].concat()
+    };
+    let plain = ended(&[0xB0, 0xE7], [&[0xB1][..], &all].concat());
+    assert_eq!(Block::read_plain(0x58, 0xE7, 32, &plain).as_deref(), Ok(&all[..]));
+    let block = ended(&[0xB0, 0x99], [&[0xB1, 32][..], &all].concat());
+    assert_eq!(Block::read(0x58, 0x99, &block).as_deref(), Ok(&all[..]));
+    let paged = ended(&[0xB0, 0x06, 0x02, 0x00, 0xE7], [&[0xB1, 32][..], &all].concat());
+    assert_eq!(Block::read_paged(0x58, 0, 0xE7, 0, &paged).as_deref(), Ok(&all[..]));
+    assert_eq!(Block::read_paged(0x58, 0, 0xE7, 32, &paged).as_deref(), Ok(&all[..]));
+}
+
+#[test]
+fn a_part_fills_the_room_that_a_caller_has_and_no_more() {
+    let answer = [0x02, 0xCD, 0x34, pec(&[0xB0, 0x06, 0x02, 0x00, 0x21, 0xB1, 0x02, 0xCD, 0x34])];
+    for room in [0, 1, 3, 4, 5, 40] {
+        let mut came = vec![0xEE; room];
+        part().transaction(0x58, &mut [Operation::Write(&[0x06, 0x02, 0x00, 0x21]), Operation::Read(&mut came)]).unwrap();
+        let count = room.min(4);
+        assert_eq!((&came[..count], &came[count..]), (&answer[..count], &vec![0xEE; room - count][..]), "{room}");
+    }
+}
+
 // The first that applies of V1 to V5.
 #[test]
 fn what_no_part_starts_with_is_refused() {

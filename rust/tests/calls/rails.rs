@@ -80,7 +80,7 @@ fn a_rail_says_which_register_has_its_voltage() {
     let rows = [
         (0x40, Selected::Register(Register::VoutCommand)),
         (0xA8, Selected::Register(Register::VoutMarginHigh)),
-        (0x94, Selected::Register(Register::VoutMarginLow)),
+        (0x98, Selected::Register(Register::VoutMarginLow)),
     ];
     for (byte, selected) in rows {
         let output = Output { operation: byte, ..Output::default() };
@@ -101,12 +101,12 @@ fn a_course_says_what_it_would_begin_and_what_is_under_way() {
     let cell = Cell::Output(0, Register::VoutCommand);
     let mut course = Course::words(0, &VOLTS, 40).unwrap();
     assert_eq!((course.next(&host), course.job(), course.end()), (Some(Job::Learn(0)), None, None));
-    let Sending::Request { frame, answer: 4 } = course.frame(&mut host) else { panic!("no learn") };
-    assert_eq!((course.frame(&mut host), course.job()), (Sending::Request { frame, answer: 4 }, Some(Job::Learn(0))));
+    let Ok(Sending::Request { frame, answer: 4 }) = course.frame(&mut host) else { panic!("no learn") };
+    assert_eq!((course.frame(&mut host), course.job()), (Ok(Sending::Request { frame, answer: 4 }), Some(Job::Learn(0))));
     assert_eq!(course.write_ended(&mut host, true), Err(Refusal::OtherFrame));
     let mut seen = Vec::new();
     loop {
-        let step = match course.frame(&mut host) {
+        let step = match course.frame(&mut host).unwrap() {
             Sending::Nothing => break,
             Sending::Write(frame) => {
                 let acked = bus.transaction(0x58, &mut [Operation::Write(&frame[1..])]).is_ok();

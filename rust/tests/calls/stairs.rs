@@ -234,7 +234,7 @@ fn an_order_that_was_not_acknowledged_is_told_so() {
 fn each_end_is_one_line() {
     let end = |why| StairsEnd { step: 2, has_begun: true, why }.to_string();
     let refusal = Refusal::L4AboveLimit;
-    assert_eq!(end(StairsStop::Reached), "each of 2 steps is over");
+    assert_eq!(end(StairsStop::Reached), "each of 2 steps is over, or was left");
     assert_eq!(end(StairsStop::Changed), "step 2: the format changed, or another orders beside it");
     assert_eq!(
         end(StairsStop::Course(NotReached::NoFormat { mode: 0x21 })),

@@ -1,14 +1,9 @@
-ghost use Rattle.pm_driver.specs.CoursesThrough.{CoursesGoThrough};
 ghost use Rattle.pm_driver.specs.Disturbed.{PartsCompose, RequestsMayBeLost};
 ghost use Rattle.pm_driver.specs.NeverRestarts.{NeverRestartsStays, PatientNeverRestartsStays, ReadsKeepNeverRestarts};
-ghost use Rattle.pm_driver.specs.PlanEnds.{OrdersGoThrough, PatientOrdersGoThrough};
 
 use crate::buses::patient::Patient;
 use crate::buses::simulated_bus::SimulatedBus;
-use crate::{
-    jobs_restart_nothing, reads_restart_nothing, undisturbed_courses_end,
-    undisturbed_orders_are_done, whole_frames_are_legal,
-};
+use crate::{jobs_restart_nothing, reads_restart_nothing};
 
 /// What happens to a converter in parts, put together: a write that is heard in two goes, and times in which it heard
 /// nothing: before a write, before a request, or with no frame after them.
@@ -43,31 +38,4 @@ pub fn patient_never_restarts_stays()
     ensures { PatientNeverRestartsStays }
 {
     jobs_restart_nothing::<Patient<SimulatedBus<'static>>>();
-}
-
-/// An order that WRITE_PROTECT allows is done over a plan at its end, and the converter holds its word.
-pub fn orders_go_through()
-    ensures { OrdersGoThrough }
-{
-    whole_frames_are_legal();
-    undisturbed_orders_are_done::<SimulatedBus<'static>>();
-}
-
-/// An order that WRITE_PROTECT allows is done over a patient bus that has a try and a plan at its end, and the
-/// converter holds its word.
-pub fn patient_orders_go_through()
-    ensures { PatientOrdersGoThrough }
-{
-    whole_frames_are_legal();
-    undisturbed_orders_are_done::<Patient<SimulatedBus<'static>>>();
-}
-
-/// A course to wanted words with 27 tries ends as the words say that the converter holds, over a simulated bus at the end of its
-/// plan of faults and over a patient one.
-pub fn courses_go_through()
-    ensures { CoursesGoThrough }
-{
-    whole_frames_are_legal();
-    undisturbed_courses_end::<SimulatedBus<'static>>();
-    undisturbed_courses_end::<Patient<SimulatedBus<'static>>>();
 }

@@ -1,6 +1,6 @@
 //! Courses: what they begin, and how they end.
 
-use super::calls::{NOTHING, host, no_host};
+use super::calls::{NOTHING, host, new, no_host, no_limits};
 use super::checks::equal;
 use crate::course::{
     pm_course_accept, pm_course_after_read, pm_course_after_write, pm_course_ended,
@@ -226,11 +226,45 @@ fn a_job_of_another_is_no_last_end(rt: HostRuntime) {
     equal(&rt, &(step.kind, step.word), &(3, 0), &5);
     equal(&rt, &frame(&mut course, &mut image), &(0, 2, 0x20), &6);
     equal(&rt, &end(&course), &(0, 0, 0, 0, 0), &7);
-    // An output that the host doesn't have.
-    equal(&rt, &pm_course_power(&mut course, 5, 0x00, 9), &0, &8);
-    let _ = crate::host::pm_host_restart(&mut image);
-    equal(&rt, &frame(&mut course, &mut image), &(0x95, 0, 0), &9);
-    equal(&rt, &end(&course), &(2, 4, 0, 0, 0), &10);
+}
+
+#[test]
+fn a_course_of_an_output_that_the_host_lacks_is_refused_and_goes_on(rt: HostRuntime) {
+    let mut image = host(2);
+    let mut small = no_host();
+    let _ = new(&mut small, 0x58, 1, 2);
+    let _ = no_limits(&mut small, 0);
+    let mut course = blank();
+    equal(&rt, &pm_course_survey(&mut course, 1, 9), &0, &1);
+    equal(&rt, &next(&course, &small), &(4, 9, 9, 9), &2);
+    equal(&rt, &frame(&mut course, &mut small), &(4, 0, 0), &3);
+    equal(&rt, &end(&course), &(0, 0, 0, 0, 0), &4);
+    // Another job of that host is sending: it hears nothing through the course.
+    equal(
+        &rt,
+        &crate::host::pm_host_check(&mut small, 0, 0x21),
+        &0,
+        &5,
+    );
+    let step = pm_course_read_ended(&mut course, &mut small, &[]);
+    equal(&rt, &(step.kind, step.word), &(4, 0), &6);
+    equal(
+        &rt,
+        &after_read(&mut course, &mut small, &[]),
+        &(4, 0, 0, 0),
+        &7,
+    );
+    let step = pm_course_write_ended(&mut course, &mut small, 1);
+    equal(&rt, &(step.kind, step.word), &(4, 0), &8);
+    equal(
+        &rt,
+        &after_write(&mut course, &mut small, 1),
+        &(4, 0, 0, 0),
+        &9,
+    );
+    equal(&rt, &end(&course), &(0, 0, 0, 0, 0), &10);
+    // A host that has the output takes it on.
+    equal(&rt, &frame(&mut course, &mut image), &(0, 2, 0x20), &11);
 }
 
 // What a call that hears and hands out answers: the step, and the frame's kind and code.

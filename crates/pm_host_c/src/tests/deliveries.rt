@@ -18,7 +18,7 @@ fn blank() -> DeliveryImage {
     DeliveryImage {
         mark: 0,
         version: 0,
-        delivery: Delivery::new(0, 0, false, 0, 0),
+        delivery: Delivery::new(0, 0, 0, 0, 0),
     }
 }
 
@@ -78,7 +78,7 @@ fn good(word: u16) -> Heard {
 #[test]
 fn a_delivery_has_its_size(rt: HostRuntime) {
     equal(&rt, &pm_delivery_size(), &66, &1);
-    equal(&rt, &pm_delivery_version(), &1, &2);
+    equal(&rt, &pm_delivery_version(), &2, &2);
 }
 
 #[test]
@@ -91,11 +91,11 @@ fn memory_without_a_delivery_is_refused(rt: HostRuntime) {
     equal(&rt, &(asked, frame.kind), &(0xEC, 0), &3);
     equal(
         &rt,
-        &pm_delivery_new(&mut delivery, 8, 0, 1, 50, 1),
+        &pm_delivery_new(&mut delivery, 8, 0, 0, 50, 1),
         &0x04,
         &4,
     );
-    equal(&rt, &pm_delivery_new(&mut delivery, 1, 0, 1, 50, 1), &0, &5);
+    equal(&rt, &pm_delivery_new(&mut delivery, 1, 0, 0, 50, 1), &0, &5);
     let asked = pm_delivery_frame(&mut delivery, &host(), &mut frame);
     equal(&rt, &(asked, frame.kind), &(0x04, 0), &6);
     let asked = pm_delivery_frame(&mut delivery, &no_host(), &mut frame);
@@ -106,7 +106,7 @@ fn memory_without_a_delivery_is_refused(rt: HostRuntime) {
 fn status_word_is_asked_before_an_order(rt: HostRuntime) {
     let mut delivery = blank();
     let mut frame = sending();
-    let _ = pm_delivery_new(&mut delivery, 0, 2, 1, 50, 1);
+    let _ = pm_delivery_new(&mut delivery, 0, 2, 0, 50, 1);
     let asked = pm_delivery_frame(&mut delivery, &host(), &mut frame);
     equal(&rt, &(asked, frame.kind), &(0x95, 0), &1);
     let _ = pm_delivery_before(&mut delivery);
@@ -136,7 +136,7 @@ fn status_word_is_asked_before_an_order(rt: HostRuntime) {
 fn nothing_is_said_of_an_output_that_is_not_known_to_be_on(rt: HostRuntime) {
     let mut delivery = blank();
     let mut said = UNSAID;
-    let _ = pm_delivery_new(&mut delivery, 0, 0, 1, 50, 1);
+    let _ = pm_delivery_new(&mut delivery, 0, 0, 0, 50, 1);
     let _ = pm_delivery_after(&mut delivery, 0);
     let told = pm_delivery_verdict(&delivery, &host(), &mut said);
     equal(&rt, &(told, said.kind, said.has_microvolts), &(0, 3, 0), &1);
@@ -149,7 +149,7 @@ fn nothing_is_said_of_an_output_that_is_not_known_to_be_on(rt: HostRuntime) {
 fn a_reading_is_told_in_microvolts(rt: HostRuntime) {
     let mut delivery = blank();
     let mut said = UNSAID;
-    let _ = pm_delivery_new(&mut delivery, 0, 1, 1, 50, 1);
+    let _ = pm_delivery_new(&mut delivery, 0, 1, 0, 50, 1);
     let _ = pm_delivery_after(&mut delivery, 0);
     delivery.delivery.read_vout = good(0x1800);
     let told = pm_delivery_verdict(&delivery, &host_with_format(), &mut said);
@@ -165,7 +165,7 @@ fn a_reading_is_told_in_microvolts(rt: HostRuntime) {
 fn both_limits_are_told_with_their_words(rt: HostRuntime) {
     let mut delivery = blank();
     let mut judgement = UNJUDGED;
-    let _ = pm_delivery_new(&mut delivery, 0, 1, 1, 50, 1);
+    let _ = pm_delivery_new(&mut delivery, 0, 1, 0, 50, 1);
     delivery.delivery.ov_fault_limit = good(0x1700);
     delivery.delivery.ov_warn_limit = good(0x1600);
     let told = pm_delivery_judge(&delivery, &host_with_format(), 0x1800, &mut judgement);
@@ -187,7 +187,7 @@ fn both_limits_are_told_with_their_words(rt: HostRuntime) {
 fn an_output_that_was_turned_off_went_off_or_is_still_on(rt: HostRuntime) {
     let mut delivery = blank();
     let mut said = UNSAID;
-    let _ = pm_delivery_new(&mut delivery, 0, 2, 0, 50, 1);
+    let _ = pm_delivery_new(&mut delivery, 0, 2, 2, 50, 1);
     let _ = pm_delivery_after(&mut delivery, 1);
     delivery.delivery.status_word = good(0x0040);
     let told = pm_delivery_verdict(&delivery, &host(), &mut said);
@@ -195,4 +195,22 @@ fn an_output_that_was_turned_off_went_off_or_is_still_on(rt: HostRuntime) {
     delivery.delivery.status_word = good(0x0000);
     let told = pm_delivery_verdict(&delivery, &host(), &mut said);
     equal(&rt, &(told, said.kind, said.code), &(0, 12, 0x79), &2);
+}
+
+#[test]
+fn a_part_without_status_word_is_asked_for_nothing_else_once_it_is_off(rt: HostRuntime) {
+    let mut delivery = blank();
+    let mut frame = sending();
+    let mut said = UNSAID;
+    let _ = pm_delivery_new(&mut delivery, 0, 2, 1, 50, 9);
+    let _ = pm_delivery_after(&mut delivery, 1);
+    let asked = pm_delivery_frame(&mut delivery, &host(), &mut frame);
+    equal(&rt, &(asked, frame.kind), &(0x95, 0), &1);
+    let told = pm_delivery_verdict(&delivery, &host(), &mut said);
+    equal(
+        &rt,
+        &(told, said.kind, said.code, said.fault),
+        &(0, 10, 0x79, 0),
+        &2,
+    );
 }

@@ -2,13 +2,13 @@
 
 use crate::checks::equal;
 use crate::driver::{said, whole};
+use pm_course::{CourseEnd, FrameCourse, Wish, Wishes};
 use pm_device::Config;
 use pm_device_tests::BASE;
 use pm_driver::{Bus, Driver, Fault, driver_over, requests_are_no_writes};
 use pm_frame::{code_request, read_plain};
 use pm_host::{JobEnd, Standing};
 use pm_limits::LimitFault;
-use pm_rail::{ApplyEnd, Wanted};
 use pm_table::{Cell, Code, Reg};
 use pm_world::Arrival;
 
@@ -16,18 +16,17 @@ fn ordered<B: Bus>(driver: &mut Driver<B>) -> Result<JobEnd, LimitFault> {
     driver.order(Cell::Out(0, Reg::VoutCommand), 0x34CD) // Done: the converter held 34CDh when it was read
 }
 
-fn applied<B: Bus>(driver: &mut Driver<B>) -> Option<ApplyEnd> {
+fn applied<B: Bus>(driver: &mut Driver<B>) -> Option<CourseEnd> {
     if driver.host().outputs() == 0 {
         return None;
     }
-    let wanted = Wanted {
-        command: Some(0x34CD),
-        max: Some(0x3770),
-        margin_high: None,
-        margin_low: None,
-        min: None,
+    let wishes = Wishes {
+        command: Wish::Microvolts(3_300_000),
+        max: Wish::Microvolts(3_465_000),
+        ..Wishes::nothing()
     };
-    Some(driver.apply(0, &wanted, 60)) // Reached: unless it restarted, the converter holds both words
+    let mut course = FrameCourse::new(0, &wishes, 60);
+    Some(driver.run_course(&mut course)) // Reached: unless it restarted, the converter holds the words of both
 }
 
 fn status<B: Bus>(driver: &mut Driver<B>) -> Option<u16> {
@@ -50,7 +49,7 @@ fn the_examples_of_the_roots_run(rt: HostRuntime) {
     equal(&rt, &tried(BASE, &[]), &Some(JobEnd::Done), &1);
     match driver_over(BASE, 1, &[]) {
         Some(mut driver) => {
-            equal(&rt, &applied(&mut driver), &Some(ApplyEnd::Reached), &2);
+            equal(&rt, &applied(&mut driver), &Some(CourseEnd::Reached), &2);
             equal(&rt, &ordered(&mut driver), &Ok(JobEnd::Done), &3);
             equal(&rt, &status(&mut driver), &Some(0), &4);
         }

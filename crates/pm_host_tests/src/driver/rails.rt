@@ -1,14 +1,13 @@
-//! Surveys, and plans that are carried out, over a bus with faults: how they end, how many frames they sent, and what
-//! the converter holds.
+//! Courses that a driver carries out over a bus with faults: how they end, how many frames they sent, and what the converter
+//! holds.
 
 use super::whole;
 use crate::checks::{equal, is_true};
+use pm_course::{AnswerFault, CourseEnd, FrameCourse, Refusal, Wish, Wishes};
 use pm_device::{Config, Converter, OutputStart};
 use pm_device_tests::{BASE, OUTPUT};
 use pm_driver::{Bus, Driver, Fault, driver_over};
-use pm_host::Job;
-use pm_rail::{ApplyEnd, Course, PlanFault, StopCause, Survey, Wanted};
-use pm_table::{Cell, Coefficients, Reg};
+use pm_table::{Cell, Code, Coefficients, Reg};
 use pm_world::Back;
 use std::process::Abort;
 
@@ -80,14 +79,20 @@ fn plan(wrong: &[(usize, Wrong)]) -> [Fault; 24] {
     ]
 }
 
+// A word that is wanted, or none.
+fn wish(word: Option<u16>) -> Wish {
+    match word {
+        Some(word) => Wish::Word(word),
+        None => Wish::Stay,
+    }
+}
+
 // The words that are wanted: VOUT_COMMAND and VOUT_MAX.
-fn wanted(command: Option<u16>, max: Option<u16>) -> Wanted {
-    Wanted {
-        command,
-        max,
-        margin_high: None,
-        margin_low: None,
-        min: None,
+fn wanted(command: Option<u16>, max: Option<u16>) -> Wishes {
+    Wishes {
+        command: wish(command),
+        max: wish(max),
+        ..Wishes::nothing()
     }
 }
 
@@ -99,56 +104,49 @@ fn held(device: &Converter, register: Reg) -> u16 {
     device.word(Cell::Out(0, register))
 }
 
-// Carries a plan for the first output out.
-fn applied<B: Bus>(
-    rt: &impl Abort,
-    driver: &mut Driver<B>,
-    wanted: &Wanted,
-    tries: u16,
-) -> ApplyEnd {
-    is_true(rt, 0 < driver.host().outputs(), &tries);
-    driver.apply(0, wanted, tries)
-}
-
-// Carries a course out, of which the guard refuses nothing.
+// Carries a course out.
 fn completed<B: Bus>(
     rt: &impl Abort,
     driver: &mut Driver<B>,
-    mut course: Course,
-) -> Option<ApplyEnd> {
-    let output = course.survey.output;
+    mut course: FrameCourse,
+) -> CourseEnd {
+    let output = course.course.survey.output;
     is_true(rt, output < driver.host().outputs(), &output);
-    driver.complete(&mut course).ok()
+    driver.run_course(&mut course)
+}
+
+// Carries a course of the first output to words out.
+fn applied<B: Bus>(
+    rt: &impl Abort,
+    driver: &mut Driver<B>,
+    wanted: &Wishes,
+    tries: u16,
+) -> CourseEnd {
+    completed(rt, driver, FrameCourse::new(0, wanted, tries))
 }
 
 // What a register of the first output is known to hold.
 fn known<B: Bus>(rt: &impl Abort, driver: &Driver<B>, register: Reg) -> Option<u16> {
     is_true(rt, 0 < driver.host().outputs(), &register);
-    driver.known(Cell::Out(0, register))
-}
-
-// Carries a survey out; whether it has ended by its own rule.
-fn surveyed<B: Bus>(rt: &impl Abort, driver: &mut Driver<B>, survey: &mut Survey) -> Option<bool> {
-    is_true(rt, survey.output < driver.host().outputs(), &survey.output);
-    driver.survey(survey).ok()
-}
-
-fn stopped(why: StopCause) -> ApplyEnd {
-    ApplyEnd::Stopped { why }
+    match driver.host().listed(Cell::Out(0, register)) {
+        Some([word]) => Some(*word),
+        _ => None,
+    }
 }
 
 // What goes wrong, with orders of one pass, and the tries; how it ends that VOUT_COMMAND is to be 3.3 V and VOUT_MAX
 // 3.465 V, from 1 V and 4 V, after how many frames, and the words that are held then.
-static ENDS: [(&[(usize, Wrong)], u16, ApplyEnd, usize, [u16; 2]); 12] = [
+static ENDS: [(&[(usize, Wrong)], u16, CourseEnd, usize, [u16; 2]); 12] = [
     // A learn and five checks, two orders, and all of these once more.
-    (&[], 60, ApplyEnd::Reached, 16, [0x34CD, 0x3770]),
+    (&[], 60, CourseEnd::Reached, 16, [0x34CD, 0x3770]),
     // The tries are just enough, or one fewer; or enough for one order.
-    (&[], 14, ApplyEnd::Reached, 16, [0x34CD, 0x3770]),
+    (&[], 14, CourseEnd::Reached, 16, [0x34CD, 0x3770]),
     (
         &[],
         13,
-        ApplyEnd::Stopped {
-            why: StopCause::Spent(Job::Check(Cell::Protect)),
+        CourseEnd::Spent {
+            code: Code(0x10),
+            fault: None,
         },
         15,
         [0x34CD, 0x3770],
@@ -156,8 +154,9 @@ static ENDS: [(&[(usize, Wrong)], u16, ApplyEnd, usize, [u16; 2]); 12] = [
     (
         &[],
         7,
-        ApplyEnd::Stopped {
-            why: StopCause::Spent(Job::Order(Cell::Out(0, Reg::VoutMax), 0x3770)),
+        CourseEnd::Spent {
+            code: Code(0x24),
+            fault: None,
         },
         8,
         [0x34CD, 0x4000],
@@ -165,8 +164,9 @@ static ENDS: [(&[(usize, Wrong)], u16, ApplyEnd, usize, [u16; 2]); 12] = [
     (
         &[],
         6,
-        ApplyEnd::Stopped {
-            why: StopCause::Spent(Job::Order(Cell::Out(0, Reg::VoutCommand), 0x34CD)),
+        CourseEnd::Spent {
+            code: Code(0x21),
+            fault: None,
         },
         6,
         [0x1000, 0x4000],
@@ -174,21 +174,20 @@ static ENDS: [(&[(usize, Wrong)], u16, ApplyEnd, usize, [u16; 2]); 12] = [
     (
         &[],
         0,
-        ApplyEnd::Stopped {
-            why: StopCause::Spent(Job::Learn(0)),
+        CourseEnd::Spent {
+            code: Code(0x20),
+            fault: None,
         },
         0,
         [0x1000, 0x4000],
     ),
     // An order that differs is given once more.
-    (&[(6, Lost)], 60, ApplyEnd::Reached, 18, [0x34CD, 0x3770]),
+    (&[(6, Lost)], 60, CourseEnd::Reached, 18, [0x34CD, 0x3770]),
     // An order that differs again is the end.
     (
         &[(6, Lost), (8, Lost)],
         60,
-        ApplyEnd::Stopped {
-            why: StopCause::Differs(Reg::VoutCommand, 0x1000),
-        },
+        CourseEnd::Differs(Reg::VoutCommand, 0x1000),
         10,
         [0x1000, 0x4000],
     ),
@@ -196,16 +195,16 @@ static ENDS: [(&[(usize, Wrong)], u16, ApplyEnd, usize, [u16; 2]); 12] = [
     (
         &[(6, Lost), (10, Lost)],
         60,
-        ApplyEnd::Reached,
+        CourseEnd::Reached,
         20,
         [0x34CD, 0x3770],
     ),
     // An order that ended unknown is checked before the next, even if it never took.
-    (&[(7, Cut)], 60, ApplyEnd::Reached, 17, [0x34CD, 0x3770]),
+    (&[(7, Cut)], 60, CourseEnd::Reached, 17, [0x34CD, 0x3770]),
     (
         &[(6, Lost), (7, Cut)],
         60,
-        ApplyEnd::Reached,
+        CourseEnd::Reached,
         19,
         [0x34CD, 0x3770],
     ),
@@ -213,7 +212,7 @@ static ENDS: [(&[(usize, Wrong)], u16, ApplyEnd, usize, [u16; 2]); 12] = [
     (
         &[(0, Cut), (3, Cut)],
         60,
-        ApplyEnd::Reached,
+        CourseEnd::Reached,
         18,
         [0x34CD, 0x3770],
     ),
@@ -248,7 +247,7 @@ fn a_restart_is_made_good(rt: HostRuntime) {
         match driver_over(BASE, 1, &plan) {
             Some(mut driver) => {
                 let end = applied(&rt, &mut driver, &wanted, 60);
-                equal(&rt, &end, &ApplyEnd::Reached, &place);
+                equal(&rt, &end, &CourseEnd::Reached, &place);
                 let device = &driver.bus().device;
                 let is_seen = place < 14;
                 let command = if is_seen { 0x34CD } else { 0x1000 };
@@ -261,43 +260,19 @@ fn a_restart_is_made_good(rt: HostRuntime) {
     }
 }
 
-// What is wanted, what WRITE_PROTECT holds, and why the plan is refused, after its six reads and before it writes.
-static REFUSED: [(Option<u16>, Option<u16>, u16, PlanFault); 5] = [
-    (
-        Some(0x5000),
-        None,
-        0x00,
-        PlanFault::AboveMax(Reg::VoutCommand),
-    ),
-    (
-        None,
-        Some(0x0800),
-        0x00,
-        PlanFault::AboveMax(Reg::VoutCommand),
-    ),
-    (
-        Some(0x34CD),
-        Some(0x3770),
-        0x20,
-        PlanFault::Protected(Reg::VoutMax),
-    ),
-    (
-        Some(0x7000),
-        Some(0x7000),
-        0x00,
-        PlanFault::AboveLimit(Reg::VoutCommand),
-    ),
-    (
-        None,
-        Some(0x0100),
-        0x00,
-        PlanFault::BelowLimit(Reg::VoutMax),
-    ),
+// What is wanted, what WRITE_PROTECT holds, and by which number and of which code the course is refused, after its six reads and before
+// it writes.
+static REFUSED: [(Option<u16>, Option<u16>, u16, u8, u8); 5] = [
+    (Some(0x5000), None, 0x00, 0x66, 0x21),
+    (None, Some(0x0800), 0x00, 0x66, 0x21),
+    (Some(0x34CD), Some(0x3770), 0x20, 0x67, 0x24),
+    (Some(0x7000), Some(0x7000), 0x00, 0x24, 0x21),
+    (None, Some(0x0100), 0x00, 0x23, 0x24),
 ];
 
 #[test]
 fn a_plan_is_refused_before_it_writes(rt: HostRuntime) {
-    for (command, max, protect, fault) in &REFUSED {
+    for (command, max, protect, number, code) in &REFUSED {
         let plan = plan(&[]);
         let config = Config {
             protect: *protect,
@@ -308,7 +283,11 @@ fn a_plan_is_refused_before_it_writes(rt: HostRuntime) {
                 let at = (*command, *max);
                 equal(&rt, &driver.narrow(0, 100_000, 6_000_000).err(), &None, &at);
                 let end = applied(&rt, &mut driver, &wanted(*command, *max), 60);
-                equal(&rt, &end, &stopped(StopCause::Refused(*fault)), &at);
+                let refusal = Refusal {
+                    number: *number,
+                    register: Some(Code(*code)),
+                };
+                equal(&rt, &end, &CourseEnd::Refused(refusal), &at);
                 equal(&rt, &driver.bus().next, &6, &at);
             }
             None => panic!(rt; "refused"),
@@ -325,14 +304,14 @@ fn a_rail_as_it_is_wanted_is_only_read(rt: HostRuntime) {
             equal(
                 &rt,
                 &applied(&rt, &mut driver, &wanted, 60),
-                &ApplyEnd::Reached,
+                &CourseEnd::Reached,
                 &1,
             );
             equal(&rt, &driver.bus().next, &6, &1);
             equal(
                 &rt,
                 &applied(&rt, &mut driver, &wanted, 60),
-                &ApplyEnd::Reached,
+                &CourseEnd::Reached,
                 &2,
             );
             equal(&rt, &driver.bus().next, &12, &2);
@@ -353,17 +332,16 @@ fn a_survey_sends_a_frame_for_each_register(rt: HostRuntime) {
             coefficients: Coefficients { m: 1, b: 0, r: 3 },
             ..BASE
         };
-        for (wishes, registers) in &[
-            (None, 4),
-            (Some(wanted(None, None)), 5),
-            (Some(wanted(Some(0x1000), None)), 5),
+        for (course, registers) in &[
+            (FrameCourse::survey(0, 40), 4),
+            (FrameCourse::new(0, &wanted(None, None), 40), 5),
+            (FrameCourse::new(0, &wanted(Some(0x1000), None), 40), 5),
         ] {
             let plan = plan(&[]);
             match driver_over(config, 2, &plan) {
                 Some(mut driver) => {
-                    let mut survey = Survey::new(0, *wishes, 40);
-                    let done = surveyed(&rt, &mut driver, &mut survey);
-                    equal(&rt, &done, &Some(true), &(mode, registers));
+                    let end = completed(&rt, &mut driver, *course);
+                    equal(&rt, &end, &CourseEnd::Reached, &(mode, registers));
                     equal(
                         &rt,
                         &driver.bus().next,
@@ -377,30 +355,24 @@ fn a_survey_sends_a_frame_for_each_register(rt: HostRuntime) {
     }
 }
 
-// A survey goes on with the tries that it is given; a stop says what isn't known.
+// A survey without enough tries knows what it read, and a further one reads all; an end says what isn't known.
 #[test]
 fn what_is_not_known_is_told(rt: HostRuntime) {
     let plan = plan(&[]);
     match driver_over(BASE, 1, &plan) {
         Some(mut driver) => {
-            let mut survey = Survey::new(0, None, 3);
-            equal(
-                &rt,
-                &surveyed(&rt, &mut driver, &mut survey),
-                &Some(false),
-                &1,
-            );
+            let end = completed(&rt, &mut driver, FrameCourse::survey(0, 3));
+            let spent = CourseEnd::Spent {
+                code: Code(0x24),
+                fault: None,
+            };
+            equal(&rt, &end, &spent, &1);
             equal(&rt, &driver.bus().next, &3, &1);
             equal(&rt, &known(&rt, &driver, Reg::Operation), &Some(0x80), &1);
             equal(&rt, &known(&rt, &driver, Reg::VoutMax), &None, &1);
-            survey.left = 2;
-            equal(
-                &rt,
-                &surveyed(&rt, &mut driver, &mut survey),
-                &Some(true),
-                &2,
-            );
-            equal(&rt, &driver.bus().next, &5, &2);
+            let end = completed(&rt, &mut driver, FrameCourse::survey(0, 5));
+            equal(&rt, &end, &CourseEnd::Reached, &2);
+            equal(&rt, &driver.bus().next, &8, &2);
             equal(&rt, &known(&rt, &driver, Reg::VoutMax), &Some(0x4000), &2);
             equal(&rt, &known(&rt, &driver, Reg::MarginLow), &None, &2);
         }
@@ -411,12 +383,11 @@ fn what_is_not_known_is_told(rt: HostRuntime) {
     match driver_over(BASE, 1, &plan) {
         Some(mut driver) => {
             let end = applied(&rt, &mut driver, &wanted(Some(0x34CD), None), 7);
-            equal(
-                &rt,
-                &end,
-                &stopped(StopCause::Spent(Job::Check(Cell::Out(0, Reg::VoutCommand)))),
-                &3,
-            );
+            let spent = CourseEnd::Spent {
+                code: Code(0x21),
+                fault: Some(AnswerFault::Short),
+            };
+            equal(&rt, &end, &spent, &3);
             equal(&rt, &known(&rt, &driver, Reg::VoutCommand), &None, &3);
             equal(&rt, &known(&rt, &driver, Reg::VoutMax), &Some(0x4000), &3);
             equal(
@@ -432,28 +403,27 @@ fn what_is_not_known_is_told(rt: HostRuntime) {
 
 // What goes wrong with a course that turns the first output off, and its tries; how it ends, after how many frames, and the
 // byte of OPERATION that is held then.
-static OFFS: [(&[(usize, Wrong)], u16, ApplyEnd, usize, u16); 6] = [
+static OFFS: [(&[(usize, Wrong)], u16, CourseEnd, usize, u16); 6] = [
     // The order is the first frame, and its read-back the second: nothing else is read.
-    (&[], 1, ApplyEnd::Reached, 2, 0x00),
+    (&[], 1, CourseEnd::Reached, 2, 0x00),
     (
         &[],
         0,
-        ApplyEnd::Stopped {
-            why: StopCause::Spent(Job::Order(Cell::Out(0, Reg::Operation), 0x00)),
+        CourseEnd::Spent {
+            code: Code(0x01),
+            fault: None,
         },
         0,
         0x80,
     ),
     // An order whose read-back doesn't come, or differs, is given once more.
-    (&[(1, Cut)], 4, ApplyEnd::Reached, 4, 0x00),
-    (&[(0, Lost)], 4, ApplyEnd::Reached, 4, 0x00),
+    (&[(1, Cut)], 4, CourseEnd::Reached, 4, 0x00),
+    (&[(0, Lost)], 4, CourseEnd::Reached, 4, 0x00),
     // A second difference is the end.
     (
         &[(0, Lost), (2, Lost)],
         4,
-        ApplyEnd::Stopped {
-            why: StopCause::Differs(Reg::Operation, 0x80),
-        },
+        CourseEnd::Differs(Reg::Operation, 0x80),
         4,
         0x80,
     ),
@@ -461,8 +431,9 @@ static OFFS: [(&[(usize, Wrong)], u16, ApplyEnd, usize, u16); 6] = [
     (
         &[(0, Lost)],
         1,
-        ApplyEnd::Stopped {
-            why: StopCause::Spent(Job::Order(Cell::Out(0, Reg::Operation), 0x00)),
+        CourseEnd::Spent {
+            code: Code(0x01),
+            fault: None,
         },
         2,
         0x80,
@@ -475,8 +446,8 @@ fn an_output_is_turned_off_before_anything_is_read(rt: HostRuntime) {
         let plan = plan(wrong);
         match driver_over(BASE, 1, &plan) {
             Some(mut driver) => {
-                let ended = completed(&rt, &mut driver, Course::power(0, 0x00, *tries));
-                equal(&rt, &ended, &Some(*end), frames);
+                let ended = completed(&rt, &mut driver, FrameCourse::power(0, 0x00, *tries));
+                equal(&rt, &ended, end, frames);
                 equal(&rt, &driver.bus().next, frames, frames);
                 equal(
                     &rt,
@@ -496,14 +467,14 @@ fn courses_to_a_byte_and_to_nothing_are_carried_out(rt: HostRuntime) {
     match driver_over(BASE, 1, &plan) {
         Some(mut driver) => {
             // Off is ordered once more if the byte is known.
-            let end = completed(&rt, &mut driver, Course::power(0, 0x00, 4));
-            equal(&rt, &end, &Some(ApplyEnd::Reached), &1);
-            let end = completed(&rt, &mut driver, Course::power(0, 0x00, 4));
-            equal(&rt, &end, &Some(ApplyEnd::Reached), &2);
+            let end = completed(&rt, &mut driver, FrameCourse::power(0, 0x00, 4));
+            equal(&rt, &end, &CourseEnd::Reached, &1);
+            let end = completed(&rt, &mut driver, FrameCourse::power(0, 0x00, 4));
+            equal(&rt, &end, &CourseEnd::Reached, &2);
             equal(&rt, &driver.bus().next, &4, &2);
             // To nothing: a learn and four checks, and no order.
-            let end = completed(&rt, &mut driver, Course::survey(0, 5));
-            equal(&rt, &end, &Some(ApplyEnd::Reached), &3);
+            let end = completed(&rt, &mut driver, FrameCourse::survey(0, 5));
+            equal(&rt, &end, &CourseEnd::Reached, &3);
             equal(&rt, &driver.bus().next, &9, &3);
         }
         None => panic!(rt; "refused"),
@@ -511,15 +482,15 @@ fn courses_to_a_byte_and_to_nothing_are_carried_out(rt: HostRuntime) {
     match driver_over(BASE, 1, &plan) {
         Some(mut driver) => {
             // On, if the output is on: as many, and no order.
-            let end = completed(&rt, &mut driver, Course::power(0, 0x80, 60));
-            equal(&rt, &end, &Some(ApplyEnd::Reached), &4);
+            let end = completed(&rt, &mut driver, FrameCourse::power(0, 0x80, 60));
+            equal(&rt, &end, &CourseEnd::Reached, &4);
             equal(&rt, &driver.bus().next, &5, &4);
-            // On, after it was turned off: as many, the order, and all of these once more.
-            let end = completed(&rt, &mut driver, Course::power(0, 0x00, 4));
-            equal(&rt, &end, &Some(ApplyEnd::Reached), &5);
-            let end = completed(&rt, &mut driver, Course::power(0, 0x80, 60));
-            equal(&rt, &end, &Some(ApplyEnd::Reached), &6);
-            equal(&rt, &driver.bus().next, &19, &6);
+            // On, after it was turned off: as many, WRITE_PROTECT, the order, and as many once more.
+            let end = completed(&rt, &mut driver, FrameCourse::power(0, 0x00, 4));
+            equal(&rt, &end, &CourseEnd::Reached, &5);
+            let end = completed(&rt, &mut driver, FrameCourse::power(0, 0x80, 60));
+            equal(&rt, &end, &CourseEnd::Reached, &6);
+            equal(&rt, &driver.bus().next, &20, &6);
             equal(&rt, &held(&driver.bus().device, Reg::Operation), &0x80, &6);
         }
         None => panic!(rt; "refused"),

@@ -1,19 +1,19 @@
-//! How many tries a survey and a course take at most over a bus that disturbs nothing: with one less they are spent. Before each
-//! the converter restarts, which the host doesn't see, and has one word by which the last answer of the first reading surprises.
+//! How many tries a course takes at most over a bus that disturbs nothing: with one less they are spent. Before each the
+//! converter restarts, which the host doesn't see, and has one word by which the last answer of the first reading surprises.
 
 use super::whole;
 use crate::checks::equal;
+use pm_course::{CourseEnd, FrameCourse, Wish, Wishes};
 use pm_device_tests::BASE;
 use pm_driver::{Fault, driver_over};
-use pm_rail::{ApplyEnd, Course, PlanFault, StopCause, Survey, Wanted};
 use pm_table::{Cell, Reg};
 
-// How a survey or a course ended.
+// How a course ended.
 #[derive(Clone, Copy, Debug, PartialEq)]
 enum End {
-    // It ended by its own rule, or with all reached.
+    // With all reached.
     Reached,
-    // Refused for a word above VOUT_MAX.
+    // Refused by P6, for a word above VOUT_MAX.
     Refused,
     // No try was left.
     Spent,
@@ -29,47 +29,36 @@ fn restarted() -> Fault {
     }
 }
 
-fn end_of(end: ApplyEnd) -> End {
+fn end_of(end: CourseEnd) -> End {
     match end {
-        ApplyEnd::Reached => End::Reached,
-        ApplyEnd::Stopped {
-            why: StopCause::Spent(_),
-        } => End::Spent,
-        ApplyEnd::Stopped {
-            why: StopCause::Refused(PlanFault::AboveMax(Reg::VoutCommand)),
-        } => End::Refused,
-        ApplyEnd::Stopped { .. } => End::Other,
+        CourseEnd::Reached => End::Reached,
+        CourseEnd::Spent { .. } => End::Spent,
+        CourseEnd::Refused(refusal) if refusal.number == 0x66 => End::Refused,
+        _ => End::Other,
     }
 }
 
 // Five words of the first output, of which these are VOUT_COMMAND and the others those of the start, or all differ.
-fn wanted(command: u16, others: bool) -> Wanted {
-    Wanted {
-        command: Some(command),
-        max: Some(if others { 0x3770 } else { 0x4000 }),
-        margin_high: Some(if others { 0x3600 } else { 0x1100 }),
-        margin_low: Some(if others { 0x3300 } else { 0x0F00 }),
-        min: Some(if others { 0x0800 } else { 0x0000 }),
+fn wanted(command: u16, others: bool) -> Wishes {
+    Wishes {
+        command: Wish::Word(command),
+        max: Wish::Word(if others { 0x3770 } else { 0x4000 }),
+        margin_high: Wish::Word(if others { 0x3600 } else { 0x1100 }),
+        margin_low: Wish::Word(if others { 0x3300 } else { 0x0F00 }),
+        min: Wish::Word(if others { 0x0800 } else { 0x0000 }),
     }
 }
 
-// A survey for five words, or a course to them, with so many tries, after a restart by which only WRITE_PROTECT has another
-// word than the host knows.
-fn words(wanted: Wanted, survey: bool, tries: u16) -> Option<End> {
+// A course to five words, with so many tries, after a restart by which only WRITE_PROTECT has another word than the host knows.
+fn words(wanted: Wishes, tries: u16) -> Option<End> {
     let plan = [whole(), whole(), restarted()];
     let mut driver = driver_over(BASE, 2, &plan)?;
     driver.order(Cell::Protect, 0x20).ok()?;
     if driver.host().outputs() == 0 {
         return None;
     }
-    if !survey {
-        return Some(end_of(driver.apply(0, &wanted, tries)));
-    }
-    let mut survey = Survey::new(0, Some(wanted), tries);
-    match driver.survey(&mut survey).ok()? {
-        true => Some(End::Reached),
-        false => Some(End::Spent),
-    }
+    let mut course = FrameCourse::new(0, &wanted, tries);
+    Some(end_of(driver.run_course(&mut course)))
 }
 
 // A course to a byte of OPERATION, with so many tries, after a restart by which only VOUT_MIN has another word than the
@@ -83,31 +72,29 @@ fn power(byte: u16, tries: u16) -> Option<End> {
     if driver.host().outputs() == 0 {
         return None;
     }
-    let mut course = Course::power(0, byte, tries);
-    Some(end_of(driver.complete(&mut course).ok()?))
+    let mut course = FrameCourse::power(0, byte, tries);
+    Some(end_of(driver.run_course(&mut course)))
 }
 
 #[test]
 fn words_take_so_many_tries(rt: HostRuntime) {
-    for (command, others, survey, most, less, end) in [
-        (0x34CD, true, true, 14, 13, End::Reached),
-        (0x34CD, true, false, 27, 26, End::Reached),
-        (0x1000, false, false, 14, 13, End::Reached),
-        (0x4001, false, false, 14, 13, End::Refused),
+    for (command, others, most, less, end) in [
+        (0x34CD, true, 28, 27, End::Reached),
+        (0x1000, false, 15, 14, End::Reached),
+        (0x4001, false, 15, 14, End::Refused),
     ] {
         let to = wanted(command, others);
-        let at = (command, survey);
-        equal(&rt, &words(to, survey, most), &Some(end), &at);
-        equal(&rt, &words(to, survey, less), &Some(End::Spent), &at);
+        equal(&rt, &words(to, most), &Some(end), &command);
+        equal(&rt, &words(to, less), &Some(End::Spent), &command);
     }
 }
 
 #[test]
 fn power_takes_so_many_tries(rt: HostRuntime) {
     for (byte, most, less) in [
-        (0x98, 16, 15),
-        (0x80, 15, 14),
-        (0xA8, 9, 8),
+        (0x98, 18, 17),
+        (0x80, 17, 16),
+        (0xA8, 10, 9),
         (0x00, 1, 0),
         (0x40, 1, 0),
     ] {

@@ -1,5 +1,7 @@
 //! What a command line can choose.
 
+use pm_log::Lacks;
+
 /// The subcommand that was named, with the texts of its options as they were written.
 #[derive(Clone, Copy, Debug, PartialEq, Eq)]
 pub enum Chosen<'a> {
@@ -10,7 +12,10 @@ pub enum Chosen<'a> {
     /// `decode`: the trace on standard input is shown line by line.
     Decode,
     /// `check`: the log on standard input is checked.
-    Check,
+    Check {
+        /// What the texts of `--lacks` let parts lack; None if one of them can't be read.
+        lacks: Option<Lacks>,
+    },
     /// `number`: one word of a number format, as an exact value.
     Number {
         /// The text of `--format`, empty if the option is absent.

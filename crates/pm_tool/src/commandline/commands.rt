@@ -1,12 +1,12 @@
 //! The commands as `clap` knows them.
 ghost use Rattle.std.specs.Prelude.{◌≡◌, IfOk, codes};
 ghost use Rattle.clap.specs.Words.{app_of, new_app, with_rule};
-ghost use Rattle.pm_tool.specs.Commandline.{number_app, pmb, with_required_subcommand};
+ghost use Rattle.pm_tool.specs.Commandline.{check_app, number_app, pmb, with_required_subcommand};
 ghost use Rattle.pm_tool.specs.Options.{option_rule};
 ghost use Rattle.pm_tool.specs.Telling.{flag_rule, tell_app};
 
 use super::helps;
-use super::options::{VERSION, with_option};
+use super::options::{VERSION, with_list, with_option};
 use clap::{Arg, ArgAction, Command};
 use std::alloc::{AllocError, Global};
 
@@ -42,15 +42,7 @@ pub(super) fn pmb_command<'a>(alloc: Global) -> Result<Command<'a>, AllocError>
     let with_replay = with_hear.subcommand(replaying)?;
     let decoding = text_command(alloc, ("decode", DECODES), DECODE_USAGE, helps::DECODE);
     let with_decode = with_replay.subcommand(decoding)?;
-    let checking = text_command(
-        alloc,
-        (
-            "check",
-            "Checks a log: whether its transfers make its claims known",
-        ),
-        "pmb check < LOG",
-        helps::CHECK,
-    );
+    let checking = check_command(alloc)?;
     let with_check = with_decode.subcommand(checking)?;
     let numbers = number_command(alloc)?;
     with_check.subcommand(numbers)
@@ -81,6 +73,27 @@ fn text_command<'a>(
         .about(names.1)
         .override_usage(usage)
         .after_help(end)
+}
+
+// `check` and its option.
+fn check_command<'a>(alloc: Global) -> Result<Command<'a>, AllocError>
+    ensures { IfOk result (λ command. app_of command ≡ check_app) }
+{
+    let check = text_command(
+        alloc,
+        (
+            "check",
+            "Checks a log: whether its transfers make its claims known",
+        ),
+        "pmb check [--lacks=ADDRESS:REG,..].. < LOG",
+        helps::CHECK,
+    );
+    with_list(
+        check,
+        alloc,
+        ("lacks", "ADDRESS:REG,.."),
+        "A part's registers that its data sheet doesn't have, as 58:VOUT_MAX,VOUT_MIN",
+    )
 }
 
 // `number` and its three options.

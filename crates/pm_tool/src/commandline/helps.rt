@@ -162,14 +162,21 @@ A log is a trace of what one host sent to one part, with a head before it and cl
   ## 2026-11-29 station 4                               a note
 
 The transfers are replayed through a host. A claim is accepted if that host knows it by the transfers
-since the head only: it is then true of every part that gave these answers. The text may have any size.
+since the head only. It is then true of every part that gave these answers and didn't restart since.
+The text may have any size.
+
+That a part lacks a register is the writer's word. Such a claim is refused unless --lacks says so too:
+--lacks=58:VOUT_MAX,VOUT_MIN, once or for several addresses, of VOUT_MAX, VOUT_MARGIN_HIGH,
+VOUT_MARGIN_LOW and VOUT_MIN. It is refused whatever --lacks says if the part answered a read of the
+register. The line names what was taken on trust: accepted: 1 claim, 3 transfers; without VOUT_MIN of
+58 by --lacks.
 
   $ printf '#log 58 2 2\\nB0 06 02 00 21 / B1 02 CD 34 B9\\n#holds 0 VOUT_COMMAND 34CD\\n' | pmb check
   accepted: 1 claim, 1 transfer
 
 Otherwise one line says which line isn't accepted and why, and the status is 1. X1 Syntax and X2 BadHex
 say that it is no line of a log; pmb decode --help has the letters F1 to F8 of a packet. X3 TooLong,
-X4 Read, X5 Write and X6 Memory stand on standard error.";
+X4 Read, X5 Write and X6 Memory stand on standard error. Status 2 and such a line: bad lacks.";
 
 /// What the help of `number` shows at its end.
 pub(super) const NUMBER: &str = "\

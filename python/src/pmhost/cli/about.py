@@ -103,9 +103,13 @@ An order needs --outputs, and --limit for its output or --no-limit. A good `set`
         "turns an output off at once by OPERATION 00", f"{ORDER} off 0",
         """It is ordered before anything is read. What the output would command is printed only if the call read it before."""),
     "margin": About(
-        "has an output command a margin, by OPERATION A8 or 94, as `set` does", f"{LIMITED} set 0 3.4V VOUT_MARGIN_HIGH + margin 0 high",
+        "has an output command a margin, by OPERATION A8 or 98, as `set` does", f"{LIMITED} set 0 3.4V VOUT_MARGIN_HIGH + margin 0 high",
         """It is refused (L5) if the margin isn't known to lie within the limits. Test the load, and then give `on 0`, which goes back
-to VOUT_COMMAND.""",
+to VOUT_COMMAND.
+
+The part acts on faults meanwhile, so a fault limit may trip the rail. The margin is refused if its own limit gave no good answer,
+wasn't read, or is nearer than 1% of what the output commands. That is VOUT_OV_FAULT_LIMIT of `high`, and VOUT_UV_FAULT_LIMIT of
+`low`. --ignore-faults orders it all the same: the rail is unprotected then.""",
         """set 0: VOUT_MARGIN_HIGH 3666 3.399902V confirmed; OPERATION selects VOUT_COMMAND: the output commands 3.300048V, within 3.135V to 3.465V, \
 delivers 3.300048V
 margin 0: OPERATION A8 on, margin high confirmed; the output commands 3.399902V, within 3.135V to 3.465V, delivers 3.399902V

@@ -61,7 +61,7 @@ class Answer:
             "output": self.output, "register": self.register, "word": in_digits(self.register, self.word),
             "volts": number(self.microvolts),
             "possible": None if self.possible is None else [in_digits(self.register, word) for word in self.possible],
-            "selected": found.selected, "on": found.is_on,
+            "selected": found.selected, "faults_ignored": found.ignores_faults, "on": found.is_on,
             "commands": None if found.least is None else [number(found.least), number(found.greatest)],
             "limits": None if found.limits is None else [number(each) for each in found.limits],
             "within": found.is_within, **delivery_of(self.delivered), "missing": sorted(found.missing), "restart_seen": self.restart_seen, "rows": self.rows,

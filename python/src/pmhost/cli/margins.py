@@ -12,23 +12,25 @@ from ..apply import Board
 from ..back import OPERATION, Held
 from ..course import Course, CourseEnd, Job, in_hexadecimal
 from ..cuts import cuts
-from ..device import ANOTHER, MARGINS, ON
-from ..errors import SAYINGS, PlanRefused, refusal
+from ..errors import SAYINGS, MarginRefused, PlanRefused, refusal
 from ..look import Delivered, Look, Looks, register_words
+from ..operation import ANOTHER, MARGINS, ON, margin_byte, selected_by
 from ..parts import BadRails
 from ..rail_course import Due, Stopped
 from ..rails import Rail
 from ..rehearsal import first_not_reached
 from ..stairs import WHY, StairsStep
 from ..step_run import StepCourse, StepRun
-from ..survey import TRIES, Commanded, Nobody, commanded, complete, only_word, survey
+from ..survey import TRIES, Commanded, Nobody, commanded, complete, only_word, read, survey
 from ..zeros import NotBelieved
 from .about import described
 from .answer import Answer, between, delivery_of, number
 from .back import words_of
 from .call import Call, said
 from .completion import FILES, completed_by
-from .outcome import limit_words, why_not, why_refused
+from .names import IGNORE
+from .orders import IGNORING
+from .outcome import IGNORED, limit_words, why_not, why_refused
 from .parser import BadCall, bus_options, file_of, shown
 
 # A margin isn't to be selected at the end, whatever came.
@@ -41,6 +43,7 @@ def add(commands: Any) -> None:
     completed_by(found.add_argument("file", metavar="FILE", type=file_of, help="settings of a board's rails, in TOML"), FILES)
     found.add_argument("names", metavar="RAIL", nargs="*", help="rails of the file; all that are to be on if left out")
     found.set_defaults(run=margin_test, judge_file=judge_file)
+    found.add_argument(IGNORE, **IGNORING)
     bus_options(found)
 
 
@@ -74,22 +77,25 @@ class Row:
         commands = "not known" if state.least is None or state.greatest is None else between(state.least, state.greatest)
         micro = found.verdict.microvolts
         status = "-" if found.status is None else register_words("STATUS_WORD", found.status).partition(" ")[2]
-        return self.rail.name, self.point, commands, "-" if micro is None else voltages.shown(micro), status
+        point = f"{self.point}{IGNORED * bool(state.ignores_faults)}"
+        return self.rail.name, point, commands, "-" if micro is None else voltages.shown(micro), status
 
     def by_names(self) -> dict[str, object]:
         """The same by names and numbers."""
         state = self.state
         return {"rail": self.rail.name, "part": self.rail.part or None, "output": self.rail.output, "point": self.point,
+                "faults_ignored": state.ignores_faults,
                 "commands": None if state.least is None else [number(state.least), number(state.greatest)], **delivery_of(self.delivered)}
 
 
 @dataclass
 class RailTest:
-    """The test of one rail. `byte` is that of OPERATION by which it is at its voltage."""
+    """The test of one rail. `byte` is that of OPERATION by which it is at its voltage; the part ignores faults at the margins, or acts on them."""
 
     call: Call
     rail: Rail
     rows: list[Row]
+    ignores_faults: bool
     byte: int = ON
     is_back: bool = False
     look: Look = field(init=False)
@@ -109,33 +115,42 @@ class RailTest:
             raise Stopped(f"{name}: the output is off, and a margin would turn it on: order `on` first")
         byte = only_word(self.part, self.rail.output, OPERATION)
         self.byte = byte if byte is not None and not byte & ANOTHER else ON
-        way = (self.byte, *MARGINS.values(), self.byte)
-        for each in way:
-            self.plan(each)
-        refused = first_not_reached(self.part, self.rail.output, way, self.call.protection.is_in_the_way(self.rail.part))
+        for point in POINTS:
+            self.plan(point)
+        refused = first_not_reached(self.part, self.rail.output, map(self.byte_at, POINTS), self.call.protection.is_in_the_way(self.rail.part))
         if refused is not None:
             raise self.stopped(self.why_ended(*refused))
         form, words = found.form, {each: only_word(self.part, self.rail.output, each) for each in (*rails.MARGINS, *rails.BOUNDS)}
         for it in cuts(form, {each: words[each] for each in rails.MARGINS}, *(words[each] for each in rails.BOUNDS)) if form else ():
             raise Stopped(f"{name}: {it.register} {voltages.shown(it.value)} is cut to {voltages.shown(it.to)}: order it within VOUT_MIN and VOUT_MAX")
 
-    def plan(self, byte: int) -> None:
-        """Goes up to the order of a byte. Stopped if it would be refused."""
-        course = Course.power(self.rail.output, byte, TRIES)
+    def byte_at(self, point: str) -> int:
+        """The byte of OPERATION by which the rail is at a point."""
+        return margin_byte(point, self.ignores_faults) if point in MARGINS else self.byte
 
-        def before(order: Job) -> None:
-            if self.look.has_looked_before:
-                self.look.judge(course)
-            self.look.before(course, order)
+    def plan(self, point: str) -> None:
+        """Goes up to the order by which the rail is at a point. Stopped if that would be refused."""
+        output, byte = self.rail.output, self.byte_at(point)
+        course = Course.margin(output, point, TRIES, self.ignores_faults) if point in MARGINS else Course.power(output, byte, TRIES)
+
+        def before(_: Job) -> None:
             raise Due
 
         with contextlib.suppress(Due), self.stopping():
             complete(self.part, course, before)
         end = course.ended
         if end is not None and end.kind == "refused" and refusal(end.number).letter == "P7" and self.call.protection.is_in_the_way(self.rail.part):
-            return
-        if end is not None and end.kind != "reached":
+            # The way is lifted before the first order, and what the byte selects wasn't read.
+            read(self.part, output, selected_by(byte) or "")
+        elif end is not None and end.kind != "reached":
             raise self.stopped(self.why_ended(byte, end))
+        elif end is not None and course.guarded is None:
+            return
+        with self.stopping():
+            if self.look.has_looked_before:
+                self.look.judge(course)
+            else:
+                self.look.before(course, Job("order", OPERATION, byte))
 
     # ---- Orders ----
 
@@ -145,7 +160,7 @@ class RailTest:
         protection.touch(part)
         protection.lift(part)
         self.call.back.note(Held(self.rail.name, part, self.rail.output, {OPERATION: self.byte}))
-        way = (self.byte, MARGINS["high"], MARGINS["low"])
+        way = [self.byte_at(point) for point in POINTS[:-1]]
         run = StepRun([(self.part, StairsStep.turns(0, self.rail.output, byte)) for byte in way], TRIES)
         for place, (point, byte) in enumerate(zip(POINTS, way)):
             self.turn(point, byte, functools.partial(run.carry_out, place))
@@ -183,13 +198,15 @@ class RailTest:
 
     @contextlib.contextmanager
     def stopping(self) -> Iterator[None]:
-        """Within it Stopped is raised if nobody answers, or a voltage is at or beyond a fault limit."""
+        """Within it Stopped is raised if nobody answers, a voltage is at or beyond a fault limit, or a margin may trip the rail."""
         try:
             yield
         except (Nobody, NotBelieved) as silent:
             raise self.stopped(f"no good answer: {silent}") from None
         except PlanRefused as fault:
             raise self.stopped(f"{fault.said}: {fault.letter} {fault.name}") from None
+        except MarginRefused as near:
+            raise self.stopped(f"{near.said}: {near.do(IGNORE)}") from None
 
     def why_ended(self, byte: int, end: CourseEnd) -> str:
         """Why a byte of OPERATION isn't reached."""
@@ -215,7 +232,7 @@ def margin_test(arguments: argparse.Namespace) -> int:
     why, begun = "", list[RailTest]()
     try:
         board.identify()
-        tests = [RailTest(call, rail, rows) for rail in arguments.chosen]
+        tests = [RailTest(call, rail, rows, arguments.ignore_faults) for rail in arguments.chosen]
         for each in tests:
             each.judge()
         for each in tests:

@@ -20,7 +20,7 @@ OF_A_RAIL = ("learn", "read", "survey", "set", "word", "on", "off", "margin", "c
 OF_ALL = ("survey", "why", "known", "band")
 # Those that go from rail to rail in the order of the file, which is a command of its own.
 IN_ORDER = ("on", "off")
-BACK = "--back"
+BACK, IGNORE = "--back", "--ignore-faults"
 ENDING = ".toml"
 
 
@@ -37,6 +37,7 @@ class Named:
 def parted(part: list[str], has_value: set[str]) -> list[list[str]]:
     """The words of a command, and those of the one after its --back, which needs no + between them."""
     at = part.index(BACK) + 1 if BACK in part else 0
+    at += at > 0 and part[at:at + 1] == [IGNORE]
     command, behind = place_of(part, has_value)[0], place_of(part[at:], has_value)[0]
     return [part[:at], part[at:]] if at and command == "margin" and behind else [part]
 

@@ -10,8 +10,9 @@ from .. import probe, voltages
 from ..back import Held
 from ..codes import CODES, code_of
 from ..course import Course, Job
-from ..device import ANOTHER, MARGINS, OFF, ON, Device
-from ..errors import PlanRefused, Refused, name_of
+from ..device import Device
+from ..errors import MarginRefused, PlanRefused, Refused, name_of
+from ..operation import ANOTHER, MARGINS, OFF, ON, margin_byte
 from ..readings import KINDS
 from ..rounded import Accepting
 from ..states import Step
@@ -23,13 +24,16 @@ from .about import described
 from .answer import Answer, in_digits
 from .call import Call, said
 from .completion import completed_by
-from .names import BACK
+from .names import BACK, IGNORE
 from .outcome import (DEVICE, REGISTERS, VOLTAGES, answer_of, cell_words, confirmed_alone, course_answer, deliver, rail_words, read_notes_behind,
                       refused, tell_bad_end, why_not)
 from .parser import BadCall, bus_options, shown, whole
 
 # What each command sends beside reads, for an interruption to say.
 STORES = "the user store may hold the old or the new settings of every output"
+IGNORING: dict[str, Any] = {"action": "store_true",
+                            "help": "orders OPERATION A4 or 94, by which the part ignores faults at a margin; A8 or 98, by which it acts on them, if "
+                                    "left out"}
 GO_OFF, MAY_GO_OFF = "--outputs-may-go-off", "on some parts it is a reset, and the outputs go off"
 RESTORES = f"{', '.join(REGISTERS)} of every output may hold the old or the stored word"
 
@@ -141,10 +145,11 @@ def add(commands: Any) -> None:
         found.set_defaults(byte=byte)
         way.add(found, way.STAIRS[name])
         bus_options(found)
-    found = command("margin", operate, judge_order)
+    found = command("margin", margin, judge_margin)
     found.add_argument("output", **output)
-    completed_by(found.add_argument("byte", metavar="high|low", type=margin_of, help="VOUT_MARGIN_HIGH or VOUT_MARGIN_LOW"), ("high", "low"))
+    completed_by(found.add_argument("side", metavar="high|low", type=side_of, help="VOUT_MARGIN_HIGH or VOUT_MARGIN_LOW"), tuple(MARGINS))
     bus_options(found)
+    found.add_argument(IGNORE, **IGNORING)
     found.add_argument(BACK, action="store_true", help="brings OPERATION back as it was as the last act of the call, whatever ends it; the commands "
                                                        "after this run on the margin; stays on the margin if left out")
     found = command("clear", send_command, judge_write)
@@ -158,10 +163,10 @@ def add(commands: Any) -> None:
         bus_options(found)
 
 
-def margin_of(word: str) -> int:
+def side_of(word: str) -> str:
     if word not in MARGINS:
         raise argparse.ArgumentTypeError(f"{shown(word)}: give high or low")
-    return MARGINS[word]
+    return word
 
 
 def judge_write(arguments: argparse.Namespace) -> None:
@@ -178,6 +183,11 @@ def judge_restore(arguments: argparse.Namespace) -> None:
 def judge_order(arguments: argparse.Namespace) -> None:
     way.judge_none(arguments)
     arguments.call.judge_order(arguments)
+
+
+def judge_margin(arguments: argparse.Namespace) -> None:
+    judge_order(arguments)
+    arguments.byte = margin_byte(arguments.side, arguments.ignore_faults)
 
 
 def judge_device(arguments: argparse.Namespace, more: str = " only") -> None:
@@ -356,6 +366,9 @@ def run_once(arguments: argparse.Namespace, register: str, course: Course) -> Ac
         return call.say(call.nobody(arguments, str(nobody)))
     except PlanRefused as fault:
         return call.say(refused(arguments, part, register, fault))
+    except MarginRefused as fault:
+        return call.say(answer_of(arguments, part, register, "refused", status=1, text=f"refused, {register} wasn't ordered",
+                                  why=f"{fault.said}: {fault.do(IGNORE)}"))
     except NotBelieved as doubt:
         return call.say(not_told(arguments, part, doubt))
     call.has_answered.add(call.part_name)
@@ -396,8 +409,14 @@ def word(arguments: argparse.Namespace) -> int:
 
 
 def operate(arguments: argparse.Namespace) -> int:
-    """Orders OPERATION, which is noted first if it is to come back."""
-    return getattr(arguments, "back", False) and note_way_back(arguments) or turn(arguments, arguments.byte)
+    """Turns an output on or off."""
+    return turn(arguments, arguments.byte)
+
+
+def margin(arguments: argparse.Namespace) -> int:
+    """Has an output command a margin. OPERATION is noted first if it is to come back."""
+    course = Course.margin(arguments.output, arguments.side, TRIES, arguments.ignore_faults)
+    return arguments.back and note_way_back(arguments) or tell_course(arguments, "OPERATION", course)
 
 
 def note_way_back(arguments: argparse.Namespace) -> int:

@@ -5,10 +5,11 @@ import argparse
 from typing import Any
 
 from .. import voltages
-from ..course import Course, CourseEnd, avsbus, in_hexadecimal
+from ..course import Course, CourseEnd, in_hexadecimal
 from ..device import Device
 from ..errors import SAYINGS, PlanRefused, Refused, refusal
 from ..look import Delivered
+from ..operation import avsbus, ignores_faults
 from ..rail_course import OUTSIDE
 from ..stairs import WHY
 from ..states import Step
@@ -22,6 +23,8 @@ from .readings import read_notes, read_protect
 DEVICE = "WRITE_PROTECT"
 REGISTERS = tuple(name for name in CODES if name != DEVICE)
 VOLTAGES = tuple(name for name in REGISTERS if name.startswith("VOUT_"))
+# What is said of a margin at which the part ignores faults.
+IGNORED = ", faults ignored"
 
 
 def cell_words(arguments: argparse.Namespace, part: Device, register: str, word: int, form: Format | None = None) -> str:
@@ -31,7 +34,7 @@ def cell_words(arguments: argparse.Namespace, part: Device, register: str, word:
     if register == "OPERATION":
         state = part.host.rail(output)
         margin = {"VOUT_MARGIN_HIGH": ", margin high", "VOUT_MARGIN_LOW": ", margin low"}.get(state.selected or "", "")
-        words += {True: f" on{margin}", False: " off", None: ""}[state.is_on]
+        words += {True: f" on{margin}{IGNORED * ignores_faults(word)}", False: " off", None: ""}[state.is_on]
     elif register != DEVICE:
         form = form or part.host.format(output)
         if form is not None:
@@ -117,7 +120,7 @@ def commanded_words(found: Commanded, register: str, microvolts: int | None) -> 
     if found.is_on is False:
         words = f"the output is commanded off, and would command {band}"
     elif not selects(found, register):
-        words = f"OPERATION selects {found.selected}: the output commands {band}"
+        words = f"OPERATION selects {found.selected}{IGNORED * bool(found.ignores_faults)}: the output commands {band}"
     elif wanted is None or found.is_value(wanted):
         words = f"the output commands {band}"
     elif found.least <= wanted <= found.greatest:

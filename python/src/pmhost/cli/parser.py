@@ -8,7 +8,8 @@ import re
 from typing import Any, Callable, NoReturn
 
 from .. import parts, sequence, voltages
-from ..parts import MISSABLE, MODEL_BUS
+from ..parts import MODEL_BUS
+from ..values import LOOKED_AT, MISSABLE
 from . import streams
 from .completion import FILES, completed_by
 
@@ -172,8 +173,8 @@ def lacks_of(word: str) -> tuple[str, ...]:
     """The registers that a part doesn't have."""
     found = tuple(word.split(","))
     for each in found:
-        if each not in MISSABLE:
-            raise argparse.ArgumentTypeError(f"lacks {shown(each)}: give registers of {', '.join(MISSABLE)}")
+        if each not in MISSABLE + LOOKED_AT:
+            raise argparse.ArgumentTypeError(f"lacks {shown(each)}: give registers of {', '.join(MISSABLE + LOOKED_AT)}")
     return found
 
 
@@ -188,8 +189,9 @@ OPTIONS: dict[str, tuple[tuple[str, ...], dict[str, Any]]] = {
     "outputs": (("--outputs",), {"type": whole(1, 8, "outputs"), "metavar": "N",
                                  "help": "how many outputs the part has, 1 to 8; what is written needs it"}),
     "lacks": (("--lacks",), {"type": lacks_of, "metavar": "REG,..",
-                             "help": f"registers that the part doesn't have by its data sheet, of {', '.join(MISSABLE)}; none if left out. A job on "
-                                     "one is refused (L7)"}),
+                             "help": f"registers that the part doesn't have by its data sheet, of {', '.join(MISSABLE + LOOKED_AT)}; none if left "
+                                     "out. A job on one is refused (L7). A rail is judged by STATUS_WORD and READ_VOUT, by one if the other is lacking; "
+                                     "it isn't judged if both are"}),
     "limit": (("--limit",), {"type": limit_of, "metavar": "O:LEAST:MOST",
                              "help": f"what the load of an output tolerates, as {LIMIT_EXAMPLE}, at most 1000V: no order beyond it is sent. An order "
                                      "needs it, or --no-limit (L8)"}),
@@ -209,7 +211,7 @@ OPTIONS: dict[str, tuple[tuple[str, ...], dict[str, Any]]] = {
                                                    "after a restore, and 5s after a store"}),
     "fault_limits": (("--fault-limits",), {"choices": ("refuse", "tell", "skip"),
                                            "help": "what to do about a voltage at or beyond a fault limit of the part: refuse it (P8), only say so, "
-                                                   "or don't read the limits; refuse if left out"}),
+                                                   "or don't read the limits; refuse if left out. With skip a margin needs --ignore-faults"}),
     "power_good": (("--power-good",), {"choices": ("judge", "tell"),
                                        "help": "whether a rail of which only power good is missing doesn't deliver (judge), or this is only said (tell); "
                                                "judge if left out"}),

@@ -263,7 +263,8 @@ def rows(board: Board, is_dry: bool, are_wanted: bool) -> list[dict[str, object]
         known = board.state(rail) if rail.name in board.surveys else None
         found.append({
             "rail": rail.name, "part": rail.part or None, "output": rail.output, "limits": [number(each) for each in rail.limits],
-            "selected": known and known.selected, "on": None if known is None else known.is_on,
+            "selected": known and known.selected, "faults_ignored": known and known.ignores_faults,
+            "on": None if known is None else known.is_on,
             "commands": None if known is None or known.least is None else [number(known.least), number(known.greatest)],
             "within": None if known is None else known.is_within, **delivery_of(board.delivered.get(rail.name)),
             "cut": [{"register": it.register, "word": in_digits(it.register, it.word), "volts": number(it.value), "to": number(it.to)}

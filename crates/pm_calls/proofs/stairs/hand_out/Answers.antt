@@ -4,8 +4,8 @@ use Rattle.pm_stairs.specs.declared.sequence.Sequence.{Sequence}
 use Rattle.pm_stairs.specs.declared.step.WordStep.{WordStep}
 use Rattle.pm_stairs.specs.Sequence.{refused_in}
 use Rattle.pm_memory.specs.declared.stairs_end.StairsEndImage.{StairsEndImage}
-use Rattle.pm_calls.specs.Course.{BeginsIn, guard_at}
-use Rattle.pm_calls.specs.Stairs.{same_frame, stopped_by}
+use Rattle.pm_calls.specs.Course.{guard_at}
+use Rattle.pm_calls.specs.Stairs.{BeginsIn, same_frame, stopped_by}
 use Rattle.pm_memory.specs.StairsImage.{stairs_image}
 use Rattle.pm_calls.proofs.HandsStairs.{begins, refuses, says}
 use Rattle.pm_calls.proofs.stairs.hand_out.Goals as goal

@@ -1,4 +1,4 @@
-use Rattle.pm_late_laws.proofs.Known.{late-confirmed}
+use Rattle.pm_late_laws.proofs.LateWords.{late-confirmed}
 use Rattle.pm_late_laws.proofs.laws.late_confirmations_are_held.Goals as goal
 
 pub returns : goal.returns

@@ -1,4 +1,4 @@
-use Rattle.pm_late_laws.proofs.OwnWords.{late-own}
+use Rattle.pm_late_laws.proofs.LateWords.{late-own}
 use Rattle.pm_late_laws.proofs.laws.late_words_are_own.Goals as goal
 
 pub returns : goal.returns

@@ -1,4 +1,4 @@
-use Rattle.pm_late_laws.proofs.Known.{late-possible}
+use Rattle.pm_late_laws.proofs.LateWords.{late-possible}
 use Rattle.pm_late_laws.proofs.laws.late_words_were_possible.Goals as goal
 
 pub returns : goal.returns

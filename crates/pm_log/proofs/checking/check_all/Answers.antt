@@ -15,26 +15,26 @@ returns-in_err-put g c =
     let p = err_from_is_err_and c.from_residual-in_err-put.result c.from_residual-in_err-put.ensures.1 in
     let (read, input, taken, at_end) = c.in_ok-take_all.ensures.all in
     let old = c.take_all.new.log in
-    let empty : input ≡ [] = none_now _ _ input old taken (sym c.taken.ensures ∙ c.if-taken-eq0.true) in
-    let shown = c.as_bytes.ensures.value ∙ c.empty_verdict.ensures ∙ ap log_text (sym empty) in
-    rw (p.1, p.2, c.in_err-put.ensures.fault) (front_said (over g.R.Read.remaining c.args.reader.now c.take_all.new.reader
+    let empty : input ≡ [] = none_now _ _ _ input old taken (sym c.taken.ensures ∙ c.if-taken-eq0.true) in
+    let shown = c.as_bytes.ensures.value ∙ c.empty_verdict.ensures c.args.allowed.now.parts ∙ ap (log_text c.args.allowed.now.parts) (sym empty) in
+    rw (p.1, p.2, c.in_err-put.ensures.fault) (front_said c.args.allowed.now.parts (over g.R.Read.remaining c.args.reader.now c.take_all.new.reader
     g.W.Write.contents c.args.writer.now c.put.new.self) read c.in_err-put.ensures.failed input c.as_bytes.result.now
-    (all_now _ _ input old taken at_end) shown c.in_err-put.ensures.front)
+    (all_now _ _ _ input old taken at_end) shown c.in_err-put.ensures.front)
 
 pub returns-then-taken-eq0 : goal.returns-then-taken-eq0
 returns-then-taken-eq0 g c =
     let (read, input, taken, at_end) = c.in_ok-take_all.ensures.all in
     let old = c.take_all.new.log in
-    let empty : input ≡ [] = none_now _ _ input old taken (sym c.taken.ensures ∙ c.if-taken-eq0.true) in
-    let shown = c.as_bytes.ensures.value ∙ c.empty_verdict.ensures ∙ ap log_text (sym empty) in
-    all_said (over g.R.Read.remaining c.args.reader.now c.take_all.new.reader
+    let empty : input ≡ [] = none_now _ _ _ input old taken (sym c.taken.ensures ∙ c.if-taken-eq0.true) in
+    let shown = c.as_bytes.ensures.value ∙ c.empty_verdict.ensures c.args.allowed.now.parts ∙ ap (log_text c.args.allowed.now.parts) (sym empty) in
+    all_said c.args.allowed.now.parts (over g.R.Read.remaining c.args.reader.now c.take_all.new.reader
     g.W.Write.contents c.args.writer.now c.put.new.self) read c.in_ok-put.ensures.failed input c.as_bytes.result.now Refused
-    (all_now _ _ input old taken at_end) (empty_end ∙ ap log_end (sym empty)) shown c.in_ok-put.ensures.all
+    (all_now _ _ _ input old taken at_end) (empty_end c.args.allowed.now.parts ∙ ap (log_end c.args.allowed.now.parts) (sym empty)) shown c.in_ok-put.ensures.all
 
 pub verdict-requires : goal.verdict-requires
 verdict-requires g c =
     let (read, input, taken, at_end) = c.in_ok-take_all.ensures.all in
-    room_now _ _ input c.take_all.new.log taken
+    room_now _ _ _ input c.take_all.new.log taken
 
 pub returns-in_err-put-2 : goal.returns-in_err-put-2
 returns-in_err-put-2 g c =
@@ -42,18 +42,18 @@ returns-in_err-put-2 g c =
     let (read, input, taken, at_end) = c.in_ok-take_all.ensures.all in
     let old = c.take_all.new.log in
     let shown = c.as_bytes-2.ensures.value ∙ c.in_ok-text.ensures.text
-    ∙ ap (λ (k : Kept). verdict_text (ended (finished k))) taken.kept_is ∙ ap verdict_text (finished_is input) in
-    rw (p.1, p.2, c.in_err-put-2.ensures.fault) (front_said (over g.R.Read.remaining c.args.reader.now c.take_all.new.reader
+    ∙ ap (λ (k : Kept). verdict_text (ended (finished k))) taken.kept_is ∙ ap verdict_text (finished_is c.args.allowed.now.parts input) in
+    rw (p.1, p.2, c.in_err-put-2.ensures.fault) (front_said c.args.allowed.now.parts (over g.R.Read.remaining c.args.reader.now c.take_all.new.reader
     g.W.Write.contents c.args.writer.now c.put-2.new.self) read c.in_err-put-2.ensures.failed input c.as_bytes-2.result.now
-    (all_now _ _ input old taken at_end) shown c.in_err-put-2.ensures.front)
+    (all_now _ _ _ input old taken at_end) shown c.in_err-put-2.ensures.front)
 
 pub returns : goal.returns
 returns g c =
     let (read, input, taken, at_end) = c.in_ok-take_all.ensures.all in
     let old = c.take_all.new.log in
-    let kept = ap (λ (k : Kept). ended (finished k)) taken.kept_is ∙ finished_is input in
+    let kept = ap (λ (k : Kept). ended (finished k)) taken.kept_is ∙ finished_is c.args.allowed.now.parts input in
     let shown = c.as_bytes-2.ensures.value ∙ c.in_ok-text.ensures.text ∙ ap verdict_text kept in
-    all_said (over g.R.Read.remaining c.args.reader.now c.take_all.new.reader
+    all_said c.args.allowed.now.parts (over g.R.Read.remaining c.args.reader.now c.take_all.new.reader
     g.W.Write.contents c.args.writer.now c.put-2.new.self) read c.in_ok-put-2.ensures.failed input c.as_bytes-2.result.now
-    c.end_of.result (all_now _ _ input old taken at_end) (c.end_of.ensures ∙ ap end_of (c.in_ok-text.ensures.end ∙ kept)) shown
+    c.end_of.result (all_now _ _ _ input old taken at_end) (c.end_of.ensures ∙ ap end_of (c.in_ok-text.ensures.end ∙ kept)) shown
     c.in_ok-put-2.ensures.all

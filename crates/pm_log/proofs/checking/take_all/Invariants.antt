@@ -6,7 +6,7 @@ use Rattle.pm_log.proofs.checking.take_all.Given as goal
 -- the bytes that the reader gave were taken
 abbrev pub invariant-reads : goal.invariant-reads
 invariant-reads g l = record {
-  taken : (front : List ℕ) × Taken (g.R.Read.remaining l.fn.reader.inner) (g.R.Read.remaining l.reader.inner) front l.log;
+  taken : (front : List ℕ) × Taken l.fn.allowed.parts (g.R.Read.remaining l.fn.reader.inner) (g.R.Read.remaining l.reader.inner) front l.log;
   sound : l.reader.failed ≡ false;
   room : l.log.taken ≤ most_bytes;
 }

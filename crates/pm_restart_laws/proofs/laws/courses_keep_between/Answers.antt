@@ -1,4 +1,4 @@
-use Rattle.pm_restart_laws.proofs.Between.{keep-between}
+use Rattle.pm_restart_laws.proofs.Restarts.{keep-between}
 use Rattle.pm_restart_laws.proofs.laws.courses_keep_between.Goals as goal
 
 pub returns : goal.returns

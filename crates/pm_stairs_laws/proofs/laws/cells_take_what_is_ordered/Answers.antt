@@ -1,4 +1,4 @@
-use Rattle.pm_stairs_laws.proofs.Ordered.{cells-take}
+use Rattle.pm_stairs_laws.proofs.Steps.{cells-take}
 use Rattle.pm_stairs_laws.proofs.laws.cells_take_what_is_ordered.Goals as goal
 
 pub returns : goal.returns

@@ -1,4 +1,4 @@
-use Rattle.pm_stairs_laws.proofs.Climb.{climbs-are-stairs}
+use Rattle.pm_stairs_laws.proofs.Callers.{climbs-are-stairs}
 use Rattle.pm_stairs_laws.proofs.laws.climbs_are_stairs.Goals as goal
 
 pub returns : goal.returns

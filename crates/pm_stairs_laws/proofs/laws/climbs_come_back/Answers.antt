@@ -1,4 +1,4 @@
-use Rattle.pm_stairs_laws.proofs.ComeBack.{climbs-come-back}
+use Rattle.pm_stairs_laws.proofs.Callers.{climbs-come-back}
 use Rattle.pm_stairs_laws.proofs.laws.climbs_come_back.Goals as goal
 
 pub returns : goal.returns

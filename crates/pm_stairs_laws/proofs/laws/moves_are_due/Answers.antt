@@ -1,4 +1,4 @@
-use Rattle.pm_stairs_laws.proofs.Due.{moves-are-due}
+use Rattle.pm_stairs_laws.proofs.Callers.{moves-are-due}
 use Rattle.pm_stairs_laws.proofs.laws.moves_are_due.Goals as goal
 
 pub returns : goal.returns

@@ -1,4 +1,4 @@
-use Rattle.pm_stairs_laws.proofs.Followed.{stairs-are-followed}
+use Rattle.pm_stairs_laws.proofs.Steps.{stairs-are-followed}
 use Rattle.pm_stairs_laws.proofs.laws.stairs_are_followed.Goals as goal
 
 pub returns : goal.returns

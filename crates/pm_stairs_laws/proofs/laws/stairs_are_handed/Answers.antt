@@ -1,5 +1,5 @@
-use Rattle.pm_stairs_laws.proofs.Handed.{hands, hears}
-use Rattle.pm_stairs_laws.proofs.Turned.{sequences}
+use Rattle.pm_stairs_laws.proofs.Callers.{hands, hears}
+use Rattle.pm_stairs_laws.proofs.Steps.{sequences}
 use Rattle.pm_stairs_laws.proofs.laws.stairs_are_handed.Goals as goal
 
 pub returns : goal.returns

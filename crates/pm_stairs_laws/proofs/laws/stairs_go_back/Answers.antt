@@ -1,4 +1,4 @@
-use Rattle.pm_stairs_laws.proofs.Back.{stairs-go-back}
+use Rattle.pm_stairs_laws.proofs.Steps.{stairs-go-back}
 use Rattle.pm_stairs_laws.proofs.laws.stairs_go_back.Goals as goal
 
 pub returns : goal.returns

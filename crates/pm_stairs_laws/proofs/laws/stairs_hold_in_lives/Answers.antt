@@ -1,4 +1,4 @@
-use Rattle.pm_stairs_laws.proofs.Stairs.{stairs-hold}
+use Rattle.pm_stairs_laws.proofs.Steps.{stairs-hold}
 use Rattle.pm_stairs_laws.proofs.laws.stairs_hold_in_lives.Goals as goal
 
 pub returns : goal.returns

@@ -1,7 +1,7 @@
 -- What the parser met is what is chosen, and if it finds a fault the call refuses.
 use Rattle.std.proofs.Common.{◌≡◌, ◌∙◌, ℕ, false, true≢false, eqb, eq-eqb, ap, get_or, refl, sym, subst, [], ◌∷◌, List, Result, Ok, Err}
 use Rattle.std.proofs.Common.{IfOk, IsErrAnd, IsSomeAnd, Option, Some, codes, ⊎_elim, map, unwrap_or}
-use Rattle.clap.specs.Words.{FailsBy, HasKind, Kinds, Row, Text, fault_of, subcommand_of}
+use Rattle.clap.specs.Words.{FailsBy, HasKind, Kinds, Row, Text, all_of, fault_of, subcommand_of}
 use Rattle.clap.specs.Walk.{texts}
 use Rattle.clap.specs.declared.error.Error.{Error}
 use Rattle.clap.specs.declared.error.kind.ErrorKind.{ErrorKind}
@@ -10,6 +10,7 @@ use Rattle.clap.proofs.OnLiterals.{clap_on_literals}
 use Rattle.pm_tool.specs.declared.commandline.choice.Chosen.{Chosen}
 use Rattle.pm_tool.specs.declared.commandline.choice.Chosen.TheVariants.{Hear, Replay, Decode, Check, Number}
 use Rattle.pm_tool.specs.Commandline.{Asks, Given, HasValuesOf, UnlessMemory, number_words, pmb}
+use Rattle.pm_tool.specs.Lacking.{lacks_asked}
 use Rattle.pm_tool.proofs.GivenOptions.{first_text, number_met, number_passes, row}
 use Rattle.pm_tool.proofs.commandline.chosen.Goals as goal
 
@@ -54,7 +55,7 @@ hear_chosen : (rows : List Row) (chosen : Chosen) → Asks (codes "hear") rows c
 hear_chosen rows Hear asks = refl
 hear_chosen rows Replay asks = apart 104 114 (ap first_byte asks) refl
 hear_chosen rows Decode asks = apart 104 100 (ap first_byte asks) refl
-hear_chosen rows Check asks = apart 104 99 (ap first_byte asks) refl
+hear_chosen rows (Check lacks) asks = apart 104 99 (ap first_byte asks.0) refl
 hear_chosen rows (Number format word micro) asks = apart 104 110 (ap first_byte asks.0) refl
 
 -- after `replay` with no more words the parser meets that subcommand, with no options
@@ -72,7 +73,7 @@ replay_chosen : (rows : List Row) (chosen : Chosen) → Asks (codes "replay") ro
 replay_chosen rows Hear asks = apart 114 104 (ap first_byte asks) refl
 replay_chosen rows Replay asks = refl
 replay_chosen rows Decode asks = apart 114 100 (ap first_byte asks) refl
-replay_chosen rows Check asks = apart 114 99 (ap first_byte asks) refl
+replay_chosen rows (Check lacks) asks = apart 114 99 (ap first_byte asks.0) refl
 replay_chosen rows (Number format word micro) asks = apart 114 110 (ap first_byte asks.0) refl
 
 -- after `decode` with no more words the parser meets that subcommand, with no options
@@ -90,7 +91,7 @@ decode_chosen : (rows : List Row) (chosen : Chosen) → Asks (codes "decode") ro
 decode_chosen rows Hear asks = apart 100 104 (ap first_byte asks) refl
 decode_chosen rows Replay asks = apart 100 114 (ap first_byte asks) refl
 decode_chosen rows Decode asks = refl
-decode_chosen rows Check asks = apart 100 99 (ap first_byte asks) refl
+decode_chosen rows (Check lacks) asks = apart 100 99 (ap first_byte asks.0) refl
 decode_chosen rows (Number format word micro) asks = apart 100 110 (ap first_byte asks.0) refl
 
 -- after `check` with no more words the parser meets that subcommand, with no options
@@ -103,12 +104,13 @@ check_passes : (program : Text) → fault_of pmb (program ∷ codes "check" ∷ 
 unfolding clap_on_literals
 check_passes program = refl
 
--- `check` is chosen if its rows are asked for
-check_chosen : (rows : List Row) (chosen : Chosen) → Asks (codes "check") rows chosen → chosen ≡ Check
+-- `check` is chosen if its rows are asked for, with what the texts of its option let parts lack
+check_chosen : (rows : List Row) (chosen : Chosen) → Asks (codes "check") rows chosen →
+    chosen ≡ Check (lacks_asked (unwrap_or (all_of (codes "lacks") rows) []))
 check_chosen rows Hear asks = apart 99 104 (ap first_byte asks) refl
 check_chosen rows Replay asks = apart 99 114 (ap first_byte asks) refl
 check_chosen rows Decode asks = apart 99 100 (ap first_byte asks) refl
-check_chosen rows Check asks = refl
+check_chosen rows (Check lacks) asks = ap Check asks.1
 check_chosen rows (Number format word micro) asks = apart 99 110 (ap first_byte asks.0) refl
 
 -- `number` is chosen if it is met, with the texts that were given for its options
@@ -116,7 +118,7 @@ given_chosen : (given : List Given) (chosen : Chosen) → Asks (codes "number") 
 given_chosen given Hear asks = apart 110 104 (ap first_byte asks) refl
 given_chosen given Replay asks = apart 110 114 (ap first_byte asks) refl
 given_chosen given Decode asks = apart 110 100 (ap first_byte asks) refl
-given_chosen given Check asks = apart 110 99 (ap first_byte asks) refl
+given_chosen given (Check lacks) asks = apart 110 99 (ap first_byte asks.0) refl
 given_chosen given (Number format word micro) asks = (
   asks.1 ∙ ap (λ o. unwrap_or o []) (first_text (codes "format") given),
   asks.2 ∙ first_text (codes "word") given,
@@ -164,7 +166,7 @@ returns-clause-decode c = λ program e.
 
 pub returns-clause-check : goal.returns-clause-check
 returns-clause-check c = λ program e.
-    met c.parsed.result (program ∷ codes "check" ∷ []) (λ chosen. chosen ≡ Check)
+    met c.parsed.result (program ∷ codes "check" ∷ []) (λ chosen. chosen ≡ Check (lacks_asked []))
     (subst (λ (t : List Text). IfOk c.parsed.result (λ chosen. IsSomeAnd (subcommand_of pmb t)
     (λ met. Asks met.0 met.1 chosen))) e c.parsed.ensures.named)
     (subst (λ (t : List Text). FailsBy (fault_of pmb t) c.parsed.result) e c.parsed.ensures.kinds)

@@ -1,7 +1,7 @@
 use Rattle.std.proofs.Common.{ℕ, ◌<◌, List, ap}
 use Rattle.pm_device.specs.Effect.{kept_in}
 use Rattle.pm_world.specs.State.{State}
-use Rattle.pm_world.proofs.Overhearing.{IsApart, Below, answer-passes, board-apart, frame-passes}
+use Rattle.pm_world.proofs.Board.{IsApart, Below, answer-passes, board-apart, frame-passes}
 use Rattle.pm_world.specs.Neighbours.{Board, Happening, IsLivedOn, on_board, own}
 use Rattle.pm_world.proofs.board_laws.neighbours_are_apart.Goals as goal
 

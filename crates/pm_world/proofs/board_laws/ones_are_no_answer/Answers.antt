@@ -3,7 +3,7 @@ use Rattle.std.specs.Option.{option_map}
 use Rattle.pm_table.specs.Coefficients.{coefficients_of}
 use Rattle.pm_host.specs.Answers.{word_in}
 use Rattle.pm_host.specs.Messages.{coefficients_read}
-use Rattle.pm_world.proofs.Ones.{counted-none, given-refused, mode-none, protection-word, register-none}
+use Rattle.pm_world.proofs.Board.{counted-none, given-refused, mode-none, protection-word, register-none}
 use Rattle.pm_world.proofs.board_laws.ones_are_no_answer.Goals as goal
 
 pub returns : goal.returns

@@ -1,4 +1,4 @@
-use Rattle.pm_world.proofs.SharedCodes.{coefficients-alone, mode-alone, outputs-share, protect-shorter, protect-shortest}
+use Rattle.pm_world.proofs.Board.{coefficients-alone, mode-alone, outputs-share, protect-shorter, protect-shortest}
 use Rattle.pm_world.proofs.board_laws.reads_that_share_their_code.Goals as goal
 
 pub returns : goal.returns

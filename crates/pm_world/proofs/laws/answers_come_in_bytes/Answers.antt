@@ -1,4 +1,4 @@
-use Rattle.pm_world.proofs.ByteLives.{came-in-bytes}
+use Rattle.pm_world.proofs.Bytes.{came-in-bytes}
 use Rattle.pm_world.proofs.laws.answers_come_in_bytes.Goals as goal
 
 pub returns : goal.returns

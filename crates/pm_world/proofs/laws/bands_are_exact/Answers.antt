@@ -3,8 +3,7 @@ use Rattle.pm_world.specs.Bands.{end_choices}
 use Rattle.pm_world.specs.Life.{life, now}
 use Rattle.pm_world.specs.Setup.{setup_of}
 use Rattle.pm_world.specs.Uncertainty.{due_before, since_restart, witness_events, witness_start}
-use Rattle.pm_world.proofs.BandLives.{end-left, ends-possible}
-use Rattle.pm_world.proofs.Exact.{witness-leaves}
+use Rattle.pm_world.proofs.Retold.{end-left, ends-possible, witness-leaves}
 use Rattle.pm_world.proofs.laws.bands_are_exact.Goals as goal
 
 pub returns : goal.returns

@@ -1,4 +1,4 @@
-use Rattle.pm_world.proofs.BandLives.{in-band}
+use Rattle.pm_world.proofs.Retold.{in-band}
 use Rattle.pm_world.proofs.laws.bands_are_held.Goals as goal
 
 pub returns : goal.returns

@@ -1,5 +1,4 @@
-use Rattle.pm_world.proofs.DamagedFrames.{heard-legal, return-legal}
-use Rattle.pm_world.proofs.DamagedRequests.{answered-legal}
+use Rattle.pm_world.proofs.Bytes.{heard-legal, return-legal, answered-legal}
 use Rattle.pm_world.proofs.laws.betrayed_damage_is_legal.Goals as goal
 
 pub returns : goal.returns

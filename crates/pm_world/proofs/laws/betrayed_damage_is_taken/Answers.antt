@@ -1,4 +1,4 @@
-use Rattle.pm_world.proofs.DamagedFrames.{delivered-taken, exchanged-taken, misheard-taken}
+use Rattle.pm_world.proofs.Bytes.{delivered-taken, exchanged-taken, misheard-taken}
 use Rattle.pm_world.proofs.laws.betrayed_damage_is_taken.Goals as goal
 
 pub returns : goal.returns

@@ -1,4 +1,4 @@
-use Rattle.pm_world.proofs.CausesDecide.{free-word, legal-by, taken-by}
+use Rattle.pm_world.proofs.Events.{free-word, legal-by, taken-by}
 use Rattle.pm_world.proofs.laws.causes_decide.Goals as goal
 
 pub returns : goal.returns

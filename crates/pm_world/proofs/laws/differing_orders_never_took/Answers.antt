@@ -1,4 +1,4 @@
-use Rattle.pm_world.proofs.NeverTook.{differs-never}
+use Rattle.pm_world.proofs.HeldWords.{differs-never}
 use Rattle.pm_world.proofs.laws.differing_orders_never_took.Goals as goal
 
 pub returns : goal.returns

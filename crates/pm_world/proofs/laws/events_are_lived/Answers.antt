@@ -1,6 +1,4 @@
-use Rattle.pm_world.proofs.Causes.{taken-free}
-use Rattle.pm_world.proofs.CausesDecide.{free-word}
-use Rattle.pm_world.proofs.Lives.{lived-before, lived-by}
+use Rattle.pm_world.proofs.Events.{taken-free, free-word, lived-before, lived-by}
 use Rattle.pm_world.proofs.laws.events_are_lived.Goals as goal
 use Rattle.pm_world.specs.Life.{now}
 

@@ -1,7 +1,7 @@
 use Rattle.std.proofs.Common.{subst}
 use Rattle.pm_world.specs.Life.{life}
 use Rattle.pm_world.specs.Setup.{setup_of}
-use Rattle.pm_world.proofs.Lives.{IsLived, life-told, lived-before}
+use Rattle.pm_world.proofs.Events.{IsLived, life-told, lived-before}
 use Rattle.pm_world.proofs.laws.frames_are_few.Goals as goal
 
 pub returns : goal.returns

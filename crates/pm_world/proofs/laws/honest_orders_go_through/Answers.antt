@@ -1,7 +1,6 @@
 use Rattle.std.proofs.Common.{subst}
 use Rattle.pm_world.specs.Honest.{honest}
-use Rattle.pm_world.proofs.Lives.{IsLived, lived-before}
-use Rattle.pm_world.proofs.TakenWhole.{taken-whole}
+use Rattle.pm_world.proofs.Events.{IsLived, lived-before, taken-whole}
 use Rattle.pm_world.proofs.HonestOrders.{went-through}
 use Rattle.pm_world.proofs.laws.honest_orders_go_through.Goals as goal
 

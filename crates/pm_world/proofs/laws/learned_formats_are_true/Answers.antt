@@ -1,4 +1,4 @@
-use Rattle.pm_world.proofs.LearnedLives.{formats-agree, micros-nearest}
+use Rattle.pm_world.proofs.Formats.{formats-agree, micros-nearest}
 use Rattle.pm_world.proofs.laws.learned_formats_are_true.Goals as goal
 
 pub returns : goal.returns

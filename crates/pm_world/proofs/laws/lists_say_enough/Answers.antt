@@ -1,4 +1,4 @@
-use Rattle.pm_world.proofs.ShortWitness.{never-host, never-since, short-witness}
+use Rattle.pm_world.proofs.Standings.{never-host, never-since, short-witness}
 use Rattle.pm_world.proofs.laws.lists_say_enough.Goals as goal
 
 pub returns : goal.returns

@@ -1,4 +1,4 @@
-use Rattle.pm_world.proofs.Lives.{from-start, life-told, now-next, now-nil}
+use Rattle.pm_world.proofs.Events.{from-start, life-told, now-next, now-nil}
 use Rattle.pm_world.proofs.laws.lives_are_followed.Goals as goal
 
 pub returns : goal.returns

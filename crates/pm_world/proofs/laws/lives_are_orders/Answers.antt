@@ -1,5 +1,4 @@
-use Rattle.pm_world.proofs.OwnWords.{life-commands, life-own, life-stored}
-use Rattle.pm_world.proofs.Retellings.{life-run}
+use Rattle.pm_world.proofs.Orders.{life-commands, life-own, life-stored, life-run}
 use Rattle.pm_world.proofs.laws.lives_are_orders.Goals as goal
 
 pub returns : goal.returns

@@ -1,4 +1,4 @@
-use Rattle.pm_world.proofs.LimitedLives.{stays}
+use Rattle.pm_world.proofs.Limits.{stays}
 use Rattle.pm_world.proofs.laws.lives_stay_limited.Goals as goal
 
 pub returns : goal.returns

@@ -1,4 +1,4 @@
-use Rattle.pm_world.proofs.GoodTurns.{jobs-end}
+use Rattle.pm_world.proofs.HonestOrders.{jobs-end}
 use Rattle.pm_world.proofs.laws.open_jobs_end.Goals as goal
 
 pub returns : goal.returns

@@ -1,7 +1,7 @@
 use Rattle.std.proofs.Common.{refl}
 use Rattle.pm_world.specs.Life.{life}
-use Rattle.pm_world.proofs.OpenMarks.{is-open, open-is}
-use Rattle.pm_world.proofs.OpenSteps.{open-more}
+use Rattle.pm_world.proofs.Standings.{is-open, open-is}
+use Rattle.pm_world.proofs.HeldWords.{open-more}
 use Rattle.pm_world.proofs.laws.open_lists_are_followed.Goals as goal
 
 pub returns : goal.returns

@@ -1,5 +1,5 @@
 use Rattle.pm_host.specs.Messages.{cell_read}
-use Rattle.pm_world.proofs.OwnRequests.{own-answered, own-cell}
+use Rattle.pm_world.proofs.HeldWords.{own-answered, own-cell}
 use Rattle.pm_world.proofs.laws.own_requests_are_answered.Goals as goal
 
 pub returns : goal.returns

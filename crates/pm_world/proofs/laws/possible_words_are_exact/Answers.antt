@@ -3,11 +3,11 @@ use Rattle.pm_host.specs.Marks.{marks}
 use Rattle.pm_world.specs.Life.{life}
 use Rattle.pm_world.specs.Setup.{setup_of}
 use Rattle.pm_world.specs.Uncertainty.{due_before, since_restart}
-use Rattle.pm_world.proofs.Exact.{witness-leaves}
-use Rattle.pm_world.proofs.FirstWords.{first-small}
-use Rattle.pm_world.proofs.LeftWords.{left-possible, legal-taken}
-use Rattle.pm_world.proofs.Lives.{are-legal}
-use Rattle.pm_world.proofs.Starts.{witness-word}
+use Rattle.pm_world.proofs.Retold.{witness-leaves}
+use Rattle.pm_world.proofs.Standings.{first-small}
+use Rattle.pm_world.proofs.HeldWords.{left-possible, legal-taken}
+use Rattle.pm_world.proofs.Events.{are-legal}
+use Rattle.pm_world.proofs.Formats.{witness-word}
 use Rattle.pm_world.proofs.laws.possible_words_are_exact.Goals as goal
 
 pub returns : goal.returns

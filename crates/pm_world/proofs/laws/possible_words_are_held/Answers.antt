@@ -1,4 +1,4 @@
-use Rattle.pm_world.proofs.Seen.{possible-held, seen-true}
+use Rattle.pm_world.proofs.HeldWords.{possible-held, seen-true}
 use Rattle.pm_world.proofs.laws.possible_words_are_held.Goals as goal
 
 pub returns : goal.returns

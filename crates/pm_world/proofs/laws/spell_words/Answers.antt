@@ -1,6 +1,6 @@
 use Rattle.std.proofs.Common.{arith, ◌<◌, ◌^◌}
 use Rattle.pm_device.specs.Start.{register_start}
-use Rattle.pm_world.proofs.Registers.{each}
+use Rattle.pm_world.proofs.Events.{each}
 use Rattle.pm_world.proofs.laws.spell_words.Goals as goal
 
 pub returns : goal.returns

@@ -1,6 +1,6 @@
 use Rattle.std.proofs.Common.{refl}
 use Rattle.pm_world.specs.Way.{way_of}
-use Rattle.pm_world.proofs.WayForms.{ahead-by, gone-by, sent-by, through-by}
+use Rattle.pm_world.proofs.HonestOrders.{ahead-by, gone-by, sent-by, through-by}
 use Rattle.pm_world.proofs.laws.ways_are_followed.Goals as goal
 
 pub returns : goal.returns

@@ -6,7 +6,7 @@ use Rattle.pm_world.specs.OpenLists.{follows_open}
 use Rattle.pm_world.specs.Setup.{setup_of}
 use Rattle.pm_world.specs.State.{State}
 use Rattle.pm_world.specs.Uncertainty.{since_restart}
-use Rattle.pm_world.proofs.Found.{open-found}
+use Rattle.pm_world.proofs.Events.{open-found}
 use Rattle.pm_world.proofs.openness.run_open.Goals as goal
 
 pub returns-clause-decides : goal.returns-clause-decides

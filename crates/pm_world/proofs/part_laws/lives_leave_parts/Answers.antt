@@ -1,4 +1,4 @@
-use Rattle.pm_world.proofs.Leaves.{leaves}
+use Rattle.pm_world.proofs.Parts.{leaves}
 use Rattle.pm_world.proofs.part_laws.lives_leave_parts.Goals as goal
 
 pub returns : goal.returns

@@ -1,4 +1,4 @@
-use Rattle.pm_world.proofs.Reaches.{reaches}
+use Rattle.pm_world.proofs.Parts.{reaches}
 use Rattle.pm_world.proofs.part_laws.parts_are_reached.Goals as goal
 
 pub returns : goal.returns

@@ -1,4 +1,4 @@
-use Rattle.pm_world.proofs.Leaves.{starts}
+use Rattle.pm_world.proofs.Parts.{starts}
 use Rattle.pm_world.proofs.part_laws.starts_are_parts.Goals as goal
 
 pub returns : goal.returns

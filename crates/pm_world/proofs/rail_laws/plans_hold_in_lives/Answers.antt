@@ -1,4 +1,4 @@
-use Rattle.pm_world.proofs.PlanLives.{Plans, keeps-plans, none-missing}
+use Rattle.pm_world.proofs.Plans.{Plans, keeps-plans, none-missing}
 use Rattle.pm_world.proofs.rail_laws.plans_hold_in_lives.Goals as goal
 
 pub returns : goal.returns

@@ -1,5 +1,4 @@
-use Rattle.pm_world.proofs.SurveyLives.{keeps-surveys}
-use Rattle.pm_world.proofs.SurveyReads.{follows-surveys}
+use Rattle.pm_world.proofs.Plans.{keeps-surveys, follows-surveys}
 use Rattle.pm_world.proofs.rail_laws.surveys_hold_in_lives.Goals as goal
 
 pub returns : goal.returns

@@ -1,4 +1,4 @@
-use Rattle.pm_world.proofs.WithinLives.{stays-within}
+use Rattle.pm_world.proofs.Limits.{stays-within}
 use Rattle.pm_world.proofs.rail_laws.within_stays_within.Goals as goal
 
 pub returns : goal.returns

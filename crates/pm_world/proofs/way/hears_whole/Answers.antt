@@ -2,7 +2,7 @@ use Rattle.std.proofs.Common.{sym, ◌∙◌, subst}
 use Rattle.std.specs.Prelude.{IsSomeAnd}
 use Rattle.pm_frame.specs.Layout.{IsWrite}
 use Rattle.pm_host.specs.Summary.{sending_in}
-use Rattle.pm_world.proofs.WayForms.{heard-shown}
+use Rattle.pm_world.proofs.HonestOrders.{heard-shown}
 use Rattle.pm_world.proofs.way.hears_whole.Goals as goal
 
 pub returns-in-Write : goal.returns-in-Write

@@ -3,8 +3,7 @@ use Rattle.pm_world.specs.declared.way.Way.TheVariants.{Off}
 use Rattle.pm_world.specs.Life.{AreTakenFrom, found_by, taken_events}
 use Rattle.pm_world.specs.State.{State}
 use Rattle.pm_world.specs.Way.{way_after}
-use Rattle.pm_world.proofs.Found.{way-found}
-use Rattle.pm_world.proofs.Runs.{run-room}
+use Rattle.pm_world.proofs.Events.{way-found, run-room}
 use Rattle.pm_world.proofs.way.run_way.Goals as goal
 
 pub returns-clause-way : goal.returns-clause-way

@@ -1,7 +1,7 @@
 use Rattle.std.proofs.Common.{Ok, ◌∙◌, subst}
 use Rattle.pm_driver.specs.Driven.{Driving, Runs}
 use Rattle.pm_driver.proofs.BegunJobs.{begun-busy, job-lived}
-use Rattle.pm_driver.proofs.WithinLimits.{guard-begun, runs-so}
+use Rattle.pm_driver.proofs.RanJobs.{guard-begun, runs-so}
 use Rattle.pm_driver.proofs.driver.Driver.run.Goals as goal
 
 pub unreachable-requires : goal.unreachable-requires
@@ -20,7 +20,7 @@ pub returns : goal.returns
 returns g c =
     let after : Driving g.row.B.Denot = record { guard = c.carry_out.new.guard; bus = c.carry_out.new.bus } in
     subst (λ d. Runs g.B.Bus.gives g.B.Bus.held g.B.Bus.restarts c.args.job d (Ok c.in-Some.end) after) c.self.view_is
-    (runs-so c.laws_of_lives.ensures c.ends_are_true.ensures g.B.Bus.gives g.B.Bus.held g.B.Bus.restarts c.jobs_lead.ensures
+    (runs-so c.ends_are_true.ensures g.B.Bus.gives g.B.Bus.held g.B.Bus.restarts c.jobs_lead.ensures
     c.leads_compose.ensures c.args.job c.in-Some.end (record { guard = c.self.inside.guard; bus = c.self.inside.bus }) after
     c.begin.new.self c.self.invariant c.in_ok-begin.ensures c.in-Some.ensures.leads c.in-Some.ensures.over c.in-Some.ensures.limits
     c.in-Some.ensures.registers c.in-Some.ensures.kept)

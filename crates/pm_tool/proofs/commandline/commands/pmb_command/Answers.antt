@@ -1,7 +1,7 @@
 use Rattle.std.proofs.Common.{◌≡◌, ◌∙◌, ap, ap₂, refl, codes, true, false}
 use Rattle.std.proofs.lemmas.Result.{IfOk-weaker}
 use Rattle.clap.specs.Words.{App, app_of, new_app, with_subcommand}
-use Rattle.pm_tool.specs.Commandline.{number_app, with_required_subcommand}
+use Rattle.pm_tool.specs.Commandline.{check_app, number_app, with_required_subcommand}
 use Rattle.clap.specs.declared.builder.command.Command.{Command}
 use Rattle.clap.specs.declared.builder.command.Command.TheViews.{out-Command}
 use Rattle.clap.proofs.SimpleLemmas.{plain_fields}
@@ -17,7 +17,7 @@ returns c =
     let hear : app_of c.text_command-hearing.result ≡ new_app (codes "hear") = c.text_command-hearing.ensures in
     let replay : app_of c.text_command-replaying.result ≡ new_app (codes "replay") = c.text_command-replaying.ensures in
     let decode : app_of c.text_command-decoding.result ≡ new_app (codes "decode") = c.text_command-decoding.ensures in
-    let check : app_of c.text_command-checking.result ≡ new_app (codes "check") = c.text_command-checking.ensures in
+    let check : app_of c.in_ok-checking.checking ≡ check_app = c.in_ok-checking.ensures in
     let numbers : app_of c.in_ok-numbers.numbers ≡ number_app = c.in_ok-numbers.ensures in
     let with_hear = c.in_ok-with_hear.ensures.shape (no_globals _ _ hear refl) ∙ ap₂ with_subcommand top (ap (λ (a : App). a.top) hear) in
     let with_replay = c.in_ok-with_replay.ensures.shape (no_globals _ _ replay refl)

@@ -1,5 +1,5 @@
 use Rattle.std.proofs.Common.{sym}
-use Rattle.pm_world.proofs.Ends.{state, begun}
+use Rattle.pm_world.proofs.Events.{state, begun}
 use Rattle.pm_world.proofs.world.World.act.Goals as goal
 
 pub returns-in-Some-clause-acts : goal.returns-in-Some-clause-acts

@@ -5,8 +5,7 @@ use Rattle.pm_host.specs.Summary.{sending_in}
 use Rattle.pm_world.specs.declared.event.Event.TheVariants.{Deliver}
 use Rattle.pm_world.specs.declared.cause.Cause.TheVariants.{NotBetrayed}
 use Rattle.pm_world.specs.State.{State, Acts, event_cause}
-use Rattle.pm_world.proofs.Ends.{state}
-use Rattle.pm_world.proofs.Frames.{Arrives, arrives-write, deliver-acts, deliver-cause}
+use Rattle.pm_world.proofs.Events.{state, Arrives, arrives-write, deliver-acts, deliver-cause}
 use Rattle.pm_world.proofs.world.World.deliver.Goals as goal
 
 pub returns-then-not-is_legal_hearing-clause-acts : goal.returns-then-not-is_legal_hearing-clause-acts

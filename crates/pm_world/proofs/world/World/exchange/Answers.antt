@@ -6,8 +6,7 @@ use Rattle.pm_world.specs.declared.event.Event.TheVariants.{Exchange}
 use Rattle.pm_world.specs.declared.cause.Cause.TheVariants.{NotBetrayed}
 use Rattle.pm_world.specs.Legal.{answer_in}
 use Rattle.pm_world.specs.State.{State, Acts, event_cause}
-use Rattle.pm_world.proofs.Ends.{state}
-use Rattle.pm_world.proofs.Exchanges.{Asks, Returns, arrives-request, exchange-acts, exchange-betrayed, exchange-cause}
+use Rattle.pm_world.proofs.Events.{state, Asks, Returns, arrives-request, exchange-acts, exchange-betrayed, exchange-cause}
 use Rattle.pm_world.proofs.world.World.exchange.Goals as goal
 
 pub returns-then-not-is_legal_hearing-clause-acts : goal.returns-then-not-is_legal_hearing-clause-acts

@@ -1,6 +1,6 @@
 use Rattle.std.proofs.Common.{rules}
 use Rattle.pm_world.specs.Life.{taken_events}
-use Rattle.pm_world.proofs.Runs.{run-room, run-taken}
+use Rattle.pm_world.proofs.Events.{run-room, run-taken}
 use Rattle.pm_world.proofs.world.World.lived.Goals as goal
 
 pub returns-clause-taken : goal.returns-clause-taken

@@ -1,7 +1,7 @@
 use Rattle.std.proofs.Common.{None, refl}
 use Rattle.pm_host.specs.Summary.{step_of}
 use Rattle.pm_host.specs.Transcript.{Restarted}
-use Rattle.pm_world.proofs.Ends.{state, host-told}
+use Rattle.pm_world.proofs.Events.{state, host-told}
 use Rattle.pm_world.proofs.world.World.restart_host.Goals as goal
 
 pub returns-clause-after : goal.returns-clause-after

@@ -1,7 +1,7 @@
 use Rattle.std.proofs.Common.{◌≡◌}
 use Rattle.pm_world.specs.Bytes.{CarryBytes}
 use Rattle.pm_world.specs.Life.{AreTakenFrom, after_all, found_by}
-use Rattle.pm_world.proofs.Runs.{past}
+use Rattle.pm_world.proofs.Events.{past}
 use Rattle.pm_world.proofs.world.World.run_up.Given as goal
 
 abbrev pub invariant-loop-at : goal.invariant-loop-at

@@ -1,5 +1,0 @@
-use Rattle.pm_driver.proofs.PlanEnds.{patient-go-through}
-use Rattle.pm_driver.proofs.buses.laws.patient_orders_go_through.Goals as goal
-
-pub returns : goal.returns
-returns c = patient-go-through c.whole_frames_are_legal.ensures c.undisturbed_orders_are_done.ensures

@@ -1,0 +1,37 @@
+//! What a list of steps is worth whose rails are looked at.
+
+ghost use Rattle.pm_sequence_laws.specs.Finds.{FindsAreVerdicts};
+ghost use Rattle.pm_sequence_laws.specs.Judged.{OrdersAreJudged};
+ghost use Rattle.pm_sequence_laws.specs.Read.{LimitsAreRead};
+ghost use Rattle.pm_sequence_laws.specs.Runs.{ReachedSequencesDeliver};
+ghost use Rattle.pm_sequence_laws.specs.Turned.{SequencesTurn};
+
+use pm_sequence_laws::{
+    finds_are_verdicts, limits_are_read, orders_are_judged, reached_sequences_deliver,
+    sequences_turn,
+};
+
+/// A caller's own loop begins no order that wasn't judged by fault limits that were asked to the end.
+pub fn orders_of_a_sequence()
+    ensures judged { OrdersAreJudged }
+    ensures read { LimitsAreRead }
+{
+    orders_are_judged();
+    limits_are_read();
+}
+
+/// A list that ends as reached has each rail that has to deliver do so, by pm_delivery's verdict.
+pub fn rails_of_a_sequence()
+    ensures reached { ReachedSequencesDeliver }
+    ensures found { FindsAreVerdicts }
+{
+    reached_sequences_deliver();
+    finds_are_verdicts();
+}
+
+/// The laws of the list of steps hold of it beside looks and waits.
+pub fn steps_of_a_sequence()
+    ensures { SequencesTurn }
+{
+    sequences_turn();
+}

@@ -1,0 +1,502 @@
+-- A life beside a part, with reads between, as one in the narrow sense.
+use Rattle.std.proofs.Common.{◌≡◌, ◌<◌, ◌^◌, ℕ, Bool, true, false, not, cond, List, [], ◌∷◌, ◌++◌, Option, Some, None, refl, sym, ◌∙◌, ap}
+use Rattle.std.proofs.Common.{ap₂, subst, append_assoc}
+use Rattle.std.specs.Prelude.{option_to_list, slice_index}
+use Rattle.std.specs.Option.{option_or, option_map_or}
+use Rattle.pm_table.specs.declared.cell.Cell.TheVariants.{Out}
+use Rattle.pm_table.specs.declared.reg.Reg.{Reg}
+use Rattle.pm_table.specs.RuleLemmas.{or-none, rule-none}
+use Rattle.pm_frame.specs.declared.message.Message.{Message}
+use Rattle.pm_frame.specs.Fault.{whole_answer}
+use Rattle.pm_frame.specs.Laws.{BetrayalIsRefused, DamageIsRefused, RequestsAreExact, WritesAreExact}
+use Rattle.pm_frame.specs.Layout.{IsRequest, IsWrite, fits_layout, is_read_message, sent, with_pec}
+use Rattle.pm_model.specs.Settings.{Words}
+use Rattle.pm_device.specs.declared.config.Config.{Config}
+use Rattle.pm_device.specs.declared.converter.Ending.{Ending}
+use Rattle.pm_device.specs.declared.converter.Ending.TheVariants.{Restart, Stop}
+use Rattle.pm_device.specs.Effect as device
+use Rattle.pm_device.specs.Held.{Held}
+use Rattle.pm_device.specs.History.{after as device_after_outcome, next as device_next}
+use Rattle.pm_device.specs.Laws.{WritesReachOneCell}
+use Rattle.pm_device.specs.Reply.{reply_of}
+use Rattle.pm_host.specs.declared.job.JobEnd.{JobEnd}
+use Rattle.pm_host.specs.Laws.{FramesAreNamed, TranscriptsAreFollowed}
+use Rattle.pm_host.specs.Now.{now as host_now}
+use Rattle.pm_host.specs.Summary.{Summary, sending_in, start, next as host_next, step_of}
+use Rattle.pm_host.specs.Transcript as host
+use Rattle.pm_host.specs.Transcript.{Entry, Accepted, Finished, Got, Job, Restarted}
+use Rattle.pm_world.specs.declared.cause.Cause.TheVariants.{NotBetrayed, WrongKind}
+use Rattle.pm_world.specs.declared.event.Arrival.{Arrival}
+use Rattle.pm_world.specs.declared.event.Back.{Back}
+use Rattle.pm_world.specs.declared.event.Event.{Event}
+use Rattle.pm_world.specs.declared.event.Event.TheVariants.{Order, OrderMicro, Check, Learn, Clear, Store, Restore, Deliver, Finish}
+use Rattle.pm_world.specs.declared.event.Event.TheVariants.{Exchange, RestartDevice, RestartHost, Reading}
+use Rattle.pm_world.specs.Legal.{answer_in, back_bytes, ending_of, frame_of, heard_bytes, heard_ending, is_heard_whole, is_legal_hearing}
+use Rattle.pm_world.specs.Legal.{is_legal_return}
+use Rattle.pm_world.specs.Lemmas.{entries-more, now-config}
+use Rattle.pm_world.specs.Laws.{LivesAreFollowed}
+use Rattle.pm_world.specs.Life.{life, now, state_of}
+use Rattle.pm_world.specs.Lived.{IsLived}
+use Rattle.pm_world.specs.Retelling.{WasOrdered}
+use Rattle.pm_world.specs.Lemmas.Orders.{told-asked}
+use Rattle.pm_world.specs.Parts.{IsPart, IsReached, PartsAreReached, StoredConfigsStartSo, stored_config}
+use Rattle.pm_world.specs.Setup.{setup_of}
+use Rattle.pm_world.specs.State.{HasWord, Share, State, answer_to, asked, delivery_cause, device_after, delivered, end_after, event_cause, exchange_cause}
+use Rattle.pm_world.specs.State.{exchanged, host_after, next, nothing, rule, share_of, tells}
+use Rattle.pm_part_laws.specs.Alike.{SameSettingsLiveAlike, back_of, came, event_like, narrow, renewed}
+use Rattle.pm_part_laws.specs.Happenings.{Happening, Happens, Hears, MayAllHappen, begun, beside, told}
+use Rattle.pm_part_laws.specs.Settings.{HaveSameSettings, KeepsSettings, modes_of, moved}
+use Rattle.pm_part_laws.specs.Lemmas.Pageless.{IsHeardPageless, after-same, answer_of, comes-same, own-same, request-pageless, settings-of}
+use Rattle.pm_part_laws.specs.Lemmas.Pageless.{write-pageless}
+
+pub record Given : Type 0 where
+  pub followed : LivesAreFollowed
+  pub requests : RequestsAreExact
+  pub writes : WritesAreExact
+  pub damage : DamageIsRefused
+  pub betrayal : BetrayalIsRefused
+  pub reach : WritesReachOneCell
+  pub parts : PartsAreReached
+  pub stored : StoredConfigsStartSo
+  pub named : FramesAreNamed
+  pub told : TranscriptsAreFollowed
+
+-- ---- the two lives at a moment ----
+
+-- a life in the narrow sense led to this host, and to the settings of this converter
+pub record Is (config : Config) (passes : ℕ) (events : List Event) (host : Summary) (held : Held) (end : Option JobEnd) : Type 0 where
+  pub lived : IsLived config passes events
+  pub host_is : (now config passes events).host ≡ host
+  pub settings : HaveSameSettings (now config passes events).device held
+  pub ended : (now config passes events).end ≡ end
+
+-- a life in the narrow sense led to this host and converter
+abbrev IsOf : Config → ℕ → List Event → State → Type 0
+IsOf config passes events s = Is config passes events s.host s.device s.end
+
+-- one more event
+grow : Given → {config : Config} {passes : ℕ} {before : List Event} {host : Summary} {held : Held} {end : Option JobEnd} →
+    (event : Event) (share : Share) → Is config passes before host held end →
+    event_cause (now config passes before) event ≡ None → HasWord (now config passes before) event →
+    share_of (now config passes before) event ≡ share → IsHeardPageless held.config.addr share.heard →
+    Is config passes (event ∷ before) (host_after host share.told) (device_after held share.heard) (end_after host end share.told)
+unfolding next
+grow laws {config = config} {passes = passes} {before = before} {host = host} {held = held} {end = end} event share is free word tells pageless =
+    let lived : IsLived config passes (event ∷ before) = record {
+      sound = is.lived.sound;
+      made = is.lived.made;
+      legal = (record { free = free; word = word }, is.lived.legal);
+    } in
+    let more = laws.followed.more config passes before event lived in
+    let s = now config passes before in
+    record {
+      lived = lived;
+      host_is = ap (λ (t : State). t.host) more ∙ (ap (λ (w : Share). host_after s.host w.told) tells
+          ∙ ap (λ h. host_after h share.told) is.host_is);
+      settings = subst (λ (d : Held). HaveSameSettings d (device_after held share.heard))
+          (sym (ap (λ (t : State). t.device) more ∙ ap (λ (w : Share). device_after s.device w.heard) tells))
+          (after-same laws.reach s.device held share.heard pageless is.settings);
+      ended = ap (λ (t : State). t.end) more ∙ (ap (λ (w : Share). end_after s.host s.end w.told) tells
+          ∙ ap₂ (λ h e. end_after h e share.told) is.host_is is.ended);
+    }
+
+-- ---- events that the converter's answer doesn't stand in ----
+
+abbrev is_exchange : Event → Bool
+is_exchange (Exchange arrival so) = true
+is_exchange _ = false
+
+-- an event means the same to two states with one host
+record Alike (n s : State) (event : Event) : Type 0 where
+  cause : event_cause n event ≡ event_cause s event
+  word : HasWord s event → HasWord n event
+  share : share_of n event ≡ share_of s event
+
+by-host : (n s : State) (event : Event) → is_exchange event ≡ false → Alike n (record s { host = n.host }) event
+by-host n s (Order cell word) plain = record { cause = refl; word = λ w. w; share = refl }
+by-host n s (OrderMicro cell x) plain = record { cause = refl; word = λ w. w; share = refl }
+by-host n s (Check cell) plain = record { cause = refl; word = λ w. w; share = refl }
+by-host n s (Learn output) plain = record { cause = refl; word = λ w. w; share = refl }
+by-host n s (Clear output) plain = record { cause = refl; word = λ w. w; share = refl }
+by-host n s Store plain = record { cause = refl; word = λ w. w; share = refl }
+by-host n s Restore plain = record { cause = refl; word = λ w. w; share = refl }
+by-host n s (Deliver arrival) plain = record { cause = refl; word = λ w. w; share = delivers (sending_in n.host) } where
+  delivers : (message : Option Message) → delivered n arrival message ≡ delivered (record s { host = n.host }) arrival message
+  delivers None = refl
+  delivers (Some message) = refl
+by-host n s (Finish acked) plain = record { cause = refl; word = λ w. w; share = refl }
+by-host n s (Exchange arrival so) plain = cc
+by-host n s RestartDevice plain = record { cause = refl; word = λ w. w; share = refl }
+by-host n s RestartHost plain = record { cause = refl; word = λ w. w; share = refl }
+by-host n s (Reading output code word) plain = record { cause = refl; word = λ w. w; share = refl }
+
+alike : (n s : State) (event : Event) → is_exchange event ≡ false → n.host ≡ s.host → Alike n s event
+alike n s event plain same = subst (λ (h : Summary). Alike n (record s { host = h }) event) same (by-host n s event plain)
+
+-- ---- what a host sends ----
+
+not-false : (b : Bool) → not b ≡ false → b ≡ true
+not-false true is = cc
+not-false false is = cc
+
+-- the message that the host of a life sends has its layout
+sends-fits : Given → {config : Config} {passes : ℕ} {events : List Event} {host : Summary} {held : Held} {end : Option JobEnd} →
+    Is config passes events host held end → (message : Message) → sending_in host ≡ Some message → fits_layout message ≡ true
+unfolding now state_of
+sends-fits laws {config = config} {passes = passes} {events = events} is message sends =
+    let setup = setup_of config passes in
+    let entries = (life config passes events).entries in
+    laws.named.fits setup message (laws.named.named setup entries message is.lived.made (laws.followed.told config passes events is.lived)
+    (sym (laws.told.sending setup entries) ∙ (ap sending_in is.host_is ∙ sends)))
+
+-- the host sends to the converter's address
+own-address : {config : Config} {passes : ℕ} {events : List Event} {host : Summary} {held : Held} {end : Option JobEnd} →
+    Is config passes events host held end → host.setup.addr ≡ held.config.addr
+unfolding now state_of host_now
+own-address {config = config} {passes = passes} {events = events} is =
+    ap (λ (h : Summary). h.setup.addr) (sym is.host_is)
+    ∙ (ap (λ (c : Config). c.addr) (sym (now-config config passes events)) ∙ ap (λ (d : Held). d.config.addr) is.settings.same)
+
+-- the frame that the host of a life sends, of a write and of a request
+sends-write : Given → {config : Config} {passes : ℕ} {events : List Event} {host : Summary} {held : Held} {end : Option JobEnd} →
+    Is config passes events host held end → (message : Message) → sending_in host ≡ Some message → is_read_message message ≡ false →
+    IsWrite host.setup.addr message (frame_of host.setup.addr message)
+unfolding frame_of
+sends-write laws {host = host} is message sends writes = record {
+  writes = writes;
+  fits = sends-fits laws is message sends;
+  spelled = ap (λ b. cond b (sent host.setup.addr message) (with_pec [] (sent host.setup.addr message))) writes;
+}
+
+sends-request : Given → {config : Config} {passes : ℕ} {events : List Event} {host : Summary} {held : Held} {end : Option JobEnd} →
+    Is config passes events host held end → (message : Message) → sending_in host ≡ Some message → is_read_message message ≡ true →
+    IsRequest host.setup.addr message (frame_of host.setup.addr message)
+unfolding frame_of
+sends-request laws {host = host} is message sends reads = record {
+  reads = reads;
+  fits = sends-fits laws is message sends;
+  spelled = ap (λ b. cond b (sent host.setup.addr message) (with_pec [] (sent host.setup.addr message))) reads;
+}
+
+-- ---- what is heard depends on no PAGE ----
+
+job-pageless : (addr : ℕ) (job : Option Job) →
+    IsHeardPageless addr (option_map_or (λ j. tells (Accepted j)) job nothing).heard
+job-pageless addr None = tt
+job-pageless addr (Some job) = tt
+
+pageless : Given → {config : Config} {passes : ℕ} {events : List Event} (s : State) → IsOf config passes events s → (event : Event) →
+    is_exchange event ≡ false → event_cause s event ≡ None → IsHeardPageless s.device.config.addr (share_of s event).heard
+pageless laws s is (Order cell word) plain free = job-pageless s.device.config.addr (asked s (Order cell word))
+pageless laws s is (OrderMicro cell x) plain free = job-pageless s.device.config.addr (asked s (OrderMicro cell x))
+pageless laws s is (Check cell) plain free = job-pageless s.device.config.addr (asked s (Check cell))
+pageless laws s is (Learn output) plain free = job-pageless s.device.config.addr (asked s (Learn output))
+pageless laws s is (Clear output) plain free = job-pageless s.device.config.addr (asked s (Clear output))
+pageless laws s is Store plain free = job-pageless s.device.config.addr (asked s Store)
+pageless laws s is Restore plain free = job-pageless s.device.config.addr (asked s Restore)
+pageless laws s is (Finish acked) plain free = tt
+pageless laws s is (Exchange arrival so) plain free = cc
+pageless laws s is RestartDevice plain free = tt
+pageless laws s is RestartHost plain free = tt
+pageless laws s is (Reading output code word) plain free = tt
+pageless laws s is (Deliver arrival) plain free = go (sending_in s.host) refl free where
+  go : (m : Option Message) → sending_in s.host ≡ m → option_or None (delivery_cause s arrival m) ≡ None →
+      IsHeardPageless s.device.config.addr (delivered s arrival m).heard
+  go None e none = tt
+  go (Some message) e none =
+      let one = or-none (rule (is_read_message message) WrongKind) _ none in
+      let frame = frame_of s.host.setup.addr message in
+      subst (λ a. IsHeardPageless a (Some (device.Hearing (heard_bytes frame arrival) (heard_ending message arrival)))) (own-address is)
+      (write-pageless laws.writes laws.damage laws.betrayal s.host message frame (heard_bytes frame arrival) (heard_ending message arrival) e
+      (sends-write laws is message e (rule-none (is_read_message message) WrongKind one.0))
+      (not-false _ (rule-none _ NotBetrayed one.1)))
+
+-- ---- an exchange ----
+
+-- what a legal exchange says
+record Exchanged (s : State) (arrival : Arrival) (so : Back) : Type 0 where
+  message : Message
+  sending : sending_in s.host ≡ Some message
+  reads : is_read_message message ≡ true
+  legal : is_legal_hearing (frame_of s.host.setup.addr message) (heard_bytes (frame_of s.host.setup.addr message) arrival)
+      (ending_of Restart arrival) ≡ true
+  returned : is_legal_return (frame_of s.host.setup.addr message) (whole_answer message)
+      (is_heard_whole (frame_of s.host.setup.addr message) (heard_bytes (frame_of s.host.setup.addr message) arrival) (ending_of Restart arrival))
+      (answer_of s.device (frame_of s.host.setup.addr message) arrival)
+      (back_bytes (answer_of s.device (frame_of s.host.setup.addr message) arrival) so) ≡ true
+
+exchanges : (s : State) (arrival : Arrival) (so : Back) → event_cause s (Exchange arrival so) ≡ None → Exchanged s arrival so
+exchanges s arrival so free = go (sending_in s.host) refl free where
+  go : (m : Option Message) → sending_in s.host ≡ m → option_or None (exchange_cause s arrival so m) ≡ None → Exchanged s arrival so
+  go None e none = cc
+  go (Some message) e none =
+      let one = or-none (rule (not (is_read_message message)) WrongKind) _ none in
+      let reads = not-false (is_read_message message) (rule-none (not (is_read_message message)) WrongKind one.0) in
+      let two = or-none _ _ one.1 in
+      let frame = frame_of s.host.setup.addr message in
+      let heard = heard_bytes frame arrival in
+      record {
+        message = message;
+        sending = e;
+        reads = reads;
+        legal = subst (λ b. is_legal_hearing frame heard (ending_of (cond b Restart Stop) arrival)
+            ≡ true) reads (not-false _ (rule-none _ NotBetrayed two.0));
+        returned = subst (λ b. is_legal_return frame (whole_answer message) (is_heard_whole frame heard (ending_of (cond b Restart Stop) arrival))
+            (answer_in (reply_of s.device heard (ending_of (cond b Restart Stop) arrival)))
+            (back_bytes (answer_in (reply_of s.device heard (ending_of (cond b Restart Stop) arrival))) so) ≡ true) reads
+            (not-false _ (rule-none _ NotBetrayed two.1));
+      }
+
+-- an exchange is against nothing, if it says this
+exchange-free : (s : State) (arrival : Arrival) (so : Back) → Exchanged s arrival so → event_cause s (Exchange arrival so) ≡ None
+exchange-free s arrival so is =
+    let frame = frame_of s.host.setup.addr is.message in
+    let heard = heard_bytes frame arrival in
+    ap (exchange_cause s arrival so) is.sending
+    ∙ (ap (λ b. option_or (rule (not b) WrongKind) (option_or
+    (rule (not (is_legal_hearing frame heard (ending_of (cond b Restart Stop) arrival))) NotBetrayed)
+    (rule (not (is_legal_return frame (whole_answer is.message) (is_heard_whole frame heard (ending_of (cond b Restart Stop) arrival))
+    (answer_in (reply_of s.device heard (ending_of (cond b Restart Stop) arrival)))
+    (back_bytes (answer_in (reply_of s.device heard (ending_of (cond b Restart Stop) arrival))) so))) NotBetrayed))) is.reads
+    ∙ ap₂ (λ x y. option_or (rule (not x) NotBetrayed) (rule (not y) NotBetrayed)) is.legal is.returned)
+
+exchange-share : (s : State) (arrival : Arrival) (so : Back) (message : Message) → sending_in s.host ≡ Some message → is_read_message message ≡ true →
+    share_of s (Exchange arrival so) ≡ record {
+      heard = Some (device.Hearing (heard_bytes (frame_of s.host.setup.addr message) arrival) (ending_of Restart arrival));
+      told = Some (Got (back_bytes (answer_of s.device (frame_of s.host.setup.addr message) arrival) so));
+    }
+exchange-share s arrival so message sending reads =
+    let frame = frame_of s.host.setup.addr message in
+    let share : Bool → Share = λ b. record {
+      heard = Some (device.Hearing (heard_bytes frame arrival) (ending_of (cond b Restart Stop) arrival));
+      told = Some (Got (back_bytes (answer_in (reply_of s.device (heard_bytes frame arrival) (ending_of (cond b Restart Stop) arrival))) so));
+    } in
+    ap (exchanged s arrival so) sending ∙ ap share reads
+
+came-is : (s : State) (arrival : Arrival) (so : Back) (message : Message) → sending_in s.host ≡ Some message → is_read_message message ≡ true →
+    came s arrival so ≡ back_bytes (answer_of s.device (frame_of s.host.setup.addr message) arrival) so
+came-is s arrival so message sending reads =
+    let frame = frame_of s.host.setup.addr message in
+    ap (λ (o : Option Message). option_map_or (λ (m : Message). back_bytes (answer_to s.device s.host.setup.addr m arrival) so) o []) sending
+    ∙ ap (λ b. back_bytes (answer_in (reply_of s.device (heard_bytes frame arrival) (ending_of (cond b Restart Stop) arrival))) so) reads
+
+-- ---- one happening ----
+
+-- what one event makes of both, and what the host is told
+record Goes (config : Config) (passes : ℕ) (events : List Event) (s : State) (event : Event) : Type 0 where
+  is : IsOf config passes (event_like s event ∷ events) (next s event)
+  tells_same : (share_of (now config passes events) (event_like s event)).told ≡ (share_of s event).told
+
+plain-goes : Given → {config : Config} {passes : ℕ} {events : List Event} (s : State) → IsOf config passes events s → (event : Event) →
+    is_exchange event ≡ false → event_like s event ≡ event → event_cause s event ≡ None → HasWord s event → Goes config passes events s event
+unfolding next
+plain-goes laws {config = config} {passes = passes} {events = events} s is event plain itself free word =
+    let n = now config passes events in
+    let both = alike n s event plain is.host_is in
+    record {
+      is = subst (λ (e : Event). IsOf config passes (e ∷ events) (next s event)) (sym itself)
+          (grow laws event (share_of s event) is (both.cause ∙ free) (both.word word) both.share (pageless laws s is event plain free));
+      tells_same = ap (λ (e : Event). (share_of n e).told) itself ∙ ap (λ (w : Share). w.told) both.share;
+    }
+
+exchange-goes : Given → {config : Config} {passes : ℕ} {events : List Event} (s : State) → IsOf config passes events s →
+    (arrival : Arrival) (so : Back) →
+    event_cause s (Exchange arrival so) ≡ None → Goes config passes events s (Exchange arrival so)
+unfolding next
+exchange-goes laws {config = config} {passes = passes} {events = events} s is arrival so free =
+    let n = now config passes events in
+    let x = exchanges s arrival so free in
+    let addr = s.host.setup.addr in
+    let frame = frame_of addr x.message in
+    let bytes = came s arrival so in
+    let bytes-are = came-is s arrival so x.message x.sending x.reads in
+    let request = sends-request laws is x.message x.sending x.reads in
+    let same = comes-same frame (whole_answer x.message) s.device n.device arrival so bytes
+    (own-same laws.requests n.device s.device s.host x.message frame is.settings x.sending request)
+    (record { returned = x.returned; came_is = sym bytes-are }) in
+    let back' = back_of arrival so bytes in
+    let host-is = is.host_is in
+    let n-sends : sending_in n.host ≡ Some x.message = ap sending_in host-is ∙ x.sending in
+    let n-addr : addr ≡ n.host.setup.addr = ap (λ (h : Summary). h.setup.addr) (sym host-is) in
+    let n-x : Exchanged n arrival back' = record {
+      message = x.message;
+      sending = n-sends;
+      reads = x.reads;
+      legal = subst (λ a. is_legal_hearing (frame_of a x.message) (heard_bytes (frame_of a x.message) arrival)
+          (ending_of Restart arrival) ≡ true) n-addr x.legal;
+      returned = subst (λ a. is_legal_return (frame_of a x.message) (whole_answer x.message)
+          (is_heard_whole (frame_of a x.message) (heard_bytes (frame_of a x.message) arrival) (ending_of Restart arrival))
+          (answer_of n.device (frame_of a x.message) arrival)
+          (back_bytes (answer_of n.device (frame_of a x.message) arrival) back') ≡ true) n-addr same.returned;
+    } in
+    let share : Share = record {
+      heard = Some (device.Hearing (heard_bytes frame arrival) (ending_of Restart arrival));
+      told = Some (Got bytes);
+    } in
+    let n-share : share_of n (Exchange arrival back') ≡ share = exchange-share n arrival back' x.message n-sends x.reads
+    ∙ (ap (λ (a : ℕ). record {
+      heard = Some (device.Hearing (heard_bytes (frame_of a x.message) arrival) (ending_of Restart arrival));
+      told = Some (Got (back_bytes (answer_of n.device (frame_of a x.message) arrival) back'));
+    }) (sym n-addr) ∙ ap (λ (b : List ℕ). record {
+      heard = Some (device.Hearing (heard_bytes frame arrival) (ending_of Restart arrival));
+      told = Some (Got b);
+    }) same.came_is) in
+    let s-share : share_of s (Exchange arrival so) ≡ share = exchange-share s arrival so x.message x.sending x.reads
+    ∙ ap (λ (b : List ℕ). record {
+      heard = Some (device.Hearing (heard_bytes frame arrival) (ending_of Restart arrival));
+      told = Some (Got b);
+    }) (sym bytes-are) in
+    record {
+      is = subst (λ (w : Share). Is config passes (Exchange arrival back' ∷ events) (host_after s.host w.told)
+          (device_after s.device w.heard) (end_after s.host s.end w.told))
+          (sym s-share)
+          (grow laws (Exchange arrival back') share is (exchange-free n arrival back' n-x) tt n-share
+          (subst (λ a. IsHeardPageless a (Some (device.Hearing (heard_bytes frame arrival) (ending_of Restart arrival)))) (own-address is)
+          (request-pageless laws.requests laws.damage laws.betrayal addr x.message frame (heard_bytes frame arrival) (ending_of Restart arrival)
+          request x.legal)));
+      tells_same = ap (λ (w : Share). w.told) n-share ∙ sym (ap (λ (w : Share). w.told) s-share);
+    }
+
+goes : Given → {config : Config} {passes : ℕ} {events : List Event} (s : State) → IsOf config passes events s → (event : Event) →
+    event_cause s event ≡ None → HasWord s event → Goes config passes events s event
+goes laws s is (Exchange arrival so) free word = exchange-goes laws s is arrival so free
+goes laws s is (Order cell w) free word = plain-goes laws s is (Order cell w) refl refl free word
+goes laws s is (OrderMicro cell x) free word = plain-goes laws s is (OrderMicro cell x) refl refl free word
+goes laws s is (Check cell) free word = plain-goes laws s is (Check cell) refl refl free word
+goes laws s is (Learn output) free word = plain-goes laws s is (Learn output) refl refl free word
+goes laws s is (Clear output) free word = plain-goes laws s is (Clear output) refl refl free word
+goes laws s is Store free word = plain-goes laws s is Store refl refl free word
+goes laws s is Restore free word = plain-goes laws s is Restore refl refl free word
+goes laws s is (Deliver arrival) free word = plain-goes laws s is (Deliver arrival) refl refl free word
+goes laws s is (Finish acked) free word = plain-goes laws s is (Finish acked) refl refl free word
+goes laws s is RestartDevice free word = plain-goes laws s is RestartDevice refl refl free word
+goes laws s is RestartHost free word = plain-goes laws s is RestartHost refl refl free word
+goes laws s is (Reading output code w) free word = plain-goes laws s is (Reading output code w) refl refl free word
+
+-- bytes that are of no job change no setting
+keeps : Given → {one : Held} (held : Held) (bytes : List ℕ) (ending : Ending) → KeepsSettings held bytes ending → HaveSameSettings one held →
+    HaveSameSettings one (device_next held (device.Hearing bytes ending))
+unfolding device_next device_after_outcome
+keeps laws {one = one} held bytes ending keeps' same = record {
+  same = same.same ∙ ap₂ (λ (w s : Words). record (moved held one) { words = w; store = s }) (sym keeps'.words) (sym keeps'.store);
+  modes = same.modes;
+}
+
+-- ---- all of them ----
+
+record All (config : Config) (passes : ℕ) (before : List Event) (held : Held) (happened : List Happening) : Type 0 where
+  is : IsOf config passes (narrow held passes happened ++ before) (beside held passes happened)
+  told_is : (life config passes (narrow held passes happened ++ before)).entries ≡ told held passes happened ++ (life config passes before).entries
+
+all : Given → (config : Config) (passes : ℕ) (before : List Event) (held : Held) → IsOf config passes before (begun held passes) →
+    (happened : List Happening) → MayAllHappen held passes happened → All config passes before held happened
+unfolding beside narrow told
+all laws config passes before held first [] may = record { is = first; told_is = refl }
+all laws config passes before held first (Happens event ∷ happened) may =
+    let so = all laws config passes before held first happened may.1 in
+    let s = beside held passes happened in
+    let events = narrow held passes happened ++ before in
+    let went = goes laws s so.is event may.0.0 may.0.1 in
+    record {
+      is = went.is;
+      told_is = entries-more config passes events (event_like s event)
+          ∙ (ap₂ (λ (t : Option Entry) (l : List Entry). option_to_list t ++ l) went.tells_same so.told_is
+          ∙ sym (append_assoc (option_to_list (share_of s event).told) (told held passes happened) (life config passes before).entries));
+    }
+all laws config passes before held first (Hears bytes ending ∷ happened) may =
+    let so = all laws config passes before held first happened may.1 in
+    let s = beside held passes happened in
+    record {
+      is = record {
+        lived = so.is.lived;
+        host_is = so.is.host_is;
+        settings = keeps laws s.device bytes ending may.0 so.is.settings;
+        ended = so.is.ended;
+      };
+      told_is = so.told_is;
+    }
+
+-- a life that led to a part, and whose host has just started again
+first-life : Given → (held : Held) (passes : ℕ) (earlier : List Event) → IsPart held.config held.words held.store →
+    IsReached held.config passes held.words held.store (renewed earlier) →
+    IsOf (stored_config held.config held.store) passes (renewed earlier) (begun held passes)
+unfolding next step_of
+first-life laws held passes earlier part is =
+    let config = stored_config held.config held.store in
+    let events = renewed earlier in
+    let same : config ≡ (now config passes events).device.config = sym (now-config config passes events) in
+    record {
+      lived = is.lived;
+      host_is = is.host;
+      settings = settings-of (now config passes events).device held
+          (subst (λ (c : Config). c ≡ record held.config { starts = c.starts; protect = c.protect }) same refl)
+          (subst (λ (c : Config). modes_of c ≡ modes_of held.config) same (laws.stored.modes held.config held.store part.made.places))
+          (ap₂ (λ (w s : Words). (w, s)) is.words_are is.store_is);
+      ended = ap (λ (s : State). s.end) (laws.followed.more config passes earlier RestartHost is.lived);
+    }
+
+-- a restart of the host leaves a life that led to a part one
+renewed-reached : Given → (config : Config) (passes : ℕ) (words store : Words) (earlier : List Event) →
+    IsReached config passes words store earlier → IsReached config passes words store (renewed earlier)
+unfolding next host_next
+renewed-reached laws config passes words store earlier is =
+    let stored = stored_config config store in
+    let lived : IsLived stored passes (renewed earlier) = record {
+      sound = is.lived.sound;
+      made = is.lived.made;
+      legal = (record { free = refl; word = tt }, is.lived.legal);
+    } in
+    let more = laws.followed.more stored passes earlier RestartHost lived in
+    record {
+      lived = lived;
+      host = ap (λ (s : State). s.host) more ∙ ap (λ (h : Summary). start h.setup) is.host;
+      words_are = ap (λ (s : State). s.device.words) more ∙ is.words_are;
+      store_is = ap (λ (s : State). s.device.store) more ∙ is.store_is;
+      steady = is.steady;
+      ordered = λ output register word was. is.ordered output register word (older output register word was.later was);
+    }
+  where
+    older : (output : ℕ) (register : Reg) (word : ℕ) (later : List Event) →
+        WasOrdered (stored_config config store) passes (renewed earlier) (Out output register) word →
+        WasOrdered (stored_config config store) passes earlier (Out output register) word
+    older output register word later was = go was.later was.is
+      where
+        go : (l : List Event) → renewed earlier ≡ l ++ was.event ∷ was.before →
+            WasOrdered (stored_config config store) passes earlier (Out output register) word
+        go [] at =
+            let here : was.event ≡ RestartHost = cc in
+            let s = now (stored_config config store) passes was.before in
+            let none : None ≡ Some (host.Order (Out output register) word) = ap (asked s) (sym here)
+            ∙ told-asked (stored_config config store) passes was.before was.event (Out output register) word was.orders in
+            let bad : ⊥ = cc in absurd bad
+        go (e ∷ l) at = record { later = l; event = was.event; before = was.before; is = cc; orders = was.orders }
+
+pub live-alike : Given → SameSettingsLiveAlike
+live-alike laws held passes part spelled made =
+    let config = stored_config held.config held.store in
+    let found = laws.parts held.config passes held.words held.store part made in
+    let reached = renewed-reached laws held.config passes held.words held.store found.0 found.1 in
+    let first = first-life laws held passes found.0 part reached in
+    record {
+      earlier = found.0;
+      reached = reached;
+      spelled = record {
+        modes = λ output there. subst (λ (l : List ℕ). slice_index l output < 2 ^ 8)
+            (sym (laws.stored.modes held.config held.store part.made.places)) (spelled.modes output there);
+        coefficients = spelled.coefficients;
+      };
+      like = λ happened may.
+          let so = all laws config passes (renewed found.0) held first happened may in
+          record {
+            lived = so.is.lived;
+            host = so.is.host_is;
+            told_is = so.told_is;
+            settings = so.is.settings;
+            words = ap (λ (d : Held). d.words) so.is.settings.same;
+            store = ap (λ (d : Held). d.store) so.is.settings.same;
+            ended = so.is.ended;
+          };
+      tells = λ happened event may.
+          let so = all laws config passes (renewed found.0) held first happened may.1 in
+          (goes laws (beside held passes happened) so.is event may.0.0 may.0.1).tells_same;
+    }

@@ -1,0 +1,17 @@
+use Rattle.std.proofs.Common.{ap, sym, subst, ◌∙◌}
+use Rattle.pm_host.specs.Transcript.{Finished}
+use Rattle.pm_stairs.specs.declared.sequence.Sequence.{Sequence as List}
+use Rattle.pm_sequence.specs.declared.sequence.Sequence.{Sequence}
+use Rattle.pm_sequence.specs.Frames.{Hears, heard, nothing}
+use Rattle.pm_sequence.specs.Sequence.{with_list}
+use Rattle.pm_sequence.proofs.sequence.Sequence.write_ended.Goals as goal
+
+pub returns-in_default : goal.returns-in_default
+returns-in_default c = nothing (sym c.course_open.ensures ∙ c.in_default.is)
+
+pub returns : goal.returns
+returns c =
+    subst (λ (new : List). Hears c.args.guard.now c.args.self.now (Finished c.args.acked) c.write_ended-result.result c.write_ended-result.new.host
+    (with_list c.args.self.now new)) (sym c.with_course-self.ensures)
+    (heard c.in-Some.course c.write_ended-result.new.self c.write_ended-result.result c.write_ended-result.new.host
+    (sym c.course_open.ensures ∙ c.in-Some.is) c.write_ended-result.ensures.hears)

@@ -1,0 +1,314 @@
+-- What comes next in a list of steps whose rails are looked at. What a step asks for, and when the next one may begin by what the hosts know,
+-- is what pm_stairs says (`Turns`); what a rail does is what pm_delivery says. This project's own choice.
+use Rattle.std.specs.Prelude.{◌≡◌, ℕ, Bool, true, false, not, ◌&&◌, ◌||◌, ◌==◌, nat_lt, if◌then◌else◌, Option, Some, None}
+use Rattle.pm_table.specs.declared.cell.Cell.TheVariants.{Out}
+use Rattle.pm_table.specs.declared.reg.Reg.TheVariants.{Operation}
+use Rattle.pm_host.specs.declared.job.Job.{Job}
+use Rattle.pm_host.specs.Summary.{Summary, possible_at}
+use Rattle.pm_limits.specs.declared.part_registers.PartRegisters.{PartRegisters}
+use Rattle.pm_limits.specs.declared.output_limits.OutputLimits.{OutputLimits}
+use Rattle.pm_limits.specs.Guard.{Guarded, limits_at}
+use Rattle.pm_rail.specs.declared.fault.PlanFault.{PlanFault}
+use Rattle.pm_rail.specs.declared.power.Power.{Power}
+use Rattle.pm_rail.specs.Rail.{power_of}
+use Rattle.pm_delivery.specs.declared.delivery.Delivery.{Delivery}
+use Rattle.pm_delivery.specs.declared.due.Due.{Due}
+use Rattle.pm_delivery.specs.declared.due.Due.TheVariants as due
+use Rattle.pm_delivery.specs.declared.verdict.Verdict.{Verdict}
+use Rattle.pm_delivery.specs.declared.verdict.Verdict.TheVariants as verdict
+use Rattle.pm_delivery.specs.Deliveries.{looking_after, looking_before}
+use Rattle.pm_delivery.specs.Due.{due_of}
+use Rattle.pm_delivery.specs.Ended.{verdict_of}
+use Rattle.pm_delivery.specs.Reading.{reading_in}
+use Rattle.pm_stairs.specs.declared.sequence.Placed.{Placed}
+use Rattle.pm_stairs.specs.declared.sequence.Sequence.{Sequence as List}
+use Rattle.pm_stairs.specs.declared.sequence.Turn.{Turn}
+use Rattle.pm_stairs.specs.declared.sequence.Turn.TheVariants as turn
+use Rattle.pm_stairs.specs.declared.stairs.Under.{Under}
+use Rattle.pm_stairs.specs.declared.step.WordStep.{WordStep}
+use Rattle.pm_stairs.specs.Sequence.{Turns, one_more, sequence_new, skipped}
+use Rattle.pm_sequence.specs.declared.gate.Gate.{Gate}
+use Rattle.pm_sequence.specs.declared.gate.Gate.TheVariants as gate_is
+use Rattle.pm_sequence.specs.declared.look.Look.{Look}
+use Rattle.pm_sequence.specs.declared.look.LookAct.{LookAct}
+use Rattle.pm_sequence.specs.declared.look.LookAct.TheVariants as look
+use Rattle.pm_sequence.specs.declared.sequence.Act.{Act}
+use Rattle.pm_sequence.specs.declared.sequence.Act.TheVariants as act
+use Rattle.pm_sequence.specs.declared.sequence.End.{End}
+use Rattle.pm_sequence.specs.declared.sequence.End.TheVariants as end
+use Rattle.pm_sequence.specs.declared.sequence.Phase.{Phase}
+use Rattle.pm_sequence.specs.declared.sequence.Phase.TheVariants as phase
+use Rattle.pm_sequence.specs.declared.sequence.Sequence.{Sequence}
+use Rattle.pm_sequence.specs.declared.step.Step.{Step}
+use Rattle.pm_sequence.specs.Gate.{is_order, order_gate, step_gate}
+use Rattle.pm_sequence.specs.Look.{look_act, look_after, looking, new_probe}
+use Rattle.pm_sequence.specs.Steps.{is_of, is_unreadable, new_of, turns_off}
+use Rattle.pm_delivery.specs.Deliveries.{new_delivery}
+
+abbrev pub new_sequence : ℕ → Bool → Sequence
+new_sequence tries is_down = record {
+  list = sequence_new tries is_down;
+  look = looking (new_delivery 0 0 0 0 0);
+  look_host = 0;
+  phase = phase.Steps;
+  is_read = false;
+  is_shown = false;
+  is_waited = false;
+  is_looked = false;
+  left = 0;
+  end = None;
+}
+
+-- ---- When an order may begin ----
+
+-- what is looked at is the output of a step as the step asks for it, and what stands before its first order was read
+abbrev pub is_at : Sequence → Step → Bool
+is_at q step = q.look_host == step.placed.host && is_of q.look.delivery step
+
+abbrev pub is_read_for : Sequence → Step → Bool
+is_read_for q step = q.is_read && is_at q step
+
+-- what is said of a job of a step: an order that leaves its output on begins once what stands before is read, and its goal is within the
+-- fault limits
+abbrev pub read_gate : Guarded → Sequence → Step → Option Under → Gate
+read_gate g q step under = if is_read_for q step then step_gate g q.look.delivery under else gate_is.Looks
+
+abbrev pub gate : Guarded → Sequence → Option Step → Job → Option Under → Gate
+gate g q None job under = gate_is.Goes
+gate g q (Some step) job under = if step.looks.is_wanted && order_gate job then read_gate g q step under else gate_is.Goes
+
+-- what stands before the first order of a step's output is looked at
+abbrev pub look_before : Sequence → Option Step → Sequence
+look_before q None = q
+look_before q (Some step) = record q {
+  look = looking (looking_before (new_of step));
+  look_host = step.placed.host;
+  is_read = false;
+  phase = phase.Before;
+}
+
+-- ---- How steps stop ----
+
+-- a way up ends; a way down leaves the step, which counts
+abbrev pub left_out : Sequence → Sequence
+left_out q = record q {
+  list = skipped q.list;
+  left = one_more q.left;
+  phase = phase.Steps;
+  is_shown = false;
+  is_waited = false;
+  is_looked = true;
+}
+
+abbrev pub stopped_act : Sequence → End → Act
+stopped_act q end = if q.list.is_down then act.Leaves end else act.Ended end
+
+abbrev pub stopped_after : Sequence → End → Sequence
+stopped_after q end = if q.list.is_down then left_out q else record q { end = Some end }
+
+-- ---- What comes of what the list says ----
+
+abbrev pub shown : Sequence → Option Step → Option Placed
+shown q None = None
+shown q (Some step) = if q.is_shown then Some step.placed else None
+
+abbrev pub with_list : Sequence → List → Sequence
+with_list q list = record q { list = list }
+
+abbrev pub begun_with : Sequence → List → Sequence
+begun_with q list = record q { list = list; is_shown = false; is_waited = false; is_looked = false }
+
+-- an order of the step under way: the next one waits until its rail was looked at again
+abbrev pub job_after : Sequence → Job → List → Sequence
+job_after q job list = if is_order job then record q { list = list; is_shown = false; is_looked = false } else with_list q list
+
+abbrev pub gated_act : Sequence → Gate → Act → Act
+gated_act q gate_is.Goes said = said
+gated_act q gate_is.Looks said = act.Again
+gated_act q (gate_is.Beyond fault) said = stopped_act q (end.Beyond fault)
+gated_act q gate_is.Unjudged said = stopped_act q end.Unjudged
+
+abbrev pub gated_after : Sequence → Option Step → Gate → Sequence → Sequence
+gated_after q step gate_is.Goes after = after
+gated_after q step gate_is.Looks after = look_before q step
+gated_after q step (gate_is.Beyond fault) after = stopped_after q (end.Beyond fault)
+gated_after q step gate_is.Unjudged after = stopped_after q end.Unjudged
+
+-- the step under way is over: its rail is looked at, where that is wanted and wasn't done since its last order
+abbrev pub needs_look : Sequence → Step → Bool
+needs_look q step = step.looks.is_wanted && not q.is_looked
+
+abbrev pub look_here : Sequence → Step → Look
+look_here q step = if is_at q step then q.look else looking (new_of step)
+
+abbrev pub again_at : Look → Bool → Look
+again_at l off = record l { delivery = looking_after l.delivery off; probe = new_probe }
+
+abbrev pub looking_at : Sequence → Step → Sequence
+looking_at q step = record q {
+  look = again_at (look_here q step) (turns_off step.placed.step.act);
+  look_host = step.placed.host;
+  is_read = q.is_read && is_at q step;
+  phase = phase.After;
+}
+
+abbrev pub end_of : ℕ → End
+end_of left = if left == 0 then end.Reached else end.Left left
+
+-- all of the step under way is over: the next one is shown once its wait is over
+abbrev pub step_act : Sequence → Step → Act
+step_act q step = if step.wait == 0 || q.is_waited then act.Again else act.Wait step.wait
+
+abbrev pub step_after : Sequence → Step → Sequence
+step_after q step = if step.wait == 0 || q.is_waited then record q { is_shown = true } else record q { is_waited = true }
+
+abbrev pub ahead_act : Sequence → Option Step → Act
+ahead_act q None = act.Ended (end_of q.left)
+ahead_act q (Some step) = step_act q step
+
+abbrev pub ahead_after : Sequence → Option Step → Sequence
+ahead_after q None = record q { end = Some (end_of q.left) }
+ahead_after q (Some step) = step_after q step
+
+abbrev pub over_act : Sequence → Option Step → Option Step → Act
+over_act q None ahead = ahead_act q ahead
+over_act q (Some step) ahead = if needs_look q step then act.Again else ahead_act q ahead
+
+abbrev pub over_after : Sequence → Option Step → Option Step → Sequence
+over_after q None ahead = ahead_after q ahead
+over_after q (Some step) ahead = if needs_look q step then looking_at q step else ahead_after q ahead
+
+abbrev pub reached_act : Sequence → Option Step → Option Step → List → Act
+reached_act q under ahead list = over_act (with_list q list) under ahead
+
+abbrev pub reached_after : Sequence → Option Step → Option Step → List → Sequence
+reached_after q under ahead list = over_after (with_list q list) under ahead
+
+-- a step that turns its output off begins at once on a way down
+abbrev pub again_after : Sequence → List → Sequence
+again_after q list = if list.begun == q.list.begun then with_list q list else begun_with q list
+
+abbrev pub act_of : Guarded → Option Step → Option Step → Sequence → Turn → List → Act
+act_of g under ahead q turn.Again list = act.Again
+act_of g under ahead q (turn.Job job) list = gated_act q (gate g q under job list.stairs.under) (act.Job job)
+act_of g under ahead q (turn.Begins job back) list = gated_act q (gate g q ahead job list.stairs.under) (act.Begins job back)
+act_of g under ahead q (turn.Passes back) list = act.Passes back
+act_of g under ahead q (turn.NoWayBack fault) list = act.NoWayBack fault
+act_of g under ahead q turn.Reached list = reached_act q under ahead list
+act_of g under ahead q (turn.Stops why) list = stopped_act (with_list q list) (end.Stopped why)
+
+abbrev pub after_of : Guarded → Option Step → Option Step → Sequence → Turn → List → Sequence
+after_of g under ahead q turn.Again list = again_after q list
+after_of g under ahead q (turn.Job job) list = gated_after q under (gate g q under job list.stairs.under) (job_after q job list)
+after_of g under ahead q (turn.Begins job back) list = gated_after q ahead (gate g q ahead job list.stairs.under) (begun_with q list)
+after_of g under ahead q (turn.Passes back) list = begun_with q list
+after_of g under ahead q (turn.NoWayBack fault) list = with_list q list
+after_of g under ahead q turn.Reached list = reached_after q under ahead list
+after_of g under ahead q (turn.Stops why) list = stopped_after (with_list q list) (end.Stopped why)
+
+pub data Steps (g : Guarded) (under ahead : Option Step) (old : Sequence) : Act → Sequence → Type 0 where
+  turns : (said : Turn) (list : List) → Turns g (shown old ahead) old.list said list →
+      Steps g under ahead old (act_of g under ahead old said list) (after_of g under ahead old said list)
+
+-- ---- What comes of a look ----
+
+-- what is due of a delivery, and what its rail does, by what is seen of a host
+abbrev pub power_in : Summary → ℕ → Power
+power_in s output = power_of (possible_at s (Out output Operation))
+
+abbrev pub due_by : PartRegisters → OutputLimits → Summary → Delivery → Due
+due_by part limits s d = due_of d s.setup.passes (power_in s d.output) (reading_in part limits s d)
+
+abbrev pub verdict_by : PartRegisters → OutputLimits → Summary → Delivery → Verdict
+verdict_by part limits s d = verdict_of d s.setup.passes (power_in s d.output) (reading_in part limits s d)
+
+abbrev pub due_in : Guarded → Delivery → Due
+due_in g d = if nat_lt d.output 8 then due_by g.registers (limits_at g d.output) g.host d else due.Nothing
+
+abbrev pub verdict_in : Guarded → Delivery → Verdict
+verdict_in g d = if nat_lt d.output 8 then verdict_by g.registers (limits_at g d.output) g.host d else verdict.NotYet
+
+-- The rail does what it is to: it delivers, or went off. One that isn't commanded on isn't asked, and one of which nothing can be read, as the
+-- caller says, can't be; they do where the step doesn't have to deliver.
+abbrev pub is_good_by : Step → Verdict → Bool
+is_good_by step verdict.Delivers = true
+is_good_by step verdict.DeliversByVoltage = true
+is_good_by step verdict.WentOff = true
+is_good_by step verdict.CommandedOff = not step.looks.must_deliver
+is_good_by step verdict.NotKnownOn = not step.looks.must_deliver
+is_good_by step verdict.PowerGoodAlone = step.looks.tells_power_good
+is_good_by step verdict.NotYet = false
+is_good_by step verdict.IsOff = false
+is_good_by step (verdict.NewFault register place) = false
+is_good_by step verdict.OutsideLimits = false
+is_good_by step verdict.Beyond = false
+is_good_by step verdict.NoPowerGood = false
+is_good_by step (verdict.NotKnown register fault) = is_unreadable step && not step.looks.must_deliver
+is_good_by step verdict.StillOn = false
+
+abbrev pub is_good : Option Step → Verdict → Bool
+is_good None verdict = false
+is_good (Some step) verdict = is_good_by step verdict
+
+-- what stands before was read; or the rail of the step that is over does this
+abbrev pub before_after : Sequence → Sequence
+before_after q = record q { phase = phase.Steps; is_read = true }
+
+abbrev pub done_act : Sequence → Option Step → Verdict → Act
+done_act q under said = if is_good under said then act.Does said else stopped_act q (end.Does said)
+
+abbrev pub done_after : Sequence → Option Step → Verdict → Sequence
+done_after q under said = if is_good under said then record q { phase = phase.Steps; is_looked = true } else stopped_after q (end.Does said)
+
+abbrev pub found_in : Phase → Sequence → Option Step → Verdict → Act
+found_in phase.Before q under said = act.Again
+found_in phase.Steps q under said = done_act q under said
+found_in phase.After q under said = done_act q under said
+
+abbrev pub judged_in : Phase → Sequence → Option Step → Verdict → Sequence
+judged_in phase.Before q under said = before_after q
+judged_in phase.Steps q under said = done_after q under said
+judged_in phase.After q under said = done_after q under said
+
+abbrev pub found_at : Sequence → Option Step → Verdict → Act
+found_at q under said = found_in q.phase q under said
+
+abbrev pub judged_after : Sequence → Option Step → Verdict → Sequence
+judged_after q under said = judged_in q.phase q under said
+
+abbrev pub said_act : Guarded → Sequence → Option Step → LookAct → Act
+said_act g q under (look.Ask question) = act.Ask question
+said_act g q under look.Probe = act.Probe
+said_act g q under look.Pause = act.Pause
+said_act g q under look.Again = act.Again
+said_act g q under look.Over = found_at q under (verdict_in g q.look.delivery)
+
+abbrev pub said_after : Guarded → Sequence → Option Step → LookAct → Sequence
+said_after g q under (look.Ask question) = q
+said_after g q under look.Probe = q
+said_after g q under look.Pause = q
+said_after g q under look.Again = q
+said_after g q under look.Over = judged_after q under (verdict_in g q.look.delivery)
+
+abbrev pub with_look : Sequence → Look → Sequence
+with_look q l = record q { look = l }
+
+abbrev pub looked_act : Guarded → Sequence → Option Step → Act
+looked_act g q under =
+    let due = due_in g q.look.delivery in
+    said_act g (with_look q (look_after q.look g.host.setup.passes due)) under (look_act q.look g.host.setup.passes due)
+
+abbrev pub looked_after : Guarded → Sequence → Option Step → Sequence
+looked_after g q under =
+    let due = due_in g q.look.delivery in
+    said_after g (with_look q (look_after q.look g.host.setup.passes due)) under (look_act q.look g.host.setup.passes due)
+
+-- ---- What comes next ----
+
+-- the list is asked; or what is looked at; or nothing, once it has ended
+pub data Acts (g : Guarded) (under ahead : Option Step) (old : Sequence) : Act → Sequence → Type 0 where
+  ended : (why : End) → old.end ≡ Some why → Acts g under ahead old (act.Ended why) old
+  steps : (said : Act) (new : Sequence) → old.end ≡ None → old.phase ≡ phase.Steps → Steps g under ahead old said new →
+      Acts g under ahead old said new
+  before : old.end ≡ None → old.phase ≡ phase.Before → Acts g under ahead old (looked_act g old under) (looked_after g old under)
+  after : old.end ≡ None → old.phase ≡ phase.After → Acts g under ahead old (looked_act g old under) (looked_after g old under)

@@ -1,0 +1,166 @@
+-- Which orders a sequence begins, case by case.
+use Rattle.std.proofs.Common.{◌≡◌, ℕ, Bool, true, false, cond, Option, Some, None, refl, sym, ◌∙◌, ap, subst}
+use Rattle.std.specs.Prelude.{◌&&◌, ◌==◌}
+use Rattle.pm_host.specs.declared.job.Job.{Job}
+use Rattle.pm_limits.specs.Guard.{Guarded}
+use Rattle.pm_stairs.specs.declared.sequence.Sequence.{Sequence as List}
+use Rattle.pm_stairs.specs.declared.sequence.Turn.{Turn}
+use Rattle.pm_stairs.specs.declared.sequence.Turn.TheVariants as turn
+use Rattle.pm_stairs.specs.declared.stairs.Under.{Under}
+use Rattle.pm_stairs.specs.declared.step.WordStep.{WordStep}
+use Rattle.pm_stairs.specs.Sequence.{Turns}
+use Rattle.pm_sequence.specs.declared.gate.Gate.{Gate}
+use Rattle.pm_sequence.specs.declared.gate.Gate.TheVariants as gate_is
+use Rattle.pm_sequence.specs.declared.look.Look.{Look}
+use Rattle.pm_sequence.specs.declared.look.LookAct.{LookAct}
+use Rattle.pm_sequence.specs.declared.look.LookAct.TheVariants as look
+use Rattle.pm_sequence.specs.declared.sequence.Act.{Act}
+use Rattle.pm_sequence.specs.declared.sequence.Act.TheVariants as act
+use Rattle.pm_sequence.specs.declared.sequence.End.{End}
+use Rattle.pm_sequence.specs.declared.sequence.Phase.{Phase}
+use Rattle.pm_sequence.specs.declared.sequence.Phase.TheVariants as phase
+use Rattle.pm_sequence.specs.declared.sequence.Sequence.{Sequence}
+use Rattle.pm_sequence.specs.declared.step.Step.{Step}
+use Rattle.pm_sequence.specs.Gate.{order_gate, step_gate}
+use Rattle.pm_sequence.specs.Look.{look_act, look_after}
+use Rattle.pm_delivery.specs.declared.verdict.Verdict.{Verdict}
+use Rattle.pm_sequence.specs.Sequence.{Acts, Steps, act_of, after_of, ahead_act, done_act, due_in, found_at, found_in, gate, gated_act, gated_after, is_good, is_read_for, job_after, looked_act, needs_look, over_act, read_gate, said_act, shown, step_act, stopped_act, verdict_in, with_list, with_look}
+use Rattle.pm_sequence.specs.Sequence as does
+use Rattle.pm_sequence_laws.proofs.Listed.{either-list}
+use Rattle.pm_sequence_laws.specs.Judged.{IsJudged, OrdersAreJudged}
+
+-- an act that names a job
+abbrev pub is_named : Act → Bool
+is_named (act.Job job) = true
+is_named (act.Begins job back) = true
+is_named (act.Passes back) = false
+is_named (act.Ask question) = false
+is_named act.Probe = false
+is_named act.Pause = false
+is_named (act.Wait milliseconds) = false
+is_named act.Again = false
+is_named (act.NoWayBack fault) = false
+is_named (act.Does found) = false
+is_named (act.Leaves why) = false
+is_named (act.Ended why) = false
+
+-- one of two acts that name nothing
+either : (b : Bool) (x y : Act) → is_named x ≡ false → is_named y ≡ false → is_named (cond b x y) ≡ false
+either true x y first second = first
+either false x y first second = second
+
+stop-quiet : (q : Sequence) (why : End) → is_named (stopped_act q why) ≡ false
+stop-quiet q why = either q.list.is_down (act.Leaves why) (act.Ended why) refl refl
+
+ahead-quiet : (q : Sequence) (ahead : Option Step) → is_named (ahead_act q ahead) ≡ false
+ahead-quiet q None = refl
+ahead-quiet q (Some step) = either _ act.Again (act.Wait step.wait) refl refl
+
+over-quiet : (q : Sequence) (under ahead : Option Step) → is_named (over_act q under ahead) ≡ false
+over-quiet q None ahead = ahead-quiet q ahead
+over-quiet q (Some step) ahead = either (needs_look q step) act.Again (ahead_act q ahead) refl (ahead-quiet q ahead)
+
+done-quiet : (q : Sequence) (under : Option Step) (found : Verdict) → is_named (done_act q under found) ≡ false
+done-quiet q under found =
+    either (is_good under found) (act.Does found) (stopped_act q _) refl (stop-quiet q _)
+
+found-quiet : (p : Phase) (q : Sequence) (under : Option Step) (said : Verdict) → is_named (found_in p q under said) ≡ false
+found-quiet phase.Before q under said = refl
+found-quiet phase.Steps q under said = done-quiet q under said
+found-quiet phase.After q under said = done-quiet q under said
+
+said-quiet : (g : Guarded) (q : Sequence) (under : Option Step) (said : LookAct) → is_named (said_act g q under said) ≡ false
+said-quiet g q under (look.Ask question) = refl
+said-quiet g q under look.Probe = refl
+said-quiet g q under look.Pause = refl
+said-quiet g q under look.Again = refl
+said-quiet g q under look.Over = found-quiet q.phase q under (verdict_in g q.look.delivery)
+
+pub look-quiet : (g : Guarded) (q : Sequence) (under : Option Step) → is_named (looked_act g q under) ≡ false
+look-quiet g q under = said-quiet g _ under (look_act q.look g.host.setup.passes (due_in g q.look.delivery))
+
+-- what was let through was judged
+read-goes : (b : Bool) (x : Gate) → cond b x gate_is.Looks ≡ gate_is.Goes → (b ≡ true) × (x ≡ gate_is.Goes)
+read-goes true x h = (refl, h)
+read-goes false x h = cc
+
+asked-goes : (w o b : Bool) (x : Gate) → cond (w && o) (cond b x gate_is.Looks) gate_is.Goes ≡ gate_is.Goes → w ≡ true → o ≡ true
+    → (b ≡ true) × (x ≡ gate_is.Goes)
+asked-goes true true b x h w o = read-goes b x h
+asked-goes true false b x h w o = cc
+asked-goes false o b x h w is = cc
+
+judged-by : (g : Guarded) (q : Sequence) (step : Option Step) (job : Job) (list : List)
+    → gate g q step job list.stairs.under ≡ gate_is.Goes → (it : Step) → step ≡ Some it → it.looks.is_wanted ≡ true → order_gate job ≡ true
+    → (is_read_for q it ≡ true) × (step_gate g q.look.delivery list.stairs.under ≡ gate_is.Goes)
+judged-by g q step job list goes it is wanted order =
+    asked-goes it.looks.is_wanted (order_gate job) (is_read_for q it) (step_gate g q.look.delivery list.stairs.under)
+    (subst (λ (s : Option Step). gate g q s job list.stairs.under ≡ gate_is.Goes) is goes) wanted order
+
+judged : (g : Guarded) (q : Sequence) (step : Option Step) (job : Job) (list : List) → gate g q step job list.stairs.under ≡ gate_is.Goes
+    → IsJudged g q step job list
+judged g q step job list goes = record { goes = judged-by g q step job list goes }
+
+-- what an act names
+data NamesSo (g : Guarded) (under ahead : Option Step) (q new : Sequence) : Act → Type 0 where
+  a-job : (job : Job) (list : List) → Turns g (shown q ahead) q.list (turn.Job job) list → new.list ≡ list → IsJudged g q under job list
+      → NamesSo g under ahead q new (act.Job job)
+  a-begin : (job : Job) (back : WordStep) (list : List) → Turns g (shown q ahead) q.list (turn.Begins job back) list → new.list ≡ list
+      → IsJudged g q ahead job list → NamesSo g under ahead q new (act.Begins job back)
+  none : (said : Act) → is_named said ≡ false → NamesSo g under ahead q new said
+
+job-so : (g : Guarded) (under ahead : Option Step) (q : Sequence) (job : Job) (list : List) → Turns g (shown q ahead) q.list (turn.Job job) list
+    → (is : Gate) → gate g q under job list.stairs.under ≡ is
+    → NamesSo g under ahead q (gated_after q under is (job_after q job list)) (gated_act q is (act.Job job))
+job-so g under ahead q job list says gate_is.Goes goes = a-job job list says (either-list _ _ _ list refl refl) (judged g q under job list goes)
+job-so g under ahead q job list says gate_is.Looks goes = none act.Again refl
+job-so g under ahead q job list says (gate_is.Beyond fault) goes = none _ (stop-quiet q _)
+job-so g under ahead q job list says gate_is.Unjudged goes = none _ (stop-quiet q _)
+
+begin-so : (g : Guarded) (under ahead : Option Step) (q : Sequence) (job : Job) (back : WordStep) (list : List)
+    → Turns g (shown q ahead) q.list (turn.Begins job back) list
+    → (is : Gate) → gate g q ahead job list.stairs.under ≡ is
+    → NamesSo g under ahead q (gated_after q ahead is (does.begun_with q list)) (gated_act q is (act.Begins job back))
+begin-so g under ahead q job back list says gate_is.Goes goes = a-begin job back list says refl (judged g q ahead job list goes)
+begin-so g under ahead q job back list says gate_is.Looks goes = none act.Again refl
+begin-so g under ahead q job back list says (gate_is.Beyond fault) goes = none _ (stop-quiet q _)
+begin-so g under ahead q job back list says gate_is.Unjudged goes = none _ (stop-quiet q _)
+
+turn-so : (g : Guarded) (under ahead : Option Step) (q : Sequence) (said : Turn) (list : List) → Turns g (shown q ahead) q.list said list
+    → NamesSo g under ahead q (after_of g under ahead q said list) (act_of g under ahead q said list)
+turn-so g under ahead q turn.Again list says = none act.Again refl
+turn-so g under ahead q (turn.Job job) list says = job-so g under ahead q job list says (gate g q under job list.stairs.under) refl
+turn-so g under ahead q (turn.Begins job back) list says =
+    begin-so g under ahead q job back list says (gate g q ahead job list.stairs.under) refl
+turn-so g under ahead q (turn.Passes back) list says = none (act.Passes back) refl
+turn-so g under ahead q (turn.NoWayBack fault) list says = none (act.NoWayBack fault) refl
+turn-so g under ahead q turn.Reached list says = none _ (over-quiet (with_list q list) under ahead)
+turn-so g under ahead q (turn.Stops why) list says = none _ (stop-quiet (with_list q list) _)
+
+steps-so : (g : Guarded) (under ahead : Option Step) (q new : Sequence) (said : Act) → Steps g under ahead q said new
+    → NamesSo g under ahead q new said
+steps-so g under ahead q new said (does.turns turned list says) = turn-so g under ahead q turned list says
+
+acts-so : (g : Guarded) (under ahead : Option Step) (q new : Sequence) (said : Act) → Acts g under ahead q said new
+    → NamesSo g under ahead q new said
+acts-so g under ahead q new said (does.ended why is) = none (act.Ended why) refl
+acts-so g under ahead q new said (does.steps said' new' on is says) = steps-so g under ahead q new said says
+acts-so g under ahead q new said (does.before on is) = none _ (look-quiet g q under)
+acts-so g under ahead q new said (does.after on is) = none _ (look-quiet g q under)
+
+job-of : (g : Guarded) (under ahead : Option Step) (q new : Sequence) (job : Job) → NamesSo g under ahead q new (act.Job job)
+    → (list : List) × (Turns g (shown q ahead) q.list (turn.Job job) list × (new.list ≡ list) × IsJudged g q under job list)
+job-of g under ahead q new job (a-job job' list says is so) = (list, (says, is, so))
+job-of g under ahead q new job (none said quiet) = cc
+
+begin-of : (g : Guarded) (under ahead : Option Step) (q new : Sequence) (job : Job) (back : WordStep)
+    → NamesSo g under ahead q new (act.Begins job back)
+    → (list : List) × (Turns g (shown q ahead) q.list (turn.Begins job back) list × (new.list ≡ list) × IsJudged g q ahead job list)
+begin-of g under ahead q new job back (a-begin job' back' list says is so) = (list, (says, is, so))
+begin-of g under ahead q new job back (none said quiet) = cc
+
+pub orders-judged : OrdersAreJudged
+orders-judged = record {
+  job = λ g under ahead q new job says. job-of g under ahead q new job (acts-so g under ahead q new (act.Job job) says);
+  begins = λ g under ahead q new job back says. begin-of g under ahead q new job back (acts-so g under ahead q new (act.Begins job back) says);
+}

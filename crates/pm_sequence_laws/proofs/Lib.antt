@@ -1,0 +1,8 @@
+-- Lemmas.
+pub mod Judged
+pub mod Counts
+pub mod Acted
+pub mod Deliver
+pub mod Listed
+pub mod Asked
+pub mod Found

@@ -1,0 +1,34 @@
+//! The laws.
+
+ghost use Rattle.pm_sequence_laws.specs.Finds.{FindsAreVerdicts};
+ghost use Rattle.pm_sequence_laws.specs.Judged.{OrdersAreJudged};
+ghost use Rattle.pm_sequence_laws.specs.Read.{LimitsAreRead};
+ghost use Rattle.pm_sequence_laws.specs.Runs.{ReachedSequencesDeliver};
+ghost use Rattle.pm_sequence_laws.specs.Turned.{SequencesTurn};
+
+/// Each order that begins and leaves its output on, of a step whose rail is looked at, is one that the list names, and was judged: what stands
+/// before the first order of its output was read, and its step's goal is within the fault limits that were, unless these are only told.
+pub fn orders_are_judged()
+    ensures { OrdersAreJudged }
+{}
+
+/// `Reached` says that no step was left, and that each step that has to deliver was found to, after its last order.
+pub fn reached_sequences_deliver()
+    ensures { ReachedSequencesDeliver }
+{}
+
+/// The list of a sequence goes as pm_stairs says, whose laws are of it: no job but one that the list names, and no step begins but as it says.
+/// A first step ahead that is kept from it changes nothing that it says of the one under way.
+pub fn sequences_turn()
+    ensures { SequencesTurn }
+{}
+
+/// What stands before the first order counts as read only once nothing of it was left to ask.
+pub fn limits_are_read()
+    ensures { LimitsAreRead }
+{}
+
+/// What is told of a rail is pm_delivery's verdict of what was heard; of a step that has to deliver it is `Delivers`, or `WentOff`.
+pub fn finds_are_verdicts()
+    ensures { FindsAreVerdicts }
+{}

@@ -1,0 +1,34 @@
+"""Bytes of OPERATION, and what their bits say (PMBus 1.3 Part II)."""
+from __future__ import annotations
+
+from typing import Optional
+
+# On at VOUT_COMMAND, and off at once. At the margins the part acts on faults, and at those of UNPROTECTED it ignores them.
+ON, OFF, MARGINS, UNPROTECTED = 0x80, 0x00, {"high": 0xA8, "low": 0x98}, {"high": 0xA4, "low": 0x94}
+# The bits of which one is 1 where an output that is on isn't at VOUT_COMMAND, and the register that they select.
+ANOTHER = 0x30
+SELECTED = {0x00: "VOUT_COMMAND", 0x10: "VOUT_MARGIN_LOW", 0x20: "VOUT_MARGIN_HIGH"}
+# The bits of a margin: they select it, and say whether the part acts on faults. The lowest two say neither.
+OF_MARGIN = 0xFC
+
+
+def margin_byte(side: str, ignore_faults: bool = False) -> int:
+    """The byte by which an output is on at its margin `high` or `low`."""
+    if side not in MARGINS:
+        raise ValueError(f"side: {side!r} isn't high or low")
+    return (UNPROTECTED if ignore_faults else MARGINS)[side]
+
+
+def selected_by(byte: int) -> Optional[str]:
+    """The register that has the voltage by a byte, None if that is another source."""
+    return SELECTED.get(byte & ANOTHER)
+
+
+def ignores_faults(byte: int) -> bool:
+    """Whether an output is on at a margin at which the part ignores faults, by 94h to 97h or A4h to A7h."""
+    return byte & OF_MARGIN in UNPROTECTED.values()
+
+
+def avsbus(byte: int) -> str:
+    """That a byte selects AVSBus, if its bits 5:4 are 11."""
+    return ", AVSBus" if byte & ANOTHER == ANOTHER else ""
