@@ -3,6 +3,7 @@
 ghost use Rattle.std.specs.Prelude.{◌≡◌};
 ghost use Rattle.pm_memory.specs.SequenceImage.{phase_number, phase_read, sequence_image, sequence_in, sequence_read};
 
+use crate::course_image::flag;
 use crate::look_image::LookImage;
 use crate::sequence_end::SequenceEndImage;
 use crate::stairs_end::StairsEndImage;
@@ -112,10 +113,10 @@ impl SequenceImage {
             look: LookImage::of(&sequence.look),
             look_host: sequence.look_host,
             phase: phase_number(sequence.phase),
-            is_read: u8::from(sequence.is_read),
-            is_shown: u8::from(sequence.is_shown),
-            is_waited: u8::from(sequence.is_waited),
-            is_looked: u8::from(sequence.is_looked),
+            is_read: flag(sequence.is_read),
+            is_shown: flag(sequence.is_shown),
+            is_waited: flag(sequence.is_waited),
+            is_looked: flag(sequence.is_looked),
             end: SequenceEndImage::of(sequence.end),
             rest: [0; 10],
         }
