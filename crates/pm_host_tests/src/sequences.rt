@@ -6,10 +6,11 @@ use self::part::{Part, Run, carried};
 use crate::checks::equal;
 use pm_course::{Wish, Wishes};
 use pm_delivery::{DeliveryFault, Question, Verdict};
-use pm_host::Host;
+use pm_host::{Host, Job};
 use pm_limits::Guard;
-use pm_sequence::{End, Looks, Sequence, Step};
-use pm_stairs::{Act, Placed, Step as Output};
+use pm_sequence::{Act, End, Looks, Rules, Sequence, Step};
+use pm_stairs::{Act as Does, Placed, Step as Output};
+use pm_table::{Cell, Reg};
 use std::process::Abort;
 
 // A part whose outputs are on at 1 V.
@@ -67,15 +68,15 @@ fn guard(rt: &impl Abort) -> Guard {
 fn sets(host: u8, output: u8, microvolts: i64, looks: Looks) -> Step {
     let mut wishes = Wishes::nothing();
     wishes.command = Wish::Microvolts(microvolts);
-    step_of(host, output, Act::Sets(wishes), looks)
+    step_of(host, output, Does::Sets(wishes), looks)
 }
 
 // A step that turns an output off.
 fn off(host: u8, output: u8, looks: Looks) -> Step {
-    step_of(host, output, Act::Turns(0x00), looks)
+    step_of(host, output, Does::Turns(0x00), looks)
 }
 
-fn step_of(host: u8, output: u8, act: Act, looks: Looks) -> Step {
+fn step_of(host: u8, output: u8, act: Does, looks: Looks) -> Step {
     Step {
         placed: Placed {
             host,
@@ -95,11 +96,22 @@ fn after(wait: u32, step: Step) -> Step {
     }
 }
 
+// A way up, and a way down, that doesn't ask before orders.
+const UP: Rules = Rules {
+    is_down: false,
+    asks: false,
+};
+
+const DOWN: Rules = Rules {
+    is_down: true,
+    asks: false,
+};
+
 // What a list comes to over two parts, and these then.
-fn over(rt: &impl Abort, is_down: bool, parts: [Part; 2], steps: &[Step]) -> (Run, [Part; 2]) {
+fn over(rt: &impl Abort, rules: Rules, parts: [Part; 2], steps: &[Step]) -> (Run, [Part; 2]) {
     let mut parts = parts;
     let run = carried(
-        Sequence::new(60, is_down),
+        Sequence::new(60, rules),
         &mut [guard(rt), guard(rt)],
         &mut parts,
         steps,
@@ -302,7 +314,7 @@ fn a_set_ends_by_what_its_rail_does(rt: HostRuntime) {
     ];
     for (name, part, looks, microvolts, end, found, frames, writes) in &rows {
         let steps = [sets(0, 0, *microvolts, *looks)];
-        let (run, parts) = over(&rt, false, [*part, PART], &steps);
+        let (run, parts) = over(&rt, UP, [*part, PART], &steps);
         equal(
             &rt,
             &(run.end, run.found, parts[0].frames, parts[0].writes),
@@ -316,7 +328,7 @@ fn a_set_ends_by_what_its_rail_does(rt: HostRuntime) {
 // VOUT_COMMAND of each output then.
 type ListRow = (
     &'static str,
-    bool,
+    Rules,
     [Part; 2],
     [Step; 3],
     End,
@@ -349,10 +361,10 @@ fn a_list_goes_on_as_its_rails_deliver(rt: HostRuntime) {
     let is_off = (0x00, 0x1000);
     let goals = [(0x80, 0x1333), (0x80, 0x10CD), (0x80, 0x119A), on];
     let rows: [ListRow; 7] = [
-        ("up", false, [PART, PART], up, End::Reached, 3, 20, goals),
+        ("up", UP, [PART, PART], up, End::Reached, 3, 20, goals),
         (
             "up, and the second rail stays off",
-            false,
+            UP,
             [PART, dead],
             up,
             End::Does(Verdict::IsOff),
@@ -362,7 +374,7 @@ fn a_list_goes_on_as_its_rails_deliver(rt: HostRuntime) {
         ),
         (
             "up, and the first rail stays off",
-            false,
+            UP,
             [dead, PART],
             up,
             End::Does(Verdict::IsOff),
@@ -372,7 +384,7 @@ fn a_list_goes_on_as_its_rails_deliver(rt: HostRuntime) {
         ),
         (
             "down",
-            true,
+            DOWN,
             [PART, PART],
             down,
             End::Reached,
@@ -382,7 +394,7 @@ fn a_list_goes_on_as_its_rails_deliver(rt: HostRuntime) {
         ),
         (
             "down, and the first output stays on",
-            true,
+            DOWN,
             [deaf, PART],
             down,
             End::Left(1),
@@ -392,7 +404,7 @@ fn a_list_goes_on_as_its_rails_deliver(rt: HostRuntime) {
         ),
         (
             "down, and the second part is gone",
-            true,
+            DOWN,
             [PART, gone],
             down,
             End::Left(1),
@@ -402,7 +414,7 @@ fn a_list_goes_on_as_its_rails_deliver(rt: HostRuntime) {
         ),
         (
             "down, and the first part is gone",
-            true,
+            DOWN,
             [gone, PART],
             down,
             End::Left(2),
@@ -411,8 +423,8 @@ fn a_list_goes_on_as_its_rails_deliver(rt: HostRuntime) {
             [on, on, is_off, on],
         ),
     ];
-    for (name, is_down, parts, steps, end, found, waits, words) in &rows {
-        let (run, parts) = over(&rt, *is_down, *parts, steps);
+    for (name, rules, parts, steps, end, found, waits, words) in &rows {
+        let (run, parts) = over(&rt, *rules, *parts, steps);
         let [near, far] = parts;
         let held = [
             (near.words[0][0], near.words[0][1]),
@@ -469,7 +481,7 @@ fn a_step_off_is_no_success_by_silence(rt: HostRuntime) {
             gone_after: *gone_after,
             ..PART
         };
-        let (run, parts) = over(&rt, true, [part, PART], &[off(0, 0, *looks)]);
+        let (run, parts) = over(&rt, DOWN, [part, PART], &[off(0, 0, *looks)]);
         equal(
             &rt,
             &(run.end, run.left, parts[0].frames),
@@ -490,7 +502,7 @@ fn each_step_is_judged_by_what_it_asks_for(rt: HostRuntime) {
         ..LOOKS
     };
     let steps = [sets(0, 0, 1_100_000, skips), sets(0, 0, 1_200_000, LOOKS)];
-    let (run, parts) = over(&rt, false, [part, PART], &steps);
+    let (run, parts) = over(&rt, UP, [part, PART], &steps);
     let refused = DeliveryFault::BeyondFaultLimit(Question::OvFaultLimit, 0x1200);
     equal(
         &rt,
@@ -498,4 +510,73 @@ fn each_step_is_judged_by_what_it_asks_for(rt: HostRuntime) {
         &(Some(End::Beyond(refused)), 1),
         &"fault limits that an earlier step skipped",
     );
+}
+
+#[test]
+fn a_list_that_asks_tells_each_order_first(rt: HostRuntime) {
+    let up = [
+        sets(0, 0, 1_200_000, MUST),
+        sets(1, 0, 1_100_000, MUST),
+        sets(0, 1, 1_000_000, MUST),
+    ];
+    let down = [off(0, 0, MUST), off(1, 0, MUST), off(0, 1, MUST)];
+    let rows = [
+        ("up, and the last word is held", UP, up, 2),
+        ("down", DOWN, down, 3),
+    ];
+    for (name, rules, steps, orders) in &rows {
+        let asking = Rules {
+            asks: true,
+            ..*rules
+        };
+        let (plain, written) = over(&rt, *rules, [PART, PART], steps);
+        let (run, parts) = over(&rt, asking, [PART, PART], steps);
+        equal(
+            &rt,
+            &(plain.orders, run.orders, run.end),
+            &(0, *orders, Some(End::Reached)),
+            name,
+        );
+        for (part, other) in parts.iter().zip(written.iter()) {
+            equal(&rt, &(part.frames, part.writes), &(other.frames, other.writes), name);
+        }
+    }
+}
+
+#[test]
+fn another_order_than_the_one_told_is_told_first(rt: HostRuntime) {
+    let asking = Rules { asks: true, ..DOWN };
+    let is_off = Job::Order(Cell::Out(0, Reg::Operation), 0x00);
+    let rows = [
+        ("nothing was told", None, Act::Order(is_off), Some(is_off)),
+        ("it was told", Some(is_off), Act::Job(is_off), None),
+        (
+            "another byte was",
+            Some(Job::Order(Cell::Out(0, Reg::Operation), 0x40)),
+            Act::Order(is_off),
+            Some(is_off),
+        ),
+        (
+            "the same byte of another output was",
+            Some(Job::Order(Cell::Out(1, Reg::Operation), 0x00)),
+            Act::Order(is_off),
+            Some(is_off),
+        ),
+    ];
+    for (name, told, act, then) in &rows {
+        let guard = guard(&rt);
+        let step = off(0, 0, MUST);
+        let mut sequence = Sequence::new(60, asking);
+        let mut said = Act::Again;
+        for _ in 0..3usize {
+            let (under, ahead) = if sequence.list.begun == 0 {
+                (None, Some(step))
+            } else {
+                (Some(step), None)
+            };
+            sequence.told = *told;
+            said = sequence.next(&guard, under, ahead);
+        }
+        equal(&rt, &(said, sequence.told), &(*act, *then), name);
+    }
 }

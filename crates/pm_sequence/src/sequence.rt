@@ -5,7 +5,7 @@ ghost use Rattle.pm_host.specs.Image.{held};
 ghost use Rattle.pm_stairs.specs.Sequence.{one_more as spec_one_more};
 ghost use Rattle.pm_sequence.specs.Sequence.{act_of, after_of, ahead_act, ahead_after, begun_with, due_by, due_in as spec_due_in, end_of as spec_end_of, found_at, gate as spec_gate, gated_act, gated_after, is_at as spec_is_at, is_good as spec_is_good, is_read_for as spec_is_read_for, job_after, judged_after, look_before, looked_act, looked_after, needs_look as spec_needs_look, new_sequence, reached_act, reached_after, shown as spec_shown, stopped_act, stopped_after, verdict_by, verdict_in as spec_verdict_in, Acts, Steps};
 
-use crate::gate::{Gate, is_judged_order, is_order, judge};
+use crate::gate::{Gate, is_judged_order, is_order, is_untold, judge};
 use crate::look::{Look, LookAct};
 use crate::step::Step;
 use pm_delivery::{Delivery, DeliveryFault, Due, Question, Verdict};
@@ -51,6 +51,8 @@ pub enum Act {
     Begins(Job, WordStep),
     /// The first step ahead is over as it begins, and this step undoes it. Ask again.
     Passes(WordStep),
+    /// This order is due, and begins if that is asked for again. Nothing has begun.
+    Order(Job),
     /// To ask this of the output that is looked at, beside the host's jobs.
     Ask(Question),
     /// To read its OPERATION, beside the host's jobs.
@@ -69,6 +71,15 @@ pub enum Act {
     Leaves(End),
     /// Nothing: it has ended so.
     Ended(End),
+}
+
+/// How a list is carried out.
+#[derive(Clone, Copy, Debug, PartialEq, Eq)]
+pub struct Rules {
+    /// Whether it is a way down: no way back is wanted, a step that turns its output off begins with nothing read, and a restart ends nothing.
+    pub is_down: bool,
+    /// Whether each order is told, by [`Act::Order`], before it begins.
+    pub asks: bool,
 }
 
 /// How far a sequence has come. It is a plain value, and holds neither a host nor the list.
@@ -90,6 +101,10 @@ pub struct Sequence {
     pub is_waited: bool,
     /// Whether the rail of the step under way was looked at since its last order.
     pub is_looked: bool,
+    /// Whether each order is told before it begins.
+    pub asks: bool,
+    /// The order that was told last, if nothing has begun since.
+    pub told: Option<Job>,
     /// How many steps were left.
     pub left: u16,
     /// How it has ended.
@@ -98,11 +113,11 @@ pub struct Sequence {
 
 impl Sequence {
     /// No step has begun. Each gets so many tries.
-    pub fn new(tries: u16, is_down: bool) -> Sequence
-        ensures { result ≡ new_sequence tries is_down }
+    pub fn new(tries: u16, rules: Rules) -> Sequence
+        ensures { result ≡ new_sequence tries rules }
     {
         Sequence {
-            list: List::new(tries, is_down),
+            list: List::new(tries, rules.is_down),
             look: Look::new(Delivery::new(0, 0, 0, 0, 0)),
             look_host: 0,
             phase: Phase::Steps,
@@ -110,6 +125,8 @@ impl Sequence {
             is_shown: false,
             is_waited: false,
             is_looked: false,
+            asks: rules.asks,
+            told: None,
             left: 0,
             end: None,
         }
@@ -171,13 +188,13 @@ impl Sequence {
             }
             Turn::Job(job) => {
                 let gate = self.gate(guard, under, job, asked.stairs.under);
-                self.gated(under, gate, Act::Job(job), self.after_job(job, asked))
+                self.gated(under, gate, job, Act::Job(job), self.after_job(job, asked))
             }
             Turn::Begins(job, back) => {
                 let gate = self.gate(guard, ahead, job, asked.stairs.under);
                 let mut begun = *self;
                 begun.begins(asked);
-                self.gated(ahead, gate, Act::Begins(job, back), begun)
+                self.gated(ahead, gate, job, Act::Begins(job, back), begun)
             }
             Turn::Passes(back) => {
                 self.begins(asked);
@@ -226,12 +243,23 @@ impl Sequence {
     }
 
     // What comes of an order or a job of a step.
-    fn gated(&mut self, step: Option<Step>, gate: Gate, act: Act, after: Sequence) -> Act
-        ensures act { result ≡ gated_act self.old gate act }
-        ensures after { self.new ≡ gated_after self.old step gate after }
+    fn gated(
+        &mut self,
+        step: Option<Step>,
+        gate: Gate,
+        job: Job,
+        act: Act,
+        after: Sequence,
+    ) -> Act
+        ensures act { result ≡ gated_act self.old gate job act }
+        ensures after { self.new ≡ gated_after self.old step gate job after }
     {
         match gate {
             Gate::Goes => {
+                if is_untold(self.asks, self.told, job) {
+                    self.told = Some(job);
+                    return Act::Order(job);
+                }
                 *self = after;
                 act
             }
@@ -267,6 +295,7 @@ impl Sequence {
         self.is_shown = false;
         self.is_waited = false;
         self.is_looked = false;
+        self.told = None;
     }
 
     // It goes on once a job of the step under way, or one that reads for the next one, has begun.
@@ -275,6 +304,7 @@ impl Sequence {
     {
         let mut after = *self;
         after.list = asked;
+        after.told = None;
         if is_order(job) {
             after.is_shown = false;
             after.is_looked = false;
@@ -362,6 +392,7 @@ impl Sequence {
         self.is_shown = false;
         self.is_waited = false;
         self.is_looked = true;
+        self.told = None;
         Act::Leaves(end)
     }
 

@@ -26,9 +26,9 @@ use Rattle.pm_sequence.specs.declared.sequence.Phase.{Phase}
 use Rattle.pm_sequence.specs.declared.sequence.Phase.TheVariants as phase
 use Rattle.pm_sequence.specs.declared.sequence.Sequence.{Sequence}
 use Rattle.pm_sequence.specs.declared.step.Step.{Step}
-use Rattle.pm_sequence.specs.Gate.{is_order}
+use Rattle.pm_sequence.specs.Gate.{is_order, is_untold}
 use Rattle.pm_sequence.specs.Look.{look_act, look_after}
-use Rattle.pm_sequence.specs.Sequence.{Acts, Steps, after_of, ahead_after, begun_with, done_after, due_in, gate, gated_after, is_good, job_after, judged_in, left_out, look_before, needs_look, over_after, said_after, shown, stopped_after, verdict_in, with_list, with_look}
+use Rattle.pm_sequence.specs.Sequence.{Acts, Steps, after_of, ahead_after, begun_with, done_after, due_in, gate, gated_after, is_good, job_after, judged_in, left_out, look_before, needs_look, over_after, read_after, said_after, shown, stopped_after, told_with, verdict_in, with_list, with_look}
 use Rattle.pm_sequence.specs.Sequence as does
 use Rattle.pm_sequence_laws.specs.Turned.{IsKept, ListGoes, SequencesTurn}
 use Rattle.pm_sequence_laws.specs.Turned as it
@@ -74,12 +74,19 @@ module _ (g : Guarded) (ahead : Option Placed) where
   stopping old list new x turned (kept is) = saying old list new x turned is
   stopping old list new x turned (left down is) = it.says_and_leaves x list turned down is
 
-gate-so : (g : Guarded) (ahead : Option Placed) (q : Sequence) (step : Option Step) (after : Sequence) (list : List) (x : Turn)
-    → Turns g ahead q.list x list → after.list ≡ list → (is : Gate) → ListGoes g ahead q.list (gated_after q step is after).list
-gate-so g ahead q step after list x turned is gate_is.Goes = saying g ahead q.list list after.list x turned is
-gate-so g ahead q step after list x turned is gate_is.Looks = it.stays (before-list q step)
-gate-so g ahead q step after list x turned is (gate_is.Beyond fault) = staying g ahead q.list _ (stop-list q (end.Beyond fault))
-gate-so g ahead q step after list x turned is gate_is.Unjudged = staying g ahead q.list _ (stop-list q end.Unjudged)
+either-goes : (g : Guarded) (ahead : Option Placed) (old : List) (b : Bool) (x y : Sequence) → ListGoes g ahead old x.list
+    → ListGoes g ahead old y.list → ListGoes g ahead old (cond b x y).list
+either-goes g ahead old true x y first second = first
+either-goes g ahead old false x y first second = second
+
+gate-so : (g : Guarded) (ahead : Option Placed) (q : Sequence) (step : Option Step) (job : Job) (after : Sequence) (list : List) (x : Turn)
+    → Turns g ahead q.list x list → after.list ≡ list → (is : Gate) → ListGoes g ahead q.list (gated_after q step is job after).list
+gate-so g ahead q step job after list x turned is gate_is.Goes =
+    either-goes g ahead q.list (is_untold q.asks q.told job) (told_with q job) after (it.stays refl)
+    (saying g ahead q.list list after.list x turned is)
+gate-so g ahead q step job after list x turned is gate_is.Looks = it.stays (before-list q step)
+gate-so g ahead q step job after list x turned is (gate_is.Beyond fault) = staying g ahead q.list _ (stop-list q (end.Beyond fault))
+gate-so g ahead q step job after list x turned is gate_is.Unjudged = staying g ahead q.list _ (stop-list q end.Unjudged)
 
 turn-so : (g : Guarded) (under ahead : Option Step) (q : Sequence) (x : Turn) (list : List) → Turns g (shown q ahead) q.list x list
     → ListGoes g (shown q ahead) q.list (after_of g under ahead q x list).list
@@ -87,10 +94,10 @@ turn-so g under ahead q turn.Again list turned =
     saying g (shown q ahead) q.list list _ turn.Again turned
     (either-list (list.begun == q.list.begun) (with_list q list) (begun_with q list) list refl refl)
 turn-so g under ahead q (turn.Job job) list turned =
-    gate-so g (shown q ahead) q under (job_after q job list) list (turn.Job job) turned
-    (either-list (is_order job) _ (with_list q list) list refl refl) (gate g q under job list.stairs.under)
+    gate-so g (shown q ahead) q under job (job_after q job list) list (turn.Job job) turned
+    (either-list (is_order job) _ (read_after q list) list refl refl) (gate g q under job list.stairs.under)
 turn-so g under ahead q (turn.Begins job back) list turned =
-    gate-so g (shown q ahead) q ahead (begun_with q list) list (turn.Begins job back) turned refl (gate g q ahead job list.stairs.under)
+    gate-so g (shown q ahead) q ahead job (begun_with q list) list (turn.Begins job back) turned refl (gate g q ahead job list.stairs.under)
 turn-so g under ahead q (turn.Passes back) list turned = it.says (turn.Passes back) turned
 turn-so g under ahead q (turn.NoWayBack fault) list turned = it.says (turn.NoWayBack fault) turned
 turn-so g under ahead q turn.Reached list turned =
