@@ -4,12 +4,12 @@ mod part;
 
 use self::part::{Part, Run, carried};
 use crate::checks::equal;
-use pm_course::{Wish, Wishes};
+use pm_course::{CourseEnd, Wish, Wishes};
 use pm_delivery::{DeliveryFault, Question, Verdict};
 use pm_host::{Host, Job};
 use pm_limits::Guard;
 use pm_sequence::{Act, End, Looks, Rules, Sequence, Step};
-use pm_stairs::{Act as Does, Placed, Step as Output};
+use pm_stairs::{Act as Does, Placed, Step as Output, StepEnd};
 use pm_table::{Cell, Reg};
 use std::process::Abort;
 
@@ -96,14 +96,16 @@ fn after(wait: u32, step: Step) -> Step {
     }
 }
 
-// A way up, and a way down, that doesn't ask before orders.
+// A way up that ends at a step that stops, and a way down that leaves it. Neither asks before orders.
 const UP: Rules = Rules {
     is_down: false,
+    leaves: false,
     asks: false,
 };
 
 const DOWN: Rules = Rules {
     is_down: true,
+    leaves: true,
     asks: false,
 };
 
@@ -337,6 +339,25 @@ type ListRow = (
     [(u16, u16); 4],
 );
 
+fn check_lists(rt: &impl Abort, rows: &[ListRow]) {
+    for (name, rules, parts, steps, end, found, waits, words) in rows {
+        let (run, parts) = over(rt, *rules, *parts, steps);
+        let [near, far] = parts;
+        let held = [
+            (near.words[0][0], near.words[0][1]),
+            (near.words[1][0], near.words[1][1]),
+            (far.words[0][0], far.words[0][1]),
+            (far.words[1][0], far.words[1][1]),
+        ];
+        equal(
+            rt,
+            &(run.end, run.founds, run.waits, held),
+            &(Some(*end), *found, *waits, *words),
+            name,
+        );
+    }
+}
+
 #[test]
 fn a_list_goes_on_as_its_rails_deliver(rt: HostRuntime) {
     let up = [
@@ -423,22 +444,7 @@ fn a_list_goes_on_as_its_rails_deliver(rt: HostRuntime) {
             [on, on, is_off, on],
         ),
     ];
-    for (name, rules, parts, steps, end, found, waits, words) in &rows {
-        let (run, parts) = over(&rt, *rules, *parts, steps);
-        let [near, far] = parts;
-        let held = [
-            (near.words[0][0], near.words[0][1]),
-            (near.words[1][0], near.words[1][1]),
-            (far.words[0][0], far.words[0][1]),
-            (far.words[1][0], far.words[1][1]),
-        ];
-        equal(
-            &rt,
-            &(run.end, run.founds, run.waits, held),
-            &(Some(*end), *found, *waits, *words),
-            name,
-        );
-    }
+    check_lists(&rt, &rows);
 }
 
 #[test]
@@ -538,7 +544,12 @@ fn a_list_that_asks_tells_each_order_first(rt: HostRuntime) {
             name,
         );
         for (part, other) in parts.iter().zip(written.iter()) {
-            equal(&rt, &(part.frames, part.writes), &(other.frames, other.writes), name);
+            equal(
+                &rt,
+                &(part.frames, part.writes),
+                &(other.frames, other.writes),
+                name,
+            );
         }
     }
 }
@@ -579,4 +590,65 @@ fn another_order_than_the_one_told_is_told_first(rt: HostRuntime) {
         }
         equal(&rt, &(said, sequence.told), &(*act, *then), name);
     }
+}
+
+#[test]
+fn a_step_that_stops_is_left_where_the_list_says_so(rt: HostRuntime) {
+    let up = [
+        sets(0, 0, 1_200_000, MUST),
+        after(15, sets(1, 0, 1_100_000, MUST)),
+        after(5, sets(0, 1, 1_050_000, MUST)),
+    ];
+    let down = [off(0, 0, MUST), after(10, off(1, 0, MUST)), off(0, 1, MUST)];
+    let dead = Part {
+        is_dead: true,
+        ..PART
+    };
+    let deaf = Part {
+        is_deaf: true,
+        ..PART
+    };
+    let on = (0x80, 0x1000);
+    let stays_on = StepEnd::Course(CourseEnd::Differs(Reg::Operation, 0x80));
+    let rows: [ListRow; 2] = [
+        (
+            "up, and the second rail stays off",
+            Rules { leaves: true, ..UP },
+            [PART, dead],
+            up,
+            End::Left(1),
+            2,
+            20,
+            [(0x80, 0x1333), (0x80, 0x10CD), (0x80, 0x119A), on],
+        ),
+        (
+            "down, and the first output stays on",
+            Rules {
+                leaves: false,
+                ..DOWN
+            },
+            [deaf, PART],
+            down,
+            End::Stopped(stays_on),
+            0,
+            0,
+            [on, on, on, on],
+        ),
+    ];
+    check_lists(&rt, &rows);
+}
+
+#[test]
+fn a_restart_ends_a_list_that_leaves_steps(rt: HostRuntime) {
+    let rules = Rules { leaves: true, ..UP };
+    let restarted = StepEnd::Restarted;
+    let mut sequence = Sequence::new(60, rules);
+    sequence.list.stairs.restarted = true;
+    let step = sets(0, 0, 1_200_000, MUST);
+    equal(
+        &rt,
+        &sequence.next(&guard(&rt), None, Some(step)),
+        &Act::Ended(End::Stopped(restarted)),
+        &"an answer showed a restart",
+    );
 }

@@ -20,6 +20,8 @@ use Rattle.pm_delivery.specs.Deliveries.{looking_after, looking_before}
 use Rattle.pm_delivery.specs.Due.{due_of}
 use Rattle.pm_delivery.specs.Ended.{verdict_of}
 use Rattle.pm_delivery.specs.Reading.{reading_in}
+use Rattle.pm_stairs.specs.declared.said.StepEnd.{StepEnd}
+use Rattle.pm_stairs.specs.declared.said.StepEnd.TheVariants.{Course, Changed, Restarted}
 use Rattle.pm_stairs.specs.declared.sequence.Placed.{Placed}
 use Rattle.pm_stairs.specs.declared.sequence.Sequence.{Sequence as List}
 use Rattle.pm_stairs.specs.declared.sequence.Turn.{Turn}
@@ -56,6 +58,7 @@ new_sequence tries rules = record {
   is_shown = false;
   is_waited = false;
   is_looked = false;
+  leaves = rules.leaves;
   asks = rules.asks;
   told = None;
   left = 0;
@@ -92,7 +95,7 @@ look_before q (Some step) = record q {
 
 -- ---- How steps stop ----
 
--- a way up ends; a way down leaves the step, which counts
+-- A list that leaves steps leaves the one that stops, which counts; another one ends. A restart ends each.
 abbrev pub left_out : Sequence → Sequence
 left_out q = record q {
   list = skipped q.list;
@@ -104,11 +107,20 @@ left_out q = record q {
   told = None;
 }
 
+abbrev pub is_restart : StepEnd → Bool
+is_restart Restarted = true
+is_restart Changed = false
+is_restart (Course why) = false
+
+abbrev pub may_leave : End → Bool
+may_leave (end.Stopped why) = not (is_restart why)
+may_leave why = true
+
 abbrev pub stopped_act : Sequence → End → Act
-stopped_act q end = if q.list.is_down then act.Leaves end else act.Ended end
+stopped_act q why = if q.leaves && may_leave why then act.Leaves why else act.Ended why
 
 abbrev pub stopped_after : Sequence → End → Sequence
-stopped_after q end = if q.list.is_down then left_out q else record q { end = Some end }
+stopped_after q why = if q.leaves && may_leave why then left_out q else record q { end = Some why }
 
 -- ---- What comes of what the list says ----
 

@@ -3,7 +3,7 @@
 ghost use Rattle.std.specs.Prelude.{◌≡◌, ◌<◌, None};
 ghost use Rattle.pm_host.specs.Image.{held};
 ghost use Rattle.pm_stairs.specs.Sequence.{one_more as spec_one_more};
-ghost use Rattle.pm_sequence.specs.Sequence.{act_of, after_of, ahead_act, ahead_after, begun_with, due_by, due_in as spec_due_in, end_of as spec_end_of, found_at, gate as spec_gate, gated_act, gated_after, is_at as spec_is_at, is_good as spec_is_good, is_read_for as spec_is_read_for, job_after, judged_after, look_before, looked_act, looked_after, needs_look as spec_needs_look, new_sequence, reached_act, reached_after, shown as spec_shown, stopped_act, stopped_after, verdict_by, verdict_in as spec_verdict_in, Acts, Steps};
+ghost use Rattle.pm_sequence.specs.Sequence.{act_of, after_of, ahead_act, ahead_after, begun_with, due_by, due_in as spec_due_in, end_of as spec_end_of, found_at, gate as spec_gate, gated_act, gated_after, is_at as spec_is_at, is_good as spec_is_good, is_read_for as spec_is_read_for, job_after, judged_after, look_before, looked_act, looked_after, may_leave as spec_may_leave, needs_look as spec_needs_look, new_sequence, reached_act, reached_after, shown as spec_shown, stopped_act, stopped_after, verdict_by, verdict_in as spec_verdict_in, Acts, Steps};
 
 use crate::gate::{Gate, is_judged_order, is_order, is_untold, judge};
 use crate::look::{Look, LookAct};
@@ -25,12 +25,12 @@ pub enum Phase {
     After,
 }
 
-/// How a sequence ended, or why a step of a way down was left.
+/// How a sequence ended, or why a step was left.
 #[derive(Clone, Copy, Debug, PartialEq, Eq)]
 pub enum End {
     /// Each step is over, none was left, and each that has to deliver did after its last order.
     Reached,
-    /// A way down has come to its end, and left this many steps.
+    /// The list has come to its end, and left this many steps.
     Left(u16),
     /// The step stopped so.
     Stopped(StepEnd),
@@ -67,7 +67,7 @@ pub enum Act {
     NoWayBack(PlanFault),
     /// The rail of the step that is over does what it is to. Ask again.
     Does(Verdict),
-    /// The step of a way down was left so. Ask again.
+    /// The step was left so. Ask again.
     Leaves(End),
     /// Nothing: it has ended so.
     Ended(End),
@@ -78,6 +78,8 @@ pub enum Act {
 pub struct Rules {
     /// Whether it is a way down: no way back is wanted, a step that turns its output off begins with nothing read, and a restart ends nothing.
     pub is_down: bool,
+    /// Whether a step that stops is left, and the next one goes on. Otherwise it ends the list, as a restart of a part does whatever this says.
+    pub leaves: bool,
     /// Whether each order is told, by [`Act::Order`], before it begins.
     pub asks: bool,
 }
@@ -101,6 +103,8 @@ pub struct Sequence {
     pub is_waited: bool,
     /// Whether the rail of the step under way was looked at since its last order.
     pub is_looked: bool,
+    /// Whether a step that stops is left.
+    pub leaves: bool,
     /// Whether each order is told before it begins.
     pub asks: bool,
     /// The order that was told last, if nothing has begun since.
@@ -125,6 +129,7 @@ impl Sequence {
             is_shown: false,
             is_waited: false,
             is_looked: false,
+            leaves: rules.leaves,
             asks: rules.asks,
             told: None,
             left: 0,
@@ -243,14 +248,7 @@ impl Sequence {
     }
 
     // What comes of an order or a job of a step.
-    fn gated(
-        &mut self,
-        step: Option<Step>,
-        gate: Gate,
-        job: Job,
-        act: Act,
-        after: Sequence,
-    ) -> Act
+    fn gated(&mut self, step: Option<Step>, gate: Gate, job: Job, act: Act, after: Sequence) -> Act
         ensures act { result ≡ gated_act self.old gate job act }
         ensures after { self.new ≡ gated_after self.old step gate job after }
     {
@@ -377,12 +375,12 @@ impl Sequence {
         }
     }
 
-    // A step stops so: a way down leaves it, and a way up ends.
+    // A step stops so: it is left, or the list ends.
     pub(crate) fn stops(&mut self, end: End) -> Act
         ensures act { result ≡ stopped_act self.old end }
         ensures after { self.new ≡ stopped_after self.old end }
     {
-        if !self.list.is_down {
+        if !(self.leaves && may_leave(end)) {
             self.end = Some(end);
             return Act::Ended(end);
         }
@@ -464,6 +462,13 @@ impl Sequence {
         }
         self.stops(End::Does(verdict))
     }
+}
+
+// Whether a step that stopped so may be left: a restart of its part ends the list.
+fn may_leave(end: End) -> bool
+    ensures { result ≡ spec_may_leave end }
+{
+    !matches!(end, End::Stopped(StepEnd::Restarted))
 }
 
 // What is due of a delivery, by what is seen of a host.

@@ -26,7 +26,7 @@ use Rattle.pm_sequence.specs.declared.sequence.Sequence.{Sequence}
 use Rattle.pm_sequence.specs.declared.step.Step.{Step}
 use Rattle.pm_sequence.specs.Gate.{is_order, is_untold}
 use Rattle.pm_sequence.specs.Look.{look_act, look_after}
-use Rattle.pm_sequence.specs.Sequence.{Acts, Steps, act_of, after_of, again_after, ahead_act, ahead_after, begun_with, done_act, done_after, due_in, end_of, found_in, gate, gated_act, gated_after, is_good, job_after, judged_in, looked_act, looked_after, look_before, needs_look, over_act, over_after, read_after, said_act, said_after, shown, step_act, step_after, stopped_act, stopped_after, told_with, verdict_in, with_list, with_look}
+use Rattle.pm_sequence.specs.Sequence.{Acts, Steps, act_of, after_of, again_after, ahead_act, ahead_after, begun_with, done_act, done_after, due_in, end_of, found_in, gate, gated_act, gated_after, is_good, job_after, judged_in, looked_act, looked_after, look_before, may_leave, needs_look, over_act, over_after, read_after, said_act, said_after, shown, step_act, step_after, stopped_act, stopped_after, told_with, verdict_in, with_list, with_look}
 use Rattle.pm_sequence.specs.Sequence as does
 use Rattle.pm_sequence_laws.specs.Runs.{Mark, Orders, Does, Leaves, Places, marks_of, must, under_at}
 use Rattle.pm_sequence_laws.proofs.Counts.{Counts, counts, may_begin}
@@ -79,7 +79,7 @@ module _ (steps : Places) (was : Sequence) where
   stop-kind : (q : Sequence) (why : End) → (Some why ≡ reached → ⊥) → q.list.begun ≡ was.list.begun → (q.is_shown ≡ true → was.is_shown ≡ true)
       → (q.is_looked ≡ true → was.is_looked ≡ true) → q.left ≡ was.left → q.end ≡ None
       → Kind steps was (stopped_after q why) (marks_of (stopped_after q why).list.begun (stopped_act q why))
-  stop-kind q why other begun shows looks lefts on = stop-by q why other begun shows looks lefts on q.list.is_down
+  stop-kind q why other begun shows looks lefts on = stop-by q why other begun shows looks lefts on (q.leaves && may_leave why)
 
   module _ (on : was.end ≡ None) where
     look-kind : (step : Option Step) → Kind steps was (look_before was step) []

@@ -30,7 +30,7 @@ use Rattle.pm_sequence.specs.declared.sequence.Sequence.{Sequence}
 use Rattle.pm_sequence.specs.declared.step.Step.{Step}
 use Rattle.pm_sequence.specs.Gate.{is_order, is_untold}
 use Rattle.pm_sequence.specs.Look.{counted, is_silent, look_act, look_after, probe_due}
-use Rattle.pm_sequence.specs.Sequence.{Acts, Steps, after_of, ahead_after, begun_with, done_after, due_in, gate, gated_after, is_at, is_good, job_after, judged_in, left_out, look_before, looking_at, needs_look, read_after, said_after, stopped_after, told_with, verdict_in, with_list, with_look}
+use Rattle.pm_sequence.specs.Sequence.{Acts, Steps, after_of, ahead_after, begun_with, done_after, due_in, gate, gated_after, is_at, is_good, job_after, judged_in, left_out, look_before, looking_at, may_leave, needs_look, read_after, said_after, stopped_after, told_with, verdict_in, with_list, with_look}
 use Rattle.pm_sequence.specs.Sequence as does
 use Rattle.pm_sequence_laws.specs.Read.{LimitsAreRead, WasRead}
 
@@ -46,7 +46,7 @@ module _ (q : Sequence) (unread : q.is_read ≡ false) where
   never e = true≢false (sym e ∙ unread)
 
   stop-read : (list : List) (why : End) → (stopped_after (with_list q list) why).is_read ≡ true → ⊥
-  stop-read list why = either-read ⊥ list.is_down (left_out (with_list q list)) (record q { list = list; end = Some why }) never never
+  stop-read list why = either-read ⊥ (q.leaves && may_leave why) (left_out (with_list q list)) (record q { list = list; end = Some why }) never never
 
   before-read : (step : Option Step) → (look_before q step).is_read ≡ true → ⊥
   before-read None = never
@@ -127,7 +127,7 @@ look-facts g l at small is =
 module _ (g : Guarded) (q : Sequence) (unread : q.is_read ≡ false) (under : Option Step) where
   done-read : (l : Look) (found : Verdict) → (done_after (with_look q l) under found).is_read ≡ true → ⊥
   done-read l found = either-read ⊥ (is_good under found) _ (stopped_after (with_look q l) (end.Does found)) (never q unread)
-      (either-read ⊥ q.list.is_down (left_out (with_look q l)) _ (never q unread) (never q unread))
+      (either-read ⊥ (q.leaves && may_leave (end.Does found)) (left_out (with_look q l)) _ (never q unread) (never q unread))
 
   after-read : q.phase ≡ phase.After → (l : Look) (x : LookAct) → (said_after g (with_look q l) under x).is_read ≡ true → ⊥
   after-read is l (look.Ask question) = never q unread

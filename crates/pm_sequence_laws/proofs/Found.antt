@@ -24,7 +24,7 @@ use Rattle.pm_sequence.specs.declared.step.Step.{Step}
 use Rattle.pm_sequence.specs.Gate.{is_untold}
 use Rattle.pm_sequence.specs.Look.{look_act, look_after}
 use Rattle.pm_sequence.specs.Steps.{is_unreadable}
-use Rattle.pm_sequence.specs.Sequence.{Acts, Steps, act_of, ahead_act, done_act, done_after, due_in, found_in, gate, gated_act, is_good, is_good_by, judged_in, needs_look, over_act, said_act, said_after, stopped_act, stopped_after, verdict_in, with_list, with_look}
+use Rattle.pm_sequence.specs.Sequence.{Acts, Steps, act_of, ahead_act, done_act, done_after, due_in, found_in, gate, gated_act, is_good, is_good_by, judged_in, may_leave, needs_look, over_act, said_act, said_after, stopped_act, stopped_after, verdict_in, with_list, with_look}
 use Rattle.pm_sequence.specs.Sequence as does
 use Rattle.pm_sequence_laws.specs.Finds.{FindsAreVerdicts, IsDelivered, IsFound, by_voltage, delivers, power_good, went_off}
 
@@ -48,7 +48,7 @@ either true x y first second = first
 either false x y first second = second
 
 stop-quiet : (q : Sequence) (why : End) → is_find (stopped_act q why) ≡ false
-stop-quiet q why = either q.list.is_down (act.Leaves why) (act.Ended why) refl refl
+stop-quiet q why = either (q.leaves && may_leave why) (act.Leaves why) (act.Ended why) refl refl
 
 ahead-quiet : (q : Sequence) (ahead : Option Step) → is_find (ahead_act q ahead) ≡ false
 ahead-quiet q None = refl

@@ -30,7 +30,7 @@ use Rattle.pm_sequence.specs.declared.step.Step.{Step}
 use Rattle.pm_sequence.specs.Gate.{is_order, is_told, is_untold, order_gate, same_order, step_gate}
 use Rattle.pm_sequence.specs.Look.{look_act, look_after}
 use Rattle.pm_delivery.specs.declared.verdict.Verdict.{Verdict}
-use Rattle.pm_sequence.specs.Sequence.{Acts, Steps, act_of, after_of, ahead_act, done_act, due_in, found_at, found_in, gate, gated_act, gated_after, is_good, is_read_for, job_after, looked_act, needs_look, over_act, read_gate, said_act, shown, step_act, stopped_act, told_with, verdict_in, with_list, with_look}
+use Rattle.pm_sequence.specs.Sequence.{Acts, Steps, act_of, after_of, ahead_act, done_act, due_in, found_at, found_in, gate, gated_act, gated_after, is_good, is_read_for, job_after, looked_act, may_leave, needs_look, over_act, read_gate, said_act, shown, step_act, stopped_act, told_with, verdict_in, with_list, with_look}
 use Rattle.pm_sequence.specs.Sequence as does
 use Rattle.pm_sequence_laws.proofs.Listed.{either-list}
 use Rattle.pm_sequence_laws.specs.Judged.{IsDue, IsJudged, IsTold, OrdersAreJudged, OrdersAreTold}
@@ -58,7 +58,7 @@ either true x y first second = first
 either false x y first second = second
 
 stop-quiet : (q : Sequence) (why : End) → is_named (stopped_act q why) ≡ false
-stop-quiet q why = either q.list.is_down (act.Leaves why) (act.Ended why) refl refl
+stop-quiet q why = either (q.leaves && may_leave why) (act.Leaves why) (act.Ended why) refl refl
 
 ahead-quiet : (q : Sequence) (ahead : Option Step) → is_named (ahead_act q ahead) ≡ false
 ahead-quiet q None = refl
@@ -235,14 +235,16 @@ module _ (apart : CellsAreToldApart) where
   order-of : (g : Guarded) (under ahead : Option Step) (q new : Sequence) (job : Job) → NamesSo g under ahead q new (act.Order job)
       → (q.asks ≡ true) × IsTold g under ahead q new job
   order-of g under ahead q new job (an-order job' untold due is) =
-      let parts = untold-parts q.asks (is_order job) (is_told q.told job) untold in
-      (parts.0, record {
-        order = parts.1;
-        due = due;
-        list = ap (λ (x : Sequence). x.list) is;
-        told = ap (λ (x : Sequence). x.told) is;
-        same = is;
-      })
+      let parts = untold-parts q.asks (is_order job) (is_told q.told job) untold in (
+        parts.0,
+        record {
+          order = parts.1;
+          due = due;
+          list = ap (λ (x : Sequence). x.list) is;
+          told = ap (λ (x : Sequence). x.told) is;
+          same = is;
+        },
+      )
   order-of g under ahead q new job (none said quiet) = cc
 
   pub orders-told : OrdersAreTold
