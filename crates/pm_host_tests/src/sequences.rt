@@ -1,20 +1,20 @@
 //! Sequences, frame after frame, over parts that are written by hand: how each ends, and what was sent.
 
 mod part;
+mod rules;
 
 use self::part::{Part, Run, carried};
 use crate::checks::equal;
-use pm_course::{CourseEnd, Wish, Wishes};
-use pm_delivery::{DeliveryFault, Question, Verdict};
-use pm_host::{Host, Job};
+use pm_course::{Wish, Wishes};
+use pm_delivery::{DeliveryFault, Heard, Question, Verdict};
+use pm_host::Host;
 use pm_limits::Guard;
-use pm_sequence::{Act, End, Looks, Rules, Sequence, Step};
-use pm_stairs::{Act as Does, Placed, Step as Output, StepEnd};
-use pm_table::{Cell, Reg};
+use pm_sequence::{End, Looks, Rules, Sequence, Step};
+use pm_stairs::{Act as Does, Placed, Step as Output};
 use std::process::Abort;
 
 // A part whose outputs are on at 1 V.
-const PART: Part = Part {
+pub(crate) const PART: Part = Part {
     words: [
         [0x80, 0x1000, 0x4000, 0x1100, 0x0F00, 0x0000],
         [0x80, 0x1000, 0x4000, 0x1100, 0x0F00, 0x0000],
@@ -29,7 +29,7 @@ const PART: Part = Part {
     writes: 0,
 };
 
-const LOOKS: Looks = Looks {
+pub(crate) const LOOKS: Looks = Looks {
     is_wanted: true,
     must_deliver: false,
     tells_power_good: false,
@@ -40,7 +40,7 @@ const LOOKS: Looks = Looks {
     rounds: 4,
 };
 
-const MUST: Looks = Looks {
+pub(crate) const MUST: Looks = Looks {
     is_wanted: true,
     must_deliver: true,
     tells_power_good: false,
@@ -52,7 +52,7 @@ const MUST: Looks = Looks {
 };
 
 // A guard of a part with two outputs, of two passes.
-fn guard(rt: &impl Abort) -> Guard {
+pub(crate) fn guard(rt: &impl Abort) -> Guard {
     match Host::new(0x58, 2, 2) {
         Ok(host) => {
             let mut guard = Guard::over(host);
@@ -65,14 +65,14 @@ fn guard(rt: &impl Abort) -> Guard {
 }
 
 // A step that gives VOUT_COMMAND a voltage.
-fn sets(host: u8, output: u8, microvolts: i64, looks: Looks) -> Step {
+pub(crate) fn sets(host: u8, output: u8, microvolts: i64, looks: Looks) -> Step {
     let mut wishes = Wishes::nothing();
     wishes.command = Wish::Microvolts(microvolts);
     step_of(host, output, Does::Sets(wishes), looks)
 }
 
 // A step that turns an output off.
-fn off(host: u8, output: u8, looks: Looks) -> Step {
+pub(crate) fn off(host: u8, output: u8, looks: Looks) -> Step {
     step_of(host, output, Does::Turns(0x00), looks)
 }
 
@@ -84,33 +84,35 @@ fn step_of(host: u8, output: u8, act: Does, looks: Looks) -> Step {
         },
         wait: 0,
         looks,
+        before: Heard::NOTHING,
     }
 }
 
 // The same, once so many milliseconds have passed.
-fn after(wait: u32, step: Step) -> Step {
-    Step {
-        placed: step.placed,
-        wait,
-        looks: step.looks,
-    }
+pub(crate) fn after(wait: u32, step: Step) -> Step {
+    Step { wait, ..step }
 }
 
 // A way up that ends at a step that stops, and a way down that leaves it. Neither asks before orders.
-const UP: Rules = Rules {
+pub(crate) const UP: Rules = Rules {
     is_down: false,
     leaves: false,
     asks: false,
 };
 
-const DOWN: Rules = Rules {
+pub(crate) const DOWN: Rules = Rules {
     is_down: true,
     leaves: true,
     asks: false,
 };
 
 // What a list comes to over two parts, and these then.
-fn over(rt: &impl Abort, rules: Rules, parts: [Part; 2], steps: &[Step]) -> (Run, [Part; 2]) {
+pub(crate) fn over(
+    rt: &impl Abort,
+    rules: Rules,
+    parts: [Part; 2],
+    steps: &[Step],
+) -> (Run, [Part; 2]) {
     let mut parts = parts;
     let run = carried(
         Sequence::new(60, rules),
@@ -328,7 +330,7 @@ fn a_set_ends_by_what_its_rail_does(rt: HostRuntime) {
 
 // A list over two parts, each of two outputs: how it ends, how often was looked at a rail that does what it is to, the waits, and OPERATION and
 // VOUT_COMMAND of each output then.
-type ListRow = (
+pub(crate) type ListRow = (
     &'static str,
     Rules,
     [Part; 2],
@@ -339,7 +341,7 @@ type ListRow = (
     [(u16, u16); 4],
 );
 
-fn check_lists(rt: &impl Abort, rows: &[ListRow]) {
+pub(crate) fn check_lists(rt: &impl Abort, rows: &[ListRow]) {
     for (name, rules, parts, steps, end, found, waits, words) in rows {
         let (run, parts) = over(rt, *rules, *parts, steps);
         let [near, far] = parts;
@@ -515,140 +517,5 @@ fn each_step_is_judged_by_what_it_asks_for(rt: HostRuntime) {
         &(run.end, parts[0].writes),
         &(Some(End::Beyond(refused)), 1),
         &"fault limits that an earlier step skipped",
-    );
-}
-
-#[test]
-fn a_list_that_asks_tells_each_order_first(rt: HostRuntime) {
-    let up = [
-        sets(0, 0, 1_200_000, MUST),
-        sets(1, 0, 1_100_000, MUST),
-        sets(0, 1, 1_000_000, MUST),
-    ];
-    let down = [off(0, 0, MUST), off(1, 0, MUST), off(0, 1, MUST)];
-    let rows = [
-        ("up, and the last word is held", UP, up, 2),
-        ("down", DOWN, down, 3),
-    ];
-    for (name, rules, steps, orders) in &rows {
-        let asking = Rules {
-            asks: true,
-            ..*rules
-        };
-        let (plain, written) = over(&rt, *rules, [PART, PART], steps);
-        let (run, parts) = over(&rt, asking, [PART, PART], steps);
-        equal(
-            &rt,
-            &(plain.orders, run.orders, run.end),
-            &(0, *orders, Some(End::Reached)),
-            name,
-        );
-        for (part, other) in parts.iter().zip(written.iter()) {
-            equal(
-                &rt,
-                &(part.frames, part.writes),
-                &(other.frames, other.writes),
-                name,
-            );
-        }
-    }
-}
-
-#[test]
-fn another_order_than_the_one_told_is_told_first(rt: HostRuntime) {
-    let asking = Rules { asks: true, ..DOWN };
-    let is_off = Job::Order(Cell::Out(0, Reg::Operation), 0x00);
-    let rows = [
-        ("nothing was told", None, Act::Order(is_off), Some(is_off)),
-        ("it was told", Some(is_off), Act::Job(is_off), None),
-        (
-            "another byte was",
-            Some(Job::Order(Cell::Out(0, Reg::Operation), 0x40)),
-            Act::Order(is_off),
-            Some(is_off),
-        ),
-        (
-            "the same byte of another output was",
-            Some(Job::Order(Cell::Out(1, Reg::Operation), 0x00)),
-            Act::Order(is_off),
-            Some(is_off),
-        ),
-    ];
-    for (name, told, act, then) in &rows {
-        let guard = guard(&rt);
-        let step = off(0, 0, MUST);
-        let mut sequence = Sequence::new(60, asking);
-        let mut said = Act::Again;
-        for _ in 0..3usize {
-            let (under, ahead) = if sequence.list.begun == 0 {
-                (None, Some(step))
-            } else {
-                (Some(step), None)
-            };
-            sequence.told = *told;
-            said = sequence.next(&guard, under, ahead);
-        }
-        equal(&rt, &(said, sequence.told), &(*act, *then), name);
-    }
-}
-
-#[test]
-fn a_step_that_stops_is_left_where_the_list_says_so(rt: HostRuntime) {
-    let up = [
-        sets(0, 0, 1_200_000, MUST),
-        after(15, sets(1, 0, 1_100_000, MUST)),
-        after(5, sets(0, 1, 1_050_000, MUST)),
-    ];
-    let down = [off(0, 0, MUST), after(10, off(1, 0, MUST)), off(0, 1, MUST)];
-    let dead = Part {
-        is_dead: true,
-        ..PART
-    };
-    let deaf = Part {
-        is_deaf: true,
-        ..PART
-    };
-    let on = (0x80, 0x1000);
-    let stays_on = StepEnd::Course(CourseEnd::Differs(Reg::Operation, 0x80));
-    let rows: [ListRow; 2] = [
-        (
-            "up, and the second rail stays off",
-            Rules { leaves: true, ..UP },
-            [PART, dead],
-            up,
-            End::Left(1),
-            2,
-            20,
-            [(0x80, 0x1333), (0x80, 0x10CD), (0x80, 0x119A), on],
-        ),
-        (
-            "down, and the first output stays on",
-            Rules {
-                leaves: false,
-                ..DOWN
-            },
-            [deaf, PART],
-            down,
-            End::Stopped(stays_on),
-            0,
-            0,
-            [on, on, on, on],
-        ),
-    ];
-    check_lists(&rt, &rows);
-}
-
-#[test]
-fn a_restart_ends_a_list_that_leaves_steps(rt: HostRuntime) {
-    let rules = Rules { leaves: true, ..UP };
-    let restarted = StepEnd::Restarted;
-    let mut sequence = Sequence::new(60, rules);
-    sequence.list.stairs.restarted = true;
-    let step = sets(0, 0, 1_200_000, MUST);
-    equal(
-        &rt,
-        &sequence.next(&guard(&rt), None, Some(step)),
-        &Act::Ended(End::Stopped(restarted)),
-        &"an answer showed a restart",
     );
 }

@@ -16,7 +16,7 @@ use Rattle.pm_delivery.specs.declared.due.Due.{Due}
 use Rattle.pm_delivery.specs.declared.due.Due.TheVariants as due
 use Rattle.pm_delivery.specs.declared.verdict.Verdict.{Verdict}
 use Rattle.pm_delivery.specs.declared.verdict.Verdict.TheVariants as verdict
-use Rattle.pm_delivery.specs.Deliveries.{looking_after, looking_before}
+use Rattle.pm_delivery.specs.Deliveries.{looking_after}
 use Rattle.pm_delivery.specs.Due.{due_of}
 use Rattle.pm_delivery.specs.Ended.{verdict_of}
 use Rattle.pm_delivery.specs.Reading.{reading_in}
@@ -45,7 +45,7 @@ use Rattle.pm_sequence.specs.declared.sequence.Sequence.{Sequence}
 use Rattle.pm_sequence.specs.declared.step.Step.{Step}
 use Rattle.pm_sequence.specs.Gate.{is_order, is_untold, order_gate, step_gate}
 use Rattle.pm_sequence.specs.Look.{look_act, look_after, looking, new_probe}
-use Rattle.pm_sequence.specs.Steps.{is_of, is_unreadable, new_of, turns_off}
+use Rattle.pm_sequence.specs.Steps.{before_of, is_of, is_unreadable, new_of, same_heard, turns_off}
 use Rattle.pm_delivery.specs.Deliveries.{new_delivery}
 
 abbrev pub new_sequence : ℕ → Rules → Sequence
@@ -67,9 +67,10 @@ new_sequence tries rules = record {
 
 -- ---- When an order may begin ----
 
--- what is looked at is the output of a step as the step asks for it, and what stands before its first order was read
+-- what is looked at is the output of a step as the step asks for it, from what it says that stood before; and what stands before its first order
+-- was read
 abbrev pub is_at : Sequence → Step → Bool
-is_at q step = q.look_host == step.placed.host && is_of q.look.delivery step
+is_at q step = q.look_host == step.placed.host && (is_of q.look.delivery step && same_heard q.look.stood step.before)
 
 abbrev pub is_read_for : Sequence → Step → Bool
 is_read_for q step = q.is_read && is_at q step
@@ -87,7 +88,7 @@ gate g q (Some step) job under = if step.looks.is_wanted && order_gate job then 
 abbrev pub look_before : Sequence → Option Step → Sequence
 look_before q None = q
 look_before q (Some step) = record q {
-  look = looking (looking_before (new_of step));
+  look = looking (before_of step);
   look_host = step.placed.host;
   is_read = false;
   phase = phase.Before;

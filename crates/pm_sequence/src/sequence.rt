@@ -237,7 +237,9 @@ impl Sequence {
     fn is_at(&self, step: &Step) -> bool
         ensures { result ≡ spec_is_at self.now step.now }
     {
-        self.look_host == step.placed.host && step.is_of(&self.look.delivery)
+        self.look_host == step.placed.host
+            && step.is_of(&self.look.delivery)
+            && step.stood_so(self.look.stood)
     }
 
     // Whether what stands before the first order of its output was read.
@@ -277,9 +279,7 @@ impl Sequence {
         let Some(step) = step else {
             return;
         };
-        let mut delivery = step.delivery();
-        delivery.look_before();
-        self.look = Look::new(delivery);
+        self.look = Look::new(step.delivery_before());
         self.look_host = step.placed.host;
         self.is_read = false;
         self.phase = Phase::Before;
