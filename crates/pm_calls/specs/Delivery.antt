@@ -36,7 +36,9 @@ use Rattle.pm_calls.specs.declared.delivered.JudgementImage.{JudgementImage}
 use Rattle.pm_memory.specs.declared.delivery_image.DeliveryImage.{DeliveryImage}
 use Rattle.pm_memory.specs.declared.guard_image.GuardImage.{GuardImage}
 use Rattle.pm_memory.specs.declared.sending_image.SendingImage.{SendingImage}
+use Rattle.pm_memory.specs.declared.sequence_end.VerdictNumbers.{VerdictNumbers}
 use Rattle.pm_memory.specs.Guard.{limits_kept, registers_held}
+use Rattle.pm_memory.specs.SequenceEnd.{verdict_numbers as numbers_of_verdict}
 use Rattle.pm_memory.specs.Sending.{IsNothing}
 use Rattle.pm_calls.specs.Numbers.{accepted, ended, no_delivery, no_host, other_frame}
 use Rattle.pm_calls.specs.Paged.{IsPagedSending}
@@ -141,21 +143,11 @@ said kind code bit fault = record {
   microvolts = pos 0;
 }
 
+abbrev pub numbers_told : VerdictNumbers → DeliveredImage
+numbers_told i = said i.kind i.code i.bit i.fault
+
 abbrev pub verdict_numbers : Verdict → DeliveredImage
-verdict_numbers verdict.NotYet = said 0 0 0 0
-verdict_numbers verdict.Delivers = said 1 0 0 0
-verdict_numbers verdict.CommandedOff = said 2 0 0 0
-verdict_numbers verdict.NotKnownOn = said 3 0 0 0
-verdict_numbers verdict.IsOff = said 4 (question_code StatusWord) 0 0
-verdict_numbers (verdict.NewFault register place) = said 5 (question_code register) place 0
-verdict_numbers verdict.OutsideLimits = said 6 (question_code ReadVout) 0 0
-verdict_numbers verdict.Beyond = said 7 (question_code ReadVout) 0 0
-verdict_numbers verdict.PowerGoodAlone = said 8 (question_code StatusWord) 0 0
-verdict_numbers verdict.NoPowerGood = said 9 (question_code StatusWord) 0 0
-verdict_numbers (verdict.NotKnown register fault) = said 10 (question_code register) 0 fault
-verdict_numbers verdict.WentOff = said 11 0 0 0
-verdict_numbers verdict.StillOn = said 12 (question_code StatusWord) 0 0
-verdict_numbers verdict.DeliversByVoltage = said 14 0 0 0
+verdict_numbers verdict = numbers_told (numbers_of_verdict verdict)
 
 -- the register that a verdict is said by, and what it held
 abbrev pub said_by : Verdict → Option Question

@@ -13,4 +13,7 @@ pub mod Rail
 pub mod Sizes
 pub mod Stairs
 pub mod StairsStep
+pub mod SequenceStep
+pub mod SequenceSaid
+pub mod Sequence
 pub mod Voltages

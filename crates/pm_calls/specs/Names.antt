@@ -118,7 +118,8 @@ own_words n =
     else (if n == 0xEC then Some (codes "NoDelivery")
     else (if n == 0xED then Some (codes "NoGoal")
     else (if n == 0xEE then Some (codes "NoStairs")
-    else (if n == 0xEF then Some (codes "NoStep") else None)))))))))))))))
+    else (if n == 0xEF then Some (codes "NoStep")
+    else (if n == 0xF0 then Some (codes "NoSequence") else None))))))))))))))))
 
 -- the words of a refusal, of which each kind has numbers that begin with a digit of its own
 abbrev pub refusal_words : ℕ → Option (List ℕ)
@@ -130,7 +131,8 @@ refusal_words n =
     else (if n / 16 == 4 then device_words n
     else (if n / 16 == 5 then config_words n
     else (if n / 16 == 6 then option_or (option_or (plan_words n) (delivery_words n)) (accept_words n)
-    else (if n / 16 == 14 then own_words n else None)))))))
+    else (if n / 16 == 14 then own_words n
+    else (if n / 16 == 15 then own_words n else None))))))))
 
 -- how a job stands, in the words of its lines
 abbrev pub step_words : Step → List ℕ

@@ -63,6 +63,10 @@ no_room = 0xEA
 abbrev pub no_stairs : ℕ
 no_stairs = 0xEE
 
+-- the memory holds no sequence
+abbrev pub no_sequence : ℕ
+no_sequence = 0xF0
+
 -- the numbers mean no step, or there is none to leave
 abbrev pub no_step : ℕ
 no_step = 0xEF
@@ -87,6 +91,12 @@ again = 0x96
 
 abbrev pub no_way_back : ℕ
 no_way_back = 0x97
+
+abbrev pub wait : ℕ
+wait = 0x98
+
+abbrev pub told : ℕ
+told = 0x9A
 
 -- what a call answers that is refused with this, or accepted
 abbrev pub outcome : Option HostFault → ℕ

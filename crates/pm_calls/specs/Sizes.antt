@@ -1,7 +1,7 @@
 -- How many bytes stand in a caller's memory, by the counts of outputs, registers and places. None is padding:
 -- a byte stands anywhere, a word of two bytes at an even place,
 -- a number of eight at one that eight divides.
-use Rattle.std.specs.Prelude.{ℕ, ◌+◌, ◌*◌}
+use Rattle.std.specs.Prelude.{ℕ, ◌+◌, ◌-◌, ◌*◌}
 use Rattle.pm_table.specs.Cell.{places}
 
 -- a word
@@ -56,3 +56,20 @@ stairs_step_size = 8 + 5 * (2 * word_size + 4 + 8)
 -- bytes, two words and five wishes; and two courses
 abbrev pub stairs_size : ℕ
 stairs_size = 4 * word_size + 8 + 16 + (8 + 2 * word_size + 5 * (2 * word_size)) + 2 * course_size
+
+-- a step of a sequence: that of stairs, four bytes, two words, four bytes of a wait, and what was heard before
+abbrev pub sequence_step_size : ℕ
+sequence_step_size = stairs_step_size + 4 + 2 * word_size + 4 + heard_size
+
+-- a record: a step, a delivery, and six bytes of no meaning
+abbrev pub sequence_record_size : ℕ
+sequence_record_size = sequence_step_size + delivery_size + 6
+
+-- what is said: six bytes, three words, four bytes of milliseconds and eight of a voltage
+abbrev pub said_size : ℕ
+said_size = 6 + 3 * word_size + 4 + 8
+
+-- a sequence: the mark, the version, the steps that were left and two bytes; what was said; stairs; a look, which is a delivery without its
+-- mark and version and eight bytes; six bytes; its end, in six bytes and two words; and ten bytes of no meaning
+abbrev pub sequence_size : ℕ
+sequence_size = 3 * word_size + 2 + said_size + stairs_size + (delivery_size - 2 * word_size + 8) + 6 + (6 + 2 * word_size) + 10

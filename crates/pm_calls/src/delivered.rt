@@ -12,7 +12,7 @@ use crate::numbers::ACCEPTED;
 use crate::voltages::put_floor;
 use pm_delivery::{Delivery, Judgement, Limit, Question, Verdict};
 use pm_host::{HostFault, State};
-use pm_memory::GuardImage;
+use pm_memory::{GuardImage, VerdictNumbers};
 use pm_num::{AnyFormat, NumFormat};
 
 /// What a rail does, as plain numbers. It has no padding.
@@ -94,8 +94,8 @@ fn verdict(delivery: &Delivery, host: &GuardImage) -> Verdict
     )
 }
 
-// READ_VOUT in microvolts, if it gave a good answer and its format is known.
-fn told(delivery: &Delivery, host: &GuardImage) -> Option<i64>
+/// READ_VOUT in microvolts, if it gave a good answer and its format is known.
+pub(crate) fn told(delivery: &Delivery, host: &GuardImage) -> Option<i64>
     requires { delivery.now.output < 8 }
     ensures told { is_some result ≡ is_told (format_at (idle host.now) delivery.now.output) delivery.now }
     ensures floor { IsTold (format_at (idle host.now) delivery.now.output) delivery.now result }
@@ -136,22 +136,8 @@ fn floor_of(format: &AnyFormat, word: u16) -> Option<i64>
 fn numbers_of(verdict: Verdict) -> DeliveredImage
     ensures { result ≡ verdict_numbers verdict }
 {
-    match verdict {
-        Verdict::NotYet => said(0, 0, 0, 0),
-        Verdict::Delivers => said(1, 0, 0, 0),
-        Verdict::CommandedOff => said(2, 0, 0, 0),
-        Verdict::NotKnownOn => said(3, 0, 0, 0),
-        Verdict::IsOff => said(4, Question::StatusWord.code().0, 0, 0),
-        Verdict::NewFault(register, place) => said(5, register.code().0, place, 0),
-        Verdict::OutsideLimits => said(6, Question::ReadVout.code().0, 0, 0),
-        Verdict::Beyond => said(7, Question::ReadVout.code().0, 0, 0),
-        Verdict::PowerGoodAlone => said(8, Question::StatusWord.code().0, 0, 0),
-        Verdict::NoPowerGood => said(9, Question::StatusWord.code().0, 0, 0),
-        Verdict::NotKnown(register, fault) => said(10, register.code().0, 0, fault),
-        Verdict::WentOff => said(11, 0, 0, 0),
-        Verdict::StillOn => said(12, Question::StatusWord.code().0, 0, 0),
-        Verdict::DeliversByVoltage => said(14, 0, 0, 0),
-    }
+    let numbers = VerdictNumbers::of(verdict);
+    said(numbers.kind, numbers.code, numbers.bit, numbers.fault)
 }
 
 // Numbers without a reading.
@@ -170,8 +156,8 @@ fn said(kind: u8, code: u8, bit: u8, fault: u8) -> DeliveredImage
     }
 }
 
-// The register that a verdict is said by.
-fn said_by(verdict: Verdict) -> Option<Question>
+/// The register that a verdict is said by.
+pub(crate) fn said_by(verdict: Verdict) -> Option<Question>
     ensures { result ≡ spec_said_by verdict }
 {
     match verdict {
@@ -189,8 +175,8 @@ fn said_by(verdict: Verdict) -> Option<Question>
     }
 }
 
-// What a register held in this round; 0 of none.
-fn word_of(delivery: &Delivery, register: Option<Question>) -> u16
+/// What a register held in this round; 0 of none.
+pub(crate) fn word_of(delivery: &Delivery, register: Option<Question>) -> u16
     ensures { result ≡ spec_word_of delivery.now register }
 {
     match register {

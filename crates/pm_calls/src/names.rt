@@ -64,7 +64,7 @@ pub fn refusal_words(number: u8) -> Option<&'static str>
         6 => words_of_plan(number)
             .or(words_of_delivery(number))
             .or(words_of_accept(number)),
-        14 => words_of_own(number),
+        14 | 15 => words_of_own(number),
         _ => None,
     }
 }
@@ -197,7 +197,7 @@ fn words_of_accept(number: u8) -> Option<&'static str>
     }
 }
 
-// The words of what only a caller in C can ask wrongly, of a host, a course, a delivery or a part.
+// The words of what only a caller in C can ask wrongly, of a host, a course, a delivery, a sequence or a part.
 #[inline(never)]
 fn words_of_own(number: u8) -> Option<&'static str>
     ensures words { option_map (λ words. words.now) result ≡ own_words number }
@@ -220,6 +220,7 @@ fn words_of_own(number: u8) -> Option<&'static str>
         0xED => Some("NoGoal"),
         0xEE => Some("NoStairs"),
         0xEF => Some("NoStep"),
+        0xF0 => Some("NoSequence"),
         _ => None,
     }
 }

@@ -62,3 +62,12 @@ pub const AGAIN: u8 = 0x96;
 
 /// The way back of a step would be refused.
 pub const NO_WAY_BACK: u8 = 0x97;
+
+/// Time is to pass before a sequence is asked again.
+pub const WAIT: u8 = 0x98;
+
+/// What became of a step is said.
+pub const TOLD: u8 = 0x9A;
+
+/// The memory holds no sequence.
+pub const NO_SEQUENCE: u8 = 0xF0;

@@ -36,6 +36,7 @@ mod names;
 mod other_read;
 mod packet;
 mod rail;
+mod sequence;
 mod stairs;
 #[cfg(test)]
 mod tests;

@@ -2,3 +2,4 @@ mod HeldImage
 mod Hosts
 mod Kept
 pub mod Courses
+pub mod Sequences

@@ -9,4 +9,6 @@ pub mod Hosted
 pub mod Memory
 pub mod Sending
 pub mod StairsImage
+pub mod SequenceEnd
+pub mod SequenceImage
 pub mod Wanted

@@ -2,6 +2,7 @@
 
 ghost use Rattle.pm_memory.specs.CourseImage.{CoursesAreKept};
 ghost use Rattle.pm_memory.specs.Memory.{MemoriesAreMeanings};
+ghost use Rattle.pm_memory.specs.SequenceImage.{SequencesAreKept};
 
 use pm_host::images_are_meanings;
 
@@ -17,4 +18,9 @@ pub fn memories_are_meanings()
 /// What the calls of a course leave in its memory reads as the course that they speak of.
 pub fn courses_are_kept()
     ensures { CoursesAreKept }
+{}
+
+/// What a call leaves in the memory of a sequence reads as the sequence that it speaks of, but for courses and ends that no memory keeps.
+pub fn sequences_are_kept()
+    ensures { SequencesAreKept }
 {}

@@ -102,8 +102,8 @@ impl StairsEndImage {
     }
 }
 
-// The numbers of how a step stopped.
-fn numbers_of(why: StepEnd) -> EndNumbers
+/// The numbers of how a step stopped.
+pub(crate) fn numbers_of(why: StepEnd) -> EndNumbers
     ensures { result ≡ stop_numbers why }
 {
     match why {

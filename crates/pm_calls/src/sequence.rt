@@ -1,0 +1,373 @@
+//! A sequence over hosts in a caller's memory: a list of steps is carried out, and what its rails do is looked at.
+
+ghost use Rattle.std.specs.Prelude.{◌≡◌, IfOk, IfSome, OnOk, length};
+ghost use Rattle.std.specs.Result.{result_err};
+ghost use Rattle.pm_host.specs.Told.{entry_told};
+ghost use Rattle.pm_calls.specs.Course.{stage_number};
+ghost use Rattle.pm_calls.specs.Sequence.{asked_fault, back_said as spec_back_said, both_fault, is_look as spec_is_look, is_look_said, lacks_room as spec_lacks_room, read_named as spec_read_named, records_after, sequence_begun, step_at as spec_step_at, step_under as spec_step_under, with_back, with_look, AreAsked, AreBoth, HandsOutAt, HearsIn, IsPutNext, NextIn, ReadIn};
+ghost use Rattle.pm_memory.specs.Guard.{guard_of};
+ghost use Rattle.pm_memory.specs.Hosted.{IsThere, guard_in};
+ghost use Rattle.pm_memory.specs.Memory.{IsMemory};
+ghost use Rattle.pm_memory.specs.SequenceImage.{sequence_in};
+
+use crate::host_step::{HostStep, no_step, step_after};
+use crate::numbers::{ACCEPTED, NO_HOST, NO_ROOM, NO_SEQUENCE, NO_STEP, OTHER_FRAME};
+use crate::seen::Seen;
+use crate::sequence_said::{number_said, rail_said, said_after, step_said};
+use crate::sequence_step::{SequenceRecordImage, SequenceStepImage};
+use pm_course::surprises;
+use pm_delivery::Question;
+use pm_frame::paged_request;
+use pm_host::{Stage, Told};
+use pm_memory::{DeliveryImage, GuardImage, SaidImage, SendingImage, SequenceImage};
+use pm_sequence::{Act, End, Phase, Sequence, Step};
+use pm_stairs::WordStep;
+use pm_table::Code;
+
+// How many steps a list has at most.
+const MOST_STEPS: usize = 65535;
+
+// A sequence that is asked: as it was, the stage of the host's open job, the newest step that has begun, and the first one ahead.
+#[derive(Clone, Copy)]
+struct Asked {
+    was: Sequence,
+    stage: Option<Stage>,
+    under: Option<Step>,
+    ahead: Option<Step>,
+}
+
+/// A sequence of which no step has begun. Of `rules` 1 says that no way back is kept.
+pub fn begun(tries: u16, rules: u8) -> SequenceImage
+    ensures { result ≡ sequence_begun tries rules }
+{
+    SequenceImage::of(&Sequence::new(tries, rules % 2 == 1), SaidImage::NOTHING)
+}
+
+// The step at a place of a list, none after its end; or the number of what is wrong with it.
+fn step_at(steps: &[SequenceStepImage], place: u16) -> Result<Option<Step>, u8>
+    ensures { result ≡ spec_step_at steps.now place }
+{
+    match steps.get(usize::from(place)) {
+        Some(image) => match image.step() {
+            Ok(step) => Ok(Some(step)),
+            Err(number) => Err(number),
+        },
+        None => Ok(None),
+    }
+}
+
+// The newest of so many steps that have begun.
+fn step_under(steps: &[SequenceStepImage], begun: u16) -> Result<Option<Step>, u8>
+    ensures { result ≡ spec_step_under steps.now begun }
+{
+    if 0 < begun {
+        step_at(steps, begun - 1)
+    } else {
+        Ok(None)
+    }
+}
+
+// Whether there is less room than there are steps, if a way back is kept.
+fn lacks_room(was: &Sequence, steps: usize, room: usize) -> bool
+    ensures { result ≡ spec_lacks_room was.now steps room }
+{
+    !was.list.is_down && room < steps
+}
+
+// What is asked; or the number of why the memories, the list or the room are refused.
+fn read(
+    sequence: &SequenceImage,
+    host: &GuardImage,
+    steps: &[SequenceStepImage],
+    room: usize,
+) -> Result<Asked, u8>
+    ensures fault { result_err result ≡ asked_fault (guard_of host.now) (sequence_in sequence.now) steps.now room }
+    ensures there { OnOk result (IsThere host.now) }
+    ensures stage { IfOk result (λ asked. asked.stage ≡ (guard_in host.now).host.stage) }
+    ensures asked { IfOk result (λ asked. AreAsked host.now sequence.now steps.now room (guard_in host.now) asked.was asked.under asked.ahead) }
+{
+    let Ok(stage) = host.open_stage() else {
+        return Err(NO_HOST);
+    };
+    let Some(was) = sequence.sequence() else {
+        return Err(NO_SEQUENCE);
+    };
+    if MOST_STEPS < steps.len() {
+        return Err(NO_STEP);
+    }
+    if lacks_room(&was, steps.len(), room) {
+        return Err(NO_ROOM);
+    }
+    let under = step_under(steps, was.list.begun)?;
+    let ahead = step_at(steps, was.list.begun)?;
+    Ok(Asked {
+        was,
+        stage,
+        under,
+        ahead,
+    })
+}
+
+// Hands out what is next: the stage whose frame is to be sent, and what is said.
+fn hand_out(
+    sequence: &mut Sequence,
+    host: &mut GuardImage,
+    stage: Option<Stage>,
+    under: Option<Step>,
+    ahead: Option<Step>,
+) -> (Option<Stage>, Act)
+    requires there { IsThere host.old }
+    requires stage { stage ≡ (guard_in host.old).host.stage }
+    ensures there { IsThere host.new }
+    ensures hands { HandsOutAt (guard_in host.old) under ahead sequence.old result.0 result.1 (guard_in host.new) sequence.new }
+    ensures open { IfSome result.0 (λ at. (guard_in host.new).host.stage ≡ Some at) }
+    ensures written { IsMemory host.old → IsMemory host.new }
+{
+    if let Some(at) = stage {
+        if sequence.list.is_job_at(at) {
+            return (stage, Act::Again);
+        }
+    }
+    let mut asked = *sequence;
+    let act = asked.next(&Seen::of(host, stage), under, ahead);
+    match act.job() {
+        None => {
+            *sequence = asked;
+            (None, act)
+        }
+        Some(job) => match host.begin_job(stage, job) {
+            Ok(at) => {
+                *sequence = asked;
+                (at, act)
+            }
+            Err(fault) => (None, sequence.refused(&asked, act, fault, job)),
+        },
+    }
+}
+
+// The register that is to be read beside the host's jobs: its command code, and how many bytes it has.
+fn read_named(act: Act) -> Option<(u8, u8)>
+    ensures { result ≡ spec_read_named act }
+{
+    match act {
+        Act::Ask(question) => Some((question.code().0, question.size() as u8)),
+        Act::Probe => Some((Code::OPERATION.0, 1)),
+        _ => None,
+    }
+}
+
+// The frame of a stage, or the request of what is asked beside the host's jobs, or nothing.
+fn put(
+    host: &GuardImage,
+    is: &Sequence,
+    at: Option<Stage>,
+    act: Act,
+    sending: &mut SendingImage,
+)
+    requires there { IsThere host.now }
+    requires open { IfSome at (λ stage. (guard_in host.now).host.stage ≡ Some stage) }
+    ensures { IsPutNext (guard_in host.now) is.now at act sending.new }
+{
+    if let Some(stage) = at {
+        sending.put(host.host.state.address, &stage.message());
+        return;
+    }
+    match read_named(act) {
+        Some((code, size)) => {
+            let address = host.host.state.address;
+            sending.put_paged(
+                &paged_request(address, is.look.delivery.output, code),
+                size + 3,
+            );
+        }
+        None => sending.clear(),
+    }
+}
+
+// The step that undoes the one that begins.
+fn back_said(act: Act) -> Option<WordStep>
+    ensures { result ≡ spec_back_said act }
+{
+    match act {
+        Act::Begins(_, back) | Act::Passes(back) => Some(back),
+        _ => None,
+    }
+}
+
+// Whether what was heard of a rail is kept: what is said of it ends its look, or a goal is beyond its limits.
+fn is_look_said(act: Act) -> bool
+    ensures { result ≡ is_look_said act }
+{
+    match act {
+        Act::Leaves(End::Beyond(_)) | Act::Ended(End::Beyond(_)) => true,
+        _ => rail_said(act).is_some(),
+    }
+}
+
+// Keeps the step that undoes another one at its place, if there is room.
+fn keep_back(records: &mut [SequenceRecordImage], at: usize, back: SequenceStepImage)
+    ensures { records.new ≡ with_back records.old at back }
+{
+    if at < records.len() {
+        records[at].back = back;
+    }
+}
+
+// Keeps what was heard of a rail at the place of its step, if there is room.
+fn keep_look(records: &mut [SequenceRecordImage], at: usize, look: DeliveryImage)
+    ensures { records.new ≡ with_look records.old at look }
+{
+    if at < records.len() {
+        records[at].look = look;
+    }
+}
+
+// Keeps what is to be kept of what is said.
+fn keep(records: &mut [SequenceRecordImage], was: &Sequence, is: &Sequence, act: Act)
+    ensures { records.new ≡ records_after was.now is.now act records.old }
+{
+    if let Some(back) = back_said(act) {
+        if !was.list.is_down {
+            keep_back(
+                records,
+                usize::from(was.list.begun),
+                SequenceStepImage::back(is.list.under_host, &back),
+            );
+        }
+    }
+    if is_look_said(act) {
+        keep_look(
+            records,
+            usize::from(step_said(is, act)),
+            DeliveryImage::of(is.look.delivery),
+        );
+    }
+}
+
+/// The work of `pm_sequence_next`.
+pub fn next(
+    sequence: &mut SequenceImage,
+    host: &mut GuardImage,
+    steps: &[SequenceStepImage],
+    records: &mut [SequenceRecordImage],
+    sending: &mut SendingImage,
+) -> u8
+    ensures { NextIn host.old sequence.old steps.now records.old result host.new sequence.new records.new sending.new }
+{
+    let asked = match read(sequence, host, steps, records.len()) {
+        Ok(asked) => asked,
+        Err(number) => {
+            sending.clear();
+            return number;
+        }
+    };
+    let mut is = asked.was;
+    let (at, act) = hand_out(&mut is, host, asked.stage, asked.under, asked.ahead);
+    put(host, &is, at, act, sending);
+    keep(records, &asked.was, &is, act);
+    let said = said_after(host, &is, act, sequence.said);
+    *sequence = SequenceImage::of(&is, said);
+    number_next(at, act)
+}
+
+// What is answered of a frame, or of what is said.
+fn number_next(at: Option<Stage>, act: Act) -> u8
+    ensures { result ≡ number_next at act }
+{
+    match at {
+        Some(_) => ACCEPTED,
+        None => number_said(act),
+    }
+}
+
+// A sequence and the stage of the host's open job; or the number of why their memories are refused.
+fn read_both(
+    sequence: &SequenceImage,
+    host: &GuardImage,
+) -> Result<(Sequence, Option<Stage>), u8>
+    ensures fault { result_err result ≡ both_fault (guard_of host.now) (sequence_in sequence.now) }
+    ensures there { OnOk result (IsThere host.now) }
+    ensures stage { IfOk result (λ both. both.1 ≡ (guard_in host.now).host.stage) }
+    ensures both { IfOk result (λ both. AreBoth host.now sequence.now (guard_in host.now) both.0) }
+{
+    let Ok(stage) = host.open_stage() else {
+        return Err(NO_HOST);
+    };
+    match sequence.sequence() {
+        Some(was) => Ok((was, stage)),
+        None => Err(NO_SEQUENCE),
+    }
+}
+
+/// A host and the course whose job was named last hear what became of the host's frame.
+pub fn tell(sequence: &mut SequenceImage, host: &mut GuardImage, told: Told<'_>) -> HostStep
+    ensures { HearsIn host.old sequence.old (entry_told told.entry) result host.new sequence.new }
+{
+    let (was, stage) = match read_both(sequence, host) {
+        Ok(both) => both,
+        Err(number) => return no_step(number),
+    };
+    hear(sequence, host, &was, stage, told)
+}
+
+// They hear it, if the host's open job stands at this stage and awaits it.
+fn hear(
+    sequence: &mut SequenceImage,
+    host: &mut GuardImage,
+    was: &Sequence,
+    stage: Option<Stage>,
+    told: Told<'_>,
+) -> HostStep
+    requires there { IsThere host.old }
+    requires stage { stage ≡ (guard_in host.old).host.stage }
+    requires both { AreBoth host.old sequence.old (guard_in host.old) was.now }
+    ensures { HearsIn host.old sequence.old (entry_told told.entry) result host.new sequence.new }
+{
+    let Some(at) = stage else {
+        return no_step(OTHER_FRAME);
+    };
+    if !at.awaits(&told) {
+        return no_step(OTHER_FRAME);
+    }
+    let Some(course) = was.list.course_open() else {
+        return no_step(OTHER_FRAME);
+    };
+    let surprised = surprises(&host.host.state, at, told);
+    let address = host.host.state.address;
+    let mut heard_course = course;
+    let heard = heard_course.hear_by(host, at, told);
+    let mut is = *was;
+    is.list = was.list.with_course(heard_course, surprised);
+    *sequence = SequenceImage::of(&is, sequence.said);
+    step_after(heard.step, address, at, told)
+}
+
+// Whether what is read is of a look: one is under way, and no job of the list is open.
+fn is_look(was: &Sequence, stage: Option<Stage>) -> bool
+    ensures { result ≡ spec_is_look was.now stage }
+{
+    if was.phase == Phase::Steps {
+        return false;
+    }
+    match stage {
+        Some(at) => !was.list.is_job_at(at),
+        None => true,
+    }
+}
+
+/// The work of `pm_sequence_read_ended`.
+pub fn read_ended(sequence: &mut SequenceImage, host: &mut GuardImage, bytes: &[u8]) -> HostStep
+    ensures { ReadIn host.old sequence.old bytes.now result host.new sequence.new }
+{
+    let (was, stage) = match read_both(sequence, host) {
+        Ok(both) => both,
+        Err(number) => return no_step(number),
+    };
+    if !is_look(&was, stage) {
+        return hear(sequence, host, &was, stage, Told::Got(bytes));
+    }
+    let mut is = was;
+    is.answered(&Seen::of(host, stage), bytes);
+    *sequence = SequenceImage::of(&is, sequence.said);
+    no_step(ACCEPTED)
+}

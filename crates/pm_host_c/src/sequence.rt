@@ -1,0 +1,79 @@
+//! A sequence over hosts in a caller's memory: a list of steps is carried out, and what its rails do is looked at.
+
+ghost use Rattle.std.specs.Prelude.{◌≡◌, not, ◌==◌};
+ghost use Rattle.pm_host.specs.Transcript.{Finished};
+ghost use Rattle.pm_calls.specs.Sequence.{sequence_begun, HearsIn, NextIn, ReadIn};
+ghost use Rattle.pm_calls.specs.Sizes.{sequence_size};
+ghost use Rattle.pm_memory.specs.SequenceImage.{sequence_version};
+
+use pm_calls::host_step::HostStep;
+use pm_calls::sequence::{begun, next, read_ended, tell};
+use pm_calls::sequence_step::{SequenceRecordImage, SequenceStepImage};
+use pm_host::Told;
+use pm_memory::{GuardImage, SendingImage, SequenceImage};
+use std::mem::size_of;
+
+/// How many bytes a sequence has.
+#[unsafe(no_mangle)]
+pub extern "C" fn pm_sequence_size() -> u64
+    ensures { result ≡ sequence_size }
+{
+    size_of::<SequenceImage>() as u64
+}
+
+/// The number of its layout.
+#[unsafe(no_mangle)]
+pub extern "C" fn pm_sequence_version() -> u16
+    ensures { result ≡ sequence_version }
+{
+    SequenceImage::VERSION
+}
+
+/// Makes a sequence of which no step has begun, each with this many jobs at most. Of `rules` 1 says that no way back is kept.
+#[unsafe(no_mangle)]
+pub extern "C" fn pm_sequence_new(sequence: &mut SequenceImage, tries: u16, rules: u8)
+    ensures { sequence.new ≡ sequence_begun tries rules }
+{
+    *sequence = begun(tries, rules);
+}
+
+/// What comes next, by the host at the place that the sequence names. 0 if the frame is to be sent; 96h to ask again at once, 98h once
+/// time has passed, 9Ah what became of a step, 97h if the way back of the next step would be refused, 95h once it has ended; E0h, F0h, EAh,
+/// EFh, H4. Then the frame is nothing.
+#[unsafe(no_mangle)]
+pub extern "C" fn pm_sequence_next(
+    sequence: &mut SequenceImage,
+    host: &mut GuardImage,
+    steps: &[SequenceStepImage],
+    records: &mut [SequenceRecordImage],
+    sending: &mut SendingImage,
+) -> u8
+    ensures { NextIn host.old sequence.old steps.now records.old result host.new sequence.new records.new sending.new }
+{
+    next(sequence, host, steps, records, sending)
+}
+
+/// A write was sent, and acknowledged or not (0). E0h, F0h, E2h if no write is being sent.
+#[unsafe(no_mangle)]
+pub extern "C" fn pm_sequence_write_ended(
+    sequence: &mut SequenceImage,
+    host: &mut GuardImage,
+    acked: u8,
+) -> HostStep
+    ensures { HearsIn host.old sequence.old (Finished (not (acked == 0))) result host.new sequence.new }
+{
+    tell(sequence, host, Told::Finished { acked: acked != 0 })
+}
+
+/// A request was sent, and these bytes came back, the read address first; none if there was no answer. 0 of a look's. E0h, F0h, E2h if no
+/// request is being sent.
+#[unsafe(no_mangle)]
+pub extern "C" fn pm_sequence_read_ended(
+    sequence: &mut SequenceImage,
+    host: &mut GuardImage,
+    bytes: &[u8],
+) -> HostStep
+    ensures { ReadIn host.old sequence.old bytes.now result host.new sequence.new }
+{
+    read_ended(sequence, host, bytes)
+}

@@ -1,0 +1,68 @@
+-- How the memory of a sequence is kept.
+use Rattle.std.proofs.Common.{◌≡◌, ◌∙◌, ℕ, Bool, true, false, Option, Some, None, refl, ap, rules}
+use Rattle.std.specs.Prelude.{◌==◌, if◌then◌else◌, is_some, option_map, IfSome}
+use Rattle.pm_rail.specs.declared.wanted.Wanted.{Wanted}
+use Rattle.pm_course.specs.declared.frame_course.FrameCourse.{FrameCourse}
+use Rattle.pm_course.specs.FrameCourse.{to_survey}
+use Rattle.pm_stairs.specs.declared.sequence.Sequence.{Sequence as List}
+use Rattle.pm_stairs.specs.declared.stairs.Under.{Under}
+use Rattle.pm_stairs.specs.declared.step.WordAct.{WordAct}
+use Rattle.pm_stairs.specs.declared.step.WordAct.TheVariants as words
+use Rattle.pm_sequence.specs.declared.look.Look.{Look}
+use Rattle.pm_sequence.specs.declared.sequence.Phase.{Phase}
+use Rattle.pm_sequence.specs.declared.sequence.Phase.TheVariants as phase
+use Rattle.pm_sequence.specs.declared.sequence.Sequence.{Sequence}
+use Rattle.pm_memory.specs.declared.stairs_end.StairsEndImage.{StairsEndImage}
+use Rattle.pm_memory.specs.declared.sequence_image.SaidImage.{SaidImage}
+use Rattle.pm_memory.specs.CourseImage.{course_image, course_in, IsKept}
+use Rattle.pm_memory.specs.Flag.{flag}
+use Rattle.pm_memory.specs.SequenceImage.{look_image, look_read, phase_number, phase_read, sequence_image, sequence_in, IsKeptList, IsKeptSequence, SequencesAreKept}
+use Rattle.pm_memory.specs.StairsImage.{course_written, end_none, held_with, sequence_held, stairs_image, stairs_in, under_image, under_words}
+use Rattle.pm_memory.proofs.Courses.{kept}
+use Rattle.pm_memory.proofs.Kept.{flag-kept, wanted-kept}
+
+look-kept : (l : Look) → look_read (look_image l) ≡ l
+look-kept l = rw (
+  flag-kept l.status.has_answered,
+  flag-kept l.vout.has_answered,
+  flag-kept l.probe.is_there,
+  flag-kept l.probe.is_over,
+) refl
+
+phase-kept : (p : Phase) → phase_read (phase_number p) ≡ p
+phase-kept phase.Steps = refl
+phase-kept phase.Before = refl
+phase-kept phase.After = refl
+
+-- a list whose newest step and whose first step ahead have these courses
+made : List → Option Under → Option FrameCourse → List
+made q under coming = record q { stairs = record q.stairs { under = under; coming = coming } }
+
+under : ℕ → WordAct → FrameCourse → Option Under
+under output act course = Some (record { step = record { output = output; act = act }; course = course })
+
+IsListKept : List → StairsEndImage → Type 0
+IsListKept q end = stairs_in (stairs_image q end) ≡ Some q
+
+list-at : (q : List) (end : StairsEndImage) (coming : Option FrameCourse) → IfSome coming IsKept → IsListKept (made q None coming) end
+list-at q end None is = rw (
+  flag-kept q.is_free,
+  flag-kept q.is_warned,
+  flag-kept q.is_down,
+  flag-kept q.stairs.reading,
+  flag-kept q.stairs.restarted,
+) refl
+list-at q end (Some c) is = rw (
+  kept c is,
+  flag-kept q.is_free,
+  flag-kept q.is_warned,
+  flag-kept q.is_down,
+  flag-kept q.stairs.reading,
+  flag-kept q.stairs.restarted,
+) refl
+
+list-kept : (q : List) (end : StairsEndImage) → IsKeptList q → IsListKept q end
+list-kept q end is = ?
+
+pub sequences : SequencesAreKept
+sequences = record { kept = ? }

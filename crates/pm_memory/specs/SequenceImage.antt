@@ -1,0 +1,112 @@
+-- A sequence as plain numbers in a caller's memory, and what they mean. This project's own choice.
+use Rattle.std.specs.Prelude.{◌≡◌, ℕ, ◌&&◌, ◌==◌, if◌then◌else◌, replicate, Option, Some, None, option_map, IfSome}
+use Rattle.pm_course.specs.declared.frame_course.FrameCourse.{FrameCourse}
+use Rattle.pm_stairs.specs.declared.sequence.Sequence.{Sequence as List}
+use Rattle.pm_sequence.specs.declared.look.Look.{Look}
+use Rattle.pm_sequence.specs.declared.look.Silence.{Silence}
+use Rattle.pm_sequence.specs.declared.sequence.Phase.{Phase}
+use Rattle.pm_sequence.specs.declared.sequence.Phase.TheVariants as phase
+use Rattle.pm_sequence.specs.declared.sequence.Sequence.{Sequence}
+use Rattle.pm_memory.specs.declared.look_image.LookImage.{LookImage}
+use Rattle.pm_memory.specs.declared.look_image.SilenceImage.{SilenceImage}
+use Rattle.pm_memory.specs.declared.sequence_image.SaidImage.{SaidImage}
+use Rattle.pm_memory.specs.declared.sequence_image.SequenceImage.{SequenceImage}
+use Rattle.pm_memory.specs.CourseImage.{IsKept}
+use Rattle.pm_memory.specs.Flag.{flag}
+use Rattle.pm_memory.specs.SequenceEnd.{end_read, end_written}
+use Rattle.pm_memory.specs.StairsImage.{end_none, stairs_image, stairs_in}
+
+-- the bytes 'SQ' and the number of this layout, which other memory lacks
+abbrev pub sequence_mark : ℕ
+sequence_mark = 0x5153
+
+abbrev pub sequence_version : ℕ
+sequence_version = 1
+
+-- ---- A look ----
+
+abbrev pub silence_image : Silence → SilenceImage
+silence_image s = record { rounds = s.rounds; has_answered = flag s.has_answered }
+
+abbrev pub silence_read : SilenceImage → Silence
+silence_read i = record { rounds = i.rounds; has_answered = i.has_answered == 1 }
+
+abbrev pub look_image : Look → LookImage
+look_image l = record {
+  delivery = l.delivery;
+  status = silence_image l.status;
+  vout = silence_image l.vout;
+  probed = l.probe.asked;
+  is_there = flag l.probe.is_there;
+  is_over = flag l.probe.is_over;
+  unused = 0;
+}
+
+abbrev pub look_read : LookImage → Look
+look_read i = record {
+  delivery = i.delivery;
+  status = silence_read i.status;
+  vout = silence_read i.vout;
+  probe = record { asked = i.probed; is_there = i.is_there == 1; is_over = i.is_over == 1 };
+}
+
+-- ---- A sequence ----
+
+abbrev pub phase_number : Phase → ℕ
+phase_number phase.Steps = 0
+phase_number phase.Before = 1
+phase_number phase.After = 2
+
+abbrev pub phase_read : ℕ → Phase
+phase_read n = if n == 1 then phase.Before else (if n == 2 then phase.After else phase.Steps)
+
+abbrev pub sequence_read : SequenceImage → List → Sequence
+sequence_read i list = record {
+  list = list;
+  look = look_read i.look;
+  look_host = i.look_host;
+  phase = phase_read i.phase;
+  is_read = i.is_read == 1;
+  is_shown = i.is_shown == 1;
+  is_waited = i.is_waited == 1;
+  is_looked = i.is_looked == 1;
+  left = i.left;
+  end = end_read i.end;
+}
+
+abbrev pub sequence_in : SequenceImage → Option Sequence
+sequence_in i = if i.mark == sequence_mark && i.version == sequence_version then option_map (sequence_read i) (stairs_in i.list) else None
+
+-- how it is written, with what was said last
+abbrev pub sequence_image : Sequence → SaidImage → SequenceImage
+sequence_image q said = record {
+  mark = sequence_mark;
+  version = sequence_version;
+  left = q.left;
+  unused = replicate 2 0;
+  said = said;
+  list = stairs_image q.list end_none;
+  look = look_image q.look;
+  look_host = q.look_host;
+  phase = phase_number q.phase;
+  is_read = flag q.is_read;
+  is_shown = flag q.is_shown;
+  is_waited = flag q.is_waited;
+  is_looked = flag q.is_looked;
+  end = end_written q.end;
+  rest = replicate 10 0;
+}
+
+-- A list that memory keeps: so are its courses.
+pub record IsKeptList (q : List) : Type 0 where
+  pub under : IfSome q.stairs.under (λ under. IsKept under.course)
+  pub coming : IfSome q.stairs.coming IsKept
+
+-- A sequence that memory keeps: so is its list, and its end reads as it is written.
+pub record IsKeptSequence (q : Sequence) : Type 0 where
+  pub list : IsKeptList q.list
+  pub over : end_read (end_written q.end) ≡ q.end
+
+-- What a call leaves in the memory of a sequence reads as the sequence that it speaks of.
+pub record SequencesAreKept : Type 0 where
+  pub kept : (q : Sequence) (said : SaidImage) → IsKeptSequence q → sequence_in (sequence_image q said) ≡ Some q

@@ -1,0 +1,90 @@
+//! A look at a rail in a caller's memory, as plain numbers.
+
+ghost use Rattle.std.specs.Prelude.{◌≡◌};
+ghost use Rattle.pm_memory.specs.SequenceImage.{look_image, look_read, silence_image, silence_read};
+
+use pm_delivery::Delivery;
+use pm_sequence::{Look, Probe, Silence};
+
+/// The silence of a register: in how many rounds no answer came, and 1 if any ever did.
+#[repr(C)]
+#[derive(Clone, Copy, Debug)]
+pub struct SilenceImage {
+    /// The rounds.
+    pub rounds: u8,
+    /// 1 if any answer came, otherwise 0.
+    pub has_answered: u8,
+}
+
+/// A look at a rail. It has no padding.
+#[repr(C)]
+#[derive(Clone, Copy, Debug)]
+pub struct LookImage {
+    /// What is asked, and what came of it.
+    pub delivery: Delivery,
+    /// The silence of STATUS_WORD.
+    pub status: SilenceImage,
+    /// The silence of READ_VOUT.
+    pub vout: SilenceImage,
+    /// How often OPERATION was read in this round.
+    pub probed: u8,
+    /// 1 if any answer to it came, otherwise 0.
+    pub is_there: u8,
+    /// 1 if it counts already, otherwise 0.
+    pub is_over: u8,
+    /// No meaning.
+    pub unused: u8,
+}
+
+impl SilenceImage {
+    fn of(silence: Silence) -> SilenceImage
+        ensures { result ≡ silence_image silence }
+    {
+        SilenceImage {
+            rounds: silence.rounds,
+            has_answered: u8::from(silence.has_answered),
+        }
+    }
+
+    fn silence(&self) -> Silence
+        ensures { result ≡ silence_read self.now }
+    {
+        Silence {
+            rounds: self.rounds,
+            has_answered: self.has_answered == 1,
+        }
+    }
+}
+
+impl LookImage {
+    /// The image of a look.
+    pub fn of(look: &Look) -> LookImage
+        ensures { result ≡ look_image look.now }
+    {
+        LookImage {
+            delivery: look.delivery,
+            status: SilenceImage::of(look.status),
+            vout: SilenceImage::of(look.vout),
+            probed: look.probe.asked,
+            is_there: u8::from(look.probe.is_there),
+            is_over: u8::from(look.probe.is_over),
+            unused: 0,
+        }
+    }
+
+    /// What the numbers mean.
+    pub fn look(&self) -> Look
+        ensures { result ≡ look_read self.now }
+    {
+        Look {
+            delivery: self.delivery,
+            status: self.status.silence(),
+            vout: self.vout.silence(),
+            probe: Probe {
+                asked: self.probed,
+                is_there: self.is_there == 1,
+                is_over: self.is_over == 1,
+            },
+        }
+    }
+}

@@ -1,0 +1,175 @@
+//! A sequence in a caller's memory: plain numbers, and what they mean.
+
+ghost use Rattle.std.specs.Prelude.{◌≡◌};
+ghost use Rattle.pm_memory.specs.SequenceImage.{phase_number, phase_read, sequence_image, sequence_in, sequence_read};
+
+use crate::look_image::LookImage;
+use crate::sequence_end::SequenceEndImage;
+use crate::stairs_end::StairsEndImage;
+use crate::stairs_image::StairsImage;
+use pm_sequence::{Phase, Sequence};
+use pm_stairs::Sequence as List;
+
+/// What was said last. It has no padding.
+#[repr(C)]
+#[derive(Clone, Copy, Debug)]
+pub struct SaidImage {
+    /// 0 of a wait; as in [`SequenceEndImage`]; 9 the way back would be refused, 13 the rail does what it is to.
+    pub kind: u8,
+    /// The number of the refusal, otherwise 0.
+    pub number: u8,
+    /// The command code of the register, 0 if it is about none.
+    pub code: u8,
+    /// What the rail does, otherwise 0.
+    pub verdict: u8,
+    /// The number of the bit of a new fault, otherwise 0.
+    pub bit: u8,
+    /// 1 if READ_VOUT stands here, otherwise 0.
+    pub has_microvolts: u8,
+    /// What was read, or how many steps were left; otherwise 0.
+    pub word: u16,
+    /// What was wrong with the last answer, otherwise 0.
+    pub fault: u16,
+    /// The place of the step in the list.
+    pub step: u16,
+    /// How long is to be waited, otherwise 0.
+    pub milliseconds: u32,
+    /// READ_VOUT in microvolts, rounded down, otherwise 0.
+    pub microvolts: i64,
+}
+
+/// A sequence in memory that a caller keeps. It has no padding, holds no address of memory, and may be copied.
+#[repr(C)]
+#[derive(Clone, Copy, Debug)]
+pub struct SequenceImage {
+    /// 5153h, the bytes 'SQ'.
+    pub mark: u16,
+    /// The number of this layout.
+    pub version: u16,
+    /// How many steps were left.
+    pub left: u16,
+    /// No meaning.
+    pub unused: [u8; 2],
+    /// What was said last.
+    pub said: SaidImage,
+    /// How far the list of steps has come.
+    pub list: StairsImage,
+    /// The look at a rail.
+    pub look: LookImage,
+    /// The place of the host whose output is looked at.
+    pub look_host: u8,
+    /// What is looked at: 1 what stands before the first order, 2 what the rail does, otherwise nothing.
+    pub phase: u8,
+    /// 1 if what stands before was read, otherwise 0.
+    pub is_read: u8,
+    /// 1 if the first step ahead may be asked, otherwise 0.
+    pub is_shown: u8,
+    /// 1 if its wait is over, otherwise 0.
+    pub is_waited: u8,
+    /// 1 if the rail of the step under way was looked at, otherwise 0.
+    pub is_looked: u8,
+    /// How it ended.
+    pub end: SequenceEndImage,
+    /// No meaning.
+    pub rest: [u8; 10],
+}
+
+impl SaidImage {
+    /// Nothing was said.
+    pub const NOTHING: SaidImage = SaidImage {
+        kind: 0,
+        number: 0,
+        code: 0,
+        verdict: 0,
+        bit: 0,
+        has_microvolts: 0,
+        word: 0,
+        fault: 0,
+        step: 0,
+        milliseconds: 0,
+        microvolts: 0,
+    };
+}
+
+impl SequenceImage {
+    /// The mark of a sequence.
+    pub const MARK: u16 = 0x5153;
+
+    /// The number of the layout.
+    pub const VERSION: u16 = 1;
+
+    /// The image of a sequence, with what was said last.
+    pub fn of(sequence: &Sequence, said: SaidImage) -> SequenceImage
+        ensures { result ≡ sequence_image sequence.now said }
+    {
+        SequenceImage {
+            mark: SequenceImage::MARK,
+            version: SequenceImage::VERSION,
+            left: sequence.left,
+            unused: [0; 2],
+            said,
+            list: StairsImage::of(&sequence.list, StairsEndImage::none()),
+            look: LookImage::of(&sequence.look),
+            look_host: sequence.look_host,
+            phase: phase_number(sequence.phase),
+            is_read: u8::from(sequence.is_read),
+            is_shown: u8::from(sequence.is_shown),
+            is_waited: u8::from(sequence.is_waited),
+            is_looked: u8::from(sequence.is_looked),
+            end: SequenceEndImage::of(sequence.end),
+            rest: [0; 10],
+        }
+    }
+
+    /// The sequence; `None` if the memory holds none.
+    pub fn sequence(&self) -> Option<Sequence>
+        ensures { result ≡ sequence_in self.now }
+    {
+        if self.mark != SequenceImage::MARK || self.version != SequenceImage::VERSION {
+            return None;
+        }
+        match self.list.stairs() {
+            Some(list) => Some(self.with_list(list)),
+            None => None,
+        }
+    }
+
+    // The sequence whose list is this.
+    fn with_list(&self, list: List) -> Sequence
+        ensures { result ≡ sequence_read self.now list }
+    {
+        Sequence {
+            list,
+            look: self.look.look(),
+            look_host: self.look_host,
+            phase: phase_of(self.phase),
+            is_read: self.is_read == 1,
+            is_shown: self.is_shown == 1,
+            is_waited: self.is_waited == 1,
+            is_looked: self.is_looked == 1,
+            left: self.left,
+            end: self.end.end(),
+        }
+    }
+}
+
+// What is looked at, by its number.
+fn phase_of(number: u8) -> Phase
+    ensures { result ≡ phase_read number }
+{
+    match number {
+        1 => Phase::Before,
+        2 => Phase::After,
+        _ => Phase::Steps,
+    }
+}
+
+fn phase_number(phase: Phase) -> u8
+    ensures { result ≡ phase_number phase }
+{
+    match phase {
+        Phase::Steps => 0,
+        Phase::Before => 1,
+        Phase::After => 2,
+    }
+}
