@@ -1,19 +1,20 @@
 //! Sequences, frame after frame, over parts that are written by hand: how each ends, and what was sent.
 
 mod part;
+mod rules;
 
 use self::part::{Part, Run, carried};
 use crate::checks::equal;
 use pm_course::{Wish, Wishes};
-use pm_delivery::{DeliveryFault, Question, Verdict};
+use pm_delivery::{DeliveryFault, Heard, Question, Verdict};
 use pm_host::Host;
 use pm_limits::Guard;
-use pm_sequence::{End, Looks, Sequence, Step};
-use pm_stairs::{Act, Placed, Step as Output};
+use pm_sequence::{End, Looks, Rules, Sequence, Step};
+use pm_stairs::{Act as Does, Placed, Step as Output};
 use std::process::Abort;
 
 // A part whose outputs are on at 1 V.
-const PART: Part = Part {
+pub(crate) const PART: Part = Part {
     words: [
         [0x80, 0x1000, 0x4000, 0x1100, 0x0F00, 0x0000],
         [0x80, 0x1000, 0x4000, 0x1100, 0x0F00, 0x0000],
@@ -28,7 +29,7 @@ const PART: Part = Part {
     writes: 0,
 };
 
-const LOOKS: Looks = Looks {
+pub(crate) const LOOKS: Looks = Looks {
     is_wanted: true,
     must_deliver: false,
     tells_power_good: false,
@@ -39,7 +40,7 @@ const LOOKS: Looks = Looks {
     rounds: 4,
 };
 
-const MUST: Looks = Looks {
+pub(crate) const MUST: Looks = Looks {
     is_wanted: true,
     must_deliver: true,
     tells_power_good: false,
@@ -51,7 +52,7 @@ const MUST: Looks = Looks {
 };
 
 // A guard of a part with two outputs, of two passes.
-fn guard(rt: &impl Abort) -> Guard {
+pub(crate) fn guard(rt: &impl Abort) -> Guard {
     match Host::new(0x58, 2, 2) {
         Ok(host) => {
             let mut guard = Guard::over(host);
@@ -64,18 +65,18 @@ fn guard(rt: &impl Abort) -> Guard {
 }
 
 // A step that gives VOUT_COMMAND a voltage.
-fn sets(host: u8, output: u8, microvolts: i64, looks: Looks) -> Step {
+pub(crate) fn sets(host: u8, output: u8, microvolts: i64, looks: Looks) -> Step {
     let mut wishes = Wishes::nothing();
     wishes.command = Wish::Microvolts(microvolts);
-    step_of(host, output, Act::Sets(wishes), looks)
+    step_of(host, output, Does::Sets(wishes), looks)
 }
 
 // A step that turns an output off.
-fn off(host: u8, output: u8, looks: Looks) -> Step {
-    step_of(host, output, Act::Turns(0x00), looks)
+pub(crate) fn off(host: u8, output: u8, looks: Looks) -> Step {
+    step_of(host, output, Does::Turns(0x00), looks)
 }
 
-fn step_of(host: u8, output: u8, act: Act, looks: Looks) -> Step {
+fn step_of(host: u8, output: u8, act: Does, looks: Looks) -> Step {
     Step {
         placed: Placed {
             host,
@@ -83,23 +84,38 @@ fn step_of(host: u8, output: u8, act: Act, looks: Looks) -> Step {
         },
         wait: 0,
         looks,
+        before: Heard::NOTHING,
     }
 }
 
 // The same, once so many milliseconds have passed.
-fn after(wait: u32, step: Step) -> Step {
-    Step {
-        placed: step.placed,
-        wait,
-        looks: step.looks,
-    }
+pub(crate) fn after(wait: u32, step: Step) -> Step {
+    Step { wait, ..step }
 }
 
+// A way up that ends at a step that stops, and a way down that leaves it. Neither asks before orders.
+pub(crate) const UP: Rules = Rules {
+    is_down: false,
+    leaves: false,
+    asks: false,
+};
+
+pub(crate) const DOWN: Rules = Rules {
+    is_down: true,
+    leaves: true,
+    asks: false,
+};
+
 // What a list comes to over two parts, and these then.
-fn over(rt: &impl Abort, is_down: bool, parts: [Part; 2], steps: &[Step]) -> (Run, [Part; 2]) {
+pub(crate) fn over(
+    rt: &impl Abort,
+    rules: Rules,
+    parts: [Part; 2],
+    steps: &[Step],
+) -> (Run, [Part; 2]) {
     let mut parts = parts;
     let run = carried(
-        Sequence::new(60, is_down),
+        Sequence::new(60, rules),
         &mut [guard(rt), guard(rt)],
         &mut parts,
         steps,
@@ -302,7 +318,7 @@ fn a_set_ends_by_what_its_rail_does(rt: HostRuntime) {
     ];
     for (name, part, looks, microvolts, end, found, frames, writes) in &rows {
         let steps = [sets(0, 0, *microvolts, *looks)];
-        let (run, parts) = over(&rt, false, [*part, PART], &steps);
+        let (run, parts) = over(&rt, UP, [*part, PART], &steps);
         equal(
             &rt,
             &(run.end, run.found, parts[0].frames, parts[0].writes),
@@ -314,9 +330,9 @@ fn a_set_ends_by_what_its_rail_does(rt: HostRuntime) {
 
 // A list over two parts, each of two outputs: how it ends, how often was looked at a rail that does what it is to, the waits, and OPERATION and
 // VOUT_COMMAND of each output then.
-type ListRow = (
+pub(crate) type ListRow = (
     &'static str,
-    bool,
+    Rules,
     [Part; 2],
     [Step; 3],
     End,
@@ -324,6 +340,25 @@ type ListRow = (
     u32,
     [(u16, u16); 4],
 );
+
+pub(crate) fn check_lists(rt: &impl Abort, rows: &[ListRow]) {
+    for (name, rules, parts, steps, end, found, waits, words) in rows {
+        let (run, parts) = over(rt, *rules, *parts, steps);
+        let [near, far] = parts;
+        let held = [
+            (near.words[0][0], near.words[0][1]),
+            (near.words[1][0], near.words[1][1]),
+            (far.words[0][0], far.words[0][1]),
+            (far.words[1][0], far.words[1][1]),
+        ];
+        equal(
+            rt,
+            &(run.end, run.founds, run.waits, held),
+            &(Some(*end), *found, *waits, *words),
+            name,
+        );
+    }
+}
 
 #[test]
 fn a_list_goes_on_as_its_rails_deliver(rt: HostRuntime) {
@@ -349,10 +384,10 @@ fn a_list_goes_on_as_its_rails_deliver(rt: HostRuntime) {
     let is_off = (0x00, 0x1000);
     let goals = [(0x80, 0x1333), (0x80, 0x10CD), (0x80, 0x119A), on];
     let rows: [ListRow; 7] = [
-        ("up", false, [PART, PART], up, End::Reached, 3, 20, goals),
+        ("up", UP, [PART, PART], up, End::Reached, 3, 20, goals),
         (
             "up, and the second rail stays off",
-            false,
+            UP,
             [PART, dead],
             up,
             End::Does(Verdict::IsOff),
@@ -362,7 +397,7 @@ fn a_list_goes_on_as_its_rails_deliver(rt: HostRuntime) {
         ),
         (
             "up, and the first rail stays off",
-            false,
+            UP,
             [dead, PART],
             up,
             End::Does(Verdict::IsOff),
@@ -372,7 +407,7 @@ fn a_list_goes_on_as_its_rails_deliver(rt: HostRuntime) {
         ),
         (
             "down",
-            true,
+            DOWN,
             [PART, PART],
             down,
             End::Reached,
@@ -382,7 +417,7 @@ fn a_list_goes_on_as_its_rails_deliver(rt: HostRuntime) {
         ),
         (
             "down, and the first output stays on",
-            true,
+            DOWN,
             [deaf, PART],
             down,
             End::Left(1),
@@ -392,7 +427,7 @@ fn a_list_goes_on_as_its_rails_deliver(rt: HostRuntime) {
         ),
         (
             "down, and the second part is gone",
-            true,
+            DOWN,
             [PART, gone],
             down,
             End::Left(1),
@@ -402,7 +437,7 @@ fn a_list_goes_on_as_its_rails_deliver(rt: HostRuntime) {
         ),
         (
             "down, and the first part is gone",
-            true,
+            DOWN,
             [gone, PART],
             down,
             End::Left(2),
@@ -411,22 +446,7 @@ fn a_list_goes_on_as_its_rails_deliver(rt: HostRuntime) {
             [on, on, is_off, on],
         ),
     ];
-    for (name, is_down, parts, steps, end, found, waits, words) in &rows {
-        let (run, parts) = over(&rt, *is_down, *parts, steps);
-        let [near, far] = parts;
-        let held = [
-            (near.words[0][0], near.words[0][1]),
-            (near.words[1][0], near.words[1][1]),
-            (far.words[0][0], far.words[0][1]),
-            (far.words[1][0], far.words[1][1]),
-        ];
-        equal(
-            &rt,
-            &(run.end, run.founds, run.waits, held),
-            &(Some(*end), *found, *waits, *words),
-            name,
-        );
-    }
+    check_lists(&rt, &rows);
 }
 
 #[test]
@@ -469,7 +489,7 @@ fn a_step_off_is_no_success_by_silence(rt: HostRuntime) {
             gone_after: *gone_after,
             ..PART
         };
-        let (run, parts) = over(&rt, true, [part, PART], &[off(0, 0, *looks)]);
+        let (run, parts) = over(&rt, DOWN, [part, PART], &[off(0, 0, *looks)]);
         equal(
             &rt,
             &(run.end, run.left, parts[0].frames),
@@ -477,6 +497,77 @@ fn a_step_off_is_no_success_by_silence(rt: HostRuntime) {
             name,
         );
     }
+}
+
+#[test]
+fn a_step_that_orders_nothing_surveys_or_rests(rt: HostRuntime) {
+    let blind = Looks {
+        is_wanted: false,
+        ..LOOKS
+    };
+    let gone = Part {
+        gone_after: 0,
+        ..PART
+    };
+    let rows = [
+        ("a survey", PART, Act::Surveys, blind, End::Reached, 0, 6),
+        ("a rest", PART, Act::Rests, blind, End::Reached, 0, 0),
+        (
+            "a survey that is looked at",
+            PART,
+            Act::Surveys,
+            MUST,
+            End::Reached,
+            1,
+            8,
+        ),
+        (
+            "a rest that is looked at",
+            PART,
+            Act::Rests,
+            MUST,
+            End::Reached,
+            1,
+            2,
+        ),
+        (
+            "a rest of a part that is gone",
+            gone,
+            Act::Rests,
+            blind,
+            End::Reached,
+            0,
+            0,
+        ),
+    ];
+    for (name, part, act, looks, end, found, frames) in &rows {
+        let steps = [step_of(0, 1, *act, *looks)];
+        let (run, parts) = over(&rt, false, [*part, PART], &steps);
+        equal(
+            &rt,
+            &(run.end, run.founds, parts[0].frames, parts[0].writes),
+            &(Some(*end), *found, *frames, 0),
+            name,
+        );
+    }
+}
+
+#[test]
+fn steps_that_order_nothing_stand_between_others(rt: HostRuntime) {
+    let steps = [
+        step_of(0, 1, Act::Surveys, MUST),
+        sets(0, 0, 1_200_000, MUST),
+        step_of(0, 1, Act::Rests, MUST),
+        step_of(0, 0, Act::Surveys, MUST),
+    ];
+    let (run, parts) = over(&rt, false, [PART, PART], &steps);
+    let [part, _] = parts;
+    equal(
+        &rt,
+        &(run.end, run.founds, part.writes, part.words[0][1], part.words[1][1]),
+        &(Some(End::Reached), 4, 1, 0x1333, 0x1000),
+        &"over two outputs",
+    );
 }
 
 #[test]
@@ -490,7 +581,7 @@ fn each_step_is_judged_by_what_it_asks_for(rt: HostRuntime) {
         ..LOOKS
     };
     let steps = [sets(0, 0, 1_100_000, skips), sets(0, 0, 1_200_000, LOOKS)];
-    let (run, parts) = over(&rt, false, [part, PART], &steps);
+    let (run, parts) = over(&rt, UP, [part, PART], &steps);
     let refused = DeliveryFault::BeyondFaultLimit(Question::OvFaultLimit, 0x1200);
     equal(
         &rt,

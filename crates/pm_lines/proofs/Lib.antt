@@ -1,6 +1,2 @@
-pub mod CutLemmas
-pub mod EngineLemmas
-pub mod FourPairs
-pub mod LineLemmas
-pub mod ReadingLemmas
-pub mod WordLemmas
+pub mod LinesAndWords
+pub mod ReadDigits

@@ -33,7 +33,7 @@ pub fn pair_of(high: u8, low: u8) -> Option<u8>
 }
 
 // The byte that two digits write, and 256 or more if one of them is no digit.
-#[tactic(auto, using(crate::proofs::FourPairs::pair_value_is))]
+#[tactic(auto, using(crate::proofs::ReadDigits::pair_value_is))]
 fn pair_value(high: u8, low: u8) -> u16
     ensures { spec_pair_of high low ≡ (if nat_lt result 256 then Some result else None) }
 {
@@ -78,7 +78,7 @@ pub fn four_pairs(digits: &[u8]) -> Option<(u8, u8, u8, u8, &[u8])>
 }
 
 // Whether each of four numbers is a byte.
-#[tactic(auto, using(crate::proofs::FourPairs::four_bytes))]
+#[tactic(auto, using(crate::proofs::ReadDigits::four_bytes))]
 fn are_bytes(first: u16, second: u16, third: u16, fourth: u16) -> bool
     ensures { result ≡ true → (first < 256) × (second < 256) × (third < 256) × (fourth < 256) }
 {

@@ -24,7 +24,7 @@ abbrev pub new_probe : Probe
 new_probe = record { asked = 0; is_there = false; is_over = false }
 
 abbrev pub looking : Delivery → Look
-looking d = record { delivery = d; status = no_silence; vout = no_silence; probe = new_probe }
+looking d = record { delivery = d; stood = d.before; status = no_silence; vout = no_silence; probe = new_probe }
 
 -- no answer came at all
 abbrev pub is_silence : Heard → Bool

@@ -16,10 +16,12 @@ use Rattle.pm_delivery.specs.declared.due.Due.{Due}
 use Rattle.pm_delivery.specs.declared.due.Due.TheVariants as due
 use Rattle.pm_delivery.specs.declared.verdict.Verdict.{Verdict}
 use Rattle.pm_delivery.specs.declared.verdict.Verdict.TheVariants as verdict
-use Rattle.pm_delivery.specs.Deliveries.{looking_after, looking_before}
+use Rattle.pm_delivery.specs.Deliveries.{looking_after}
 use Rattle.pm_delivery.specs.Due.{due_of}
 use Rattle.pm_delivery.specs.Ended.{verdict_of}
 use Rattle.pm_delivery.specs.Reading.{reading_in}
+use Rattle.pm_stairs.specs.declared.said.StepEnd.{StepEnd}
+use Rattle.pm_stairs.specs.declared.said.StepEnd.TheVariants.{Course, Changed, Restarted}
 use Rattle.pm_stairs.specs.declared.sequence.Placed.{Placed}
 use Rattle.pm_stairs.specs.declared.sequence.Sequence.{Sequence as List}
 use Rattle.pm_stairs.specs.declared.sequence.Turn.{Turn}
@@ -38,16 +40,17 @@ use Rattle.pm_sequence.specs.declared.sequence.End.{End}
 use Rattle.pm_sequence.specs.declared.sequence.End.TheVariants as end
 use Rattle.pm_sequence.specs.declared.sequence.Phase.{Phase}
 use Rattle.pm_sequence.specs.declared.sequence.Phase.TheVariants as phase
+use Rattle.pm_sequence.specs.declared.sequence.Rules.{Rules}
 use Rattle.pm_sequence.specs.declared.sequence.Sequence.{Sequence}
 use Rattle.pm_sequence.specs.declared.step.Step.{Step}
-use Rattle.pm_sequence.specs.Gate.{is_order, order_gate, step_gate}
+use Rattle.pm_sequence.specs.Gate.{is_order, is_untold, order_gate, step_gate}
 use Rattle.pm_sequence.specs.Look.{look_act, look_after, looking, new_probe}
-use Rattle.pm_sequence.specs.Steps.{is_of, is_unreadable, new_of, turns_off}
+use Rattle.pm_sequence.specs.Steps.{before_of, is_of, is_unreadable, new_of, same_heard, turns_off}
 use Rattle.pm_delivery.specs.Deliveries.{new_delivery}
 
-abbrev pub new_sequence : ℕ → Bool → Sequence
-new_sequence tries is_down = record {
-  list = sequence_new tries is_down;
+abbrev pub new_sequence : ℕ → Rules → Sequence
+new_sequence tries rules = record {
+  list = sequence_new tries rules.is_down;
   look = looking (new_delivery 0 0 0 0 0);
   look_host = 0;
   phase = phase.Steps;
@@ -55,15 +58,19 @@ new_sequence tries is_down = record {
   is_shown = false;
   is_waited = false;
   is_looked = false;
+  leaves = rules.leaves;
+  asks = rules.asks;
+  told = None;
   left = 0;
   end = None;
 }
 
 -- ---- When an order may begin ----
 
--- what is looked at is the output of a step as the step asks for it, and what stands before its first order was read
+-- what is looked at is the output of a step as the step asks for it, from what it says that stood before; and what stands before its first order
+-- was read
 abbrev pub is_at : Sequence → Step → Bool
-is_at q step = q.look_host == step.placed.host && is_of q.look.delivery step
+is_at q step = q.look_host == step.placed.host && (is_of q.look.delivery step && same_heard q.look.stood step.before)
 
 abbrev pub is_read_for : Sequence → Step → Bool
 is_read_for q step = q.is_read && is_at q step
@@ -81,7 +88,7 @@ gate g q (Some step) job under = if step.looks.is_wanted && order_gate job then 
 abbrev pub look_before : Sequence → Option Step → Sequence
 look_before q None = q
 look_before q (Some step) = record q {
-  look = looking (looking_before (new_of step));
+  look = looking (before_of step);
   look_host = step.placed.host;
   is_read = false;
   phase = phase.Before;
@@ -89,7 +96,7 @@ look_before q (Some step) = record q {
 
 -- ---- How steps stop ----
 
--- a way up ends; a way down leaves the step, which counts
+-- A list that leaves steps leaves the one that stops, which counts; another one ends. A restart ends each.
 abbrev pub left_out : Sequence → Sequence
 left_out q = record q {
   list = skipped q.list;
@@ -98,13 +105,23 @@ left_out q = record q {
   is_shown = false;
   is_waited = false;
   is_looked = true;
+  told = None;
 }
 
+abbrev pub is_restart : StepEnd → Bool
+is_restart Restarted = true
+is_restart Changed = false
+is_restart (Course why) = false
+
+abbrev pub may_leave : End → Bool
+may_leave (end.Stopped why) = not (is_restart why)
+may_leave why = true
+
 abbrev pub stopped_act : Sequence → End → Act
-stopped_act q end = if q.list.is_down then act.Leaves end else act.Ended end
+stopped_act q why = if q.leaves && may_leave why then act.Leaves why else act.Ended why
 
 abbrev pub stopped_after : Sequence → End → Sequence
-stopped_after q end = if q.list.is_down then left_out q else record q { end = Some end }
+stopped_after q why = if q.leaves && may_leave why then left_out q else record q { end = Some why }
 
 -- ---- What comes of what the list says ----
 
@@ -116,23 +133,31 @@ abbrev pub with_list : Sequence → List → Sequence
 with_list q list = record q { list = list }
 
 abbrev pub begun_with : Sequence → List → Sequence
-begun_with q list = record q { list = list; is_shown = false; is_waited = false; is_looked = false }
+begun_with q list = record q { list = list; is_shown = false; is_waited = false; is_looked = false; told = None }
 
--- an order of the step under way: the next one waits until its rail was looked at again
+-- a job of the step under way, or one that reads for the next one: what was told is past. After an order the next step waits until the rail was
+-- looked at again.
+abbrev pub read_after : Sequence → List → Sequence
+read_after q list = record q { list = list; told = None }
+
 abbrev pub job_after : Sequence → Job → List → Sequence
-job_after q job list = if is_order job then record q { list = list; is_shown = false; is_looked = false } else with_list q list
+job_after q job list = if is_order job then record q { list = list; is_shown = false; is_looked = false; told = None } else read_after q list
 
-abbrev pub gated_act : Sequence → Gate → Act → Act
-gated_act q gate_is.Goes said = said
-gated_act q gate_is.Looks said = act.Again
-gated_act q (gate_is.Beyond fault) said = stopped_act q (end.Beyond fault)
-gated_act q gate_is.Unjudged said = stopped_act q end.Unjudged
+-- nothing begins, and this order is told
+abbrev pub told_with : Sequence → Job → Sequence
+told_with q job = record q { told = Some job }
 
-abbrev pub gated_after : Sequence → Option Step → Gate → Sequence → Sequence
-gated_after q step gate_is.Goes after = after
-gated_after q step gate_is.Looks after = look_before q step
-gated_after q step (gate_is.Beyond fault) after = stopped_after q (end.Beyond fault)
-gated_after q step gate_is.Unjudged after = stopped_after q end.Unjudged
+abbrev pub gated_act : Sequence → Gate → Job → Act → Act
+gated_act q gate_is.Goes job said = if is_untold q.asks q.told job then act.Order job else said
+gated_act q gate_is.Looks job said = act.Again
+gated_act q (gate_is.Beyond fault) job said = stopped_act q (end.Beyond fault)
+gated_act q gate_is.Unjudged job said = stopped_act q end.Unjudged
+
+abbrev pub gated_after : Sequence → Option Step → Gate → Job → Sequence → Sequence
+gated_after q step gate_is.Goes job after = if is_untold q.asks q.told job then told_with q job else after
+gated_after q step gate_is.Looks job after = look_before q step
+gated_after q step (gate_is.Beyond fault) job after = stopped_after q (end.Beyond fault)
+gated_after q step gate_is.Unjudged job after = stopped_after q end.Unjudged
 
 -- the step under way is over: its rail is looked at, where that is wanted and wasn't done since its last order
 abbrev pub needs_look : Sequence → Step → Bool
@@ -190,8 +215,8 @@ again_after q list = if list.begun == q.list.begun then with_list q list else be
 
 abbrev pub act_of : Guarded → Option Step → Option Step → Sequence → Turn → List → Act
 act_of g under ahead q turn.Again list = act.Again
-act_of g under ahead q (turn.Job job) list = gated_act q (gate g q under job list.stairs.under) (act.Job job)
-act_of g under ahead q (turn.Begins job back) list = gated_act q (gate g q ahead job list.stairs.under) (act.Begins job back)
+act_of g under ahead q (turn.Job job) list = gated_act q (gate g q under job list.stairs.under) job (act.Job job)
+act_of g under ahead q (turn.Begins job back) list = gated_act q (gate g q ahead job list.stairs.under) job (act.Begins job back)
 act_of g under ahead q (turn.Passes back) list = act.Passes back
 act_of g under ahead q (turn.NoWayBack fault) list = act.NoWayBack fault
 act_of g under ahead q turn.Reached list = reached_act q under ahead list
@@ -199,8 +224,8 @@ act_of g under ahead q (turn.Stops why) list = stopped_act (with_list q list) (e
 
 abbrev pub after_of : Guarded → Option Step → Option Step → Sequence → Turn → List → Sequence
 after_of g under ahead q turn.Again list = again_after q list
-after_of g under ahead q (turn.Job job) list = gated_after q under (gate g q under job list.stairs.under) (job_after q job list)
-after_of g under ahead q (turn.Begins job back) list = gated_after q ahead (gate g q ahead job list.stairs.under) (begun_with q list)
+after_of g under ahead q (turn.Job job) list = gated_after q under (gate g q under job list.stairs.under) job (job_after q job list)
+after_of g under ahead q (turn.Begins job back) list = gated_after q ahead (gate g q ahead job list.stairs.under) job (begun_with q list)
 after_of g under ahead q (turn.Passes back) list = begun_with q list
 after_of g under ahead q (turn.NoWayBack fault) list = with_list q list
 after_of g under ahead q turn.Reached list = reached_after q under ahead list

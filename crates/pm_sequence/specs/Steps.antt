@@ -2,7 +2,8 @@
 use Rattle.std.specs.Prelude.{ℕ, Bool, false, not, ◌+◌, ◌%◌, ◌==◌, ◌&&◌, ◌||◌, if◌then◌else◌}
 use Rattle.pm_table.specs.Operation.{has_on}
 use Rattle.pm_delivery.specs.declared.delivery.Delivery.{Delivery}
-use Rattle.pm_delivery.specs.Deliveries.{new_delivery}
+use Rattle.pm_delivery.specs.declared.heard.Heard.{Heard}
+use Rattle.pm_delivery.specs.Deliveries.{looking_before, new_delivery}
 use Rattle.pm_stairs.specs.declared.step.Act.{Act}
 use Rattle.pm_stairs.specs.declared.step.Act.TheVariants as act
 use Rattle.pm_sequence.specs.declared.step.Step.{Step}
@@ -12,6 +13,8 @@ abbrev pub turns_off : Act → Bool
 turns_off (act.Sets wishes) = false
 turns_off (act.Words words) = false
 turns_off (act.Turns byte) = not (has_on byte)
+turns_off act.Surveys = false
+turns_off act.Rests = false
 
 -- what the caller says that the part lacks, as a delivery has it: 1 for STATUS_WORD, 2 for READ_VOUT
 abbrev pub said_lacks : Bool → Bool → ℕ
@@ -27,6 +30,18 @@ is_of d s = d.output == s.placed.step.output && (d.fault_limits == s.looks.fault
     && (d.lacks % 4 == said_lacks s.looks.lacks_status_word s.looks.lacks_read_vout
     && (d.within == s.looks.within && d.rounds == s.looks.rounds)))
 
--- nothing was asked of its output
+-- two questions were answered alike
+abbrev pub same_heard : Heard → Heard → Bool
+same_heard h other = h.asked == other.asked && (h.fault == other.fault && h.word == other.word)
+
+-- nothing was asked of its output, but for what an earlier list heard before its first order
+abbrev pub with_before : Delivery → Heard → Delivery
+with_before d before = record d { before = before }
+
 abbrev pub new_of : Step → Delivery
-new_of s = new_delivery s.placed.step.output s.looks.fault_limits (said_lacks s.looks.lacks_status_word s.looks.lacks_read_vout) s.looks.within s.looks.rounds
+new_of s = with_before (new_delivery s.placed.step.output s.looks.fault_limits (said_lacks s.looks.lacks_status_word s.looks.lacks_read_vout)
+    s.looks.within s.looks.rounds) s.before
+
+-- what stands before its first order is looked at
+abbrev pub before_of : Step → Delivery
+before_of s = with_before (looking_before (new_of s)) s.before

@@ -15,5 +15,5 @@ mod step;
 
 pub use gate::Gate;
 pub use look::{Look, LookAct, Probe, Silence};
-pub use sequence::{Act, End, Phase, Sequence};
+pub use sequence::{Act, End, Phase, Rules, Sequence};
 pub use step::{Looks, Step};

@@ -35,6 +35,8 @@ pub struct Probe {
 pub struct Look {
     /// What is asked, and what came of it.
     pub delivery: Delivery,
+    /// What had come of STATUS_WORD before the first order when it began.
+    pub stood: Heard,
     /// The silence of STATUS_WORD.
     pub status: Silence,
     /// The silence of READ_VOUT.
@@ -65,6 +67,7 @@ impl Look {
     {
         Look {
             delivery,
+            stood: delivery.before,
             status: Silence {
                 rounds: 0,
                 has_answered: false,

@@ -3,9 +3,9 @@
 ghost use Rattle.std.specs.Prelude.{◌≡◌, ◌<◌, None};
 ghost use Rattle.pm_host.specs.Image.{held};
 ghost use Rattle.pm_stairs.specs.Sequence.{one_more as spec_one_more};
-ghost use Rattle.pm_sequence.specs.Sequence.{act_of, after_of, ahead_act, ahead_after, begun_with, due_by, due_in as spec_due_in, end_of as spec_end_of, found_at, gate as spec_gate, gated_act, gated_after, is_at as spec_is_at, is_good as spec_is_good, is_read_for as spec_is_read_for, job_after, judged_after, look_before, looked_act, looked_after, needs_look as spec_needs_look, new_sequence, reached_act, reached_after, shown as spec_shown, stopped_act, stopped_after, verdict_by, verdict_in as spec_verdict_in, Acts, Steps};
+ghost use Rattle.pm_sequence.specs.Sequence.{act_of, after_of, ahead_act, ahead_after, begun_with, due_by, due_in as spec_due_in, end_of as spec_end_of, found_at, gate as spec_gate, gated_act, gated_after, is_at as spec_is_at, is_good as spec_is_good, is_read_for as spec_is_read_for, job_after, judged_after, look_before, looked_act, looked_after, may_leave as spec_may_leave, needs_look as spec_needs_look, new_sequence, reached_act, reached_after, shown as spec_shown, stopped_act, stopped_after, verdict_by, verdict_in as spec_verdict_in, Acts, Steps};
 
-use crate::gate::{Gate, is_judged_order, is_order, judge};
+use crate::gate::{Gate, is_judged_order, is_order, is_untold, judge};
 use crate::look::{Look, LookAct};
 use crate::step::Step;
 use pm_delivery::{Delivery, DeliveryFault, Due, Question, Verdict};
@@ -25,12 +25,12 @@ pub enum Phase {
     After,
 }
 
-/// How a sequence ended, or why a step of a way down was left.
+/// How a sequence ended, or why a step was left.
 #[derive(Clone, Copy, Debug, PartialEq, Eq)]
 pub enum End {
     /// Each step is over, none was left, and each that has to deliver did after its last order.
     Reached,
-    /// A way down has come to its end, and left this many steps.
+    /// The list has come to its end, and left this many steps.
     Left(u16),
     /// The step stopped so.
     Stopped(StepEnd),
@@ -51,6 +51,8 @@ pub enum Act {
     Begins(Job, WordStep),
     /// The first step ahead is over as it begins, and this step undoes it. Ask again.
     Passes(WordStep),
+    /// This order is due, and begins if that is asked for again. Nothing has begun.
+    Order(Job),
     /// To ask this of the output that is looked at, beside the host's jobs.
     Ask(Question),
     /// To read its OPERATION, beside the host's jobs.
@@ -65,10 +67,21 @@ pub enum Act {
     NoWayBack(PlanFault),
     /// The rail of the step that is over does what it is to. Ask again.
     Does(Verdict),
-    /// The step of a way down was left so. Ask again.
+    /// The step was left so. Ask again.
     Leaves(End),
     /// Nothing: it has ended so.
     Ended(End),
+}
+
+/// How a list is carried out.
+#[derive(Clone, Copy, Debug, PartialEq, Eq)]
+pub struct Rules {
+    /// Whether it is a way down: no way back is wanted, a step that turns its output off begins with nothing read, and a restart ends nothing.
+    pub is_down: bool,
+    /// Whether a step that stops is left, and the next one goes on. Otherwise it ends the list, as a restart of a part does whatever this says.
+    pub leaves: bool,
+    /// Whether each order is told, by [`Act::Order`], before it begins.
+    pub asks: bool,
 }
 
 /// How far a sequence has come. It is a plain value, and holds neither a host nor the list.
@@ -90,6 +103,12 @@ pub struct Sequence {
     pub is_waited: bool,
     /// Whether the rail of the step under way was looked at since its last order.
     pub is_looked: bool,
+    /// Whether a step that stops is left.
+    pub leaves: bool,
+    /// Whether each order is told before it begins.
+    pub asks: bool,
+    /// The order that was told last, if nothing has begun since.
+    pub told: Option<Job>,
     /// How many steps were left.
     pub left: u16,
     /// How it has ended.
@@ -98,11 +117,11 @@ pub struct Sequence {
 
 impl Sequence {
     /// No step has begun. Each gets so many tries.
-    pub fn new(tries: u16, is_down: bool) -> Sequence
-        ensures { result ≡ new_sequence tries is_down }
+    pub fn new(tries: u16, rules: Rules) -> Sequence
+        ensures { result ≡ new_sequence tries rules }
     {
         Sequence {
-            list: List::new(tries, is_down),
+            list: List::new(tries, rules.is_down),
             look: Look::new(Delivery::new(0, 0, 0, 0, 0)),
             look_host: 0,
             phase: Phase::Steps,
@@ -110,6 +129,9 @@ impl Sequence {
             is_shown: false,
             is_waited: false,
             is_looked: false,
+            leaves: rules.leaves,
+            asks: rules.asks,
+            told: None,
             left: 0,
             end: None,
         }
@@ -171,13 +193,13 @@ impl Sequence {
             }
             Turn::Job(job) => {
                 let gate = self.gate(guard, under, job, asked.stairs.under);
-                self.gated(under, gate, Act::Job(job), self.after_job(job, asked))
+                self.gated(under, gate, job, Act::Job(job), self.after_job(job, asked))
             }
             Turn::Begins(job, back) => {
                 let gate = self.gate(guard, ahead, job, asked.stairs.under);
                 let mut begun = *self;
                 begun.begins(asked);
-                self.gated(ahead, gate, Act::Begins(job, back), begun)
+                self.gated(ahead, gate, job, Act::Begins(job, back), begun)
             }
             Turn::Passes(back) => {
                 self.begins(asked);
@@ -215,7 +237,9 @@ impl Sequence {
     fn is_at(&self, step: &Step) -> bool
         ensures { result ≡ spec_is_at self.now step.now }
     {
-        self.look_host == step.placed.host && step.is_of(&self.look.delivery)
+        self.look_host == step.placed.host
+            && step.is_of(&self.look.delivery)
+            && step.stood_so(self.look.stood)
     }
 
     // Whether what stands before the first order of its output was read.
@@ -226,12 +250,16 @@ impl Sequence {
     }
 
     // What comes of an order or a job of a step.
-    fn gated(&mut self, step: Option<Step>, gate: Gate, act: Act, after: Sequence) -> Act
-        ensures act { result ≡ gated_act self.old gate act }
-        ensures after { self.new ≡ gated_after self.old step gate after }
+    fn gated(&mut self, step: Option<Step>, gate: Gate, job: Job, act: Act, after: Sequence) -> Act
+        ensures act { result ≡ gated_act self.old gate job act }
+        ensures after { self.new ≡ gated_after self.old step gate job after }
     {
         match gate {
             Gate::Goes => {
+                if is_untold(self.asks, self.told, job) {
+                    self.told = Some(job);
+                    return Act::Order(job);
+                }
                 *self = after;
                 act
             }
@@ -251,9 +279,7 @@ impl Sequence {
         let Some(step) = step else {
             return;
         };
-        let mut delivery = step.delivery();
-        delivery.look_before();
-        self.look = Look::new(delivery);
+        self.look = Look::new(step.delivery_before());
         self.look_host = step.placed.host;
         self.is_read = false;
         self.phase = Phase::Before;
@@ -267,6 +293,7 @@ impl Sequence {
         self.is_shown = false;
         self.is_waited = false;
         self.is_looked = false;
+        self.told = None;
     }
 
     // It goes on once a job of the step under way, or one that reads for the next one, has begun.
@@ -275,6 +302,7 @@ impl Sequence {
     {
         let mut after = *self;
         after.list = asked;
+        after.told = None;
         if is_order(job) {
             after.is_shown = false;
             after.is_looked = false;
@@ -347,12 +375,12 @@ impl Sequence {
         }
     }
 
-    // A step stops so: a way down leaves it, and a way up ends.
+    // A step stops so: it is left, or the list ends.
     pub(crate) fn stops(&mut self, end: End) -> Act
         ensures act { result ≡ stopped_act self.old end }
         ensures after { self.new ≡ stopped_after self.old end }
     {
-        if !self.list.is_down {
+        if !(self.leaves && may_leave(end)) {
             self.end = Some(end);
             return Act::Ended(end);
         }
@@ -362,6 +390,7 @@ impl Sequence {
         self.is_shown = false;
         self.is_waited = false;
         self.is_looked = true;
+        self.told = None;
         Act::Leaves(end)
     }
 
@@ -433,6 +462,13 @@ impl Sequence {
         }
         self.stops(End::Does(verdict))
     }
+}
+
+// Whether a step that stopped so may be left: a restart of its part ends the list.
+fn may_leave(end: End) -> bool
+    ensures { result ≡ spec_may_leave end }
+{
+    !matches!(end, End::Stopped(StepEnd::Restarted))
 }
 
 // What is due of a delivery, by what is seen of a host.

@@ -1,9 +1,9 @@
 //! A step of a sequence.
 
 ghost use Rattle.std.specs.Prelude.{◌≡◌};
-ghost use Rattle.pm_sequence.specs.Steps.{is_of as spec_is_of, is_unreadable as spec_is_unreadable, new_of, said_lacks, turns_off as spec_turns_off};
+ghost use Rattle.pm_sequence.specs.Steps.{before_of, is_of as spec_is_of, is_unreadable as spec_is_unreadable, new_of, said_lacks, same_heard, turns_off as spec_turns_off};
 
-use pm_delivery::{Delivery, LACKS_READ_VOUT, LACKS_STATUS_WORD};
+use pm_delivery::{Delivery, Heard, LACKS_READ_VOUT, LACKS_STATUS_WORD};
 use pm_stairs::{Act, Placed};
 use pm_table::Operation;
 
@@ -37,6 +37,9 @@ pub struct Step {
     pub wait: u32,
     /// How its rail is looked at.
     pub looks: Looks,
+    /// What an earlier list heard of this output's STATUS_WORD before its first order: `look.delivery.before` of its [`Sequence`](crate::Sequence).
+    /// [`Heard::NOTHING`] if there was none. A good answer is kept, and faults are new against it.
+    pub before: Heard,
 }
 
 impl Looks {
@@ -82,16 +85,37 @@ impl Step {
             && delivery.rounds == self.looks.rounds
     }
 
-    // A delivery of its output of which nothing was asked.
+    // A delivery of its output of which nothing was asked, but for what an earlier list heard.
     pub(crate) fn delivery(&self) -> Delivery
         ensures { result ≡ new_of self.now }
     {
-        Delivery::new(
+        let mut delivery = Delivery::new(
             self.placed.step.output,
             self.looks.fault_limits,
             self.looks.lacks(),
             self.looks.within,
             self.looks.rounds,
-        )
+        );
+        delivery.before = self.before;
+        delivery
+    }
+
+    // The same, as what stands before the first order is looked at.
+    pub(crate) fn delivery_before(&self) -> Delivery
+        ensures { result ≡ before_of self.now }
+    {
+        let mut delivery = self.delivery();
+        delivery.look_before();
+        delivery.before = self.before;
+        delivery
+    }
+
+    // Whether an earlier list heard this.
+    pub(crate) fn stood_so(&self, heard: Heard) -> bool
+        ensures { result ≡ same_heard heard self.now.before }
+    {
+        heard.asked == self.before.asked
+            && heard.fault == self.before.fault
+            && heard.word == self.before.word
     }
 }

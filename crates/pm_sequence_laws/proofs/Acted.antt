@@ -24,9 +24,9 @@ use Rattle.pm_sequence.specs.declared.sequence.Phase.{Phase}
 use Rattle.pm_sequence.specs.declared.sequence.Phase.TheVariants as phase
 use Rattle.pm_sequence.specs.declared.sequence.Sequence.{Sequence}
 use Rattle.pm_sequence.specs.declared.step.Step.{Step}
-use Rattle.pm_sequence.specs.Gate.{is_order}
+use Rattle.pm_sequence.specs.Gate.{is_order, is_untold}
 use Rattle.pm_sequence.specs.Look.{look_act, look_after}
-use Rattle.pm_sequence.specs.Sequence.{Acts, Steps, act_of, after_of, again_after, ahead_act, ahead_after, begun_with, done_act, done_after, due_in, end_of, found_in, gate, gated_act, gated_after, is_good, job_after, judged_in, looked_act, looked_after, look_before, needs_look, over_act, over_after, said_act, said_after, shown, step_act, step_after, stopped_act, stopped_after, verdict_in, with_list, with_look}
+use Rattle.pm_sequence.specs.Sequence.{Acts, Steps, act_of, after_of, again_after, ahead_act, ahead_after, begun_with, done_act, done_after, due_in, end_of, found_in, gate, gated_act, gated_after, is_good, job_after, judged_in, looked_act, looked_after, look_before, may_leave, needs_look, over_act, over_after, read_after, said_act, said_after, shown, step_act, step_after, stopped_act, stopped_after, told_with, verdict_in, with_list, with_look}
 use Rattle.pm_sequence.specs.Sequence as does
 use Rattle.pm_sequence_laws.specs.Runs.{Mark, Orders, Does, Leaves, Places, marks_of, must, under_at}
 use Rattle.pm_sequence_laws.proofs.Counts.{Counts, counts, may_begin}
@@ -79,32 +79,43 @@ module _ (steps : Places) (was : Sequence) where
   stop-kind : (q : Sequence) (why : End) → (Some why ≡ reached → ⊥) → q.list.begun ≡ was.list.begun → (q.is_shown ≡ true → was.is_shown ≡ true)
       → (q.is_looked ≡ true → was.is_looked ≡ true) → q.left ≡ was.left → q.end ≡ None
       → Kind steps was (stopped_after q why) (marks_of (stopped_after q why).list.begun (stopped_act q why))
-  stop-kind q why other begun shows looks lefts on = stop-by q why other begun shows looks lefts on q.list.is_down
+  stop-kind q why other begun shows looks lefts on = stop-by q why other begun shows looks lefts on (q.leaves && may_leave why)
 
   module _ (on : was.end ≡ None) where
     look-kind : (step : Option Step) → Kind steps was (look_before was step) []
     look-kind None = quiet refl (λ e. e) (λ e. e) refl (λ e. e)
     look-kind (Some step) = quiet refl (λ e. e) (λ e. e) refl (λ e. e)
 
+    -- an order is told, or begins
+    tell-by : (job : Job) (after : Sequence) (x : Act) → Kind steps was after (marks_of after.list.begun x) → (b : Bool)
+        → Kind steps was (cond b (told_with was job) after) (marks_of (cond b (told_with was job) after).list.begun (cond b (act.Order job) x))
+    tell-by job after x goes true = quiet refl (λ e. e) (λ e. e) refl (λ e. e)
+    tell-by job after x goes false = goes
+
     -- a job, where as many have begun
+    abbrev order-after : List_ → Sequence
+    order-after list = record was { list = list; is_shown = false; is_looked = false; told = None }
+
     job-by : (job : Job) (list : List_) → list.begun ≡ was.list.begun → (b : Bool)
-        → Kind steps was (cond b (record was { list = list; is_shown = false; is_looked = false }) (with_list was list))
-        (cond b (Orders (cond b (record was { list = list; is_shown = false; is_looked = false }) (with_list was list)).list.begun ∷ []) [])
+        → Kind steps was (cond b (order-after list) (read_after was list))
+        (cond b (Orders (cond b (order-after list) (read_after was list)).list.begun ∷ []) [])
     job-by job list begun true = orders (same begun) refl refl refl (no-end on)
     job-by job list begun false = quiet begun (λ e. e) (λ e. e) refl (λ e. e)
 
     job-kind : (step : Option Step) (job : Job) (list : List_) → list.begun ≡ was.list.begun → (is : Gate)
-        → Kind steps was (gated_after was step is (job_after was job list))
-        (marks_of (gated_after was step is (job_after was job list)).list.begun (gated_act was is (act.Job job)))
-    job-kind step job list begun gate_is.Goes = job-by job list begun (is_order job)
+        → Kind steps was (gated_after was step is job (job_after was job list))
+        (marks_of (gated_after was step is job (job_after was job list)).list.begun (gated_act was is job (act.Job job)))
+    job-kind step job list begun gate_is.Goes =
+        tell-by job (job_after was job list) (act.Job job) (job-by job list begun (is_order job)) (is_untold was.asks was.told job)
     job-kind step job list begun gate_is.Looks = look-kind step
     job-kind step job list begun (gate_is.Beyond fault) = stop-kind was (end.Beyond fault) (λ e. cc) refl (λ e. e) (λ e. e) refl on
     job-kind step job list begun gate_is.Unjudged = stop-kind was end.Unjudged (λ e. cc) refl (λ e. e) (λ e. e) refl on
 
     begin-kind : (step : Option Step) (job : Job) (back : WordStep) (list : List_) → Begun steps was (begun_with was list) → (is : Gate)
-        → Kind steps was (gated_after was step is (begun_with was list))
-        (marks_of (gated_after was step is (begun_with was list)).list.begun (gated_act was is (act.Begins job back)))
-    begin-kind step job back list begun gate_is.Goes = orders begun refl refl refl (no-end on)
+        → Kind steps was (gated_after was step is job (begun_with was list))
+        (marks_of (gated_after was step is job (begun_with was list)).list.begun (gated_act was is job (act.Begins job back)))
+    begin-kind step job back list begun gate_is.Goes =
+        tell-by job (begun_with was list) (act.Begins job back) (orders begun refl refl refl (no-end on)) (is_untold was.asks was.told job)
     begin-kind step job back list begun gate_is.Looks = look-kind step
     begin-kind step job back list begun (gate_is.Beyond fault) = stop-kind was (end.Beyond fault) (λ e. cc) refl (λ e. e) (λ e. e) refl on
     begin-kind step job back list begun gate_is.Unjudged = stop-kind was end.Unjudged (λ e. cc) refl (λ e. e) (λ e. e) refl on

@@ -28,9 +28,9 @@ use Rattle.pm_sequence.specs.declared.sequence.Phase.{Phase}
 use Rattle.pm_sequence.specs.declared.sequence.Phase.TheVariants as phase
 use Rattle.pm_sequence.specs.declared.sequence.Sequence.{Sequence}
 use Rattle.pm_sequence.specs.declared.step.Step.{Step}
-use Rattle.pm_sequence.specs.Gate.{is_order}
+use Rattle.pm_sequence.specs.Gate.{is_order, is_untold}
 use Rattle.pm_sequence.specs.Look.{counted, is_silent, look_act, look_after, probe_due}
-use Rattle.pm_sequence.specs.Sequence.{Acts, Steps, after_of, ahead_after, begun_with, done_after, due_in, gate, gated_after, is_at, is_good, job_after, judged_in, left_out, look_before, looking_at, needs_look, said_after, stopped_after, verdict_in, with_list, with_look}
+use Rattle.pm_sequence.specs.Sequence.{Acts, Steps, after_of, ahead_after, begun_with, done_after, due_in, gate, gated_after, is_at, is_good, job_after, judged_in, left_out, look_before, looking_at, may_leave, needs_look, read_after, said_after, stopped_after, told_with, verdict_in, with_list, with_look}
 use Rattle.pm_sequence.specs.Sequence as does
 use Rattle.pm_sequence_laws.specs.Read.{LimitsAreRead, WasRead}
 
@@ -46,17 +46,18 @@ module _ (q : Sequence) (unread : q.is_read ≡ false) where
   never e = true≢false (sym e ∙ unread)
 
   stop-read : (list : List) (why : End) → (stopped_after (with_list q list) why).is_read ≡ true → ⊥
-  stop-read list why = either-read ⊥ list.is_down (left_out (with_list q list)) (record q { list = list; end = Some why }) never never
+  stop-read list why = either-read ⊥ (q.leaves && may_leave why) (left_out (with_list q list)) (record q { list = list; end = Some why }) never never
 
   before-read : (step : Option Step) → (look_before q step).is_read ≡ true → ⊥
   before-read None = never
   before-read (Some step) = λ e. true≢false (sym e)
 
-  gate-read : (step : Option Step) (after : Sequence) → (after.is_read ≡ true → ⊥) → (is : Gate) → (gated_after q step is after).is_read ≡ true → ⊥
-  gate-read step after quiet gate_is.Goes = quiet
-  gate-read step after quiet gate_is.Looks = before-read step
-  gate-read step after quiet (gate_is.Beyond fault) = stop-read q.list (end.Beyond fault)
-  gate-read step after quiet gate_is.Unjudged = stop-read q.list end.Unjudged
+  gate-read : (step : Option Step) (job : Job) (after : Sequence) → (after.is_read ≡ true → ⊥) → (is : Gate)
+      → (gated_after q step is job after).is_read ≡ true → ⊥
+  gate-read step job after quiet gate_is.Goes = either-read ⊥ (is_untold q.asks q.told job) (told_with q job) after never quiet
+  gate-read step job after quiet gate_is.Looks = before-read step
+  gate-read step job after quiet (gate_is.Beyond fault) = stop-read q.list (end.Beyond fault)
+  gate-read step job after quiet gate_is.Unjudged = stop-read q.list end.Unjudged
 
   and-read : (b : Bool) → (q.is_read && b) ≡ true → ⊥
   and-read b e = let same : (q.is_read && b) ≡ (false && b) = ap (λ (x : Bool). x && b) unread in true≢false (sym e ∙ same)
@@ -74,8 +75,8 @@ module _ (q : Sequence) (unread : q.is_read ≡ false) where
   turn-read : (g : Guarded) (under ahead : Option Step) (x : Turn) (list : List) → (after_of g under ahead q x list).is_read ≡ true → ⊥
   turn-read g under ahead turn.Again list = either-read ⊥ (list.begun == q.list.begun) (with_list q list) (begun_with q list) never never
   turn-read g under ahead (turn.Job job) list =
-      gate-read under (job_after q job list) (either-read ⊥ (is_order job) _ (with_list q list) never never) (gate g q under job list.stairs.under)
-  turn-read g under ahead (turn.Begins job back) list = gate-read ahead (begun_with q list) never (gate g q ahead job list.stairs.under)
+      gate-read under job (job_after q job list) (either-read ⊥ (is_order job) _ (read_after q list) never never) (gate g q under job list.stairs.under)
+  turn-read g under ahead (turn.Begins job back) list = gate-read ahead job (begun_with q list) never (gate g q ahead job list.stairs.under)
   turn-read g under ahead (turn.Passes back) list = never
   turn-read g under ahead (turn.NoWayBack fault) list = never
   turn-read g under ahead turn.Reached list = over-read list under ahead
@@ -126,7 +127,7 @@ look-facts g l at small is =
 module _ (g : Guarded) (q : Sequence) (unread : q.is_read ≡ false) (under : Option Step) where
   done-read : (l : Look) (found : Verdict) → (done_after (with_look q l) under found).is_read ≡ true → ⊥
   done-read l found = either-read ⊥ (is_good under found) _ (stopped_after (with_look q l) (end.Does found)) (never q unread)
-      (either-read ⊥ q.list.is_down (left_out (with_look q l)) _ (never q unread) (never q unread))
+      (either-read ⊥ (q.leaves && may_leave (end.Does found)) (left_out (with_look q l)) _ (never q unread) (never q unread))
 
   after-read : q.phase ≡ phase.After → (l : Look) (x : LookAct) → (said_after g (with_look q l) under x).is_read ≡ true → ⊥
   after-read is l (look.Ask question) = never q unread

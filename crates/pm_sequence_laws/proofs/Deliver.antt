@@ -6,6 +6,7 @@ use Rattle.pm_stairs.specs.Sequence.{one_more}
 use Rattle.pm_sequence.specs.declared.sequence.End.{End}
 use Rattle.pm_sequence.specs.declared.sequence.End.TheVariants as end
 use Rattle.pm_delivery.specs.declared.verdict.Verdict.{Verdict}
+use Rattle.pm_sequence.specs.declared.sequence.Rules.{Rules}
 use Rattle.pm_sequence.specs.declared.sequence.Sequence.{Sequence}
 use Rattle.pm_sequence.specs.declared.step.Step.{Step}
 use Rattle.pm_sequence.specs.Sequence.{is_good, new_sequence}
@@ -148,17 +149,17 @@ is-none e = cc
 begun-none : (steps : Places) (marks : List Mark) (place : ℕ) → suc place < 0 → settled steps marks (suc place) ≡ true
 begun-none steps marks place less = absurd (omega (arith, less))
 
-inv-new : (steps : Places) (tries : ℕ) (is_down : Bool) → Inv steps [] (new_sequence tries is_down)
-inv-new steps tries is_down = record {
+inv-new : (steps : Places) (tries : ℕ) (rules : Rules) → Inv steps [] (new_sequence tries rules)
+inv-new steps tries rules = record {
   earlier = λ none place less it. begun-none steps [] place less;
   current = λ none on it. absurd (true≢false (sym on));
   clean = λ none. tt;
   over = λ e. absurd (is-none e);
 }
 
-module _ (steps : Places) (short : Short steps) (tries : ℕ) (is_down : Bool) where
-  invariant : (marks : List Mark) (q : Sequence) → Runs steps tries is_down marks q → Inv steps marks q
-  invariant marks q run.starts = inv-new steps tries is_down
+module _ (steps : Places) (short : Short steps) (tries : ℕ) (rules : Rules) where
+  invariant : (marks : List Mark) (q : Sequence) → Runs steps tries rules marks q → Inv steps marks q
+  invariant marks q run.starts = inv-new steps tries rules
   invariant marks q (run.acts g said before old new runs says) =
       kept steps short before old new (invariant before old runs) _ (kind steps old g said new says)
   invariant marks q (run.hears before old new runs hears) =
@@ -176,7 +177,7 @@ last-at steps marks q inv e place less it =
     ]
 
 pub sequences-deliver : ReachedSequencesDeliver
-sequences-deliver steps tries is_down marks q short runs e =
-    let inv = invariant steps short tries is_down marks q runs in
+sequences-deliver steps tries rules marks q short runs e =
+    let inv = invariant steps short tries rules marks q runs in
     let over = inv.over e in
     (inv.clean over.0, over.1, last-at steps marks q inv e)

@@ -1,6 +1,7 @@
 -- What is found of a rail, act by act.
 use Rattle.std.proofs.Common.{◌≡◌, ◌⊎◌, inl, inr, ℕ, Bool, true, false, cond, Option, Some, None, refl, sym, ◌∙◌, ap, subst}
 use Rattle.std.specs.Prelude.{◌&&◌, ◌||◌, ◌==◌, not}
+use Rattle.pm_host.specs.declared.job.Job.{Job}
 use Rattle.pm_limits.specs.Guard.{Guarded}
 use Rattle.pm_delivery.specs.declared.verdict.Verdict.{Verdict}
 use Rattle.pm_delivery.specs.declared.verdict.Verdict.TheVariants as verdict
@@ -20,9 +21,10 @@ use Rattle.pm_sequence.specs.declared.sequence.Phase.{Phase}
 use Rattle.pm_sequence.specs.declared.sequence.Phase.TheVariants as phase
 use Rattle.pm_sequence.specs.declared.sequence.Sequence.{Sequence}
 use Rattle.pm_sequence.specs.declared.step.Step.{Step}
+use Rattle.pm_sequence.specs.Gate.{is_untold}
 use Rattle.pm_sequence.specs.Look.{look_act, look_after}
 use Rattle.pm_sequence.specs.Steps.{is_unreadable}
-use Rattle.pm_sequence.specs.Sequence.{Acts, Steps, act_of, ahead_act, done_act, done_after, due_in, found_in, gate, gated_act, is_good, is_good_by, judged_in, needs_look, over_act, said_act, said_after, stopped_act, stopped_after, verdict_in, with_list, with_look}
+use Rattle.pm_sequence.specs.Sequence.{Acts, Steps, act_of, ahead_act, done_act, done_after, due_in, found_in, gate, gated_act, is_good, is_good_by, judged_in, may_leave, needs_look, over_act, said_act, said_after, stopped_act, stopped_after, verdict_in, with_list, with_look}
 use Rattle.pm_sequence.specs.Sequence as does
 use Rattle.pm_sequence_laws.specs.Finds.{FindsAreVerdicts, IsDelivered, IsFound, by_voltage, delivers, power_good, went_off}
 
@@ -31,6 +33,7 @@ is_find (act.Does found) = true
 is_find (act.Job job) = false
 is_find (act.Begins job back) = false
 is_find (act.Passes back) = false
+is_find (act.Order job) = false
 is_find (act.Ask question) = false
 is_find act.Probe = false
 is_find act.Pause = false
@@ -45,7 +48,7 @@ either true x y first second = first
 either false x y first second = second
 
 stop-quiet : (q : Sequence) (why : End) → is_find (stopped_act q why) ≡ false
-stop-quiet q why = either q.list.is_down (act.Leaves why) (act.Ended why) refl refl
+stop-quiet q why = either (q.leaves && may_leave why) (act.Leaves why) (act.Ended why) refl refl
 
 ahead-quiet : (q : Sequence) (ahead : Option Step) → is_find (ahead_act q ahead) ≡ false
 ahead-quiet q None = refl
@@ -55,16 +58,16 @@ over-quiet : (q : Sequence) (under ahead : Option Step) → is_find (over_act q 
 over-quiet q None ahead = ahead-quiet q ahead
 over-quiet q (Some step) ahead = either (needs_look q step) act.Again (ahead_act q ahead) refl (ahead-quiet q ahead)
 
-gate-quiet : (q : Sequence) (x : Act) → is_find x ≡ false → (is : Gate) → is_find (gated_act q is x) ≡ false
-gate-quiet q x quiet gate_is.Goes = quiet
-gate-quiet q x quiet gate_is.Looks = refl
-gate-quiet q x quiet (gate_is.Beyond fault) = stop-quiet q _
-gate-quiet q x quiet gate_is.Unjudged = stop-quiet q _
+gate-quiet : (q : Sequence) (job : Job) (x : Act) → is_find x ≡ false → (is : Gate) → is_find (gated_act q is job x) ≡ false
+gate-quiet q job x quiet gate_is.Goes = either (is_untold q.asks q.told job) (act.Order job) x refl quiet
+gate-quiet q job x quiet gate_is.Looks = refl
+gate-quiet q job x quiet (gate_is.Beyond fault) = stop-quiet q _
+gate-quiet q job x quiet gate_is.Unjudged = stop-quiet q _
 
 turn-quiet : (g : Guarded) (under ahead : Option Step) (q : Sequence) (x : Turn) (list : List) → is_find (act_of g under ahead q x list) ≡ false
 turn-quiet g under ahead q turn.Again list = refl
-turn-quiet g under ahead q (turn.Job job) list = gate-quiet q (act.Job job) refl (gate g q under job list.stairs.under)
-turn-quiet g under ahead q (turn.Begins job back) list = gate-quiet q (act.Begins job back) refl (gate g q ahead job list.stairs.under)
+turn-quiet g under ahead q (turn.Job job) list = gate-quiet q job (act.Job job) refl (gate g q under job list.stairs.under)
+turn-quiet g under ahead q (turn.Begins job back) list = gate-quiet q job (act.Begins job back) refl (gate g q ahead job list.stairs.under)
 turn-quiet g under ahead q (turn.Passes back) list = refl
 turn-quiet g under ahead q (turn.NoWayBack fault) list = refl
 turn-quiet g under ahead q turn.Reached list = over-quiet (with_list q list) under ahead

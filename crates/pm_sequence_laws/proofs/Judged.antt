@@ -1,7 +1,13 @@
 -- Which orders a sequence begins, case by case.
 use Rattle.std.proofs.Common.{◌≡◌, ℕ, Bool, true, false, cond, Option, Some, None, refl, sym, ◌∙◌, ap, subst}
-use Rattle.std.specs.Prelude.{◌&&◌, ◌==◌}
+use Rattle.std.specs.Ordering.{int_eq}
+use Rattle.std.specs.Prelude.{◌&&◌, ◌==◌, not}
+use Rattle.std.proofs.lemmas.Bool.{and_parts, eqb-true}
+use Rattle.std.proofs.lemmas.Bool.Decides.{Decides-int_eq}
+use Rattle.pm_table.specs.Cell.{same_cell}
+use Rattle.pm_table.specs.Laws.{CellsAreToldApart}
 use Rattle.pm_host.specs.declared.job.Job.{Job}
+use Rattle.pm_host.specs.declared.job.Job.TheVariants as asked
 use Rattle.pm_limits.specs.Guard.{Guarded}
 use Rattle.pm_stairs.specs.declared.sequence.Sequence.{Sequence as List}
 use Rattle.pm_stairs.specs.declared.sequence.Turn.{Turn}
@@ -21,19 +27,21 @@ use Rattle.pm_sequence.specs.declared.sequence.Phase.{Phase}
 use Rattle.pm_sequence.specs.declared.sequence.Phase.TheVariants as phase
 use Rattle.pm_sequence.specs.declared.sequence.Sequence.{Sequence}
 use Rattle.pm_sequence.specs.declared.step.Step.{Step}
-use Rattle.pm_sequence.specs.Gate.{order_gate, step_gate}
+use Rattle.pm_sequence.specs.Gate.{is_order, is_told, is_untold, order_gate, same_order, step_gate}
 use Rattle.pm_sequence.specs.Look.{look_act, look_after}
 use Rattle.pm_delivery.specs.declared.verdict.Verdict.{Verdict}
-use Rattle.pm_sequence.specs.Sequence.{Acts, Steps, act_of, after_of, ahead_act, done_act, due_in, found_at, found_in, gate, gated_act, gated_after, is_good, is_read_for, job_after, looked_act, needs_look, over_act, read_gate, said_act, shown, step_act, stopped_act, verdict_in, with_list, with_look}
+use Rattle.pm_sequence.specs.Sequence.{Acts, Steps, act_of, after_of, ahead_act, done_act, due_in, found_at, found_in, gate, gated_act, gated_after, is_good, is_read_for, job_after, looked_act, may_leave, needs_look, over_act, read_gate, said_act, shown, step_act, stopped_act, told_with, verdict_in, with_list, with_look}
 use Rattle.pm_sequence.specs.Sequence as does
 use Rattle.pm_sequence_laws.proofs.Listed.{either-list}
-use Rattle.pm_sequence_laws.specs.Judged.{IsJudged, OrdersAreJudged}
+use Rattle.pm_sequence_laws.specs.Judged.{IsDue, IsJudged, IsTold, OrdersAreJudged, OrdersAreTold}
+use Rattle.pm_sequence_laws.specs.Judged as due
 
--- an act that names a job
+-- an act that names a job, or tells one
 abbrev pub is_named : Act → Bool
 is_named (act.Job job) = true
 is_named (act.Begins job back) = true
 is_named (act.Passes back) = false
+is_named (act.Order job) = true
 is_named (act.Ask question) = false
 is_named act.Probe = false
 is_named act.Pause = false
@@ -50,7 +58,7 @@ either true x y first second = first
 either false x y first second = second
 
 stop-quiet : (q : Sequence) (why : End) → is_named (stopped_act q why) ≡ false
-stop-quiet q why = either q.list.is_down (act.Leaves why) (act.Ended why) refl refl
+stop-quiet q why = either (q.leaves && may_leave why) (act.Leaves why) (act.Ended why) refl refl
 
 ahead-quiet : (q : Sequence) (ahead : Option Step) → is_named (ahead_act q ahead) ≡ false
 ahead-quiet q None = refl
@@ -104,15 +112,31 @@ judged g q step job list goes = record { goes = judged-by g q step job list goes
 -- what an act names
 data NamesSo (g : Guarded) (under ahead : Option Step) (q new : Sequence) : Act → Type 0 where
   a-job : (job : Job) (list : List) → Turns g (shown q ahead) q.list (turn.Job job) list → new.list ≡ list → IsJudged g q under job list
-      → NamesSo g under ahead q new (act.Job job)
+      → is_untold q.asks q.told job ≡ false → NamesSo g under ahead q new (act.Job job)
   a-begin : (job : Job) (back : WordStep) (list : List) → Turns g (shown q ahead) q.list (turn.Begins job back) list → new.list ≡ list
-      → IsJudged g q ahead job list → NamesSo g under ahead q new (act.Begins job back)
+      → IsJudged g q ahead job list → is_untold q.asks q.told job ≡ false → NamesSo g under ahead q new (act.Begins job back)
+  an-order : (job : Job) → is_untold q.asks q.told job ≡ true → IsDue g under ahead q job → new ≡ told_with q job
+      → NamesSo g under ahead q new (act.Order job)
   none : (said : Act) → is_named said ≡ false → NamesSo g under ahead q new said
+
+-- where an order may begin it is told, or begins
+job-goes : (g : Guarded) (under ahead : Option Step) (q : Sequence) (job : Job) (list : List)
+    → Turns g (shown q ahead) q.list (turn.Job job) list → IsJudged g q under job list → (b : Bool) → is_untold q.asks q.told job ≡ b
+    → NamesSo g under ahead q (cond b (told_with q job) (job_after q job list)) (cond b (act.Order job) (act.Job job))
+job-goes g under ahead q job list says judged true told = an-order job told (due.job list says judged) refl
+job-goes g under ahead q job list says judged false told = a-job job list says (either-list _ _ _ list refl refl) judged told
+
+begin-goes : (g : Guarded) (under ahead : Option Step) (q : Sequence) (job : Job) (back : WordStep) (list : List)
+    → Turns g (shown q ahead) q.list (turn.Begins job back) list → IsJudged g q ahead job list → (b : Bool) → is_untold q.asks q.told job ≡ b
+    → NamesSo g under ahead q (cond b (told_with q job) (does.begun_with q list)) (cond b (act.Order job) (act.Begins job back))
+begin-goes g under ahead q job back list says judged true told = an-order job told (due.begins list back says judged) refl
+begin-goes g under ahead q job back list says judged false told = a-begin job back list says refl judged told
 
 job-so : (g : Guarded) (under ahead : Option Step) (q : Sequence) (job : Job) (list : List) → Turns g (shown q ahead) q.list (turn.Job job) list
     → (is : Gate) → gate g q under job list.stairs.under ≡ is
-    → NamesSo g under ahead q (gated_after q under is (job_after q job list)) (gated_act q is (act.Job job))
-job-so g under ahead q job list says gate_is.Goes goes = a-job job list says (either-list _ _ _ list refl refl) (judged g q under job list goes)
+    → NamesSo g under ahead q (gated_after q under is job (job_after q job list)) (gated_act q is job (act.Job job))
+job-so g under ahead q job list says gate_is.Goes goes =
+    job-goes g under ahead q job list says (judged g q under job list goes) (is_untold q.asks q.told job) refl
 job-so g under ahead q job list says gate_is.Looks goes = none act.Again refl
 job-so g under ahead q job list says (gate_is.Beyond fault) goes = none _ (stop-quiet q _)
 job-so g under ahead q job list says gate_is.Unjudged goes = none _ (stop-quiet q _)
@@ -120,8 +144,9 @@ job-so g under ahead q job list says gate_is.Unjudged goes = none _ (stop-quiet 
 begin-so : (g : Guarded) (under ahead : Option Step) (q : Sequence) (job : Job) (back : WordStep) (list : List)
     → Turns g (shown q ahead) q.list (turn.Begins job back) list
     → (is : Gate) → gate g q ahead job list.stairs.under ≡ is
-    → NamesSo g under ahead q (gated_after q ahead is (does.begun_with q list)) (gated_act q is (act.Begins job back))
-begin-so g under ahead q job back list says gate_is.Goes goes = a-begin job back list says refl (judged g q ahead job list goes)
+    → NamesSo g under ahead q (gated_after q ahead is job (does.begun_with q list)) (gated_act q is job (act.Begins job back))
+begin-so g under ahead q job back list says gate_is.Goes goes =
+    begin-goes g under ahead q job back list says (judged g q ahead job list goes) (is_untold q.asks q.told job) refl
 begin-so g under ahead q job back list says gate_is.Looks goes = none act.Again refl
 begin-so g under ahead q job back list says (gate_is.Beyond fault) goes = none _ (stop-quiet q _)
 begin-so g under ahead q job back list says gate_is.Unjudged goes = none _ (stop-quiet q _)
@@ -150,13 +175,13 @@ acts-so g under ahead q new said (does.after on is) = none _ (look-quiet g q und
 
 job-of : (g : Guarded) (under ahead : Option Step) (q new : Sequence) (job : Job) → NamesSo g under ahead q new (act.Job job)
     → (list : List) × (Turns g (shown q ahead) q.list (turn.Job job) list × (new.list ≡ list) × IsJudged g q under job list)
-job-of g under ahead q new job (a-job job' list says is so) = (list, (says, is, so))
+job-of g under ahead q new job (a-job job' list says is so told) = (list, (says, is, so))
 job-of g under ahead q new job (none said quiet) = cc
 
 begin-of : (g : Guarded) (under ahead : Option Step) (q new : Sequence) (job : Job) (back : WordStep)
     → NamesSo g under ahead q new (act.Begins job back)
     → (list : List) × (Turns g (shown q ahead) q.list (turn.Begins job back) list × (new.list ≡ list) × IsJudged g q ahead job list)
-begin-of g under ahead q new job back (a-begin job' back' list says is so) = (list, (says, is, so))
+begin-of g under ahead q new job back (a-begin job' back' list says is so told) = (list, (says, is, so))
 begin-of g under ahead q new job back (none said quiet) = cc
 
 pub orders-judged : OrdersAreJudged
@@ -164,3 +189,68 @@ orders-judged = record {
   job = λ g under ahead q new job says. job-of g under ahead q new job (acts-so g under ahead q new (act.Job job) says);
   begins = λ g under ahead q new job back says. begin-of g under ahead q new job back (acts-so g under ahead q new (act.Begins job back) says);
 }
+
+-- ---- What is told ----
+
+told-parts : (asks order told : Bool) → (asks && (order && not told)) ≡ false → asks ≡ true → order ≡ true → told ≡ true
+told-parts true true true untold asks order = refl
+told-parts true true false untold asks order = cc
+told-parts true false told untold asks order = cc
+told-parts false order told untold asks is = cc
+
+untold-parts : (asks order told : Bool) → (asks && (order && not told)) ≡ true → (asks ≡ true) × (order ≡ true)
+untold-parts true true told is = (refl, refl)
+untold-parts true false told is = cc
+untold-parts false order told is = cc
+
+module _ (apart : CellsAreToldApart) where
+  same-so : (job other : Job) → same_order job other ≡ true → job ≡ other
+  same-so (asked.Order cell word) (asked.Order at second) is =
+      let parts = and_parts (same_cell cell at) (word == second) is in
+      let cells : cell ≡ at = (apart cell at).0 parts.0 in
+      let words : word ≡ second = eqb-true word second parts.1 in rw (cells, words) refl
+  same-so (asked.OrderMicro cell x) (asked.OrderMicro at y) is =
+      let parts = and_parts (same_cell cell at) (int_eq x y) is in
+      let cells : cell ≡ at = (apart cell at).0 parts.0 in
+      let same : x ≡ y = (Decides-int_eq x y).0 parts.1 in rw (cells, same) refl
+  same-so job other is = cc
+
+  told-so : (told : Option Job) (job : Job) → is_told told job ≡ true → told ≡ Some job
+  told-so None job is = cc
+  told-so (Some other) job is = ap (λ (x : Job). Some x) (same-so other job is)
+
+  told-of : (q : Sequence) (job : Job) → is_untold q.asks q.told job ≡ false → q.asks ≡ true → is_order job ≡ true → q.told ≡ Some job
+  told-of q job untold asks order = told-so q.told job (told-parts q.asks (is_order job) (is_told q.told job) untold asks order)
+
+  job-told : (g : Guarded) (under ahead : Option Step) (q new : Sequence) (job : Job) → NamesSo g under ahead q new (act.Job job)
+      → q.asks ≡ true → is_order job ≡ true → q.told ≡ Some job
+  job-told g under ahead q new job (a-job job' list says is so told) asks order = told-of q job told asks order
+  job-told g under ahead q new job (none said quiet) asks order = cc
+
+  begin-told : (g : Guarded) (under ahead : Option Step) (q new : Sequence) (job : Job) (back : WordStep)
+      → NamesSo g under ahead q new (act.Begins job back) → q.asks ≡ true → is_order job ≡ true → q.told ≡ Some job
+  begin-told g under ahead q new job back (a-begin job' back' list says is so told) asks order = told-of q job told asks order
+  begin-told g under ahead q new job back (none said quiet) asks order = cc
+
+  order-of : (g : Guarded) (under ahead : Option Step) (q new : Sequence) (job : Job) → NamesSo g under ahead q new (act.Order job)
+      → (q.asks ≡ true) × IsTold g under ahead q new job
+  order-of g under ahead q new job (an-order job' untold due is) =
+      let parts = untold-parts q.asks (is_order job) (is_told q.told job) untold in (
+        parts.0,
+        record {
+          order = parts.1;
+          due = due;
+          list = ap (λ (x : Sequence). x.list) is;
+          told = ap (λ (x : Sequence). x.told) is;
+          same = is;
+        },
+      )
+  order-of g under ahead q new job (none said quiet) = cc
+
+  pub orders-told : OrdersAreTold
+  orders-told = record {
+    job = λ g under ahead q new job says. job-told g under ahead q new job (acts-so g under ahead q new (act.Job job) says);
+    begins = λ g under ahead q new job back says.
+        begin-told g under ahead q new job back (acts-so g under ahead q new (act.Begins job back) says);
+    tells = λ g under ahead q new job says. order-of g under ahead q new job (acts-so g under ahead q new (act.Order job) says);
+  }

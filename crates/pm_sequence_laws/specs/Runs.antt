@@ -5,6 +5,7 @@ use Rattle.pm_sequence.specs.declared.sequence.Act.{Act}
 use Rattle.pm_sequence.specs.declared.sequence.Act.TheVariants as act
 use Rattle.pm_sequence.specs.declared.sequence.End.{End}
 use Rattle.pm_sequence.specs.declared.sequence.End.TheVariants as end
+use Rattle.pm_sequence.specs.declared.sequence.Rules.{Rules}
 use Rattle.pm_delivery.specs.declared.verdict.Verdict.{Verdict}
 use Rattle.pm_sequence.specs.declared.sequence.Sequence.{Sequence}
 use Rattle.pm_sequence.specs.declared.step.Step.{Step}
@@ -30,6 +31,7 @@ abbrev pub marks_of : ℕ → Act → List Mark
 marks_of n (act.Job job) = if is_order job then Orders n ∷ [] else []
 marks_of n (act.Begins job back) = Orders n ∷ []
 marks_of n (act.Passes back) = []
+marks_of n (act.Order job) = []
 marks_of n (act.Ask question) = []
 marks_of n act.Probe = []
 marks_of n act.Pause = []
@@ -48,12 +50,12 @@ pub record Hears (old new : Sequence) : Type 0 where
   pub left : new.left ≡ old.left
   pub ended : new.end ≡ old.end
 
-pub data Runs (steps : Places) (tries : ℕ) (is_down : Bool) : List Mark → Sequence → Type 0 where
-  starts : Runs steps tries is_down [] (new_sequence tries is_down)
-  acts : (g : Guarded) (said : Act) (marks : List Mark) (old new : Sequence) → Runs steps tries is_down marks old →
+pub data Runs (steps : Places) (tries : ℕ) (rules : Rules) : List Mark → Sequence → Type 0 where
+  starts : Runs steps tries rules [] (new_sequence tries rules)
+  acts : (g : Guarded) (said : Act) (marks : List Mark) (old new : Sequence) → Runs steps tries rules marks old →
       Acts g (under_at steps old.list.begun) (steps old.list.begun) old said new →
-      Runs steps tries is_down (marks_of new.list.begun said ++ marks) new
-  hears : (marks : List Mark) (old new : Sequence) → Runs steps tries is_down marks old → Hears old new → Runs steps tries is_down marks new
+      Runs steps tries rules (marks_of new.list.begun said ++ marks) new
+  hears : (marks : List Mark) (old new : Sequence) → Runs steps tries rules marks old → Hears old new → Runs steps tries rules marks new
 
 -- the rail of a step was found to do what it is to after its last order
 abbrev pub settled : Places → List Mark → ℕ → Bool
@@ -74,8 +76,8 @@ NoneLeft (Does m found ∷ marks) = NoneLeft marks
 NoneLeft (Leaves ∷ marks) = ⊥
 
 abbrev pub ReachedSequencesDeliver : Type 0
-ReachedSequencesDeliver = (steps : Places) (tries : ℕ) (is_down : Bool) (marks : List Mark) (q : Sequence) →
+ReachedSequencesDeliver = (steps : Places) (tries : ℕ) (rules : Rules) (marks : List Mark) (q : Sequence) →
     ((place : ℕ) → nat_lt place 65535 ≡ false → steps place ≡ None) →
-    Runs steps tries is_down marks q → q.end ≡ Some end.Reached →
+    Runs steps tries rules marks q → q.end ≡ Some end.Reached →
     NoneLeft marks × (steps q.list.begun ≡ None)
     × ((place : ℕ) → place < q.list.begun → must (steps place) ≡ true → settled steps marks (suc place) ≡ true)

@@ -1,16 +1,26 @@
 //! The laws.
 
 ghost use Rattle.pm_sequence_laws.specs.Finds.{FindsAreVerdicts};
-ghost use Rattle.pm_sequence_laws.specs.Judged.{OrdersAreJudged};
+ghost use Rattle.pm_sequence_laws.specs.Judged.{OrdersAreJudged, OrdersAreTold};
 ghost use Rattle.pm_sequence_laws.specs.Read.{LimitsAreRead};
 ghost use Rattle.pm_sequence_laws.specs.Runs.{ReachedSequencesDeliver};
 ghost use Rattle.pm_sequence_laws.specs.Turned.{SequencesTurn};
+
+use pm_table::cells_are_told_apart;
 
 /// Each order that begins and leaves its output on, of a step whose rail is looked at, is one that the list names, and was judged: what stands
 /// before the first order of its output was read, and its step's goal is within the fault limits that were, unless these are only told.
 pub fn orders_are_judged()
     ensures { OrdersAreJudged }
 {}
+
+/// In a list that asks before orders each order that begins is the one that was told last. What is told is an order that is due and was judged,
+/// and nothing begins as it is told.
+pub fn orders_are_told()
+    ensures { OrdersAreTold }
+{
+    cells_are_told_apart();
+}
 
 /// `Reached` says that no step was left, and that each step that has to deliver was found to, after its last order.
 pub fn reached_sequences_deliver()

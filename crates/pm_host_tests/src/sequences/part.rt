@@ -44,6 +44,8 @@ pub(crate) struct Run {
     pub(crate) waits: u32,
     /// How often was waited before all was asked again.
     pub(crate) pauses: usize,
+    /// How many orders were told before they began.
+    pub(crate) orders: usize,
 }
 
 fn byte_at(bytes: &[u8], place: usize) -> u8 {
@@ -217,6 +219,7 @@ pub(crate) fn carried(
         left: None,
         waits: 0,
         pauses: 0,
+        orders: 0,
     };
     for _ in 0..2000usize {
         let place = usize::from(sequence.list.host);
@@ -226,6 +229,7 @@ pub(crate) fn carried(
         match steps_once(&mut sequence, guard, part, steps) {
             Act::Wait(milliseconds) => run.waits = run.waits.saturating_add(milliseconds),
             Act::Pause => run.pauses = run.pauses.saturating_add(1),
+            Act::Order(_) => run.orders = run.orders.saturating_add(1),
             Act::Does(verdict) => {
                 run.found = Some(verdict);
                 run.founds = run.founds.saturating_add(1);

@@ -1,4 +1,4 @@
-use Rattle.pm_device.proofs.DeviceCodes.{carried-heard, plain-heard, asked-alike, read-alike}
+use Rattle.pm_device.proofs.Replies.{carried-heard, plain-heard, asked-alike, read-alike}
 use Rattle.pm_device.proofs.laws.device_codes_ignore_pages.Goals as goal
 
 pub returns : goal.returns

@@ -1,4 +1,4 @@
-use Rattle.pm_device.proofs.Others.{other-silent, silent-other, other-unchanged, neighbour-other, read_bit-other, past-without_others}
+use Rattle.pm_device.proofs.Replies.{other-silent, silent-other, other-unchanged, neighbour-other, read_bit-other, past-without_others}
 use Rattle.pm_device.proofs.laws.frames_for_others_are_silent.Goals as goal
 
 pub returns : goal.returns

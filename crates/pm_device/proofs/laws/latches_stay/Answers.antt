@@ -1,7 +1,7 @@
 use Rattle.pm_frame.specs.View.{message_code}
 use Rattle.pm_device.specs.Verdict.{output_in}
-use Rattle.pm_device.proofs.Latches.{readings-heard, readings-restarted, measured-alone, cut-stays, leaves-code, leaves-output, cml-stays}
-use Rattle.pm_device.proofs.Latches.{cml-cleared}
+use Rattle.pm_device.proofs.Past.{readings-heard, readings-restarted, measured-alone, cut-stays, leaves-code, leaves-output, cml-stays}
+use Rattle.pm_device.proofs.Past.{cml-cleared}
 use Rattle.pm_device.proofs.laws.latches_stay.Goals as goal
 
 pub returns : goal.returns

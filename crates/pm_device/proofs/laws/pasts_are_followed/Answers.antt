@@ -1,5 +1,5 @@
-use Rattle.pm_device.proofs.Follow.{now-nil, now-next, now-page, now-words, now-store}
-use Rattle.pm_device.proofs.Refusals.{vout-looked_up, cml-looked_up, now-shows}
+use Rattle.pm_device.proofs.Past.{now-nil, now-next, now-page, now-words, now-store}
+use Rattle.pm_device.proofs.Replies.{vout-looked_up, cml-looked_up, now-shows}
 use Rattle.pm_device.proofs.laws.pasts_are_followed.Goals as goal
 
 pub returns : goal.returns

@@ -2,7 +2,7 @@ use Rattle.std.proofs.Common.{refl}
 use Rattle.std.proofs.lemmas.Bool.{lt-ltb}
 use Rattle.pm_table.specs.Codes as command
 use Rattle.pm_frame.specs.declared.message.Message.TheVariants.{ReadCommand, PagePlusRead, ReadCoefficients}
-use Rattle.pm_device.proofs.ReadAnswers.{answer-is, coefficients-refused, request-answered, cell-answered, read-back}
+use Rattle.pm_device.proofs.Replies.{answer-is, coefficients-refused, request-answered, cell-answered, read-back}
 use Rattle.pm_device.proofs.laws.reads_are_answered.Goals as goal
 
 pub returns : goal.returns

@@ -1,4 +1,4 @@
-use Rattle.pm_device.proofs.Refusals.{next-refused, next-silent, next-answered, next-taken}
+use Rattle.pm_device.proofs.Replies.{next-refused, next-silent, next-answered, next-taken}
 use Rattle.pm_device.proofs.laws.refusals_set_one_bit.Goals as goal
 
 pub returns : goal.returns

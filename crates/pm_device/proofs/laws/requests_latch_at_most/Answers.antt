@@ -1,4 +1,4 @@
-use Rattle.pm_device.proofs.Requests.{request-alone, request-kept, request-rises, past-without_requests}
+use Rattle.pm_device.proofs.Replies.{request-alone, request-kept, request-rises, past-without_requests}
 use Rattle.pm_device.proofs.laws.requests_latch_at_most.Goals as goal
 
 pub returns : goal.returns

@@ -1,5 +1,4 @@
-use Rattle.pm_device.proofs.Faultless.{faultless}
-use Rattle.pm_device.proofs.StartLemmas.{sound}
+use Rattle.pm_device.proofs.Start.{faultless, sound}
 use Rattle.pm_device.proofs.laws.sound_configurations_have_no_fault.Goals as goal
 
 pub returns : goal.returns

@@ -1,4 +1,4 @@
-use Rattle.pm_device.proofs.Origin.{now-origin, now-ever, now-stored, now-accepted, now-stored_accepted}
+use Rattle.pm_device.proofs.Past.{now-origin, now-ever, now-stored, now-accepted, now-stored_accepted}
 use Rattle.pm_device.proofs.laws.words_have_an_origin.Goals as goal
 
 pub returns : goal.returns

@@ -1,6 +1,5 @@
-use Rattle.pm_device.proofs.WriteEffects.{kept-next, requested, faulty, heard-write, cell-written}
-use Rattle.pm_device.proofs.WriteEffects.{carried, plain-protect, selected, cleared}
-use Rattle.pm_device.proofs.WriteEffects.{stored, restored}
+use Rattle.pm_device.proofs.Past.{kept-next, requested, faulty, heard-write, cell-written, carried, plain-protect, selected, cleared}
+use Rattle.pm_device.proofs.Past.{stored, restored}
 use Rattle.pm_device.proofs.laws.writes_reach_one_cell.Goals as goal
 
 pub returns : goal.returns

@@ -1,7 +1,7 @@
 use Rattle.std.proofs.Common.{◌≡◌, ◌∙◌, sym, subst, true, arith}
 use Rattle.pm_table.specs.Cell.{register_accepts}
 use Rattle.pm_table.specs.declared.cell.Cell.TheVariants.{Out, Protect}
-use Rattle.pm_device.proofs.StartLemmas.{row-start, all-start}
+use Rattle.pm_device.proofs.Start.{row-start, all-start}
 use Rattle.pm_device.proofs.starts.start_settings.Goals as goal
 
 pub new-requires-clause-registers : goal.new-requires-clause-registers

@@ -1,6 +1,6 @@
 use Rattle.std.proofs.Common.{◌≡◌, None, sym}
 use Rattle.pm_frame.specs.BlockRead.{block_fault}
-use Rattle.pm_frame.proofs.OtherReads.{block_fault-spelled, block_fault-found}
+use Rattle.pm_frame.proofs.Layouts.{block_fault-spelled, block_fault-found}
 use Rattle.pm_frame.proofs.block_read.read_block.Goals as goal
 
 pub returns-in_err-block_checked-clause-accepts : goal.returns-in_err-block_checked-clause-accepts

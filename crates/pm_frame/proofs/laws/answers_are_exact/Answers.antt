@@ -1,5 +1,5 @@
 use Rattle.std.proofs.Common.{sym, ◌∙◌}
-use Rattle.pm_frame.proofs.AnswerLaws.{answer_fault-found, answer_fault-spelled, answer-payload, answer-front}
+use Rattle.pm_frame.proofs.Layouts.{answer_fault-found, answer_fault-spelled, answer-payload, answer-front}
 use Rattle.pm_frame.proofs.laws.answers_are_exact.Goals as goal
 
 pub returns : goal.returns

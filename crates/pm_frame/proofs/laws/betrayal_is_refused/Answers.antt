@@ -1,7 +1,7 @@
 use Rattle.std.proofs.Common.{[], sym, ◌∙◌, ap}
 use Rattle.pm_frame.specs.Fault.{write_fault, answer_fault}
 use Rattle.pm_frame.specs.Layout.{sent}
-use Rattle.pm_frame.proofs.BetrayalLemmas.{is_betrayed-at}
+use Rattle.pm_frame.proofs.PacketErrorCode.{is_betrayed-at}
 use Rattle.pm_frame.proofs.laws.betrayal_is_refused.Goals as goal
 
 pub returns : goal.returns

@@ -1,4 +1,4 @@
-use Rattle.pm_frame.proofs.Burst.{burst-betrayed, ends-same}
+use Rattle.pm_frame.proofs.PacketErrorCode.{burst-betrayed, ends-same}
 use Rattle.pm_frame.proofs.laws.bursts_are_betrayed.Goals as goal
 
 pub returns : goal.returns

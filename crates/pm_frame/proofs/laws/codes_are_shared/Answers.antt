@@ -1,4 +1,4 @@
-use Rattle.pm_frame.proofs.SharedCodeLaws.{messages-shared, reads-shared, plain-shared, writes-shared}
+use Rattle.pm_frame.proofs.SharedCodes.{messages-shared, reads-shared, plain-shared, writes-shared}
 use Rattle.pm_frame.proofs.laws.codes_are_shared.Goals as goal
 
 pub returns : goal.returns

@@ -1,6 +1,4 @@
-use Rattle.pm_frame.proofs.Burst.{burst-betrayed}
-use Rattle.pm_frame.proofs.DamageLemmas.{betrayed-by_code}
-use Rattle.pm_frame.proofs.FewBits.{few-betrayed, odd-betrayed}
+use Rattle.pm_frame.proofs.PacketErrorCode.{burst-betrayed, betrayed-by_code, few-betrayed, odd-betrayed}
 use Rattle.pm_frame.proofs.laws.damage_is_betrayed.Goals as goal
 
 pub returns : goal.returns

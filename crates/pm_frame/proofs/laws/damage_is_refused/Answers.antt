@@ -1,7 +1,6 @@
 use Rattle.std.proofs.Common.{arith}
-use Rattle.pm_frame.proofs.AnswerLaws.{answer_fault-front, answer_fault-length, answer-last, answer-ends}
-use Rattle.pm_frame.proofs.RequestLaws.{request-front, request-no_write}
-use Rattle.pm_frame.proofs.WriteLaws.{write-front, write-last, write-ends}
+use Rattle.pm_frame.proofs.Layouts.{answer_fault-front, answer_fault-length, answer-last, answer-ends, request-front, request-no_write}
+use Rattle.pm_frame.proofs.Layouts.{write-front, write-last, write-ends}
 use Rattle.pm_frame.proofs.laws.damage_is_refused.Goals as goal
 
 pub returns : goal.returns

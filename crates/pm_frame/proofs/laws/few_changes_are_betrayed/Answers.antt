@@ -1,6 +1,4 @@
-use Rattle.pm_frame.proofs.Burst.{ends-same}
-use Rattle.pm_frame.proofs.FarBits.{far-pass}
-use Rattle.pm_frame.proofs.FewBits.{few-betrayed, odd-betrayed}
+use Rattle.pm_frame.proofs.PacketErrorCode.{ends-same, far-pass, few-betrayed, odd-betrayed}
 use Rattle.pm_frame.proofs.laws.few_changes_are_betrayed.Goals as goal
 
 pub returns : goal.returns

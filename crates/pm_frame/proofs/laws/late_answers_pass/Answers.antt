@@ -1,4 +1,4 @@
-use Rattle.pm_frame.proofs.LateAnswerLaws.{answer_fault-alike, IsAnswer-alike, answers-shared}
+use Rattle.pm_frame.proofs.SharedCodes.{answer_fault-alike, IsAnswer-alike, answers-shared}
 use Rattle.pm_frame.proofs.laws.late_answers_pass.Goals as goal
 
 pub returns : goal.returns

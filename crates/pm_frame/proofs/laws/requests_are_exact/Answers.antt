@@ -1,6 +1,6 @@
 use Rattle.std.proofs.Common.{sym, ◌∙◌}
 use Rattle.pm_frame.specs.View.{message_in}
-use Rattle.pm_frame.proofs.RequestLaws.{request_fault-found, request_fault-spelled, message_in-request, request-front}
+use Rattle.pm_frame.proofs.Layouts.{request_fault-found, request_fault-spelled, message_in-request, request-front}
 use Rattle.pm_frame.proofs.laws.requests_are_exact.Goals as goal
 
 pub returns : goal.returns

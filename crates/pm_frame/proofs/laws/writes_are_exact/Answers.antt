@@ -1,6 +1,6 @@
 use Rattle.std.proofs.Common.{sym, ◌∙◌}
 use Rattle.pm_frame.specs.View.{message_in}
-use Rattle.pm_frame.proofs.WriteLaws.{write_fault-found, write_fault-spelled, message_in-write, write-front}
+use Rattle.pm_frame.proofs.Layouts.{write_fault-found, write_fault-spelled, message_in-write, write-front}
 use Rattle.pm_frame.proofs.laws.writes_are_exact.Goals as goal
 
 pub returns : goal.returns

@@ -1,5 +1,5 @@
 use Rattle.std.proofs.Common.{ℕ, List, ◌<◌, ◌^◌, length, get_or, arith}
-use Rattle.pm_frame.proofs.Residues.{pec_of-further}
+use Rattle.pm_frame.proofs.PacketErrorCode.{pec_of-further}
 use Rattle.pm_frame.proofs.packet_error_code.pec_after.Goals as goal
 
 -- the next byte is one byte more

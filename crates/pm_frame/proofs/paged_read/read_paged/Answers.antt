@@ -1,6 +1,6 @@
 use Rattle.std.proofs.Common.{◌≡◌, None, sym}
 use Rattle.pm_frame.specs.PagedRead.{paged_fault}
-use Rattle.pm_frame.proofs.OtherReads.{paged_fault-spelled, paged_fault-found}
+use Rattle.pm_frame.proofs.Layouts.{paged_fault-spelled, paged_fault-found}
 use Rattle.pm_frame.proofs.paged_read.read_paged.Goals as goal
 
 pub returns-in_err-paged_checked-clause-accepts : goal.returns-in_err-paged_checked-clause-accepts

@@ -1,6 +1,6 @@
 use Rattle.std.proofs.Common.{◌≡◌, None, sym}
 use Rattle.pm_frame.specs.PlainRead.{plain_read_fault}
-use Rattle.pm_frame.proofs.OtherReads.{plain_read_fault-spelled, plain_read_fault-found}
+use Rattle.pm_frame.proofs.Layouts.{plain_read_fault-spelled, plain_read_fault-found}
 use Rattle.pm_frame.proofs.plain_read.read_plain.Goals as goal
 
 pub returns-in_err-plain_checked-clause-accepts : goal.returns-in_err-plain_checked-clause-accepts

@@ -1,6 +1,6 @@
 use Rattle.std.proofs.Common.{◌≡◌, None, sym}
 use Rattle.pm_frame.specs.Fault.{answer_fault}
-use Rattle.pm_frame.proofs.AnswerLaws.{answer_fault-spelled, answer_fault-found}
+use Rattle.pm_frame.proofs.Layouts.{answer_fault-spelled, answer_fault-found}
 use Rattle.pm_frame.proofs.received.read_answer.Goals as goal
 
 pub returns-in_err-answer_checked-clause-accepts : goal.returns-in_err-answer_checked-clause-accepts

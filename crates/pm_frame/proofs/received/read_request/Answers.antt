@@ -1,8 +1,7 @@
 use Rattle.std.proofs.Common.{◌≡◌, None, sym, arith}
 use Rattle.pm_frame.specs.Fault.{request_fault}
 use Rattle.pm_frame.specs.View.{message_in}
-use Rattle.pm_frame.proofs.RequestLaws.{request_fault-spelled, request_fault-found, message_in-request}
-use Rattle.pm_frame.proofs.Whole.{request-whole}
+use Rattle.pm_frame.proofs.Layouts.{request_fault-spelled, request_fault-found, message_in-request, request-whole}
 use Rattle.pm_frame.proofs.received.read_request.Goals as goal
 
 pub returns-in_err-requested-clause-accepts : goal.returns-in_err-requested-clause-accepts

@@ -2,8 +2,7 @@ use Rattle.std.proofs.Common.{◌≡◌, None, sym, arith}
 use Rattle.pm_frame.specs.Fault.{write_fault}
 use Rattle.pm_frame.specs.Layout.{AreBytes}
 use Rattle.pm_frame.specs.View.{message_in}
-use Rattle.pm_frame.proofs.WriteLaws.{write_fault-spelled, write_fault-found, message_in-write}
-use Rattle.pm_frame.proofs.Whole.{write-whole}
+use Rattle.pm_frame.proofs.Layouts.{write_fault-spelled, write_fault-found, message_in-write, write-whole}
 use Rattle.pm_frame.proofs.received.read_write.Goals as goal
 
 pub returns-in_err-written-clause-accepts : goal.returns-in_err-written-clause-accepts

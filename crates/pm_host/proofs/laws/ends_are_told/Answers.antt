@@ -1,4 +1,4 @@
-use Rattle.pm_host.proofs.EndedJobs.{entry-tells, now-job}
+use Rattle.pm_host.proofs.Jobs.{entry-tells, now-job}
 use Rattle.pm_host.proofs.laws.ends_are_told.Goals as goal
 
 pub returns : goal.returns

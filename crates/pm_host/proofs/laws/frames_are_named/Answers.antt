@@ -1,5 +1,5 @@
-use Rattle.pm_host.proofs.FrameLemmas.{CanSend-fits, CanSend-page}
-use Rattle.pm_host.proofs.OpenJobs.{sent-named}
+use Rattle.pm_host.proofs.Memory.{CanSend-fits, CanSend-page}
+use Rattle.pm_host.proofs.Jobs.{sent-named}
 use Rattle.pm_host.proofs.laws.frames_are_named.Goals as goal
 
 pub returns : goal.returns

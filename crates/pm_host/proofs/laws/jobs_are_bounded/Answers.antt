@@ -1,4 +1,4 @@
-use Rattle.pm_host.proofs.Bounds.{frames-bound}
+use Rattle.pm_host.proofs.Jobs.{frames-bound}
 use Rattle.pm_host.proofs.laws.jobs_are_bounded.Goals as goal
 
 pub returns : goal.returns

@@ -1,4 +1,4 @@
-use Rattle.pm_host.proofs.OpenJobs.{order_there, open_order}
+use Rattle.pm_host.proofs.Jobs.{order_there, open_order}
 use Rattle.pm_host.proofs.laws.open_orders_are_uncertain.Goals as goal
 
 pub returns : goal.returns

@@ -1,4 +1,4 @@
-use Rattle.pm_host.proofs.OpenJobs.{open_restore}
+use Rattle.pm_host.proofs.Jobs.{open_restore}
 use Rattle.pm_host.proofs.laws.open_restores_are_uncertain.Goals as goal
 
 pub returns : goal.returns

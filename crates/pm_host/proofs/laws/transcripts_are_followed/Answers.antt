@@ -1,10 +1,8 @@
 use Rattle.std.proofs.Common.{sym, ap}
 use Rattle.pm_host.specs.Now.{now}
 use Rattle.pm_host.specs.Summary.{next, step_of}
-use Rattle.pm_host.proofs.Follows.{now-nil, change-now, IsJob-told, now-format}
-use Rattle.pm_host.proofs.Kept.{next-keeps}
-use Rattle.pm_host.proofs.KnownLaws.{known_now-possible, known_now-standing, known_now-seen}
-use Rattle.pm_host.proofs.OpenJobs.{now-busy, now-sending, now-sound}
+use Rattle.pm_host.proofs.Jobs.{now-nil, change-now, IsJob-told, now-format, next-keeps, known_now-possible, known_now-standing}
+use Rattle.pm_host.proofs.Jobs.{known_now-seen, now-busy, now-sending, now-sound}
 use Rattle.pm_host.specs.Marks.{marks}
 use Rattle.pm_host.proofs.laws.transcripts_are_followed.Goals as goal
 

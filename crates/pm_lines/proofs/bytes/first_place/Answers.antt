@@ -1,5 +1,5 @@
 use Rattle.std.proofs.Common.{◌==◌}
-use Rattle.pm_lines.proofs.CutLemmas.{first_is}
+use Rattle.pm_lines.proofs.LinesAndWords.{first_is}
 use Rattle.pm_lines.proofs.bytes.first_place.Goals as goal
 
 pub returns : goal.returns

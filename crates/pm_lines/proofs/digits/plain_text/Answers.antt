@@ -1,5 +1,5 @@
 use Rattle.std.proofs.Common.{lit≤}
-use Rattle.pm_lines.proofs.ReadingLemmas.{decimal_none, natural_none, no_text}
+use Rattle.pm_lines.proofs.ReadDigits.{decimal_none, natural_none, no_text}
 use Rattle.pm_lines.proofs.digits.plain_text.Goals as goal
 
 pub returns-clause-decimal : goal.returns-clause-decimal

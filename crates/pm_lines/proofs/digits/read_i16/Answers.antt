@@ -1,6 +1,6 @@
 use Rattle.std.proofs.Common.{◌∙◌, ap, refl, w16}
 use Rattle.pm_lines.specs.Digits.{signed_of}
-use Rattle.pm_lines.proofs.ReadingLemmas.{signed_read}
+use Rattle.pm_lines.proofs.ReadDigits.{signed_read}
 use Rattle.pm_lines.proofs.digits.read_i16.Goals as goal
 
 pub returns : goal.returns

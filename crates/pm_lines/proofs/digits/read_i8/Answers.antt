@@ -1,6 +1,6 @@
 use Rattle.std.proofs.Common.{◌∙◌, ap, refl, w8}
 use Rattle.pm_lines.specs.Digits.{signed_of}
-use Rattle.pm_lines.proofs.ReadingLemmas.{signed_read}
+use Rattle.pm_lines.proofs.ReadDigits.{signed_read}
 use Rattle.pm_lines.proofs.digits.read_i8.Goals as goal
 
 pub returns : goal.returns

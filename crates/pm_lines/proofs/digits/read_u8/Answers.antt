@@ -1,6 +1,6 @@
 use Rattle.std.proofs.Common.{◌∙◌, ap}
 use Rattle.pm_lines.specs.Digits.{small_of}
-use Rattle.pm_lines.proofs.ReadingLemmas.{small_read}
+use Rattle.pm_lines.proofs.ReadDigits.{small_read}
 use Rattle.pm_lines.proofs.digits.read_u8.Goals as goal
 
 pub returns : goal.returns

@@ -1,5 +1,5 @@
 use Rattle.std.proofs.Common.{◌≡◌, ◌∙◌, ap₂, length, rules, sym}
-use Rattle.pm_lines.proofs.ReadingLemmas.{word_is, word_of}
+use Rattle.pm_lines.proofs.ReadDigits.{word_is, word_of}
 use Rattle.pm_lines.proofs.digits.read_word.Goals as goal
 
 pub returns-in_err-low-in-len4 : goal.returns-in_err-low-in-len4

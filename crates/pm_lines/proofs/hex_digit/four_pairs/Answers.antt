@@ -1,6 +1,6 @@
 -- The four pairs that are read are those that stand first.
 use Rattle.std.proofs.Common.{arith}
-use Rattle.pm_lines.proofs.FourPairs.{four_read}
+use Rattle.pm_lines.proofs.ReadDigits.{four_read}
 use Rattle.pm_lines.proofs.hex_digit.four_pairs.Goals as goal
 
 pub returns-else-not-are_bytes-clause-bytes : goal.returns-else-not-are_bytes-clause-bytes

@@ -5,7 +5,7 @@ use Rattle.std.specs.List.{range_with_len}
 use Rattle.std.proofs.lemmas.List.FromFn.{get_or-map-range_with_len}
 use Rattle.hex.specs.Hex.{hex_digit_value}
 use Rattle.pm_lines.specs.declared.hex_digit.TheConstants.{DIGIT_VALUES}
-use Rattle.pm_lines.proofs.FourPairs.{value_small}
+use Rattle.pm_lines.proofs.ReadDigits.{value_small}
 use Rattle.pm_lines.proofs.hex_digit.value_or_none.Goals as goal
 
 -- the value of a digit, and 256 for another byte

@@ -1,7 +1,7 @@
 use Rattle.std.proofs.Common.{◌<◌, ◌≤◌, ◌++◌, length, take, arith, length-append}
 use Rattle.std.proofs.KnownBytes.{Consumes-trans}
 use Rattle.std.proofs.lemmas.Result.{err_from_is_err_and}
-use Rattle.pm_lines.proofs.EngineLemmas.{parted}
+use Rattle.pm_lines.proofs.LinesAndWords.{parted}
 use Rattle.pm_lines.specs.Streams.{max_text}
 use Rattle.pm_lines.proofs.text.read_text.Goals as goal
 

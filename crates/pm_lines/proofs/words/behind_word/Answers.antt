@@ -1,7 +1,7 @@
 use Rattle.std.proofs.Common.{Some, None}
 use Rattle.std.proofs.lemmas.Bool.Decides.{Decides-eqb}
 use Rattle.std.proofs.lemmas.Slice.Eq.{strip_prefix_is}
-use Rattle.pm_lines.proofs.WordLemmas.{word-behind, word-is_other}
+use Rattle.pm_lines.proofs.LinesAndWords.{word-behind, word-is_other}
 use Rattle.pm_lines.proofs.words.behind_word.Goals as goal
 
 pub returns-in-Some : goal.returns-in-Some

@@ -1,5 +1,5 @@
 use Rattle.std.proofs.Common.{◌∙◌, refl, rules}
-use Rattle.pm_lines.proofs.WordLemmas.{words-passed}
+use Rattle.pm_lines.proofs.LinesAndWords.{words-passed}
 use Rattle.pm_lines.proofs.words.without_spaces.Goals as goal
 
 pub spaces-preserved : goal.spaces-preserved

@@ -1,5 +1,5 @@
-use Rattle.pm_num.proofs.Bounding.{nearest-at_most, nearest-at_least, nearest-at_most_both, nearest-at_least_both}
-use Rattle.pm_num.proofs.Bounding.{end-at_most, end-at_least, hit-at_most, hit-at_least}
+use Rattle.pm_num.proofs.Nearest.{nearest-at_most, nearest-at_least, nearest-at_most_both, nearest-at_least_both, end-at_most, end-at_least}
+use Rattle.pm_num.proofs.Nearest.{hit-at_most, hit-at_least}
 use Rattle.pm_num.proofs.laws.bounds_hold.Goals as goal
 
 pub returns : goal.returns

@@ -2,7 +2,7 @@ use Rattle.std.proofs.Common.{◌≡◌, pos, ◌*ℤ◌, ◌∙◌, to_z, of_z,
 use Rattle.std.specs.Prelude.{int_div}
 use mir.Syntax.{w128}
 use Rattle.std.proofs.lemmas.Int.{ints}
-use Rattle.pm_num.proofs.Spellings.{halved}
+use Rattle.pm_num.proofs.Nearest.{halved}
 use Rattle.pm_num.proofs.linear11.preferred.Goals as goal
 
 pub loop-place-preserved : goal.loop-place-preserved

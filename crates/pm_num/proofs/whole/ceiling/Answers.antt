@@ -1,6 +1,6 @@
 use Rattle.std.proofs.Common.{arith}
 use Rattle.std.proofs.lemmas.Int.{ints}
-use Rattle.pm_num.proofs.Rounding.{floor_size, ceiling-floor}
+use Rattle.pm_num.proofs.Nearest.{floor_size, ceiling-floor}
 use Rattle.pm_num.proofs.whole.ceiling.Goals as goal
 
 pub returns : goal.returns

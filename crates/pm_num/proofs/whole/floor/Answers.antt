@@ -2,7 +2,7 @@ use Rattle.std.proofs.Common.{rules}
 use mir.Syntax.{w128}
 use mir.Val.{SFits}
 use Rattle.std.proofs.lemmas.Int.{to_z-of_z}
-use Rattle.pm_num.proofs.Rounding.{floor_from}
+use Rattle.pm_num.proofs.Nearest.{floor_from}
 use Rattle.pm_num.proofs.whole.floor.Goals as goal
 
 pub returns : goal.returns

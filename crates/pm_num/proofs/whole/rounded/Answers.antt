@@ -1,6 +1,6 @@
 use Rattle.std.proofs.Common.{arith}
 use Rattle.std.proofs.lemmas.Int.{ints}
-use Rattle.pm_num.proofs.Rounding.{rounded-floor}
+use Rattle.pm_num.proofs.Nearest.{rounded-floor}
 use Rattle.pm_num.proofs.whole.rounded.Goals as goal
 
 pub returns : goal.returns

@@ -2,7 +2,7 @@ use Rattle.std.proofs.Common.{◌≡◌, ◌||◌, arith, rules}
 use Rattle.std.proofs.lemmas.Grind.{common_steps}
 use Rattle.pm_device.specs.Status.{cut_at, is_output_cut}
 use Rattle.pm_device.specs.History.{each_output}
-use Rattle.pm_device.proofs.CutLemmas.{each_output-by}
+use Rattle.pm_device.proofs.Past.{each_output-by}
 use Rattle.pm_device.proofs.converter.Converter.latch_all.Goals as goal
 
 pub returns : goal.returns

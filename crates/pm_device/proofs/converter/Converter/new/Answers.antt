@@ -1,7 +1,7 @@
 use Rattle.std.proofs.Common.{refl, sym, ◌∙◌, ap, arith}
 use Rattle.pm_table.specs.declared.cell.Cell.TheVariants.{Protect}
 use Rattle.pm_model.specs.Settings.{Settings, word_at}
-use Rattle.pm_device.proofs.StartLemmas.{sound}
+use Rattle.pm_device.proofs.Start.{sound}
 use Rattle.pm_device.proofs.converter.Converter.new.Goals as goal
 
 pub start_settings-settings-requires : goal.start_settings-settings-requires

@@ -1,6 +1,5 @@
 use Rattle.std.proofs.Common.{rules, refl, sym}
-use Rattle.pm_device.proofs.ImageLemmas.{none-current, none-config, none-settings, none-store, none-protect, none-page, read-back}
-use Rattle.pm_device.proofs.ImageLemmas.{same-held}
+use Rattle.pm_device.proofs.Start.{none-current, none-config, none-settings, none-store, none-protect, none-page, read-back, same-held}
 use Rattle.pm_device.proofs.converter.Converter.read.Goals as goal
 
 pub returns-then-not-is_current : goal.returns-then-not-is_current

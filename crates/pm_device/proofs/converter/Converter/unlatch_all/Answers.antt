@@ -1,7 +1,7 @@
 use Rattle.std.proofs.Common.{◌≡◌, rules}
 use Rattle.pm_device.specs.Status.{is_output_cut}
 use Rattle.pm_device.specs.History.{each_output}
-use Rattle.pm_device.proofs.CutLemmas.{each_output-by}
+use Rattle.pm_device.proofs.Past.{each_output-by}
 use Rattle.pm_device.proofs.converter.Converter.unlatch_all.Goals as goal
 
 pub returns : goal.returns

@@ -1,6 +1,6 @@
 use Rattle.std.proofs.Common.{refl, rules}
 use Rattle.pm_device.specs.declared.image.PartImage.{PartImage}
-use Rattle.pm_device.proofs.ImageLemmas.{read-back, same-held}
+use Rattle.pm_device.proofs.Start.{read-back, same-held}
 use Rattle.pm_device.proofs.converter.Converter.write.Goals as goal
 
 pub returns-clause-device : goal.returns-clause-device

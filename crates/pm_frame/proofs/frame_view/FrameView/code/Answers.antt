@@ -1,5 +1,5 @@
 use Rattle.std.proofs.Common.{sym, arith}
-use Rattle.pm_frame.proofs.Parts.{message_code-other}
+use Rattle.pm_frame.proofs.Layouts.{message_code-other}
 use Rattle.pm_frame.proofs.frame_view.FrameView.code.Goals as goal
 
 pub returns-in_default : goal.returns-in_default

@@ -1,6 +1,6 @@
 use Rattle.std.proofs.Common.{◌≡◌, get_or, sym, arith}
 use Rattle.pm_table.specs.Codes as command
-use Rattle.pm_frame.proofs.Parts.{message_payload-carried, message_payload-plain}
+use Rattle.pm_frame.proofs.Layouts.{message_payload-carried, message_payload-plain}
 use Rattle.pm_frame.proofs.frame_view.FrameView.payload.Goals as goal
 
 pub returns-in-PAGE_PLUS_WRITE : goal.returns-in-PAGE_PLUS_WRITE

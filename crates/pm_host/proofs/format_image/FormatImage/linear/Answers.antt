@@ -4,7 +4,7 @@ use Rattle.pm_num.specs.AnyFormat.{InUlinear16}
 use Rattle.pm_table.specs.VoutMode.{exponent_of}
 use Rattle.pm_host.specs.Image.{format_held}
 use Rattle.pm_host.specs.Memory.{format_image}
-use Rattle.pm_host.proofs.FormatLemmas.{mode-again}
+use Rattle.pm_host.proofs.Memory.{mode-again}
 use Rattle.pm_host.proofs.format_image.FormatImage.linear.Goals as goal
 
 pub returns-clause-written : goal.returns-clause-written

@@ -1,6 +1,6 @@
 use Rattle.std.proofs.Common.{refl}
 use Rattle.pm_host.specs.Image.{held, host_of}
-use Rattle.pm_host.proofs.Tested.{sound-tested}
+use Rattle.pm_host.proofs.Memory.{sound-tested}
 use Rattle.pm_host.proofs.image.HostImage.write_stage.Goals as goal
 
 pub returns-clause-host : goal.returns-clause-host

@@ -1,7 +1,7 @@
 -- Nothing is known of the other cells if the word wasn't possible.
 use Rattle.std.proofs.Common.{refl, rules}
 use Rattle.pm_host.specs.Memory.{IsKnown}
-use Rattle.pm_host.proofs.MemoryLemmas.{surprised-known}
+use Rattle.pm_host.proofs.Memory.{surprised-known}
 use Rattle.pm_host.proofs.knowledge.Knowledge.good.Goals as goal
 use Rattle.pm_host.proofs.knowledge.Knowledge.good.Goals.{then-not-allows, else-not-allows}
 

@@ -2,7 +2,7 @@
 use Rattle.std.proofs.Common.{ap, [], rules}
 use Rattle.pm_host.specs.Image.{known_held, words_held}
 use Rattle.pm_host.specs.Memory.{words_image, IsKnown}
-use Rattle.pm_host.proofs.MemoryLemmas.{place-written}
+use Rattle.pm_host.proofs.Memory.{place-written}
 use Rattle.pm_host.proofs.knowledge.Knowledge.possible.Goals as goal
 
 pub returns-clause-written : goal.returns-clause-written

@@ -1,5 +1,5 @@
 -- That a restart was seen stays, whatever else is forgotten.
-use Rattle.pm_host.proofs.MemoryLemmas.{seen-known}
+use Rattle.pm_host.proofs.Memory.{seen-known}
 use Rattle.pm_host.proofs.knowledge.Knowledge.restored.Goals as goal
 
 pub returns-clause-written : goal.returns-clause-written

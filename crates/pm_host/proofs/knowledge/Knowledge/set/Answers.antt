@@ -4,8 +4,7 @@ use Rattle.std.proofs.lemmas.List.{map-set}
 use Rattle.pm_host.specs.declared.knowledge.Possible.TheVariants.{Any}
 use Rattle.pm_host.specs.declared.knowledge.Standing.TheVariants.{Unknown}
 use Rattle.pm_host.specs.Image.{known_held, standing_held, words_held}
-use Rattle.pm_host.proofs.MemoryLemmas.{set-known}
-use Rattle.pm_host.proofs.Written.{written-there}
+use Rattle.pm_host.proofs.Memory.{set-known, written-there}
 use Rattle.pm_host.proofs.knowledge.Knowledge.set.Goals as goal
 
 pub returns-clause-possible : goal.returns-clause-possible

@@ -2,7 +2,7 @@
 use Rattle.std.proofs.Common.{ap, rules}
 use Rattle.pm_host.specs.Image.{known_held, standing_held}
 use Rattle.pm_host.specs.Memory.{standing_image, IsKnown}
-use Rattle.pm_host.proofs.MemoryLemmas.{place-written}
+use Rattle.pm_host.proofs.Memory.{place-written}
 use Rattle.pm_host.proofs.knowledge.Knowledge.standing.Goals as goal
 
 pub returns-clause-written : goal.returns-clause-written

@@ -1,6 +1,6 @@
 use Rattle.std.proofs.Common.{◌<◌, sym, subst}
 use Rattle.pm_num.specs.Ratio.{Ratio, AtMost}
-use Rattle.pm_host.proofs.RangeLemmas.{outside_fault-some}
+use Rattle.pm_host.proofs.Memory.{outside_fault-some}
 use Rattle.pm_host.proofs.state.microvolts.word_in.Goals as goal
 
 pub returns-in-Ok-clause-found : goal.returns-in-Ok-clause-found

@@ -3,7 +3,7 @@ use Rattle.std.proofs.Common.{ap, ◌∙◌, map, set}
 use Rattle.std.proofs.lemmas.List.{map-set}
 use Rattle.pm_host.specs.Image.{format_held, formats_held}
 use Rattle.pm_host.specs.Memory.{format_image, AreFormats}
-use Rattle.pm_host.proofs.MemoryLemmas.{set-written}
+use Rattle.pm_host.proofs.Memory.{set-written}
 use Rattle.pm_host.proofs.state.turns.put_format.Goals as goal
 
 pub returns-clause-held : goal.returns-clause-held

@@ -1,7 +1,7 @@
 -- A word joins those that are listed, at the first place that is 0.
 use Rattle.std.proofs.Common.{◌+◌, set, subst, sym, rules}
 use Rattle.pm_host.specs.Memory.{AreWords}
-use Rattle.pm_host.proofs.MemoryLemmas.{joined-written}
+use Rattle.pm_host.proofs.Memory.{joined-written}
 use Rattle.pm_host.proofs.words_image.WordsImage.join.Goals as goal
 
 pub returns-clause-written : goal.returns-clause-written

@@ -5,7 +5,7 @@ use Rattle.std.proofs.lemmas.List.{length-map}
 use Rattle.memchr.proofs.lemmas.CallerLemmas.{length-places}
 use Rattle.memchr.specs.Find.{TakesFirst, is_byte}
 use Rattle.pm_lines.specs.Lines.{LinesLeft}
-use Rattle.pm_lines.proofs.LineLemmas.{unskipped-few}
+use Rattle.pm_lines.proofs.LinesAndWords.{unskipped-few}
 use Rattle.pm_lines.proofs.lines.Lines.most_left.Goals as goal
 
 pub returns : goal.returns

@@ -1,6 +1,6 @@
 use Rattle.std.proofs.Common.{◌∙◌, sym, ap, arith, length}
 use Rattle.pm_lines.specs.Lines.{without_return, is_line_feed}
-use Rattle.pm_lines.proofs.LineLemmas.{unskipped-after, unskipped-after_skipped, unskipped-end, lines-counted, lines-end, shorter}
+use Rattle.pm_lines.proofs.LinesAndWords.{unskipped-after, unskipped-after_skipped, unskipped-end, lines-counted, lines-end, shorter}
 use Rattle.pm_lines.proofs.lines.Lines.next_line.Goals as goal
 
 pub returns-then-not-is_skipped_line-clause-unskipped : goal.returns-then-not-is_skipped_line-clause-unskipped

@@ -1,7 +1,6 @@
 use Rattle.std.proofs.Common.{◌∙◌, ◌∷◌, ap, sym}
 use Rattle.pm_lines.specs.Lines.{WordsLeft}
-use Rattle.pm_lines.proofs.LineLemmas.{words-end}
-use Rattle.pm_lines.proofs.WordLemmas.{word-first}
+use Rattle.pm_lines.proofs.LinesAndWords.{words-end, word-first}
 use Rattle.pm_lines.proofs.words.Words.next_word.Goals as goal
 
 pub returns-then-is_empty-clause-words : goal.returns-then-is_empty-clause-words

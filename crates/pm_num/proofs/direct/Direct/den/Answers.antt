@@ -4,8 +4,7 @@ use mir.Syntax.{w128}
 use Rattle.std.proofs.lemmas.Int.{ints}
 use Rattle.pm_num.specs.Value.{upper}
 use Rattle.pm_num.specs.Lemmas.Slope.{direct-has_den}
-use Rattle.pm_num.proofs.Rounding.{product_at}
-use Rattle.pm_num.proofs.SlopePlaces.{coefficient_times_ten, kept_power}
+use Rattle.pm_num.proofs.Nearest.{product_at, coefficient_times_ten, kept_power}
 use Rattle.pm_num.proofs.direct.Direct.den.Goals as goal
 
 pub product-requires-clause-left : goal.product-requires-clause-left

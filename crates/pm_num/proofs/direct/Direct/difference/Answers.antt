@@ -1,6 +1,6 @@
 use Rattle.std.proofs.Common.{arith}
 use Rattle.std.proofs.lemmas.Int.{ints}
-use Rattle.pm_num.proofs.SlopePlaces.{parts_small}
+use Rattle.pm_num.proofs.Nearest.{parts_small}
 use Rattle.pm_num.proofs.direct.Direct.difference.Goals as goal
 
 pub overflow_sub-result : goal.overflow_sub-result

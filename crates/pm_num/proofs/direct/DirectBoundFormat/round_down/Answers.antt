@@ -3,8 +3,7 @@ use mir.Syntax.{w128}
 use Rattle.std.proofs.lemmas.Int.{ints}
 use Rattle.pm_num.specs.Value.{direct_greatest}
 use Rattle.pm_num.specs.Lemmas.Slope.{direct-has_den, direct-within}
-use Rattle.pm_num.proofs.Bounding.{ordered_along, capped_along, IsAtMost-capped}
-use Rattle.pm_num.proofs.SlopePlaces.{found_fits, direct-ordered, direct-at_most, signed_at}
+use Rattle.pm_num.proofs.Nearest.{ordered_along, capped_along, IsAtMost-capped, found_fits, direct-ordered, direct-at_most, signed_at}
 use Rattle.pm_num.proofs.direct.DirectBoundFormat.round_down.Goals as goal
 
 pub capped-requires : goal.capped-requires

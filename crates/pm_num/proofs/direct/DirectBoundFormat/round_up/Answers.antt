@@ -3,8 +3,7 @@ use mir.Syntax.{w128}
 use Rattle.std.proofs.lemmas.Int.{ints}
 use Rattle.pm_num.specs.Value.{direct_least}
 use Rattle.pm_num.specs.Lemmas.Slope.{direct-has_den, direct-within}
-use Rattle.pm_num.proofs.Bounding.{ordered_along, raised_along, IsAtLeast-raised}
-use Rattle.pm_num.proofs.SlopePlaces.{found_fits, direct-ordered, direct-at_least, signed_at}
+use Rattle.pm_num.proofs.Nearest.{ordered_along, raised_along, IsAtLeast-raised, found_fits, direct-ordered, direct-at_least, signed_at}
 use Rattle.pm_num.proofs.direct.DirectBoundFormat.round_up.Goals as goal
 
 pub raised-requires : goal.raised-requires

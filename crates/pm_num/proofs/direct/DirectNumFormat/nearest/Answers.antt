@@ -2,8 +2,7 @@ use Rattle.std.proofs.Common.{◌≡◌, ◌^◌, ◌<◌, ◌∙◌, to_z, of_z
 use mir.Syntax.{w128}
 use Rattle.std.proofs.lemmas.Int.{ints}
 use Rattle.pm_num.specs.Lemmas.Slope.{direct-has_den}
-use Rattle.pm_num.proofs.Spaced.{between_along}
-use Rattle.pm_num.proofs.SlopePlaces.{found_fits, direct-nearest, signed_at}
+use Rattle.pm_num.proofs.Nearest.{between_along, found_fits, direct-nearest, signed_at}
 use Rattle.pm_num.proofs.direct.DirectNumFormat.nearest.Goals as goal
 
 pub times_sign-requires : goal.times_sign-requires

@@ -2,7 +2,7 @@ use Rattle.std.proofs.Common.{◌≡◌, ◌^◌, ◌*ℤ◌, pos, to_z, of_z, l
 use Rattle.std.specs.Int.{w128}
 use Rattle.std.specs.Prelude.{FitsSigned}
 use Rattle.std.proofs.lemmas.Int.{ints, fits_signed_mul}
-use Rattle.pm_num.proofs.Rounding.{product_kept}
+use Rattle.pm_num.proofs.Nearest.{product_kept}
 use Rattle.pm_num.proofs.frac.Frac.cross.Goals as goal
 
 -- The product of the numerator and the other's denominator fits.

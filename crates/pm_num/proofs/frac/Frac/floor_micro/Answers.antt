@@ -1,6 +1,6 @@
 use Rattle.std.proofs.Common.{◌*ℤ◌, pos, arith}
 use Rattle.std.proofs.lemmas.Int.{ints}
-use Rattle.pm_num.proofs.Rounding.{greatest_from_floor}
+use Rattle.pm_num.proofs.Nearest.{greatest_from_floor}
 use Rattle.pm_num.proofs.frac.Frac.floor_micro.Goals as goal
 
 pub returns-clause-greatest : goal.returns-clause-greatest

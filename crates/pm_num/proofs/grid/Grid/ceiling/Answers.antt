@@ -1,8 +1,7 @@
 use Rattle.std.proofs.Common.{◌*◌, ◌<◌, pos, arith}
 use Rattle.std.proofs.lemmas.Int.{ints}
 use Rattle.pm_num.specs.Steps.{IsCeiling}
-use Rattle.pm_num.proofs.Rounding.{quotient_at}
-use Rattle.pm_num.proofs.Spaced.{moved_num, IsPlaceAbove-ceiling}
+use Rattle.pm_num.proofs.Nearest.{quotient_at, moved_num, IsPlaceAbove-ceiling}
 use Rattle.pm_num.proofs.grid.Grid.ceiling.Goals as goal
 
 pub returns : goal.returns

@@ -1,8 +1,7 @@
 use Rattle.std.proofs.Common.{◌*◌, ◌<◌, pos, arith}
 use Rattle.std.proofs.lemmas.Int.{ints}
 use Rattle.pm_num.specs.Steps.{IsFloor}
-use Rattle.pm_num.proofs.Rounding.{quotient_at}
-use Rattle.pm_num.proofs.Spaced.{moved_num, IsPlaceBelow-floor}
+use Rattle.pm_num.proofs.Nearest.{quotient_at, moved_num, IsPlaceBelow-floor}
 use Rattle.pm_num.proofs.grid.Grid.floor.Goals as goal
 
 pub returns : goal.returns

@@ -3,7 +3,7 @@ use Rattle.std.proofs.Common.{pos, arith, rules}
 use mir.Syntax.{w128}
 use mir.Val.{SFits}
 use Rattle.std.proofs.lemmas.Int.{ints}
-use Rattle.pm_num.proofs.Rounding.{same_product}
+use Rattle.pm_num.proofs.Nearest.{same_product}
 use Rattle.pm_num.proofs.grid.Grid.moved.Goals as goal
 
 pub returns-clause-value : goal.returns-clause-value

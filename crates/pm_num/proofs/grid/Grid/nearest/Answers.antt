@@ -3,8 +3,7 @@ use Rattle.std.specs.Int.{w128}
 use Rattle.std.proofs.Common.{to_z, of_z}
 use Rattle.std.proofs.lemmas.Int.{ints}
 use Rattle.pm_num.specs.Steps.{IsRounded}
-use Rattle.pm_num.proofs.Rounding.{quotient_at, IsWithinWhole-rounded}
-use Rattle.pm_num.proofs.Spaced.{moved_num, nearest_on_grid, lowest_on_grid, within_from_whole}
+use Rattle.pm_num.proofs.Nearest.{quotient_at, IsWithinWhole-rounded, moved_num, nearest_on_grid, lowest_on_grid, within_from_whole}
 use Rattle.pm_num.proofs.grid.Grid.nearest.Goals as goal
 
 -- The rounded quotient that the code computes is that of the moved number.

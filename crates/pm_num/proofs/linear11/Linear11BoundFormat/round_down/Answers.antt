@@ -5,9 +5,7 @@ use Rattle.pm_num.specs.Value.{exponent, linear11_greatest}
 use Rattle.pm_num.specs.Steps.{IsFar}
 use Rattle.pm_num.specs.Lemmas.Spelling.{linear11-within}
 use Rattle.pm_num.specs.Lemmas.Unsigned.{lower-positive}
-use Rattle.pm_num.proofs.Bounding.{capped_along, IsAtMost-capped}
-use Rattle.pm_num.proofs.Spellings.{IsUnsettled, IsUnsettled-floor, place_of-exponent}
-use Rattle.pm_num.proofs.SpelledBounds.{linear11-at_most}
+use Rattle.pm_num.proofs.Nearest.{capped_along, IsAtMost-capped, IsUnsettled, IsUnsettled-floor, place_of-exponent, linear11-at_most}
 use Rattle.pm_num.proofs.linear11.Linear11BoundFormat.round_down.Goals as goal
 
 -- The mantissa is one that can be settled.

@@ -4,8 +4,7 @@ use mir.Syntax.{w128}
 use Rattle.std.proofs.lemmas.Int.{ints}
 use Rattle.pm_num.specs.Value.{exponent}
 use Rattle.pm_num.specs.Steps.{IsFar}
-use Rattle.pm_num.proofs.Spaced.{between_along}
-use Rattle.pm_num.proofs.Spellings.{IsUnsettled-rounded, place_of-exponent, linear11-found}
+use Rattle.pm_num.proofs.Nearest.{between_along, IsUnsettled-rounded, place_of-exponent, linear11-found}
 use Rattle.pm_num.proofs.linear11.Linear11NumFormat.nearest.Goals as goal
 
 pub place_for-place-requires : goal.place_for-place-requires

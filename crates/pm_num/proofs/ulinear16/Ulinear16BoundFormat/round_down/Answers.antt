@@ -3,8 +3,7 @@ use Rattle.std.proofs.lemmas.Int.{ints}
 use Rattle.pm_num.specs.Value.{ulinear16_value}
 use Rattle.pm_num.specs.Steps.{Spacing, IsCapped, IsPlaceBelow}
 use Rattle.pm_num.specs.Lemmas.Unsigned.{lower-positive, ulinear16-within}
-use Rattle.pm_num.proofs.Bounding.{capped_along, IsAtMost-capped}
-use Rattle.pm_num.proofs.UnsignedPlaces.{unsigned_spacing, ulinear16-above, ulinear16-below, ulinear16-at_most}
+use Rattle.pm_num.proofs.Nearest.{capped_along, IsAtMost-capped, unsigned_spacing, ulinear16-above, ulinear16-below, ulinear16-at_most}
 use Rattle.pm_num.proofs.ulinear16.Ulinear16BoundFormat.round_down.Goals as goal
 
 -- The number that is looked for lies in the range,

@@ -3,8 +3,7 @@ use Rattle.std.proofs.lemmas.Int.{ints}
 use Rattle.pm_num.specs.Ratio.{IsBetween}
 use Rattle.pm_num.specs.Value.{ulinear16_value}
 use Rattle.pm_num.specs.Steps.{Spacing, IsPlace}
-use Rattle.pm_num.proofs.Spaced.{between_along}
-use Rattle.pm_num.proofs.UnsignedPlaces.{unsigned_spacing, ulinear16-above, ulinear16-below, ulinear16-nearest}
+use Rattle.pm_num.proofs.Nearest.{between_along, unsigned_spacing, ulinear16-above, ulinear16-below, ulinear16-nearest}
 use Rattle.pm_num.proofs.ulinear16.Ulinear16NumFormat.nearest.Goals as goal
 
 -- The number lies in the range,

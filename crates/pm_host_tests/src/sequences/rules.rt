@@ -1,0 +1,268 @@
+//! Lists that ask before orders, leave steps that stop, or go on from what an earlier list heard.
+
+use crate::checks::equal;
+use crate::sequences::part::Part;
+use crate::sequences::{DOWN, ListRow, MUST, PART, UP, after, check_lists, guard, off, over, sets};
+use pm_course::CourseEnd;
+use pm_delivery::{Heard, Question, Verdict};
+use pm_host::Job;
+use pm_sequence::{Act, End, Rules, Sequence, Step};
+use pm_stairs::StepEnd;
+use pm_table::{Cell, Reg};
+
+#[test]
+fn a_list_that_asks_tells_each_order_first(rt: HostRuntime) {
+    let up = [
+        sets(0, 0, 1_200_000, MUST),
+        sets(1, 0, 1_100_000, MUST),
+        sets(0, 1, 1_000_000, MUST),
+    ];
+    let down = [off(0, 0, MUST), off(1, 0, MUST), off(0, 1, MUST)];
+    let rows = [
+        ("up, and the last word is held", UP, up, 2),
+        ("down", DOWN, down, 3),
+    ];
+    for (name, rules, steps, orders) in &rows {
+        let asking = Rules {
+            asks: true,
+            ..*rules
+        };
+        let (plain, written) = over(&rt, *rules, [PART, PART], steps);
+        let (run, parts) = over(&rt, asking, [PART, PART], steps);
+        equal(
+            &rt,
+            &(plain.orders, run.orders, run.end),
+            &(0, *orders, Some(End::Reached)),
+            name,
+        );
+        for (part, other) in parts.iter().zip(written.iter()) {
+            equal(
+                &rt,
+                &(part.frames, part.writes),
+                &(other.frames, other.writes),
+                name,
+            );
+        }
+    }
+}
+
+#[test]
+fn another_order_than_the_one_told_is_told_first(rt: HostRuntime) {
+    let asking = Rules { asks: true, ..DOWN };
+    let is_off = Job::Order(Cell::Out(0, Reg::Operation), 0x00);
+    let rows = [
+        ("nothing was told", None, Act::Order(is_off), Some(is_off)),
+        ("it was told", Some(is_off), Act::Job(is_off), None),
+        (
+            "another byte was",
+            Some(Job::Order(Cell::Out(0, Reg::Operation), 0x40)),
+            Act::Order(is_off),
+            Some(is_off),
+        ),
+        (
+            "the same byte of another output was",
+            Some(Job::Order(Cell::Out(1, Reg::Operation), 0x00)),
+            Act::Order(is_off),
+            Some(is_off),
+        ),
+    ];
+    for (name, told, act, then) in &rows {
+        let guard = guard(&rt);
+        let step = off(0, 0, MUST);
+        let mut sequence = Sequence::new(60, asking);
+        let mut said = Act::Again;
+        for _ in 0..3usize {
+            let (under, ahead) = if sequence.list.begun == 0 {
+                (None, Some(step))
+            } else {
+                (Some(step), None)
+            };
+            sequence.told = *told;
+            said = sequence.next(&guard, under, ahead);
+        }
+        equal(&rt, &(said, sequence.told), &(*act, *then), name);
+    }
+}
+
+#[test]
+fn a_step_that_stops_is_left_where_the_list_says_so(rt: HostRuntime) {
+    let up = [
+        sets(0, 0, 1_200_000, MUST),
+        after(15, sets(1, 0, 1_100_000, MUST)),
+        after(5, sets(0, 1, 1_050_000, MUST)),
+    ];
+    let down = [off(0, 0, MUST), after(10, off(1, 0, MUST)), off(0, 1, MUST)];
+    let dead = Part {
+        is_dead: true,
+        ..PART
+    };
+    let deaf = Part {
+        is_deaf: true,
+        ..PART
+    };
+    let on = (0x80, 0x1000);
+    let stays_on = StepEnd::Course(CourseEnd::Differs(Reg::Operation, 0x80));
+    let rows: [ListRow; 2] = [
+        (
+            "up, and the second rail stays off",
+            Rules { leaves: true, ..UP },
+            [PART, dead],
+            up,
+            End::Left(1),
+            2,
+            20,
+            [(0x80, 0x1333), (0x80, 0x10CD), (0x80, 0x119A), on],
+        ),
+        (
+            "down, and the first output stays on",
+            Rules {
+                leaves: false,
+                ..DOWN
+            },
+            [deaf, PART],
+            down,
+            End::Stopped(stays_on),
+            0,
+            0,
+            [on, on, on, on],
+        ),
+    ];
+    check_lists(&rt, &rows);
+}
+
+#[test]
+fn a_restart_ends_a_list_that_leaves_steps(rt: HostRuntime) {
+    let rules = Rules { leaves: true, ..UP };
+    let restarted = StepEnd::Restarted;
+    let mut sequence = Sequence::new(60, rules);
+    sequence.list.stairs.restarted = true;
+    let step = sets(0, 0, 1_200_000, MUST);
+    equal(
+        &rt,
+        &sequence.next(&guard(&rt), None, Some(step)),
+        &Act::Ended(End::Stopped(restarted)),
+        &"an answer showed a restart",
+    );
+}
+
+// STATUS_WORD gave a good answer.
+fn good(word: u16) -> Heard {
+    Heard {
+        asked: 1,
+        fault: 0,
+        word,
+    }
+}
+
+// What an earlier list heard, STATUS_WORD now, the voltage that is set, how it ends, and how many frames are sent.
+type BeforeRow = (&'static str, Heard, u16, i64, End, usize);
+
+#[test]
+fn faults_are_new_against_what_an_earlier_list_heard(rt: HostRuntime) {
+    let is_new = End::Does(Verdict::NewFault(Question::StatusWord, 5));
+    let silent = Heard {
+        asked: 2,
+        fault: 1,
+        word: 0,
+    };
+    let rows: [BeforeRow; 7] = [
+        (
+            "no earlier list",
+            Heard::NOTHING,
+            0x0020,
+            1_200_000,
+            End::Reached,
+            24,
+        ),
+        (
+            "the fault stood",
+            good(0x0020),
+            0x0020,
+            1_200_000,
+            End::Reached,
+            23,
+        ),
+        (
+            "it came with the earlier list",
+            good(0x0000),
+            0x0020,
+            1_200_000,
+            is_new,
+            22,
+        ),
+        (
+            "it stood, and nothing is ordered",
+            good(0x0020),
+            0x0020,
+            1_000_000,
+            End::Reached,
+            8,
+        ),
+        (
+            "it came, and nothing is ordered",
+            good(0x0000),
+            0x0020,
+            1_000_000,
+            is_new,
+            7,
+        ),
+        (
+            "no answer came",
+            silent,
+            0x0000,
+            1_200_000,
+            End::Reached,
+            24,
+        ),
+        (
+            "no answer came, and a fault is there",
+            silent,
+            0x0020,
+            1_200_000,
+            is_new,
+            23,
+        ),
+    ];
+    for (name, before, status, microvolts, end, frames) in &rows {
+        let part = Part {
+            status: Some(*status),
+            ..PART
+        };
+        let step = Step {
+            before: *before,
+            ..sets(0, 0, *microvolts, MUST)
+        };
+        let (run, parts) = over(&rt, UP, [part, PART], &[step]);
+        equal(
+            &rt,
+            &(run.end, parts[0].frames),
+            &(Some(*end), *frames),
+            name,
+        );
+    }
+}
+
+#[test]
+fn a_step_from_another_start_looks_anew(rt: HostRuntime) {
+    let part = Part {
+        status: Some(0x0020),
+        ..PART
+    };
+    let first = sets(0, 0, 1_200_000, MUST);
+    let rows = [
+        ("it says the same", Heard::NOTHING, End::Reached),
+        (
+            "it says that the fault wasn't there",
+            good(0x0000),
+            End::Does(Verdict::NewFault(Question::StatusWord, 5)),
+        ),
+    ];
+    for (name, before, end) in &rows {
+        let second = Step {
+            before: *before,
+            ..sets(0, 0, 1_100_000, MUST)
+        };
+        let (run, _) = over(&rt, UP, [part, PART], &[first, second]);
+        equal(&rt, &run.end, &Some(*end), name);
+    }
+}
