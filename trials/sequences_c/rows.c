@@ -314,13 +314,13 @@ static void lists(void) {
     row("up, and the second rail stays off", "step", sequence.said.step, 1);
     row("up, and the second rail stays off", "pauses", pauses, 10 + 20 + 40);
     one_list("up, and the first rail stays off", 0, &dead, &good, 0, 14, 0, 0, 0, up_one);
-    one_list("down", 1, &good, &good, 1, 1, 0, 3, 10, down);
+    one_list("down", 3, &good, &good, 1, 1, 0, 3, 10, down);
     row("down", "a way back", records[0].back.kind, 0xAA);
-    one_list("down, and the first output stays on", 1, &deaf, &good, 1, 10, 1, 2, 10, down_deaf);
+    one_list("down, and the first output stays on", 3, &deaf, &good, 1, 10, 1, 2, 10, down_deaf);
     row("down, and the first output stays on", "the step that was left", left.step, 0);
-    one_list("down, and the second part is gone", 1, &good, &gone, 1, 10, 1, 2, 10, far_gone);
+    one_list("down, and the second part is gone", 3, &good, &gone, 1, 10, 1, 2, 10, far_gone);
     row("down, and the second part is gone", "the step that was left", left.step, 1);
-    one_list("down, and the first part is gone", 1, &gone, &good, 1, 10, 2, 1, 10, near_gone);
+    one_list("down, and the first part is gone", 3, &gone, &good, 1, 10, 2, 1, 10, near_gone);
     one_list("up", 0, &good, &good, 0, 1, 0, 3, 20, up);
     for (at = 0; at < 3; at++)
         backs[at] = records[2 - at].back;
@@ -337,6 +337,63 @@ static void lists(void) {
     stops_at = 0;
     row("and on", "answer", run(steps, 3), 0x95);
     row("and on", "end", sequence.said.kind, 1);
+}
+
+/* A list that asks says each order before it begins, and begins nothing if it is stopped there. */
+static void asks(void) {
+    begin(&good, &good, 4);
+    steps[0] = sets(0, 0, 1200000, 2);
+    stops_at = 0x99;
+    row("a list that asks", "answer", run(steps, 1), 0x99);
+    row("a list that asks", "end", sequence.said.kind, 16);
+    row("a list that asks", "order", sequence.said.code << 16 | sequence.said.word, 0x211333);
+    row("a list that asks", "step", sequence.said.step, 0);
+    row("a list that asks", "writes", parts[0].writes, 0);
+    stops_at = 0;
+    row("and on", "answer", run(steps, 1), 0x95);
+    row("and on", "end", sequence.said.kind, 1);
+    row("and on", "writes", parts[0].writes, 1);
+}
+
+/* A step that orders nothing: its rail is looked at, and it is undone by one that reads nothing. */
+static void surveys(void) {
+    begin(&good, &good, 0);
+    steps[0] = step_of(0, 1, 2);
+    steps[0].kind = 3;
+    steps[1] = step_of(0, 1, 0);
+    steps[1].kind = 4;
+    row("a survey", "answer", run(steps, 2), 0x95);
+    row("a survey", "end", sequence.said.kind, 1);
+    row("a survey", "found", found.verdict, 1);
+    row("a survey", "writes", parts[0].writes, 0);
+    row("a survey", "back", records[0].back.kind, 4);
+    parts[0].words[1][0] = 0;
+    begin(&parts[0], &good, 0);
+    row("a survey of one that is off", "answer", run(steps, 2), 0x95);
+    row("a survey of one that is off", "end", sequence.said.kind, 14);
+    row("a survey of one that is off", "verdict", sequence.said.verdict, 2);
+}
+
+/* A fault that stood before an earlier list isn't new in the next one, which hands over what was heard then. */
+static void stands(void) {
+    part first = good;
+    first.has_tripped = 1;
+    begin(&first, &good, 0);
+    steps[0] = sets(0, 0, 1200000, 2);
+    row("a fault that stood", "answer", run(steps, 1), 0x95);
+    row("a fault that stood", "end", sequence.said.kind, 1);
+    steps[0] = sets(0, 0, 1100000, 2);
+    steps[0].before = records[0].look.before;
+    row("what was heard before", "word", steps[0].before.word, 0x8020);
+    begin(&parts[0], &good, 0);
+    row("the next list", "answer", run(steps, 1), 0x95);
+    row("the next list", "end", sequence.said.kind, 1);
+    steps[0] = sets(0, 0, 1000000, 2);
+    steps[0].before.asked = 1;
+    begin(&parts[0], &good, 0);
+    row("a fault that is new", "answer", run(steps, 1), 0x95);
+    row("a fault that is new", "end", sequence.said.kind, 14);
+    row("a fault that is new", "verdict", sequence.said.verdict, 5);
 }
 
 /* Each refusal, which changes nothing but the frame. */
@@ -393,7 +450,7 @@ static void any_bytes(void) {
     int at, turn;
     srand(1);
     for (turn = 0; turn < 300; turn++) {
-        begin(&good, &good, (uint8_t)(turn & 1));
+        begin(&good, &good, (uint8_t)(turn & 7));
         for (at = 2 + turn % 2 * 60; at < PM_SEQUENCE_SIZE; at += 1 + rand() % 40)
             if ((at < 2 || at > 3) && (at < 32 || at > 35) && at != 40)
                 ((uint8_t *)&sequence)[at] = (uint8_t)rand();
@@ -427,6 +484,9 @@ int main(void) {
     what_is_kept();
     buses_go();
     lists();
+    asks();
+    surveys();
+    stands();
     refusals();
     any_bytes();
     printf("%d passed, %d failed\n", passed, failed);

@@ -134,9 +134,9 @@ enum {
 };
 
 /* What pm_course_frame and pm_course_next answer if the course has ended, pm_delivery_frame if nothing is left to ask, and pm_stairs_ask,
- * pm_stairs_check and pm_sequence_next if stairs or a sequence have ended. The others are answers of these three, the last two of
+ * pm_stairs_check and pm_sequence_next if stairs or a sequence have ended. The others are answers of these three, the last three of
  * pm_sequence_next alone. */
-enum { PM_ENDED = 0x95, PM_AGAIN = 0x96, PM_NO_WAY_BACK = 0x97, PM_WAIT = 0x98, PM_TOLD = 0x9A };
+enum { PM_ENDED = 0x95, PM_AGAIN = 0x96, PM_NO_WAY_BACK = 0x97, PM_WAIT = 0x98, PM_ASKED = 0x99, PM_TOLD = 0x9A };
 
 /* The cells: an output and one of these command codes; with WRITE_PROTECT, which is the device's, the
  * output isn't looked at. */
@@ -423,7 +423,7 @@ enum {
 typedef struct {
     uint8_t host;   /* the place of its host among yours, 0 to 7 */
     uint8_t output; /* 0 to 7 */
-    uint8_t kind;   /* PM_SETS: registers get words or voltages; PM_TURNS: OPERATION gets `byte`, on, off or a margin */
+    uint8_t kind;   /* PM_SETS, PM_TURNS, PM_STEP_SURVEYS or PM_STEP_RESTS, as of stairs */
     uint8_t byte;   /* of PM_TURNS, otherwise 0 */
     uint8_t unused[4];
     pm_stairs_wish command, max, margin_high, margin_low, min; /* of PM_SETS */
@@ -449,11 +449,12 @@ typedef char pm_sequence_record_has_its_size[sizeof(pm_sequence_record) == PM_SE
 
 /* What a sequence said last. `kind` is 0 of a wait, PM_REACHED to PM_WAY_BACK_REFUSED as of stairs, or: */
 enum {
-    PM_STEPS_LEFT = 10,    /* a way down came to its end, and left `word` steps */
+    PM_STEPS_LEFT = 10,    /* each step is over but for `word` that were left */
     PM_GOAL_BEYOND = 11,   /* P8: the goal is at or beyond the fault limit `code`, which holds `word`; the order wasn't sent */
     PM_GOAL_UNJUDGED = 12, /* the goal can't be judged, since no format is known; the order wasn't sent */
     PM_RAIL_DOES = 13,     /* the rail does what it is to, as `verdict` says */
-    PM_RAIL_FAILS = 14     /* it doesn't */
+    PM_RAIL_FAILS = 14,    /* it doesn't */
+    PM_ORDER_NEXT = 16     /* with PM_ASKED: an order of `word` for the register `code` comes next */
 };
 typedef struct {
     uint8_t kind;
@@ -475,7 +476,7 @@ typedef struct {
 typedef struct {
     uint16_t mark, version;
     uint16_t left;         /* how many steps were left */
-    uint8_t unused[2];
+    uint8_t leaves, asks;  /* 1 of PM_LEAVES, 1 of PM_ASKS */
     pm_sequence_said said; /* with each answer but PM_OK, PM_AGAIN and a refusal */
     uint16_t marks[2];
     uint16_t tries;        /* how many jobs each step has at most */
@@ -884,9 +885,12 @@ uint8_t pm_stairs_check(const pm_host *host, const pm_stairs_step *step, pm_stai
  * An end PM_REACHED says that each step is over, that none was left, and that each rail with PM_LOOK_MUST delivered, or went off, after its
  * step's last order. */
 
-/* Makes a sequence, whatever stood in the memory: no step has begun, and each has at most this many jobs. */
-enum { PM_DOWN = 1 /* a way down: no way back is kept, nothing is read before an order that turns an output off, a restart of a part ends
-                    * nothing, and a step that stops is left and told, so that the next one goes on */ };
+/* Makes a sequence, whatever stood in the memory: no step has begun, and each has at most this many jobs. `rules` is the sum of: */
+enum {
+    PM_DOWN = 1,   /* a way down: no way back is kept, and nothing is read before an order that turns an output off */
+    PM_LEAVES = 2, /* a step that stops is left and told, and the next one goes on; otherwise it ends the list, as a restart of a part does */
+    PM_ASKS = 4    /* each order is told by PM_ASKED before it begins */
+};
 void pm_sequence_new(pm_sequence *sequence, uint16_t tries, uint8_t rules);
 
 /* What comes next, by the host at the place sequence->host. `steps` is the whole list, the same each time. `records` has one record for each
@@ -894,7 +898,8 @@ void pm_sequence_new(pm_sequence *sequence, uint16_t tries, uint8_t rules);
  *   PM_OK           the frame goes on the bus of that host, and stays the same until pm_sequence_write_ended or pm_sequence_read_ended
  *   PM_AGAIN        ask at once, by the host at sequence->host, which may be another
  *   PM_WAIT         ask again once sequence->said.milliseconds have passed: the wait of a step, or the time that a rail is given
- *   PM_TOLD         sequence->said says what the rail of a step does that does what it is to, or how a step of a way down stopped that was left
+ *   PM_ASKED        with PM_ASKS: sequence->said says which order comes next. Nothing has begun. Asked again it begins, if it is still due
+ *   PM_TOLD         sequence->said says what the rail of a step does that does what it is to, or how a step stopped that was left
  *   PM_NO_WAY_BACK  as of stairs, as sequence->said says. Asked again the step begins
  *   PM_ENDED        as sequence->said says
  * PM_NO_HOST, PM_NO_SEQUENCE, PM_NO_ROOM; PM_NO_STEP and H4 for the newest step that has begun and the first that hasn't, PM_NO_STEP for a
@@ -1253,7 +1258,7 @@ static inline uint8_t pm_run_stairs(pm_stairs *stairs, pm_host *const *hosts, vo
 /* Waits for so many milliseconds. */
 typedef void (*pm_wait_ms)(void *context, uint32_t milliseconds);
 
-/* Is told what a sequence says: its answer is PM_WAIT, PM_TOLD or PM_NO_WAY_BACK, and sequence->said says the rest. 0 stops the loop
+/* Is told what a sequence says: its answer is PM_WAIT, PM_ASKED, PM_TOLD or PM_NO_WAY_BACK, and sequence->said says the rest. 0 stops the loop
  * there; any other number lets it go on. */
 typedef int (*pm_said)(void *context, const pm_sequence *sequence, uint8_t answer);
 

@@ -100,6 +100,24 @@ some-at q end output (words.Turns byte) course (Some c) own is = rw (
   flag-kept q.stairs.restarted,
 ) refl
 
+some-at q end output words.Nothing course None own is = rw (
+  kept course own,
+  flag-kept q.is_free,
+  flag-kept q.is_warned,
+  flag-kept q.is_down,
+  flag-kept q.stairs.reading,
+  flag-kept q.stairs.restarted,
+) refl
+some-at q end output words.Nothing course (Some c) own is = rw (
+  kept course own,
+  kept c is,
+  flag-kept q.is_free,
+  flag-kept q.is_warned,
+  flag-kept q.is_down,
+  flag-kept q.stairs.reading,
+  flag-kept q.stairs.restarted,
+) refl
+
 list-at : (q : List) (end : StairsEndImage) (newest : Option Under) (coming : Option FrameCourse) → IfSome newest (λ under. IsKept under.course)
     → IfSome coming IsKept → IsListKept (made q newest coming) end
 list-at q end None coming own is = none-at q end coming is
@@ -113,7 +131,10 @@ sequence-kept q said is = rw (
   list-kept q.list end_none is.list,
   look-kept q.look,
   phase-kept q.phase,
+  is.told,
   is.over,
+  flag-kept q.leaves,
+  flag-kept q.asks,
   flag-kept q.is_read,
   flag-kept q.is_shown,
   flag-kept q.is_waited,

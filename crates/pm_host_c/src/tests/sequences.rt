@@ -10,13 +10,23 @@ use pm_calls::sequence_step::{SequenceRecordImage, SequenceStepImage};
 use pm_calls::stairs_step::StairsStepImage;
 use pm_delivery::{Delivery, Heard};
 use pm_memory::{DeliveryImage, GuardImage, SaidImage, SendingImage, SequenceImage};
-use pm_sequence::Sequence;
+use pm_sequence::{Rules, Sequence};
 use pm_stairs::{WordAct, WordStep};
 use std::mem::size_of;
 
 // A sequence of which no step has begun.
 fn begun(tries: u16, rules: u8) -> SequenceImage {
-    let mut image = SequenceImage::of(&Sequence::new(0, false), SaidImage::NOTHING);
+    let mut image = SequenceImage::of(
+        &Sequence::new(
+            0,
+            Rules {
+                is_down: false,
+                leaves: false,
+                asks: false,
+            },
+        ),
+        SaidImage::NOTHING,
+    );
     image.mark = 0;
     pm_sequence_new(&mut image, tries, rules);
     image
