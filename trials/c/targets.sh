@@ -156,7 +156,7 @@ measured() {
             -u pm_host_confirmed_word "$folder/$name.a" -o "$folder/$name.alone" 2> /dev/null &&
             order=$(size "$folder/$name.alone" | awk 'END {print $1}')
     fi
-    echo "$text $order $(deepest "$name" pm_refusal_name pm_stairs_ask pm_stairs_write_ended pm_stairs_read_ended) $(deepest "$name.part") $(instructions "$name")"
+    echo "$text $order $(deepest "$name" pm_refusal_name pm_stairs_ask pm_stairs_write_ended pm_stairs_read_ended pm_sequence_next pm_sequence_write_ended pm_sequence_read_ended) $(deepest "$name.part") $(instructions "$name")"
 }
 
 # within NAME: the stack is at most what the header promises
