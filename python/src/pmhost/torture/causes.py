@@ -1,4 +1,4 @@
-"""Why runs are bad: those of one cause are told together."""
+"""Why runs are bad: those of one cause come together."""
 from __future__ import annotations
 
 from dataclasses import dataclass, field
