@@ -20,6 +20,8 @@ A file has a block for each run, a blank line between them. The lines of a block
     volts: V V ..        at how many volts the rails of such a part are behind the run
     status: N            the status
     out: TEXT, err: TEXT     a line of standard output, of standard error
+
+A block that begins with `setup: NAME` is no run: its lines stand in each later block that has `like: NAME`, in the place of that line.
 """
 import contextlib
 import errno
@@ -157,16 +159,19 @@ def made(words, **more):
 
 def blocks(name):
     """The runs of a file."""
-    found = []
+    found, setups = [], {}
     with open(os.path.join(DATA, name), encoding="utf-8") as text:
         for number, block in enumerate(text.read().split("\n\n")):
-            lines = [line for line in block.splitlines() if line and not line.startswith("#")]
+            pairs = [(key, rest[1:]) for key, _, rest in (line.partition(":") for line in block.splitlines() if line and not line.startswith("#"))]
+            lines = [pair for key, rest in pairs for pair in (setups[rest] if key == "like" else [(key, rest)])]
             if not lines:
                 continue
+            if lines[0][0] == "setup":
+                setups[lines[0][1]] = lines[1:]
+                continue
             run = Run(f"{name} {number}")
-            for line in lines:
-                key, _, rest = line.partition(":")
-                run.take(key, rest[1:])
+            for key, rest in lines:
+                run.take(key, rest)
             found.append(run)
     return found
 
