@@ -1,5 +1,5 @@
-"""Stands in for the kernel's /dev/i2c-7 below pmhost.bus.linux, with a part behind it: a model converter, or one of its kin
-that lacks something. Where the plain model of python/tests/plain takes the setup, the proved converter hears each frame beside
+"""Stands in for the kernel's /dev/i2c-7 below pmhost.bus.linux, over messages as those of the bench of `pmhost torture`, with a part behind it:
+a model converter, or one of its kin that lacks something. Where the plain model of python/tests/plain takes the setup, the proved converter hears each frame beside
 it, and an answer that differs fails the test. What the kernel answers is what Linux answers: errors by their numbers, and of a
 transfer how many messages went, which some adapters answer as 0 or 1 in place of an error.
 
@@ -22,6 +22,11 @@ A mishap befalls one transfer, in their order:
     sigquit    the same of SIGQUIT
     sighup     the same of SIGHUP
     group      the same of Ctrl-C, for all processes of the group
+
+Of several buses, and several parts on each, every part of a bus hears each of its frames, and one that isn't meant has to be silent. The
+mishaps befall the transfers of all buses in their order, and one more:
+
+    astray     a bit of the address is changed on the way: the frame arrives at the address beside it
 """
 import ctypes
 import errno
@@ -30,13 +35,14 @@ import signal
 
 from pmhost import Output, ModelPart as ProvedPart, PartRefused, SetupRefused, pec
 from pmhost.bus.linux import I2C_FUNC_I2C, I2C_FUNCS, I2C_M_RD, I2C_RDWR, I2C_SLAVE, Messages
+from pmhost.torture.i2c_dev import Message
 
 from . import plain_model  # noqa: F401
 from plain.commands import BASE, reply_words
 from plain.converter import COMMAND, HIGH, LOW, MAX, MIN, OPERATION, Converter
 from plain.packets import CODES, write_message
 
-FILE = 77
+FIRST_FILE = 77
 # What a rail answers: its limits, which nothing reaches, and READ_VOUT; and what else is asked beside the host's jobs.
 RAIL = {0x40: 0xFFFF, 0x42: 0xFFFF, 0x43: 0, 0x44: 0, 0x8B: None}
 TEMPERATURE = 0x8D
@@ -225,80 +231,160 @@ class Absent(Part):
         return False
 
 
-class FakeKernel:
-    """The calls of pmhost.bus.linux.Kernel. Mishaps befall the frames of the host's jobs, and where `strikes_looks` those that ask what a rail
-    does, too. `faults` has the kernel's error for a path that is opened and for each request."""
+class Calls:
+    """The calls of pmhost.bus.linux.Kernel over buses by their numbers. `transfer` answers messages as the server of `pmhost torture` does;
+    `faults` has the kernel's error for a path that is opened, for a lock and for each request, `held` the places, as (7, 58), that a driver
+    holds. A frame goes only to an address that is locked, unless the bus is shared."""
 
-    strikes_looks = False
+    is_shared = False
 
-    def __init__(self, part, mishaps=(), faults=None, functions=I2C_FUNC_I2C):
-        self.part, self.mishaps, self.faults, self.functions = part, list(mishaps), faults or {}, functions
-        self.opened, self.locked = 0, []
+    def __init__(self, buses, faults=None, functions=I2C_FUNC_I2C, held=()):
+        self.buses, self.faults, self.functions, self.held = buses, faults or {}, functions, set(held)
+        self.files, self.locks, self.locked = {}, {}, []
+
+    @property
+    def opened(self):
+        """How many files are open."""
+        return len(self.files)
+
+    def transfer(self, number, messages):
+        """How many messages went over the bus of this number, or minus the error, and what the reads have."""
+        return self.buses[number].transfer(messages)
 
     def fail(self, number):
         raise OSError(number, os.strerror(number))
 
     def open(self, path):
-        if path != "/dev/i2c-7":
+        number = path.removeprefix("/dev/i2c-")
+        if not number.isdecimal() or int(number) not in self.buses:
             self.fail(errno.ENOENT)
         if "open" in self.faults:
             self.fail(self.faults["open"])
-        self.opened += 1
-        return FILE
+        file = max(self.files, default=FIRST_FILE) + 1
+        self.files[file] = int(number)
+        return file
 
     def lock(self, file, place):
-        assert file == FILE
-        if "lock" in self.faults:
-            self.fail(self.faults["lock"])
-        self.locked.append(place)
+        taken = (self.files[file], place)
+        if "lock" in self.faults or taken in self.locks.values():
+            self.fail(self.faults.get("lock", errno.EAGAIN))
+        self.locks[file] = taken
+        self.locked.append(taken)
 
     def close(self, file):
-        assert file == FILE
-        self.opened -= 1
+        del self.files[file]
+        self.locks.pop(file, None)
 
     def ioctl(self, file, request, argument):
-        assert file == FILE and self.opened == 1
+        number = self.files[file]
         if request in self.faults:
             self.fail(self.faults[request])
         if request == I2C_FUNCS:
             argument.value = self.functions
             return 0
         if request == I2C_SLAVE:
-            return 0
+            return self.fail(errno.EBUSY) if (number, argument) in self.held else 0
         assert request == I2C_RDWR and isinstance(argument, Messages)
-        return self.transfer([argument.msgs[at] for at in range(argument.nmsgs)])
+        heads = [argument.msgs[at] for at in range(argument.nmsgs)]
+        messages = [Message(it.addr, it.flags, it.len, b"" if it.flags & I2C_M_RD else ctypes.string_at(it.buf, it.len)) for it in heads]
+        is_frame = not messages[0].is_read
+        assert self.is_shared or not is_frame or self.locks.get(file) == (number, heads[0].addr), "a frame to an address that isn't locked"
+        went, came = self.transfer(number, messages)
+        if went < 0:
+            self.fail(-went)
+        for head, answer in zip([it for it in heads if it.flags & I2C_M_RD], came):
+            ctypes.memmove(head.buf, answer, len(answer))
+        return went
 
-    def transfer(self, messages):
+
+class FakeKernel(Calls):
+    """One bus with one part. Mishaps befall the frames of the host's jobs, and where `strikes_looks` those that ask what a rail does, too."""
+
+    strikes_looks = False
+
+    def __init__(self, part, mishaps=(), faults=None, functions=I2C_FUNC_I2C):
+        super().__init__({7: part}, faults, functions)
+        self.part, self.mishaps = part, list(mishaps)
+
+    def transfer(self, number, messages):
         """What the kernel answers of a transfer, after the part has heard it. A lone read of one byte goes to address 02h, which
         nobody acknowledges, unless the part holds the data line low, or asks who is there."""
-        if len(messages) == 1 and messages[0].flags == I2C_M_RD:
-            assert messages[0].len == 1
-            if not getattr(self.part, "is_low", False) and not (hasattr(self.part, "is_at") and self.part.is_at(messages[0].addr)):
+        part = self.part
+        if [it.flags for it in messages] == [I2C_M_RD]:
+            assert messages[0].length == 1
+            if not getattr(part, "is_low", False) and not (hasattr(part, "is_at") and part.is_at(messages[0].address)):
                 self.fail(errno.ENXIO)
-            return 1
+            return 1, []
         sent, back = messages[0], messages[1] if len(messages) == 2 else None
-        assert not sent.flags and (back is None or back.flags == I2C_M_RD and back.addr == sent.addr)
-        frame = [2 * sent.addr, *ctypes.string_at(sent.buf, sent.len)]
-        ending = "stop" if back is None else "restart"
+        assert not sent.flags and (back is None or back.flags == I2C_M_RD and back.address == sent.address)
+        frame, ending = [2 * sent.address, *sent.data], "stop" if back is None else "restart"
         spared = not self.strikes_looks and is_look(frame, ending)
         mishap = self.mishaps.pop(0) if self.mishaps and not spared else "ok"
         if mishap == "restart":
-            self.part.restart()
+            part.restart()
         SIGNALS.get(mishap, int)()
         if mishap == "false" and back is None:
-            return 1
+            return 1, []
         if mishap in ("deaf", "false", "hung"):
             self.fail(errno.ETIMEDOUT if mishap == "hung" else errno.ENXIO)
         if mishap in ("short0", "short1"):
-            return 0 if mishap == "short0" else 1
+            return int(mishap == "short1"), []
         if mishap == "twice":
-            self.part.hear(frame, ending)
-        answer = self.part.hear(frame, ending)
+            part.hear(frame, ending)
+        answer = part.hear(frame, ending)
         if mishap == "lost" or answer is None:
-            self.fail(self.part.refusal)
-        if back is not None and mishap not in ("short0h", "empty"):
-            got = [*answer[1:], *[0xFF] * 300][:back.len]
-            if mishap == "damaged":
-                got[-1] ^= 4
-            ctypes.memmove(back.buf, bytes(got), len(got))
-        return 0 if mishap == "short0h" else len(messages)
+            self.fail(part.refusal)
+        if back is None or mishap in ("short0h", "empty"):
+            return 0 if mishap == "short0h" else len(messages), []
+        got = bytearray([*answer[1:], *[0xFF] * 300][:back.length])
+        if mishap == "damaged":
+            got[-1] ^= 4
+        return 2, [bytes(got)]
+
+
+class Wire:
+    """A bus with its parts, by their addresses. A frame is meant for the part at `meant`, and arrives at the address beside it where
+    it goes astray."""
+
+    def __init__(self, parts):
+        self.parts, self.meant, self.goes_astray, self.refusal = parts, 0, False, errno.ENXIO
+
+    @property
+    def is_low(self):
+        return any(getattr(part, "is_low", False) for part in self.parts.values())
+
+    def is_at(self, address):
+        return address in self.parts
+
+    def restart(self):
+        if self.meant in self.parts:
+            self.parts[self.meant].restart()
+
+    def hear(self, frame, ending):
+        if self.goes_astray:
+            frame = [frame[0] ^ 0x02, *frame[1:]]
+        answer, self.refusal = None, getattr(self.parts.get(frame[0] >> 1), "refusal", errno.ENXIO)
+        for address, part in self.parts.items():
+            if address == frame[0] >> 1:
+                answer = part.hear(frame, ending)
+            else:
+                stranger = part.hear_stranger(frame, ending) if hasattr(part, "hear_stranger") else None
+                assert stranger is None, (frame, stranger)
+        return answer
+
+
+class BoardKernel(FakeKernel):
+    """`buses` has for each number of a bus its parts by their addresses."""
+
+    def __init__(self, buses, mishaps=(), held=(), faults=None):
+        super().__init__(None, mishaps, faults)
+        self.buses, self.held, self.transfers = {number: Wire(parts) for number, parts in buses.items()}, set(held), 0
+
+    def transfer(self, number, messages):
+        self.part = wire = self.buses[number]
+        wire.meant, wire.goes_astray = messages[0].address, False
+        if not messages[0].is_read:
+            self.transfers += 1
+            if self.mishaps[:1] == ["astray"]:
+                wire.goes_astray, self.mishaps[0] = True, "ok"
+        return super().transfer(number, messages)

@@ -7,7 +7,7 @@ A file has a block for each run, a blank line between them. The lines of a block
     mishaps: M M*3 ..    what befalls the transfers (kernel.py), one of them three times here
     part: KIND [M M ..] [coefficients m b R]     the kind of part, and VOUT_MODEs in hexadecimal; `odd.KIND` of odd_parts.py,
                          `busy.KIND` of busy.py, `field.Field` of field.py
-    board: BUS ADDRESS KIND ..                   one of several parts (board_kernel.py), in the place of `part`
+    board: BUS ADDRESS KIND ..                   one of several parts (kernel.py), in the place of `part`
     cell: O REG WORD     a word that the part holds at first; of one of several parts with its address in front
     fault: WHAT ERRNO    the kernel's error for `open`, `slave` or `lock`
     functions: HEX       the adapter's functions
@@ -40,7 +40,7 @@ from pmhost.bus.linux import I2C_FUNC_I2C, I2C_SLAVE
 from pmhost.values import CODES
 
 from . import kernel
-from .board_kernel import BoardKernel
+from .kernel import BoardKernel
 
 
 class Clock:
@@ -131,7 +131,7 @@ class Run:
             found = BoardKernel(buses, self.mishaps.split(), faults=self.faults)
         else:
             found = kernel.FakeKernel(parts[7, 0x58], self.mishaps.split(), self.faults, self.functions)
-        found.strikes_looks = self.looks == "struck"
+        found.strikes_looks, found.is_shared = self.looks == "struck", "--share-bus" in self.words.split()
         return found
 
     def made_part(self):

@@ -19,7 +19,7 @@ from pmhost.survey import Commanded
 from pmhost.values import CODES
 
 from . import kernel, odd_parts
-from .board_kernel import BoardKernel
+from .kernel import BoardKernel
 from .running import DATA, ROOT, stored
 from .runs import called
 from .test_boards import Watched
