@@ -38,7 +38,7 @@ from pmhost.bus.linux import I2C_FUNC_I2C, I2C_FUNCS, I2C_M_RD, I2C_RDWR, I2C_SL
 from pmhost.torture.i2c_dev import Message
 
 from . import plain_model  # noqa: F401
-from plain.commands import BASE, reply_words
+from plain.commands import BASE
 from plain.converter import COMMAND, HIGH, LOW, MAX, MIN, OPERATION, Converter
 from plain.packets import CODES, write_message
 
@@ -66,7 +66,7 @@ class Both:
     """The plain converter with the proved one beside it, which has to answer the same."""
 
     def __init__(self, setup):
-        self.plain, self.setup = Converter(setup), setup
+        self.plain, self.setup, self.given = Converter(setup), setup, set()
         starts = [Output(mode, *(words[code] for code in (OPERATION, COMMAND, MAX, HIGH, LOW, MIN)))
                   for mode, words in setup["outputs"]]
         try:
@@ -86,6 +86,12 @@ class Both:
         """Gives a register a word that nobody ordered, from now on in the plain converter alone."""
         self.plain.cells[cell], self.proved = word, None
 
+    def set_reading(self, output, name, word):
+        """Gives a reading a word: one of an output, or with None of the part."""
+        self.given.add((output, CODES[name]))
+        self.plain.set_reading(output, CODES[name], word)
+        self.proved.set_reading(output, name, word)
+
     def hear(self, frame, ending):
         reply = self.plain.hear(frame, ending)
         if self.proved:
@@ -99,46 +105,62 @@ class Both:
 
 
 class Part:
-    """A converter, which keeps the lines of `hear` and what it answered to each."""
+    """A converter, which keeps the lines of `hear`. Its outputs are on, at these words of VOUT_COMMAND."""
 
     # Of a byte that isn't acknowledged, behind an address that is.
     refusal = errno.EREMOTEIO
+    starts = (0x1000, 0x1000)
 
-    def __init__(self, modes=(0x14, 0x14), coefficients=(1, 0, 3), address=BASE["address"]):
-        outputs = [(mode, dict(BASE["outputs"][0][1])) for mode in modes]
-        self.converter = Both({**BASE, "address": address, "count": len(outputs), "outputs": outputs, "coefficients": coefficients})
-        self.lines, self.answers = [], []
+    def __init__(self, modes=None, coefficients=(1, 0, 3), address=BASE["address"], protect=0, **words):
+        self.make([*(modes or [0x14] * len(self.starts))], coefficients, address, protect, **words)
+        self.lines = []
+
+    def make(self, modes, coefficients, address, protect, **words):
+        """Puts a converter there, whose outputs have other `words` by the names of their registers."""
+        base, commands = BASE["outputs"][0][1], self.starts if len(self.starts) == len(modes) else [0x1000] * len(modes)
+        others = {CODES[name]: word for name, word in words.items()}
+        outputs = [(mode, {**base, COMMAND: word, **others}) for mode, word in zip(modes, commands)]
+        self.address, self.converter = address, Both({**BASE, "address": address, "count": len(outputs), "outputs": outputs,
+                                                      "coefficients": coefficients, "protect": protect})
 
     def restart(self):
         self.converter.restart()
         self.lines.append("restart")
-        self.answers.append("restarted")
 
     def hear(self, frame, ending):
-        """The bytes of an answer, or None where the part doesn't acknowledge the frame."""
+        """The bytes of an answer, the read address first, or None where the part doesn't acknowledge the frame."""
         found = self.rail(frame) if is_look(frame, ending) and len(frame) == 5 else None
         if found:
             return found
-        reply = self.converter.hear(frame, ending)
         self.lines.append(" ".join(f"{byte:02X}" for byte in frame) + (" /" if ending == "restart" else ""))
-        self.answers.append(reply_words(reply))
-        if ending == "restart":
-            return reply if isinstance(reply, list) else None
-        return None if reply == "silent" else []
+        return self.asked(bytes(frame)) if ending == "restart" else self.written(bytes(frame))
+
+    def asked(self, request):
+        """The answer to a request, None where the part doesn't acknowledge it."""
+        reply = self.converter.hear([*request], "restart")
+        return reply if isinstance(reply, list) else None
+
+    def written(self, frame):
+        """What became of a write; one that is refused is acknowledged all the same."""
+        return None if self.converter.hear([*frame], "stop") == "silent" else []
+
+    def answer(self, request, payload):
+        """An answer of these bytes, with its packet error code."""
+        came = [self.address << 1 | 1, *payload]
+        return [*came, pec(bytes([*request, *came]))]
 
     def rail(self, request):
         """What a rail answers that delivers what its output commands, and that no limit trips; nothing of what the converter answers."""
         output, code = request[3:]
         plain = self.converter.plain
-        if code not in RAIL or output not in plain.outputs or request[0] != 2 * plain.address:
+        if code not in RAIL or output not in plain.outputs or request[0] != 2 * plain.address or (output, code) in self.converter.given:
             return None
         word, is_direct = RAIL[code], plain.setup["outputs"][output][0] == 0x40
         if is_direct and word is not None:
             word ^= 0x8000 if plain.setup["coefficients"][0] > 0 else 0x7FFF
         if word is None:
             word = plain.cells[output, plain.commanding(output)] if plain.is_on(output) else 0
-        came = [request[0] | 1, 2, word & 0xFF, word >> 8]
-        return [*came, pec(bytes([*request, *came]))]
+        return self.answer(request, [2, word & 0xFF, word >> 8])
 
     def hear_stranger(self, frame, ending):
         """What it answers to a frame that arrives at another address: nothing, where it is as it should be."""
@@ -181,8 +203,8 @@ class WithoutPec(Part):
 class Rounding(Part):
     """The last bits of a voltage that is written are dropped."""
 
-    def hear(self, frame, ending):
-        answer = super().hear(frame, ending)
+    def written(self, frame):
+        answer = super().written(frame)
         for cell, word in list(self.converter.cells.items()):
             if cell[1] == COMMAND:
                 self.converter.set(cell, word & 0xFFF8)
@@ -193,30 +215,40 @@ class Ignoring(Part):
     """A voltage that is written is acknowledged and dropped."""
 
     def hear(self, frame, ending):
-        if ending == "stop" and write_message(frame)[2] == COMMAND:
-            return []
-        return super().hear(frame, ending)
+        return [] if ending == "stop" and write_message(frame)[2] == COMMAND else super().hear(frame, ending)
 
 
-class WithoutRevision(Part):
+class Lacking(Part):
+    """Registers that it doesn't acknowledge: the codes of `without`, and by PAGE_PLUS those of `lacks`, each of some outputs."""
+
+    without, lacks = (), ()
+
+    def asked(self, request):
+        is_paged = request[1] == READS and len(request) == 5
+        if request[1] in self.without or is_paged and (request[4] in self.without or (request[3], request[4]) in self.lacks):
+            return None
+        return super().asked(request)
+
+
+class WithoutRevision(Lacking):
     """PMBUS_REVISION isn't acknowledged."""
 
-    def hear(self, frame, ending):
-        return None if frame[1] == CODES["PMBUS_REVISION"] else super().hear(frame, ending)
+    without = (CODES["PMBUS_REVISION"],)
 
 
-class WithoutCoefficients(Part):
+class WithoutCoefficients(Lacking):
     """COEFFICIENTS isn't acknowledged."""
 
-    def hear(self, frame, ending):
-        return None if frame[1] == CODES["COEFFICIENTS"] else super().hear(frame, ending)
+    without = (CODES["COEFFICIENTS"],)
 
 
-class WithoutMinimum(Part):
+class WithoutMinimum(Lacking):
     """VOUT_MIN isn't acknowledged."""
 
-    def hear(self, frame, ending):
-        return None if CODES["VOUT_MIN"] in frame[2:5] else super().hear(frame, ending)
+    without = (CODES["VOUT_MIN"],)
+
+    def written(self, frame):
+        return None if CODES["VOUT_MIN"] in frame[2:5] else super().written(frame)
 
 
 class Absent(Part):

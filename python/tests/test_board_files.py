@@ -159,7 +159,7 @@ class Files(unittest.TestCase):
     """Boards by hand: two parts of one bus, u12 and u13, and one of another, u14."""
 
     def setUp(self):
-        self.parts = {"u12": odd_parts.Named(0x4F), "u13": kernel.Part(address=0x50), "u14": kernel.Part(address=0x4F)}
+        self.parts = {"u12": odd_parts.Named(address=0x4F), "u13": kernel.Part(address=0x50), "u14": kernel.Part(address=0x4F)}
         self.text = "\n".join([table_of("u12", 7, 0x4F, 2, 'model = "LTC3880"'), table_of("u13", 7, 0x50, 2), table_of("u14", 8, 0x4F, 1),
                                *(RAIL.format(name=name, part=part, output=output)
                                  for name, part, output in (("core", "u12", 0), ("io", "u13", 1), ("pll", "u14", 0)))])
