@@ -7,7 +7,7 @@ import unittest
 
 from pmhost import pec
 
-from .board_kernel import BoardKernel
+from .kernel import BoardKernel
 from .field import Field
 from .runs import CLOCK, called
 from .test_patience import as_shipped

@@ -25,7 +25,7 @@ from pmhost.torture.server import Server
 from pmhost.torture.transfer_text import line
 from pmhost.torture.verdict import Verdict
 from pmhost.torture.watched import Took, WatchedPart, read_meant, start_of
-from .running import needs_tool
+from .running import around, command, needs_tool
 
 # A host in the words of a Linux program: transfers of messages by I2C_RDWR, with packet error codes.
 HOST = '''
@@ -502,6 +502,19 @@ class Preloading(unittest.TestCase):
             with open(path, "w", encoding="utf-8") as file:
                 file.write(script)
             return Program([sys.executable, "-S", "-E", path], 2, seconds, said).run(self.below)
+
+    def test_pmhost_by_the_calls_of_the_kernel_itself(self):
+        """Each word reaches its own output whatever befalls a transfer, and success is what the part holds."""
+        words = [*command("-b", "1", "-a", "58", "--outputs", "2", "--no-limit", "--busy-timeout", "0ms"), *"word 0 VOUT_COMMAND 14CD + clear 1".split()]
+        with unittest.mock.patch.dict(os.environ, around()):
+            host = Program(words, 2, 60)
+            whole = host.run(self.below)
+            judge = Judge(whole)
+            self.assertTrue(whole.is_success)
+            self.assertEqual([(it.cell, it.word) for it in whole.took], [((0, "VOUT_COMMAND"), 0x14CD)])
+            write = next(at for at, it in enumerate(whole.transfers, 1) if it.frame[1:2] == b"\x05")
+            for fault in "lost", "mute", "false", "restart":
+                self.assertEqual(judge.judge(host.run(self.below, write, fault)).words, "good", fault)
 
     def test_what_a_program_hears_of_a_part_that_is_not_there(self):
         """Messages and SMBus, each with the kernel's error, and what is read then."""
