@@ -21,6 +21,7 @@ PROGRAMS = {
     "course rows": (["trials/course/rows.c"], ["trials/course/rows.txt"]),
     "delivery rows": (["trials/delivery/rows.c"], []),
     "stairs rows": (["trials/stairs/rows.c"], []),
+    "sequence rows": (["trials/sequences_c/rows.c"], []),
     "field rows": ([f"trials/field/{each}.c" for each in ("rows", "field", "frames")], ["trials/field/rows.txt"]),
 }
 HEADERS = ("-Icrates/pm_host_c/include", "-Icrates/pm_device_c/include")

@@ -405,6 +405,7 @@ for each in $compilers; do
         program "$name courses" trials/course/rows.expected "$compiler $strict" trials/course/rows.c $rest -- trials/course/rows.txt trials/course/accept.txt
         program "$name deliveries" trials/delivery/rows.expected "$compiler $strict" trials/delivery/rows.c $rest --
         program "$name stairs" trials/stairs/rows.expected "$compiler $strict" trials/stairs/rows.c $rest --
+        program "$name sequences" trials/sequences_c/rows.expected "$compiler $strict" trials/sequences_c/rows.c $rest --
         program "$name pm_patient_run" trials/c/rows/patient_rows.expected "$compiler $strict" trials/c/rows/patient_rows.c $rest --
         program "$name both ends" examples/c/faults.expected "$compiler $strict" examples/c/faults.c $rest --
         program "$name HAL" examples/c/hal_bus.expected "$compiler $strict" examples/c/hal_bus.c $rest --

@@ -95,6 +95,9 @@ no_way_back = 0x97
 abbrev pub wait : ℕ
 wait = 0x98
 
+abbrev pub asked : ℕ
+asked = 0x99
+
 abbrev pub told : ℕ
 told = 0x9A
 

@@ -1,5 +1,5 @@
 -- What the calls of a sequence answer and write, by the relations of pm_sequence: `HandsOut`, `Hears` and `heard_in`. This project's own choice.
-use Rattle.std.specs.Prelude.{◌≡◌, ℕ, Bool, true, false, ◌+◌, ◌-◌, ◌%◌, ◌&&◌, not, nat_lt, ◌==◌, if◌then◌else◌, List, length}
+use Rattle.std.specs.Prelude.{◌≡◌, ℕ, Bool, true, false, ◌+◌, ◌-◌, ◌/◌, ◌%◌, ◌&&◌, not, nat_lt, ◌==◌, if◌then◌else◌, List, length}
 use Rattle.std.specs.Prelude.{slice_get, slice_index_or, slice_set, Option, Some, None, is_some, Result, Ok, Err}
 use Rattle.std.specs.Option.{option_map_or, option_or}
 use Rattle.std.specs.Result.{result_err}
@@ -20,6 +20,7 @@ use Rattle.pm_sequence.specs.declared.sequence.End.{End}
 use Rattle.pm_sequence.specs.declared.sequence.End.TheVariants as end
 use Rattle.pm_sequence.specs.declared.sequence.Phase.{Phase}
 use Rattle.pm_sequence.specs.declared.sequence.Phase.TheVariants as phase
+use Rattle.pm_sequence.specs.declared.sequence.Rules.{Rules}
 use Rattle.pm_sequence.specs.declared.sequence.Sequence.{Sequence}
 use Rattle.pm_sequence.specs.declared.step.Step.{Step}
 use Rattle.pm_sequence.specs.Frames.{heard_in, HandsOut, Hears}
@@ -43,9 +44,13 @@ use Rattle.pm_calls.specs.Paged.{IsPagedSending}
 use Rattle.pm_calls.specs.SequenceSaid.{nothing_said, number_said, rail_said, step_said, IsSaid}
 use Rattle.pm_calls.specs.SequenceStep.{back_image, step_in}
 
--- no step has begun; of the rules 1 says that no way back is kept
+-- the rules that a number says: 1 a way down, 2 a step that stops is left, 4 each order is told before it begins, or a sum
+abbrev pub rules_said : ℕ → Rules
+rules_said n = record { is_down = n % 2 == 1; leaves = n / 2 % 2 == 1; asks = n / 4 % 2 == 1 }
+
+-- no step has begun
 abbrev pub sequence_begun : ℕ → ℕ → SequenceImage
-sequence_begun tries rules = sequence_image (new_sequence tries (rules % 2 == 1)) nothing_said
+sequence_begun tries rules = sequence_image (new_sequence tries (rules_said rules)) nothing_said
 
 -- ---- What is asked ----
 
@@ -99,6 +104,7 @@ abbrev pub read_named : Act → Option (ℕ × ℕ)
 read_named (act.Job job) = None
 read_named (act.Begins job back) = None
 read_named (act.Passes back) = None
+read_named (act.Order job) = None
 read_named (act.Ask question) = Some (question_code question, question_size question)
 read_named act.Probe = Some (0x01, 1)
 read_named act.Pause = None
@@ -136,6 +142,7 @@ abbrev pub back_said : Act → Option WordStep
 back_said (act.Job job) = None
 back_said (act.Begins job back) = Some back
 back_said (act.Passes back) = Some back
+back_said (act.Order job) = None
 back_said (act.Ask question) = None
 back_said act.Probe = None
 back_said act.Pause = None
@@ -159,6 +166,7 @@ abbrev pub is_look_said : Act → Bool
 is_look_said (act.Job job) = false
 is_look_said (act.Begins job back) = false
 is_look_said (act.Passes back) = false
+is_look_said (act.Order job) = false
 is_look_said (act.Ask question) = false
 is_look_said act.Probe = false
 is_look_said act.Pause = false

@@ -2,6 +2,7 @@
 use Rattle.std.specs.Prelude.{◌≡◌, ℕ, ℤ, Bool, true, false, ◌-◌, ◌*◌, ◌^◌, ◌==◌, nat_lt, min, if◌then◌else◌, pos, Option, Some, None, is_some, unwrap_or, IfSome}
 use Rattle.pm_delivery.specs.declared.delivery.Delivery.{Delivery}
 use Rattle.pm_delivery.specs.declared.verdict.Verdict.{Verdict}
+use Rattle.pm_host.specs.declared.job.Job.{Job}
 use Rattle.pm_host.specs.Summary.{format_at}
 use Rattle.pm_rail.specs.declared.fault.PlanFault.{PlanFault}
 use Rattle.pm_rail.specs.FaultWords.{plan_fault_code, plan_fault_number}
@@ -14,15 +15,17 @@ use Rattle.pm_stairs.specs.Sequence.{step_stopped}
 use Rattle.pm_memory.specs.declared.guard_image.GuardImage.{GuardImage}
 use Rattle.pm_memory.specs.declared.sequence_end.SequenceEndImage.{SequenceEndImage}
 use Rattle.pm_memory.specs.declared.sequence_image.SaidImage.{SaidImage}
+use Rattle.pm_memory.specs.CourseImage.{job_code, job_word}
 use Rattle.pm_memory.specs.SequenceEnd.{end_written}
 use Rattle.pm_calls.specs.Delivery.{idle, is_told, said_by, word_of, IsTold}
-use Rattle.pm_calls.specs.Numbers.{accepted, again, ended, no_way_back, told, wait}
+use Rattle.pm_calls.specs.Numbers.{accepted, again, asked, ended, no_way_back, told, wait}
 
 -- what is answered where no job begins
 abbrev pub number_said : Act → ℕ
 number_said (act.Job job) = accepted
 number_said (act.Begins job back) = accepted
 number_said (act.Passes back) = again
+number_said (act.Order job) = asked
 number_said (act.Ask question) = accepted
 number_said act.Probe = accepted
 number_said act.Pause = wait
@@ -50,6 +53,7 @@ abbrev pub step_said : Sequence → Act → ℕ
 step_said q (act.Job job) = q.list.begun
 step_said q (act.Begins job back) = q.list.begun
 step_said q (act.Passes back) = q.list.begun
+step_said q (act.Order job) = step_stopped q.list
 step_said q (act.Ask question) = q.list.begun
 step_said q act.Probe = q.list.begun
 step_said q act.Pause = step_under q
@@ -73,6 +77,7 @@ abbrev pub rail_said : Act → Option Verdict
 rail_said (act.Job job) = None
 rail_said (act.Begins job back) = None
 rail_said (act.Passes back) = None
+rail_said (act.Order job) = None
 rail_said (act.Ask question) = None
 rail_said act.Probe = None
 rail_said act.Pause = None
@@ -121,6 +126,9 @@ end_said why kind step = ended_said (end_written (Some why)) kind step
 abbrev pub wait_said : ℕ → ℕ → SaidImage
 wait_said milliseconds step = record nothing_said { milliseconds = milliseconds; step = step }
 
+abbrev pub order_said : Job → ℕ → SaidImage
+order_said job step = record nothing_said { kind = 16; code = job_code (Some job); word = job_word (Some job); step = step }
+
 abbrev pub way_back_said : PlanFault → ℕ → SaidImage
 way_back_said fault step = record nothing_said {
   kind = 9;
@@ -133,6 +141,7 @@ abbrev pub numbers_said : Sequence → Act → SaidImage → SaidImage
 numbers_said q (act.Job job) was = was
 numbers_said q (act.Begins job back) was = was
 numbers_said q (act.Passes back) was = was
+numbers_said q (act.Order job) was = order_said job (step_stopped q.list)
 numbers_said q (act.Ask question) was = was
 numbers_said q act.Probe was = was
 numbers_said q act.Pause was = wait_said (pause_of q.look.delivery.round) (step_under q)

@@ -27,7 +27,7 @@ looks_asked i = record {
 
 abbrev pub step_with : SequenceStepImage → Result Placed ℕ → Result Step ℕ
 step_with i (Err number) = Err number
-step_with i (Ok placed) = if are_looks i then Ok (record { placed = placed; wait = i.wait; looks = looks_asked i }) else Err no_step
+step_with i (Ok placed) = if are_looks i then Ok (record { placed = placed; wait = i.wait; looks = looks_asked i; before = i.before }) else Err no_step
 
 -- the step, or what is wrong with it: H4, EFh
 abbrev pub step_in : SequenceStepImage → Result Step ℕ

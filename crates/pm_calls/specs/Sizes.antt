@@ -70,6 +70,8 @@ abbrev pub said_size : ℕ
 said_size = 6 + 3 * word_size + 4 + 8
 
 -- a sequence: the mark, the version, the steps that were left and two bytes; what was said; stairs; a look, which is a delivery without its
--- mark and version and eight bytes; six bytes; its end, in six bytes and two words; and ten bytes of no meaning
+-- mark and version, what was heard before and eight bytes; six bytes; its end, in six bytes and two words; and an order, in four bytes and
+-- a word
 abbrev pub sequence_size : ℕ
-sequence_size = 3 * word_size + 2 + said_size + stairs_size + (delivery_size - 2 * word_size + 8) + 6 + (6 + 2 * word_size) + 10
+sequence_size = 3 * word_size + 2 + said_size + stairs_size + (delivery_size - 2 * word_size + heard_size + 8) + 6 + (6 + 2 * word_size)
+    + (4 + word_size)

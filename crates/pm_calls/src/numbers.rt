@@ -66,6 +66,9 @@ pub const NO_WAY_BACK: u8 = 0x97;
 /// Time is to pass before a sequence is asked again.
 pub const WAIT: u8 = 0x98;
 
+/// An order comes next.
+pub const ASKED: u8 = 0x99;
+
 /// What became of a step is said.
 pub const TOLD: u8 = 0x9A;
 

@@ -1,10 +1,10 @@
 //! A sequence over hosts in a caller's memory: a list of steps is carried out, and what its rails do is looked at.
 
-ghost use Rattle.std.specs.Prelude.{◌≡◌, IfOk, IfSome, OnOk, length};
+ghost use Rattle.std.specs.Prelude.{◌≡◌, ◌≤◌, true, IfOk, IfSome, OnOk};
+ghost use Rattle.pm_frame.specs.Layout.{is_carried};
 ghost use Rattle.std.specs.Result.{result_err};
 ghost use Rattle.pm_host.specs.Told.{entry_told};
-ghost use Rattle.pm_calls.specs.Course.{stage_number};
-ghost use Rattle.pm_calls.specs.Sequence.{asked_fault, back_said as spec_back_said, both_fault, is_look as spec_is_look, is_look_said, lacks_room as spec_lacks_room, read_named as spec_read_named, records_after, sequence_begun, step_at as spec_step_at, step_under as spec_step_under, with_back, with_look, AreAsked, AreBoth, HandsOutAt, HearsIn, IsPutNext, NextIn, ReadIn};
+ghost use Rattle.pm_calls.specs.Sequence.{asked_fault, back_said as spec_back_said, both_fault, is_look as spec_is_look, is_look_said as spec_is_look_said, lacks_room as spec_lacks_room, number_next as spec_number_next, read_named as spec_read_named, records_after, rules_said, sequence_begun, step_at as spec_step_at, step_under as spec_step_under, with_back, with_look, AreAsked, AreBoth, HandsOutAt, HearsIn, IsPutNext, NextIn, ReadIn};
 ghost use Rattle.pm_memory.specs.Guard.{guard_of};
 ghost use Rattle.pm_memory.specs.Hosted.{IsThere, guard_in};
 ghost use Rattle.pm_memory.specs.Memory.{IsMemory};
@@ -16,11 +16,10 @@ use crate::seen::Seen;
 use crate::sequence_said::{number_said, rail_said, said_after, step_said};
 use crate::sequence_step::{SequenceRecordImage, SequenceStepImage};
 use pm_course::surprises;
-use pm_delivery::Question;
 use pm_frame::paged_request;
 use pm_host::{Stage, Told};
 use pm_memory::{DeliveryImage, GuardImage, SaidImage, SendingImage, SequenceImage};
-use pm_sequence::{Act, End, Phase, Sequence, Step};
+use pm_sequence::{Act, End, Phase, Rules, Sequence, Step};
 use pm_stairs::WordStep;
 use pm_table::Code;
 
@@ -36,11 +35,22 @@ struct Asked {
     ahead: Option<Step>,
 }
 
-/// A sequence of which no step has begun. Of `rules` 1 says that no way back is kept.
+// The rules that a number says: 1 a way down, 2 a step that stops is left, 4 each order is told before it begins, or a sum.
+fn rules_of(rules: u8) -> Rules
+    ensures { result ≡ rules_said rules }
+{
+    Rules {
+        is_down: rules % 2 == 1,
+        leaves: rules / 2 % 2 == 1,
+        asks: rules / 4 % 2 == 1,
+    }
+}
+
+/// A sequence of which no step has begun, by the rules that a number says.
 pub fn begun(tries: u16, rules: u8) -> SequenceImage
     ensures { result ≡ sequence_begun tries rules }
 {
-    SequenceImage::of(&Sequence::new(tries, rules % 2 == 1), SaidImage::NOTHING)
+    SequenceImage::of(&Sequence::new(tries, rules_of(rules)), SaidImage::NOTHING)
 }
 
 // The step at a place of a list, none after its end; or the number of what is wrong with it.
@@ -147,7 +157,9 @@ fn hand_out(
 
 // The register that is to be read beside the host's jobs: its command code, and how many bytes it has.
 fn read_named(act: Act) -> Option<(u8, u8)>
-    ensures { result ≡ spec_read_named act }
+    ensures read { result ≡ spec_read_named act }
+    ensures carried { IfSome result (λ read. is_carried read.0 ≡ true) }
+    ensures size { IfSome result (λ read. read.1 ≤ 2) }
 {
     match act {
         Act::Ask(question) => Some((question.code().0, question.size() as u8)),
@@ -196,7 +208,7 @@ fn back_said(act: Act) -> Option<WordStep>
 
 // Whether what was heard of a rail is kept: what is said of it ends its look, or a goal is beyond its limits.
 fn is_look_said(act: Act) -> bool
-    ensures { result ≡ is_look_said act }
+    ensures { result ≡ spec_is_look_said act }
 {
     match act {
         Act::Leaves(End::Beyond(_)) | Act::Ended(End::Beyond(_)) => true,
@@ -272,7 +284,7 @@ pub fn next(
 
 // What is answered of a frame, or of what is said.
 fn number_next(at: Option<Stage>, act: Act) -> u8
-    ensures { result ≡ number_next at act }
+    ensures { result ≡ spec_number_next at act }
 {
     match at {
         Some(_) => ACCEPTED,

@@ -1,12 +1,13 @@
 //! What a sequence says, as plain numbers.
 
 ghost use Rattle.std.specs.Prelude.{◌≡◌};
-ghost use Rattle.pm_calls.specs.SequenceSaid.{end_said, number_said as spec_number_said, numbers_said as spec_numbers_said, pause_of as spec_pause_of, rail_of as spec_rail_of, rail_said as spec_rail_said, said_with as spec_said_with, step_said as spec_step_said, step_under as spec_step_under, wait_said as spec_wait_said, way_back_said as spec_way_back_said, IsReading, IsSaid};
+ghost use Rattle.pm_calls.specs.SequenceSaid.{end_said, number_said as spec_number_said, numbers_said as spec_numbers_said, order_said as spec_order_said, pause_of as spec_pause_of, rail_of as spec_rail_of, rail_said as spec_rail_said, said_with as spec_said_with, step_said as spec_step_said, step_under as spec_step_under, wait_said as spec_wait_said, way_back_said as spec_way_back_said, IsReading, IsSaid};
 
 use crate::delivered::{said_by, told, word_of};
-use crate::numbers::{ACCEPTED, AGAIN, ENDED, NO_WAY_BACK, TOLD, WAIT};
+use crate::numbers::{ACCEPTED, AGAIN, ASKED, ENDED, NO_WAY_BACK, TOLD, WAIT};
 use pm_delivery::{Delivery, Verdict};
-use pm_memory::{GuardImage, SaidImage, SequenceEndImage};
+use pm_host::Job;
+use pm_memory::{GuardImage, SaidImage, SequenceEndImage, job_numbers};
 use pm_rail::PlanFault;
 use pm_sequence::{Act, End, Sequence};
 
@@ -14,6 +15,8 @@ use pm_sequence::{Act, End, Sequence};
 const WAY_BACK_REFUSED: u8 = 9;
 
 const DOES: u8 = 13;
+
+const ORDERS: u8 = 16;
 
 /// What is answered if no job begins.
 pub(crate) fn number_said(act: Act) -> u8
@@ -23,6 +26,7 @@ pub(crate) fn number_said(act: Act) -> u8
         Act::Job(_) | Act::Begins(..) | Act::Ask(_) | Act::Probe => ACCEPTED,
         Act::Passes(_) | Act::Again => AGAIN,
         Act::Pause | Act::Wait(_) => WAIT,
+        Act::Order(_) => ASKED,
         Act::NoWayBack(_) => NO_WAY_BACK,
         Act::Does(_) | Act::Leaves(_) => TOLD,
         Act::Ended(_) => ENDED,
@@ -50,6 +54,7 @@ pub(crate) fn step_said(is: &Sequence, act: Act) -> u16
             End::Reached | End::Left(_) => is.list.begun,
             _ => is.list.step(),
         },
+        Act::Order(_) => is.list.step(),
         _ => is.list.begun,
     }
 }
@@ -121,6 +126,20 @@ fn wait_said(milliseconds: u32, step: u16) -> SaidImage
     }
 }
 
+// An order that comes next.
+fn order_said(job: Job, step: u16) -> SaidImage
+    ensures { result ≡ spec_order_said job step }
+{
+    let (_, code, word) = job_numbers(Some(job));
+    SaidImage {
+        kind: ORDERS,
+        code,
+        word,
+        step,
+        ..SaidImage::NOTHING
+    }
+}
+
 // The way back of a step would be refused so.
 fn way_back_said(fault: PlanFault, step: u16) -> SaidImage
     ensures { result ≡ spec_way_back_said fault step }
@@ -145,6 +164,7 @@ fn numbers_said(is: &Sequence, act: Act, was: SaidImage) -> SaidImage
     match act {
         Act::Pause => wait_said(pause_of(is.look.delivery.round), step),
         Act::Wait(milliseconds) => wait_said(milliseconds, step),
+        Act::Order(job) => order_said(job, step),
         Act::NoWayBack(fault) => way_back_said(fault, step),
         Act::Does(verdict) => end_numbers(End::Does(verdict), DOES, step),
         Act::Leaves(end) | Act::Ended(end) => end_numbers(end, 0, step),

@@ -59,6 +59,7 @@ impl SequenceStepImage {
             placed,
             wait: self.wait,
             looks: self.looks(),
+            before: self.before,
         })
     }
 

@@ -12,8 +12,8 @@
  *   - counts are in elements, uint64_t on every processor, and tell the truth;
  *   - one call at a time works on a host, a course or a delivery: no call waits for another one or refuses it, so threads that share
  *     a host hold a lock of yours over each whole job or course;
- *   - each call has PM_STACK bytes of stack, pm_refusal_name PM_NAME_STACK, and pm_stairs_ask, pm_stairs_write_ended and
- *     pm_stairs_read_ended PM_STAIRS_STACK.
+ *   - each call has PM_STACK bytes of stack, pm_refusal_name PM_NAME_STACK, and pm_stairs_ask, pm_stairs_write_ended,
+ *     pm_stairs_read_ended, pm_sequence_next, pm_sequence_write_ended and pm_sequence_read_ended PM_STAIRS_STACK.
  *
  * The library takes no memory, keeps nothing between calls, calls nothing and never blocks.
  *
@@ -53,7 +53,7 @@ extern "C" {
 #define PM_VERSION 0x0001
 
 /* The versions of the layouts of a host, a course and a delivery, and their sizes in bytes. A call takes at most PM_STACK bytes of
- * stack, and the three of stairs that are named above PM_STAIRS_STACK. pm_refusal_name takes PM_NAME_STACK, since a loader may bind
+ * stack, and those of stairs and sequences that are named above PM_STAIRS_STACK. pm_refusal_name takes PM_NAME_STACK, since a loader may bind
  * memmove in it.
  * docs/c.md has what calls take on each processor. An archive says its own bound as stack-bytes in its section .comment. */
 #define PM_HOST_VERSION 6
@@ -65,6 +65,10 @@ extern "C" {
 #define PM_STAIRS_VERSION 1
 #define PM_STAIRS_SIZE 272
 #define PM_STAIRS_STEP_SIZE 88
+#define PM_SEQUENCE_VERSION 1
+#define PM_SEQUENCE_SIZE 400
+#define PM_SEQUENCE_STEP_SIZE 104
+#define PM_SEQUENCE_RECORD_SIZE 176
 #define PM_STACK 4096
 #define PM_STAIRS_STACK 12288
 #define PM_NAME_STACK 4096
@@ -116,7 +120,9 @@ enum {
     PM_NO_DELIVERY = 0xEC,        /* the memory holds no delivery of this version */
     PM_NO_GOAL = 0xED,            /* the course asks for no word of this register */
     PM_NO_STAIRS = 0xEE,          /* the memory holds no stairs of this version */
-    PM_NO_STEP = 0xEF,            /* a step has a kind, a host or a wish that there isn't, or none is there to be left */
+    PM_NO_STEP = 0xEF,            /* a step has a kind, a host, a wish or a look that there isn't, or none is there to be left; or a list has
+                                   * more than 65,535 steps */
+    PM_NO_SEQUENCE = 0xF0,        /* the memory holds no sequence of this version */
     PM_F1_NOT_OURS = 0x31,        /* F1 to F8: what is wrong with the bytes of a packet */
     PM_F2_SHORT = 0x32,
     PM_F3_LONG = 0x33,
@@ -127,9 +133,10 @@ enum {
     PM_F8_NESTED = 0x38
 };
 
-/* What pm_course_frame and pm_course_next answer if the course has ended, pm_delivery_frame if nothing is left to ask, and pm_stairs_ask
- * and pm_stairs_check if stairs have ended. The others are answers of these two. */
-enum { PM_ENDED = 0x95, PM_AGAIN = 0x96, PM_NO_WAY_BACK = 0x97 };
+/* What pm_course_frame and pm_course_next answer if the course has ended, pm_delivery_frame if nothing is left to ask, and pm_stairs_ask,
+ * pm_stairs_check and pm_sequence_next if stairs or a sequence have ended. The others are answers of these three, the last three of
+ * pm_sequence_next alone. */
+enum { PM_ENDED = 0x95, PM_AGAIN = 0x96, PM_NO_WAY_BACK = 0x97, PM_WAIT = 0x98, PM_ASKED = 0x99, PM_TOLD = 0x9A };
 
 /* The cells: an output and one of these command codes; with WRITE_PROTECT, which is the device's, the
  * output isn't looked at. */
@@ -404,6 +411,84 @@ typedef struct {
 
 typedef char pm_stairs_has_its_size[sizeof(pm_stairs) == PM_STAIRS_SIZE ? 1 : -1];
 
+/* Whether the rail of a step is looked at. */
+enum {
+    PM_LOOK_NOT = 0,
+    PM_LOOK = 1,     /* before its first order, unless that turns the output off, and at its end */
+    PM_LOOK_MUST = 2 /* and it has to deliver, or to have gone off, before the next step begins */
+};
+
+/* A step of a sequence: one output of one of several parts, what is done to it, and how its rail is looked at. It begins as a
+ * pm_stairs_step does. */
+typedef struct {
+    uint8_t host;   /* the place of its host among yours, 0 to 7 */
+    uint8_t output; /* 0 to 7 */
+    uint8_t kind;   /* PM_SETS, PM_TURNS, PM_STEP_SURVEYS or PM_STEP_RESTS, as of stairs */
+    uint8_t byte;   /* of PM_TURNS, otherwise 0 */
+    uint8_t unused[4];
+    pm_stairs_wish command, max, margin_high, margin_low, min; /* of PM_SETS */
+    uint8_t looks;            /* PM_LOOK_NOT, PM_LOOK or PM_LOOK_MUST */
+    uint8_t fault_limits;     /* as of a delivery: PM_FAULT_LIMITS_REFUSE, or another of these */
+    uint8_t lacks;            /* what the part lacks by its data sheet: PM_LACKS_STATUS_WORD, PM_LACKS_READ_VOUT, or the sum */
+    uint8_t tells_power_good; /* not 0: a rail of which POWER_GOOD# alone speaks against it counts as one that delivers */
+    uint16_t within, rounds;  /* as of a delivery */
+    uint32_t wait;            /* milliseconds that pass before anything of it is sent */
+    pm_heard before;          /* what an earlier list heard of STATUS_WORD before its first order of this output; zeros if there was none */
+} pm_sequence_step;
+
+typedef char pm_sequence_step_has_its_size[sizeof(pm_sequence_step) == PM_SEQUENCE_STEP_SIZE ? 1 : -1];
+
+/* What pm_sequence_next keeps of a step, at its place. */
+typedef struct {
+    pm_sequence_step back; /* the step that undoes it, written as it begins: carried out as it is, nothing is looked at */
+    pm_delivery look;      /* what was heard of its rail, written as its look ends, and if its goal is beyond a fault limit */
+    uint8_t unused[6];
+} pm_sequence_record;
+
+typedef char pm_sequence_record_has_its_size[sizeof(pm_sequence_record) == PM_SEQUENCE_RECORD_SIZE ? 1 : -1];
+
+/* What a sequence said last. `kind` is 0 of a wait, PM_REACHED to PM_WAY_BACK_REFUSED as of stairs, or: */
+enum {
+    PM_STEPS_LEFT = 10,    /* each step is over but for `word` that were left */
+    PM_GOAL_BEYOND = 11,   /* P8: the goal is at or beyond the fault limit `code`, which holds `word`; the order wasn't sent */
+    PM_GOAL_UNJUDGED = 12, /* the goal can't be judged, since no format is known; the order wasn't sent */
+    PM_RAIL_DOES = 13,     /* the rail does what it is to, as `verdict` says */
+    PM_RAIL_FAILS = 14,    /* it doesn't */
+    PM_ORDER_NEXT = 16     /* with PM_ASKED: an order of `word` for the register `code` comes next */
+};
+typedef struct {
+    uint8_t kind;
+    uint8_t number;         /* of PM_REFUSED, PM_WAY_BACK_REFUSED and PM_GOAL_BEYOND; otherwise 0 */
+    uint8_t code;           /* the command code of the register that it is about, or 0 */
+    uint8_t verdict;        /* of PM_RAIL_DOES and PM_RAIL_FAILS: the kind of a pm_delivered */
+    uint8_t bit;            /* of PM_NEW_FAULT, from 0 */
+    uint8_t has_microvolts; /* of the same two: 1 if READ_VOUT gave a good answer and stands in `microvolts` */
+    uint16_t word;          /* what the register `code` held; of PM_STEPS_LEFT how many steps; otherwise 0 */
+    uint16_t fault;         /* of PM_SPENT and PM_DELIVERY_NOT_KNOWN: what was wrong with the last answer */
+    uint16_t step;          /* the place of the step in the list, from 0; of PM_REACHED and PM_STEPS_LEFT how many steps there are */
+    uint32_t milliseconds;  /* with PM_WAIT: how long; otherwise 0 */
+    int64_t microvolts;     /* READ_VOUT, rounded down; 0 if it isn't known */
+} pm_sequence_said;
+
+/* A sequence, in memory of yours: how far a list of steps has come. The named fields are there to be read; only the calls write them. It
+ * holds no host, no list and no pointer, and may be copied. A call asks first for the marks, the versions and fields that a sequence has,
+ * and answers PM_NO_SEQUENCE if one lacks. */
+typedef struct {
+    uint16_t mark, version;
+    uint16_t left;         /* how many steps were left */
+    uint8_t leaves, asks;  /* 1 of PM_LEAVES, 1 of PM_ASKS */
+    pm_sequence_said said; /* with each answer but PM_OK, PM_AGAIN and a refusal */
+    uint16_t marks[2];
+    uint16_t tries;        /* how many jobs each step has at most */
+    uint16_t begun;        /* how many steps have begun or were left */
+    uint8_t host;          /* the place of the host that the next call takes, and on whose bus the frame goes */
+    uint8_t is_down;       /* 1 of PM_DOWN */
+    uint8_t unused_too[6];
+    uint64_t held[44];
+} pm_sequence;
+
+typedef char pm_sequence_has_its_size[sizeof(pm_sequence) == PM_SEQUENCE_SIZE ? 1 : -1];
+
 /* The format of an output's voltages, or of a reading: LINEAR11, which READ_VIN, READ_IOUT and READ_TEMPERATURE_1
  * have, and which no host learns of an output. Microvolts are then millionths of a volt, an ampere or a degree. */
 enum { PM_NO_FORMAT = 0, PM_ULINEAR16 = 1, PM_DIRECT = 2, PM_LINEAR11 = 3 };
@@ -427,6 +512,8 @@ uint64_t pm_delivery_size(void);
 uint16_t pm_delivery_version(void);
 uint64_t pm_stairs_size(void);
 uint16_t pm_stairs_version(void);
+uint64_t pm_sequence_size(void);
+uint16_t pm_sequence_version(void);
 
 /* Makes a host, whatever stood in the memory, for the device at this address, 08h to 77h, which has this
  * many outputs, 1 to 8. A job has at most this many passes or tries, 1 to 15. Nothing is known, no limits either: give each
@@ -791,6 +878,41 @@ uint8_t pm_stairs_skip(pm_stairs *stairs);
 PM_MUST_USE
 uint8_t pm_stairs_check(const pm_host *host, const pm_stairs_step *step, pm_stairs_end *end);
 
+/* ---- Sequences ---- */
+
+/* Steps as of stairs, and beside them what their rails do: the fault limits are read and judged before each order that leaves an output on, and
+ * the rail is asked once its step is over. One output is a list of one step. pm_run_sequence, at the end of this header, is the loop.
+ * An end PM_REACHED says that each step is over, that none was left, and that each rail with PM_LOOK_MUST delivered, or went off, after its
+ * step's last order. */
+
+/* Makes a sequence, whatever stood in the memory: no step has begun, and each has at most this many jobs. `rules` is the sum of: */
+enum {
+    PM_DOWN = 1,   /* a way down: no way back is kept, and nothing is read before an order that turns an output off */
+    PM_LEAVES = 2, /* a step that stops is left and told, and the next one goes on; otherwise it ends the list, as a restart of a part does */
+    PM_ASKS = 4    /* each order is told by PM_ASKED before it begins */
+};
+void pm_sequence_new(pm_sequence *sequence, uint16_t tries, uint8_t rules);
+
+/* What comes next, by the host at the place sequence->host. `steps` is the whole list, the same each time. `records` has one record for each
+ * step; with PM_DOWN `room` may be less, and nothing is kept of the steps beyond. With all but PM_OK the frame is PM_NOTHING.
+ *   PM_OK           the frame goes on the bus of that host, and stays the same until pm_sequence_write_ended or pm_sequence_read_ended
+ *   PM_AGAIN        ask at once, by the host at sequence->host, which may be another
+ *   PM_WAIT         ask again once sequence->said.milliseconds have passed: the wait of a step, or the time that a rail is given
+ *   PM_ASKED        with PM_ASKS: sequence->said says which order comes next. Nothing has begun. Asked again it begins, if it is still due
+ *   PM_TOLD         sequence->said says what the rail of a step does that does what it is to, or how a step stopped that was left
+ *   PM_NO_WAY_BACK  as of stairs, as sequence->said says. Asked again the step begins
+ *   PM_ENDED        as sequence->said says
+ * PM_NO_HOST, PM_NO_SEQUENCE, PM_NO_ROOM; PM_NO_STEP and H4 for the newest step that has begun and the first that hasn't, PM_NO_STEP for a
+ * list of more than 65,535 steps. Then nothing changes. This call and the next two take at most PM_STAIRS_STACK bytes of stack. */
+PM_MUST_USE
+uint8_t pm_sequence_next(pm_sequence *sequence, pm_host *host, const pm_sequence_step *steps, uint64_t count, pm_sequence_record *records,
+                         uint64_t room, pm_sending *frame);
+
+/* What became of the frame, by the host at sequence->host: the step of a job; PM_NEXT of what was read of a rail. PM_NO_HOST,
+ * PM_NO_SEQUENCE, PM_OTHER_FRAME; then nothing changes. */
+pm_step pm_sequence_write_ended(pm_sequence *sequence, pm_host *host, uint8_t acked);
+pm_step pm_sequence_read_ended(pm_sequence *sequence, pm_host *host, const uint8_t *bytes, uint64_t count);
+
 /* ---- The loop of a driver ---- */
 
 #if defined __cplusplus || (defined __STDC_VERSION__ && __STDC_VERSION__ >= 199901L)
@@ -1131,6 +1253,38 @@ static inline uint8_t pm_run_stairs(pm_stairs *stairs, pm_host *const *hosts, vo
             (void)pm_stairs_read_ended(stairs, host, answer, pm_answer(&frame, answer, read, context));
     }
     return number;
+}
+
+/* Waits for so many milliseconds. */
+typedef void (*pm_wait_ms)(void *context, uint32_t milliseconds);
+
+/* Is told what a sequence says: its answer is PM_WAIT, PM_ASKED, PM_TOLD or PM_NO_WAY_BACK, and sequence->said says the rest. 0 stops the loop
+ * there; any other number lets it go on. */
+typedef int (*pm_said)(void *context, const pm_sequence *sequence, uint8_t answer);
+
+/* Carries a list of steps out, frame after frame, by an array of hosts: the context at the place of a host is handed to `write`, `read`,
+ * `pause` and `told` for its bus. `told` may be NULL. It answers PM_ENDED, the number at which `told` stopped it (called again it goes on),
+ * or a refusal; PM_NO_STEP also if a step names a host that isn't there. */
+PM_MUST_USE
+static inline uint8_t pm_run_sequence(pm_sequence *sequence, pm_host *const *hosts, void *const *contexts, uint64_t host_count,
+                                      const pm_sequence_step *steps, uint64_t count, pm_sequence_record *records, uint64_t room,
+                                      pm_write write, pm_read read, pm_wait_ms pause, pm_said told) {
+    pm_sending frame;
+    uint8_t answer[8], at, number;
+    while ((at = sequence->host) < host_count) {
+        number = pm_sequence_next(sequence, hosts[at], steps, count, records, room, &frame);
+        if (number == PM_OK && frame.kind == PM_WRITE)
+            (void)pm_sequence_write_ended(sequence, hosts[at], pm_was_acked(&frame, write, contexts[at]));
+        else if (number == PM_OK)
+            (void)pm_sequence_read_ended(sequence, hosts[at], answer, pm_answer(&frame, answer, read, contexts[at]));
+        else if (number < PM_AGAIN || number > PM_TOLD)
+            return number;
+        else if (number != PM_AGAIN && told && !told(contexts[at], sequence, number))
+            return number;
+        if (number == PM_WAIT)
+            pause(contexts[at], sequence->said.milliseconds);
+    }
+    return PM_NO_STEP;
 }
 
 /* Whether an output does what it is to by this verdict, isn't asked since it isn't commanded on, or can't be asked, since its caller said

@@ -29,7 +29,8 @@ pub extern "C" fn pm_sequence_version() -> u16
     SequenceImage::VERSION
 }
 
-/// Makes a sequence of which no step has begun, each with this many jobs at most. Of `rules` 1 says that no way back is kept.
+/// Makes a sequence of which no step has begun, each with this many jobs at most. The rules: 1 a way down, 2 a step that stops is left, 4
+/// each order is told before it begins, or a sum.
 #[unsafe(no_mangle)]
 pub extern "C" fn pm_sequence_new(sequence: &mut SequenceImage, tries: u16, rules: u8)
     ensures { sequence.new ≡ sequence_begun tries rules }
@@ -38,7 +39,7 @@ pub extern "C" fn pm_sequence_new(sequence: &mut SequenceImage, tries: u16, rule
 }
 
 /// What comes next, by the host at the place that the sequence names. 0 if the frame is to be sent; 96h to ask again at once, 98h once
-/// time has passed, 9Ah what became of a step, 97h if the way back of the next step would be refused, 95h once it has ended; E0h, F0h, EAh,
+/// time has passed, 99h an order that comes next, 9Ah what became of a step, 97h if the way back of the next step would be refused, 95h once it has ended; E0h, F0h, EAh,
 /// EFh, H4. Then the frame is nothing.
 #[unsafe(no_mangle)]
 pub extern "C" fn pm_sequence_next(

@@ -7,6 +7,7 @@ mod law_uses;
 mod limits;
 mod packets;
 mod rails;
+mod sequences;
 mod stairs;
 
 use self::calls::{

@@ -14,7 +14,7 @@ wish-kept : (word : Option ℕ) → wish_meant (wish_image word) ≡ word
 wish-kept None = refl
 wish-kept (Some word) = refl
 
-wanted-kept : (w : Wanted) → wanted_meant (wanted_image w) ≡ w
+pub wanted-kept : (w : Wanted) → wanted_meant (wanted_image w) ≡ w
 wanted-kept w =
     rw (wish-kept w.command, wish-kept w.max, wish-kept w.margin_high, wish-kept w.margin_low, wish-kept w.min) refl
 

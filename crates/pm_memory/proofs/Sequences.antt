@@ -35,24 +35,24 @@ phase-kept phase.Before = refl
 phase-kept phase.After = refl
 
 -- a list whose newest step and whose first step ahead have these courses
-made : List → Option Under → Option FrameCourse → List
-made q under coming = record q { stairs = record q.stairs { under = under; coming = coming } }
+abbrev made : List → Option Under → Option FrameCourse → List
+made q newest coming = record q { stairs = record q.stairs { under = newest; coming = coming } }
 
-under : ℕ → WordAct → FrameCourse → Option Under
-under output act course = Some (record { step = record { output = output; act = act }; course = course })
+abbrev step_of : ℕ → WordAct → FrameCourse → Under
+step_of output act course = record { step = record { output = output; act = act }; course = course }
 
-IsListKept : List → StairsEndImage → Type 0
+abbrev IsListKept : List → StairsEndImage → Type 0
 IsListKept q end = stairs_in (stairs_image q end) ≡ Some q
 
-list-at : (q : List) (end : StairsEndImage) (coming : Option FrameCourse) → IfSome coming IsKept → IsListKept (made q None coming) end
-list-at q end None is = rw (
+none-at : (q : List) (end : StairsEndImage) (coming : Option FrameCourse) → IfSome coming IsKept → IsListKept (made q None coming) end
+none-at q end None is = rw (
   flag-kept q.is_free,
   flag-kept q.is_warned,
   flag-kept q.is_down,
   flag-kept q.stairs.reading,
   flag-kept q.stairs.restarted,
 ) refl
-list-at q end (Some c) is = rw (
+none-at q end (Some c) is = rw (
   kept c is,
   flag-kept q.is_free,
   flag-kept q.is_warned,
@@ -61,8 +61,85 @@ list-at q end (Some c) is = rw (
   flag-kept q.stairs.restarted,
 ) refl
 
+some-at : (q : List) (end : StairsEndImage) (output : ℕ) (act : WordAct) (course : FrameCourse) (coming : Option FrameCourse) → IsKept course
+    → IfSome coming IsKept → IsListKept (made q (Some (step_of output act course)) coming) end
+some-at q end output (words.Sets wanted) course None own is = rw (
+  kept course own,
+  wanted-kept wanted,
+  flag-kept q.is_free,
+  flag-kept q.is_warned,
+  flag-kept q.is_down,
+  flag-kept q.stairs.reading,
+  flag-kept q.stairs.restarted,
+) refl
+some-at q end output (words.Sets wanted) course (Some c) own is = rw (
+  kept course own,
+  kept c is,
+  wanted-kept wanted,
+  flag-kept q.is_free,
+  flag-kept q.is_warned,
+  flag-kept q.is_down,
+  flag-kept q.stairs.reading,
+  flag-kept q.stairs.restarted,
+) refl
+some-at q end output (words.Turns byte) course None own is = rw (
+  kept course own,
+  flag-kept q.is_free,
+  flag-kept q.is_warned,
+  flag-kept q.is_down,
+  flag-kept q.stairs.reading,
+  flag-kept q.stairs.restarted,
+) refl
+some-at q end output (words.Turns byte) course (Some c) own is = rw (
+  kept course own,
+  kept c is,
+  flag-kept q.is_free,
+  flag-kept q.is_warned,
+  flag-kept q.is_down,
+  flag-kept q.stairs.reading,
+  flag-kept q.stairs.restarted,
+) refl
+
+some-at q end output words.Nothing course None own is = rw (
+  kept course own,
+  flag-kept q.is_free,
+  flag-kept q.is_warned,
+  flag-kept q.is_down,
+  flag-kept q.stairs.reading,
+  flag-kept q.stairs.restarted,
+) refl
+some-at q end output words.Nothing course (Some c) own is = rw (
+  kept course own,
+  kept c is,
+  flag-kept q.is_free,
+  flag-kept q.is_warned,
+  flag-kept q.is_down,
+  flag-kept q.stairs.reading,
+  flag-kept q.stairs.restarted,
+) refl
+
+list-at : (q : List) (end : StairsEndImage) (newest : Option Under) (coming : Option FrameCourse) → IfSome newest (λ under. IsKept under.course)
+    → IfSome coming IsKept → IsListKept (made q newest coming) end
+list-at q end None coming own is = none-at q end coming is
+list-at q end (Some under) coming own is = some-at q end under.step.output under.step.act under.course coming own is
+
 list-kept : (q : List) (end : StairsEndImage) → IsKeptList q → IsListKept q end
-list-kept q end is = ?
+list-kept q end is = list-at q end q.stairs.under q.stairs.coming is.under is.coming
+
+sequence-kept : (q : Sequence) (said : SaidImage) → IsKeptSequence q → sequence_in (sequence_image q said) ≡ Some q
+sequence-kept q said is = rw (
+  list-kept q.list end_none is.list,
+  look-kept q.look,
+  phase-kept q.phase,
+  is.told,
+  is.over,
+  flag-kept q.leaves,
+  flag-kept q.asks,
+  flag-kept q.is_read,
+  flag-kept q.is_shown,
+  flag-kept q.is_waited,
+  flag-kept q.is_looked,
+) refl
 
 pub sequences : SequencesAreKept
-sequences = record { kept = ? }
+sequences = record { kept = sequence-kept }

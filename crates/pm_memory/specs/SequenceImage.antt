@@ -1,6 +1,8 @@
 -- A sequence as plain numbers in a caller's memory, and what they mean. This project's own choice.
-use Rattle.std.specs.Prelude.{◌≡◌, ℕ, ◌&&◌, ◌==◌, if◌then◌else◌, replicate, Option, Some, None, option_map, IfSome}
-use Rattle.pm_course.specs.declared.frame_course.FrameCourse.{FrameCourse}
+use Rattle.std.specs.Prelude.{◌≡◌, ℕ, ◌&&◌, ◌==◌, if◌then◌else◌, Option, Some, None, option_map, IfSome}
+use Rattle.pm_table.specs.Cell.{cell_at, cell_code, output_of}
+use Rattle.pm_host.specs.declared.job.Job.{Job}
+use Rattle.pm_host.specs.declared.job.Job.TheVariants.{Order, OrderMicro, Check, Learn, Send}
 use Rattle.pm_stairs.specs.declared.sequence.Sequence.{Sequence as List}
 use Rattle.pm_sequence.specs.declared.look.Look.{Look}
 use Rattle.pm_sequence.specs.declared.look.Silence.{Silence}
@@ -11,6 +13,7 @@ use Rattle.pm_memory.specs.declared.look_image.LookImage.{LookImage}
 use Rattle.pm_memory.specs.declared.look_image.SilenceImage.{SilenceImage}
 use Rattle.pm_memory.specs.declared.sequence_image.SaidImage.{SaidImage}
 use Rattle.pm_memory.specs.declared.sequence_image.SequenceImage.{SequenceImage}
+use Rattle.pm_memory.specs.declared.sequence_image.ToldImage.{ToldImage}
 use Rattle.pm_memory.specs.CourseImage.{IsKept}
 use Rattle.pm_memory.specs.Flag.{flag}
 use Rattle.pm_memory.specs.SequenceEnd.{end_read, end_written}
@@ -34,6 +37,7 @@ silence_read i = record { rounds = i.rounds; has_answered = i.has_answered == 1 
 abbrev pub look_image : Look → LookImage
 look_image l = record {
   delivery = l.delivery;
+  stood = l.stood;
   status = silence_image l.status;
   vout = silence_image l.vout;
   probed = l.probe.asked;
@@ -45,6 +49,7 @@ look_image l = record {
 abbrev pub look_read : LookImage → Look
 look_read i = record {
   delivery = i.delivery;
+  stood = i.stood;
   status = silence_read i.status;
   vout = silence_read i.vout;
   probe = record { asked = i.probed; is_there = i.is_there == 1; is_over = i.is_over == 1 };
@@ -60,6 +65,18 @@ phase_number phase.After = 2
 abbrev pub phase_read : ℕ → Phase
 phase_read n = if n == 1 then phase.Before else (if n == 2 then phase.After else phase.Steps)
 
+-- the order that was told last
+abbrev pub told_written : Option Job → ToldImage
+told_written None = record { has = 0; code = 0; output = 0; unused = 0; word = 0 }
+told_written (Some (Order cell word)) = record { has = 1; code = cell_code cell; output = output_of cell; unused = 0; word = word }
+told_written (Some (OrderMicro cell x)) = record { has = 0; code = 0; output = 0; unused = 0; word = 0 }
+told_written (Some (Check cell)) = record { has = 0; code = 0; output = 0; unused = 0; word = 0 }
+told_written (Some (Learn output)) = record { has = 0; code = 0; output = 0; unused = 0; word = 0 }
+told_written (Some (Send command)) = record { has = 0; code = 0; output = 0; unused = 0; word = 0 }
+
+abbrev pub told_read : ToldImage → Option Job
+told_read i = if i.has == 1 then option_map (λ cell. Order cell i.word) (cell_at i.code i.output) else None
+
 abbrev pub sequence_read : SequenceImage → List → Sequence
 sequence_read i list = record {
   list = list;
@@ -70,6 +87,9 @@ sequence_read i list = record {
   is_shown = i.is_shown == 1;
   is_waited = i.is_waited == 1;
   is_looked = i.is_looked == 1;
+  leaves = i.leaves == 1;
+  asks = i.asks == 1;
+  told = told_read i.told;
   left = i.left;
   end = end_read i.end;
 }
@@ -83,7 +103,8 @@ sequence_image q said = record {
   mark = sequence_mark;
   version = sequence_version;
   left = q.left;
-  unused = replicate 2 0;
+  leaves = flag q.leaves;
+  asks = flag q.asks;
   said = said;
   list = stairs_image q.list end_none;
   look = look_image q.look;
@@ -94,7 +115,7 @@ sequence_image q said = record {
   is_waited = flag q.is_waited;
   is_looked = flag q.is_looked;
   end = end_written q.end;
-  rest = replicate 10 0;
+  told = told_written q.told;
 }
 
 -- A list that memory keeps: so are its courses.
@@ -102,9 +123,10 @@ pub record IsKeptList (q : List) : Type 0 where
   pub under : IfSome q.stairs.under (λ under. IsKept under.course)
   pub coming : IfSome q.stairs.coming IsKept
 
--- A sequence that memory keeps: so is its list, and its end reads as it is written.
+-- A sequence that memory keeps: so is its list, and the order that it told and its end read as they are written.
 pub record IsKeptSequence (q : Sequence) : Type 0 where
   pub list : IsKeptList q.list
+  pub told : told_read (told_written q.told) ≡ q.told
   pub over : end_read (end_written q.end) ≡ q.end
 
 -- What a call leaves in the memory of a sequence reads as the sequence that it speaks of.

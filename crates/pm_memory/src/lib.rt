@@ -31,7 +31,7 @@ pub use laws::{courses_are_kept, memories_are_meanings, sequences_are_kept};
 pub use look_image::{LookImage, SilenceImage};
 pub use sending_image::SendingImage;
 pub use sequence_end::{SequenceEndImage, VerdictNumbers};
-pub use sequence_image::{SaidImage, SequenceImage};
+pub use sequence_image::{SaidImage, SequenceImage, ToldImage};
 pub use stairs_end::StairsEndImage;
 pub use stairs_image::{StairsImage, UnderImage};
 pub use wanted_image::{WantedImage, WishImage};

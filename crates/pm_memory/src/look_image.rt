@@ -3,7 +3,7 @@
 ghost use Rattle.std.specs.Prelude.{◌≡◌};
 ghost use Rattle.pm_memory.specs.SequenceImage.{look_image, look_read, silence_image, silence_read};
 
-use pm_delivery::Delivery;
+use pm_delivery::{Delivery, Heard};
 use pm_sequence::{Look, Probe, Silence};
 
 /// The silence of a register: in how many rounds no answer came, and 1 if any ever did.
@@ -22,6 +22,8 @@ pub struct SilenceImage {
 pub struct LookImage {
     /// What is asked, and what came of it.
     pub delivery: Delivery,
+    /// What an earlier list heard of STATUS_WORD before its first order.
+    pub stood: Heard,
     /// The silence of STATUS_WORD.
     pub status: SilenceImage,
     /// The silence of READ_VOUT.
@@ -63,6 +65,7 @@ impl LookImage {
     {
         LookImage {
             delivery: look.delivery,
+            stood: look.stood,
             status: SilenceImage::of(look.status),
             vout: SilenceImage::of(look.vout),
             probed: look.probe.asked,
@@ -78,6 +81,7 @@ impl LookImage {
     {
         Look {
             delivery: self.delivery,
+            stood: self.stood,
             status: self.status.silence(),
             vout: self.vout.silence(),
             probe: Probe {

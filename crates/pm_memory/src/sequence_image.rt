@@ -1,14 +1,18 @@
 //! A sequence in a caller's memory: plain numbers, and what they mean.
 
 ghost use Rattle.std.specs.Prelude.{◌≡◌};
-ghost use Rattle.pm_memory.specs.SequenceImage.{phase_number, phase_read, sequence_image, sequence_in, sequence_read};
+ghost use Rattle.pm_memory.specs.SequenceImage.{phase_number, phase_read, sequence_image, sequence_in, sequence_read, told_read, told_written};
+ghost use Rattle.pm_table.specs.Cell.{output_of as spec_output_of};
 
+use crate::course_image::flag;
 use crate::look_image::LookImage;
 use crate::sequence_end::SequenceEndImage;
 use crate::stairs_end::StairsEndImage;
 use crate::stairs_image::StairsImage;
+use pm_host::Job;
 use pm_sequence::{Phase, Sequence};
 use pm_stairs::Sequence as List;
+use pm_table::{Cell, Code, cell_of};
 
 /// What was said last. It has no padding.
 #[repr(C)]
@@ -38,6 +42,22 @@ pub struct SaidImage {
     pub microvolts: i64,
 }
 
+/// The order that was told last, if nothing has begun since. It has no padding.
+#[repr(C)]
+#[derive(Clone, Copy, Debug)]
+pub struct ToldImage {
+    /// 1 if there is one, otherwise 0.
+    pub has: u8,
+    /// The command code of its register, otherwise 0.
+    pub code: u8,
+    /// Its output, otherwise 0.
+    pub output: u8,
+    /// No meaning.
+    pub unused: u8,
+    /// Its word, otherwise 0.
+    pub word: u16,
+}
+
 /// A sequence in memory that a caller keeps. It has no padding, holds no address of memory, and may be copied.
 #[repr(C)]
 #[derive(Clone, Copy, Debug)]
@@ -48,8 +68,10 @@ pub struct SequenceImage {
     pub version: u16,
     /// How many steps were left.
     pub left: u16,
-    /// No meaning.
-    pub unused: [u8; 2],
+    /// 1 if a step that stops is left, otherwise 0.
+    pub leaves: u8,
+    /// 1 if each order is told before it begins, otherwise 0.
+    pub asks: u8,
     /// What was said last.
     pub said: SaidImage,
     /// How far the list of steps has come.
@@ -70,8 +92,8 @@ pub struct SequenceImage {
     pub is_looked: u8,
     /// How it ended.
     pub end: SequenceEndImage,
-    /// No meaning.
-    pub rest: [u8; 10],
+    /// The order that was told last.
+    pub told: ToldImage,
 }
 
 impl SaidImage {
@@ -91,6 +113,53 @@ impl SaidImage {
     };
 }
 
+impl ToldImage {
+    // This order, or none.
+    fn of(told: Option<Job>) -> ToldImage
+        ensures { result ≡ told_written told }
+    {
+        match told {
+            Some(Job::Order(cell, word)) => ToldImage {
+                has: 1,
+                code: cell.code().0,
+                output: output_of(cell),
+                unused: 0,
+                word,
+            },
+            _ => ToldImage {
+                has: 0,
+                code: 0,
+                output: 0,
+                unused: 0,
+                word: 0,
+            },
+        }
+    }
+
+    // What the numbers mean.
+    fn told(&self) -> Option<Job>
+        ensures { result ≡ told_read self.now }
+    {
+        if self.has != 1 {
+            return None;
+        }
+        match cell_of(Code(self.code), self.output) {
+            Some(cell) => Some(Job::Order(cell, self.word)),
+            None => None,
+        }
+    }
+}
+
+// The output of a cell; 0 of WRITE_PROTECT.
+fn output_of(cell: Cell) -> u8
+    ensures { result ≡ spec_output_of cell }
+{
+    match cell {
+        Cell::Out(output, _) => output,
+        Cell::Protect => 0,
+    }
+}
+
 impl SequenceImage {
     /// The mark of a sequence.
     pub const MARK: u16 = 0x5153;
@@ -106,18 +175,19 @@ impl SequenceImage {
             mark: SequenceImage::MARK,
             version: SequenceImage::VERSION,
             left: sequence.left,
-            unused: [0; 2],
+            leaves: flag(sequence.leaves),
+            asks: flag(sequence.asks),
             said,
             list: StairsImage::of(&sequence.list, StairsEndImage::none()),
             look: LookImage::of(&sequence.look),
             look_host: sequence.look_host,
             phase: phase_number(sequence.phase),
-            is_read: u8::from(sequence.is_read),
-            is_shown: u8::from(sequence.is_shown),
-            is_waited: u8::from(sequence.is_waited),
-            is_looked: u8::from(sequence.is_looked),
+            is_read: flag(sequence.is_read),
+            is_shown: flag(sequence.is_shown),
+            is_waited: flag(sequence.is_waited),
+            is_looked: flag(sequence.is_looked),
             end: SequenceEndImage::of(sequence.end),
-            rest: [0; 10],
+            told: ToldImage::of(sequence.told),
         }
     }
 
@@ -147,6 +217,9 @@ impl SequenceImage {
             is_shown: self.is_shown == 1,
             is_waited: self.is_waited == 1,
             is_looked: self.is_looked == 1,
+            leaves: self.leaves == 1,
+            asks: self.asks == 1,
+            told: self.told.told(),
             left: self.left,
             end: self.end.end(),
         }
