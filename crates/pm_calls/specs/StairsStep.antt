@@ -39,10 +39,12 @@ wishes_asked i = record {
 abbrev pub are_wishes : StairsStepImage → Bool
 are_wishes i = is_wish i.command && (is_wish i.max && (is_wish i.margin_high && (is_wish i.margin_low && is_wish i.min)))
 
--- what a step does: 1 its registers get words or voltages, 2 OPERATION gets a byte
+-- what a step does: 1 its registers get words or voltages, 2 OPERATION gets a byte, 3 nothing is ordered and its output is surveyed,
+-- 4 nothing is ordered or read
 abbrev pub act_asked : StairsStepImage → Option Act
 act_asked i = if i.kind == 1 then rule (are_wishes i) (act.Sets (wishes_asked i))
-    else (if i.kind == 2 then Some (act.Turns i.byte) else None)
+    else (if i.kind == 2 then Some (act.Turns i.byte)
+    else (if i.kind == 3 then Some act.Surveys else (if i.kind == 4 then Some act.Rests else None)))
 
 abbrev pub placed_act : StairsStepImage → Option Act → Result Placed ℕ
 placed_act i None = Err no_step
@@ -74,6 +76,7 @@ step_numbers host output kind byte wanted = record {
 abbrev pub act_image : ℕ → ℕ → WordAct → StairsStepImage
 act_image host output (words.Sets wanted) = step_numbers host output 1 0 wanted
 act_image host output (words.Turns byte) = step_numbers host output 2 (byte % 256) nothing
+act_image host output words.Nothing = step_numbers host output 4 0 nothing
 
 abbrev pub step_image : ℕ → WordStep → StairsStepImage
 step_image host step = act_image host step.output step.act

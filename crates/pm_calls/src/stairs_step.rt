@@ -31,7 +31,8 @@ pub struct StairsStepImage {
     pub host: u8,
     /// Its output.
     pub output: u8,
-    /// 1 if registers get words or voltages, 2 if OPERATION gets a byte.
+    /// 1 if registers get words or voltages, 2 if OPERATION gets a byte, 3 if nothing is ordered and the output is surveyed, 4 if nothing
+    /// is ordered or read.
     pub kind: u8,
     /// The byte, otherwise 0.
     pub byte: u8,
@@ -58,6 +59,10 @@ const MICROVOLTS: u16 = 2;
 const SETS: u8 = 1;
 
 const TURNS: u8 = 2;
+
+const SURVEYS: u8 = 3;
+
+const RESTS: u8 = 4;
 
 impl StairsWishImage {
     // Whether there is such a wish.
@@ -123,6 +128,8 @@ impl StairsStepImage {
         match self.kind {
             SETS if self.are_wishes() => Some(Act::Sets(self.wishes())),
             TURNS => Some(Act::Turns(u16::from(self.byte))),
+            SURVEYS => Some(Act::Surveys),
+            RESTS => Some(Act::Rests),
             _ => None,
         }
     }
@@ -164,6 +171,7 @@ impl StairsStepImage {
                 (byte % 256) as u8,
                 &Wanted::nothing(),
             ),
+            WordAct::Nothing => numbers(host, step.output, RESTS, 0, &Wanted::nothing()),
         }
     }
 }

@@ -355,11 +355,13 @@ typedef struct {
 } pm_stairs_wish;
 
 /* A step: one output of one of several parts, and what is done to it. */
-enum { PM_SETS = 1, PM_TURNS = 2 };
+enum { PM_SETS = 1, PM_TURNS = 2, PM_STEP_SURVEYS = 3, PM_STEP_RESTS = 4 };
 typedef struct {
     uint8_t host;   /* the place of its host among yours, 0 to 7 */
     uint8_t output; /* 0 to 7 */
-    uint8_t kind;   /* PM_SETS: registers get words or voltages; PM_TURNS: OPERATION gets `byte`, on, off or a margin */
+    uint8_t kind;   /* PM_SETS: registers get words or voltages; PM_TURNS: OPERATION gets `byte`, on, off or a margin;
+                     * PM_STEP_SURVEYS: nothing is ordered, and all that decides what the output commands is read;
+                     * PM_STEP_RESTS: nothing is ordered or read, which undoes a step that ordered nothing */
     uint8_t byte;   /* of PM_TURNS, otherwise 0 */
     uint8_t unused[4];
     pm_stairs_wish command, max, margin_high, margin_low, min; /* of PM_SETS */

@@ -480,6 +480,74 @@ fn a_step_off_is_no_success_by_silence(rt: HostRuntime) {
 }
 
 #[test]
+fn a_step_that_orders_nothing_surveys_or_rests(rt: HostRuntime) {
+    let blind = Looks {
+        is_wanted: false,
+        ..LOOKS
+    };
+    let gone = Part {
+        gone_after: 0,
+        ..PART
+    };
+    let rows = [
+        ("a survey", PART, Act::Surveys, blind, End::Reached, 0, 5),
+        ("a rest", PART, Act::Rests, blind, End::Reached, 0, 0),
+        (
+            "a survey that is looked at",
+            PART,
+            Act::Surveys,
+            MUST,
+            End::Reached,
+            1,
+            7,
+        ),
+        (
+            "a rest of a part that is gone",
+            gone,
+            Act::Rests,
+            blind,
+            End::Reached,
+            0,
+            0,
+        ),
+    ];
+    for (name, part, act, looks, end, found, frames) in &rows {
+        let steps = [step_of(0, 1, *act, *looks)];
+        let (run, parts) = over(&rt, false, [*part, PART], &steps);
+        equal(
+            &rt,
+            &(run.end, run.founds, parts[0].frames, parts[0].writes),
+            &(Some(*end), *found, *frames, 0),
+            name,
+        );
+    }
+}
+
+#[test]
+fn steps_that_order_nothing_stand_between_others(rt: HostRuntime) {
+    let steps = [
+        step_of(0, 1, Act::Surveys, MUST),
+        sets(0, 0, 1_200_000, MUST),
+        step_of(0, 1, Act::Rests, MUST),
+        step_of(0, 0, Act::Surveys, MUST),
+    ];
+    let (run, parts) = over(&rt, false, [PART, PART], &steps);
+    let [part, _] = parts;
+    equal(
+        &rt,
+        &(
+            run.end,
+            run.founds,
+            part.writes,
+            part.words[0][1],
+            part.words[1][1],
+        ),
+        &(Some(End::Reached), 4, 1, 0x1333, 0x1000),
+        &"over two outputs",
+    );
+}
+
+#[test]
 fn each_step_is_judged_by_what_it_asks_for(rt: HostRuntime) {
     let part = Part {
         limit: Some(0x1200),

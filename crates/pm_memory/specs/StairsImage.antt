@@ -79,10 +79,11 @@ stairs_mark = 0x5253
 abbrev pub stairs_version : ℕ
 stairs_version = 1
 
--- the step under way, in words: 0 there is none, 1 words, 2 a byte
+-- the step under way, in words: 0 there is none, 1 words, 2 a byte, 3 nothing is ordered
 abbrev pub under_words : UnderImage → Option WordStep
 under_words i = if i.kind == 1 then Some (record { output = i.output; act = words.Sets (wanted_meant i.words) })
-    else (if i.kind == 2 then Some (record { output = i.output; act = words.Turns i.byte }) else None)
+    else (if i.kind == 2 then Some (record { output = i.output; act = words.Turns i.byte })
+    else (if i.kind == 3 then Some (record { output = i.output; act = words.Nothing }) else None))
 
 abbrev pub with_its_course : FrameCourse → WordStep → Under
 with_its_course course step = record { step = step; course = course }
@@ -135,6 +136,7 @@ under_numbers q kind output byte wanted = record {
 abbrev pub under_act : Sequence → ℕ → WordAct → UnderImage
 under_act q output (words.Sets wanted) = under_numbers q 1 output 0 wanted
 under_act q output (words.Turns byte) = under_numbers q 2 output byte nothing
+under_act q output words.Nothing = under_numbers q 3 output 0 nothing
 
 abbrev pub under_image : Sequence → Option Under → UnderImage
 under_image q None = under_numbers q 0 0 0 nothing

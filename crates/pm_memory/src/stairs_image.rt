@@ -14,7 +14,7 @@ use pm_stairs::{Sequence, Stairs, Under, WordAct, WordStep};
 #[repr(C)]
 #[derive(Clone, Copy, Debug)]
 pub struct UnderImage {
-    /// 0 if none has begun, 1 if registers get words, 2 if OPERATION gets a byte.
+    /// 0 if none has begun, 1 if registers get words, 2 if OPERATION gets a byte, 3 if nothing is ordered.
     pub kind: u8,
     /// The place of its host.
     pub host: u8,
@@ -70,6 +70,8 @@ pub struct StairsImage {
 const SETS: u8 = 1;
 
 const TURNS: u8 = 2;
+
+const NOTHING: u8 = 3;
 
 impl StairsImage {
     /// The mark of stairs.
@@ -180,6 +182,9 @@ impl UnderImage {
                 WordAct::Turns(byte) => {
                     UnderImage::numbers(stairs, TURNS, under.step.output, byte, &Wanted::nothing())
                 }
+                WordAct::Nothing => {
+                    UnderImage::numbers(stairs, NOTHING, under.step.output, 0, &Wanted::nothing())
+                }
             },
         }
     }
@@ -216,6 +221,10 @@ impl UnderImage {
             TURNS => Some(WordStep {
                 output,
                 act: WordAct::Turns(self.byte),
+            }),
+            NOTHING => Some(WordStep {
+                output,
+                act: WordAct::Nothing,
             }),
             _ => None,
         }

@@ -27,7 +27,7 @@ use Rattle.pm_stairs.specs.declared.said.Said.{Said}
 use Rattle.pm_stairs.specs.declared.said.Said.TheVariants.{Orders, Reads, Looks, Over, Stops}
 use Rattle.pm_stairs.specs.declared.said.StepEnd.TheVariants.{Course, Changed}
 use Rattle.pm_stairs.specs.declared.step.WordAct.{WordAct}
-use Rattle.pm_stairs.specs.declared.step.WordAct.TheVariants.{Sets, Turns}
+use Rattle.pm_stairs.specs.declared.step.WordAct.TheVariants.{Sets, Turns, Nothing}
 use Rattle.pm_stairs.specs.declared.step.WordStep.{WordStep}
 
 -- the order of a plan's answer
@@ -36,7 +36,8 @@ plan_order (Ok order) = order
 plan_order (Err fault) = None
 
 -- A step to words: the next order of the plan, and that none is left. A step to a byte of OPERATION: its order while no job is open, and
--- that OPERATION is known to hold it. Before a step to a byte begins OPERATION has to be known, so that the step can be undone.
+-- that OPERATION is known to hold it. Before a step to a byte begins OPERATION has to be known, so that the step can be undone. A step that
+-- orders nothing: no order, and that no job is open.
 abbrev pub due_words : Result (Option PlanOrder) PlanFault → Due
 due_words answer = record { order = plan_order answer; over = is_last answer; lacks = None }
 
@@ -50,6 +51,7 @@ due_byte s output byte = record {
 abbrev pub due_of : PartRegisters → OutputLimits → Summary → ℕ → WordAct → Due
 due_of part limits s output (Sets words) = due_words (plan_of part s limits output (wants_of words))
 due_of part limits s output (Turns byte) = due_byte s output byte
+due_of part limits s output Nothing = record { order = None; over = not (is_busy s); lacks = None }
 
 abbrev pub due_now : PartRegisters → OutputLimits → Summary → WordStep → Due
 due_now part limits s step = due_of part limits s step.output step.act

@@ -55,6 +55,8 @@ abbrev pub is_at_once : Bool → Act → Bool
 is_at_once is_down (act.Sets wishes) = false
 is_at_once is_down (act.Words words) = false
 is_at_once is_down (act.Turns byte) = is_down && not (has_on byte)
+is_at_once is_down act.Surveys = false
+is_at_once is_down act.Rests = false
 
 abbrev pub off_at_once : Sequence → Bool → Option Placed → Option Step
 off_at_once q under None = None

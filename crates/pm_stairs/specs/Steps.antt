@@ -6,16 +6,17 @@ use Rattle.pm_table.specs.declared.reg.Reg.TheVariants.{Operation, VoutCommand, 
 use Rattle.pm_host.specs.Summary.{Summary, possible_at}
 use Rattle.pm_rail.specs.declared.wanted.Wanted.{Wanted}
 use Rattle.pm_rail.specs.Known.{known_word}
+use Rattle.pm_course.specs.declared.course_end.CourseEnd.TheVariants.{Reached}
 use Rattle.pm_course.specs.declared.frame_course.FrameCourse.{FrameCourse}
 use Rattle.pm_course.specs.declared.wish.Wish.{Wish}
 use Rattle.pm_course.specs.declared.wish.Wish.TheVariants.{Stay, Word}
 use Rattle.pm_course.specs.declared.wish.Wishes.{Wishes}
-use Rattle.pm_course.specs.FrameCourse.{to_byte, to_wishes}
+use Rattle.pm_course.specs.FrameCourse.{to_byte, to_survey, to_wishes}
 use Rattle.pm_stairs.specs.declared.step.Act.{Act}
 use Rattle.pm_stairs.specs.declared.step.Act.TheVariants as act
 use Rattle.pm_stairs.specs.declared.step.Step.{Step}
 use Rattle.pm_stairs.specs.declared.step.WordAct.{WordAct}
-use Rattle.pm_stairs.specs.declared.step.WordAct.TheVariants.{Sets, Turns}
+use Rattle.pm_stairs.specs.declared.step.WordAct.TheVariants.{Sets, Turns, Nothing}
 use Rattle.pm_stairs.specs.declared.step.WordStep.{WordStep}
 
 -- words as wishes
@@ -32,11 +33,17 @@ wishes_of wanted = record {
   min = wish_of wanted.min;
 }
 
+-- the survey's course, ended before anything is read
+abbrev pub to_rest : ℕ → ℕ → FrameCourse
+to_rest output tries = record (to_survey output tries) { end = Some Reached }
+
 -- the course that a step begins with
 abbrev pub act_course : ℕ → Act → ℕ → FrameCourse
 act_course output (act.Sets wishes) tries = to_wishes output wishes tries
 act_course output (act.Words words) tries = to_wishes output (wishes_of words) tries
 act_course output (act.Turns byte) tries = to_byte output byte tries
+act_course output act.Surveys tries = to_survey output tries
+act_course output act.Rests tries = to_rest output tries
 
 abbrev pub step_course : Step → ℕ → FrameCourse
 step_course step tries = act_course step.output step.act tries
@@ -46,6 +53,8 @@ abbrev pub act_with : Act → Wanted → WordAct
 act_with (act.Sets wishes) words = Sets words
 act_with (act.Words wanted) words = Sets wanted
 act_with (act.Turns byte) words = Turns byte
+act_with act.Surveys words = Nothing
+act_with act.Rests words = Nothing
 
 abbrev pub step_with : Step → Wanted → WordStep
 step_with step words = record { output = step.output; act = act_with step.act words }
@@ -72,6 +81,7 @@ byte_back s output = unwrap_or (known_word (Out output Operation) (possible_at s
 abbrev pub act_back : Summary → ℕ → WordAct → WordAct
 act_back s output (Sets words) = Sets (words_back s output words)
 act_back s output (Turns byte) = Turns (byte_back s output)
+act_back s output Nothing = Nothing
 
 abbrev pub noted : Summary → WordStep → WordStep
 noted s step = record { output = step.output; act = act_back s step.output step.act }
@@ -80,6 +90,7 @@ noted s step = record { output = step.output; act = act_back s step.output step.
 abbrev pub act_of : WordAct → Act
 act_of (Sets words) = act.Words words
 act_of (Turns byte) = act.Turns byte
+act_of Nothing = act.Rests
 
 abbrev pub step_of : WordStep → Step
 step_of step = record { output = step.output; act = act_of step.act }

@@ -19,7 +19,7 @@ use Rattle.pm_course.specs.declared.frame_course.FrameCourse.{FrameCourse}
 use Rattle.pm_course.specs.Ends.{refusal_of_plan}
 use Rattle.pm_stairs.specs.declared.step.Step.{Step}
 use Rattle.pm_stairs.specs.declared.step.WordAct.{WordAct}
-use Rattle.pm_stairs.specs.declared.step.WordAct.TheVariants.{Sets, Turns}
+use Rattle.pm_stairs.specs.declared.step.WordAct.TheVariants.{Sets, Turns, Nothing}
 use Rattle.pm_stairs.specs.declared.step.WordStep.{WordStep}
 use Rattle.pm_stairs.specs.declared.way_back.StepCheck.{StepCheck}
 use Rattle.pm_stairs.specs.declared.way_back.StepCheck.TheVariants as check
@@ -42,6 +42,7 @@ selected_at s output register =
 abbrev pub goal_at : Summary → ℕ → WordAct → Option Wanted
 goal_at s output (Sets words) = Some words
 goal_at s output (Turns byte) = if has_on byte then selected_at s output (selected_register byte) else None
+goal_at s output Nothing = None
 
 -- why the plan to these words is refused
 abbrev pub plan_fault : Guarded → ℕ → Wanted → Option PlanFault
@@ -75,6 +76,7 @@ abbrev pub act_fault : Guarded → WordStep → WordAct → Option PlanFault
 act_fault g step (Sets words) = plan_fault g step.output words
 act_fault g step (Turns byte) =
     unknown_byte g step (known_word (Out step.output Operation) (possible_at g.host (Out step.output Operation)))
+act_fault g step Nothing = None
 
 abbrev pub checked : Option PlanFault → Option PlanFault → StepCheck
 checked (Some fault) back = check.Refused (refusal_of_plan fault)

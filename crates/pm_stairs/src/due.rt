@@ -41,6 +41,11 @@ impl WordStep {
                 due_words(next_order_in(host, stage, part, limits, &Plan { output, wanted }))
             }
             WordAct::Turns(byte) => due_byte(host, stage, self.output, byte),
+            WordAct::Nothing => Due {
+                order: None,
+                over: stage.is_none(),
+                lacks: None,
+            },
         }
     }
 }

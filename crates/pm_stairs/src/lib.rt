@@ -1,6 +1,6 @@
 //! Several outputs of one converter in order, one step after another: a machine without I/O.
 //!
-//! A [`Step`] gives an output's registers words or voltages, or OPERATION a byte. [`Stairs::frame`] hands out what is to be sent now, for the
+//! A [`Step`] gives an output's registers words or voltages, or OPERATION a byte, or orders nothing. [`Stairs::frame`] hands out what is to be sent now, for the
 //! step under way or to read what the first one ahead needs; [`Stairs::write_ended`] and [`Stairs::read_ended`] hear what became of it. A
 //! step begins only if the one before it is over by what the host knows at that moment, and what it changes is known.
 //!

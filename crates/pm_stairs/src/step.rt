@@ -5,10 +5,10 @@ ghost use Rattle.pm_host.specs.Image.{held};
 ghost use Rattle.pm_host.specs.Summary.{possible_at};
 ghost use Rattle.pm_rail.specs.Known.{known_word};
 ghost use Rattle.pm_table.specs.Cell.{IsCell};
-ghost use Rattle.pm_stairs.specs.Steps.{back_word, byte_back, noted as spec_noted, step_course, step_of, step_with, wish_of as spec_wish_of, wishes_of as spec_wishes_of, words_back as spec_words_back};
+ghost use Rattle.pm_stairs.specs.Steps.{back_word, byte_back, noted as spec_noted, step_course, step_of, step_with, to_rest, wish_of as spec_wish_of, wishes_of as spec_wishes_of, words_back as spec_words_back};
 ghost use Rattle.std.specs.Prelude.{None};
 
-use pm_course::{FrameCourse, Wish, Wishes};
+use pm_course::{CourseEnd, FrameCourse, Wish, Wishes};
 use pm_host::State;
 use pm_rail::Wanted;
 use pm_table::{Cell, Reg};
@@ -22,6 +22,10 @@ pub enum Act {
     Words(Wanted),
     /// OPERATION gets this byte: on, off, or a margin.
     Turns(u16),
+    /// Nothing is ordered: all that decides what the output commands is read.
+    Surveys,
+    /// Nothing is ordered or read: the step is over once its host is idle.
+    Rests,
 }
 
 /// A step: an output, and what is done to it.
@@ -40,6 +44,8 @@ pub enum WordAct {
     Sets(Wanted),
     /// OPERATION gets this byte.
     Turns(u16),
+    /// Nothing is ordered.
+    Nothing,
 }
 
 /// A step in words: one that has begun, or one that undoes it.
@@ -60,6 +66,8 @@ impl Step {
             Act::Sets(wishes) => FrameCourse::new(self.output, &wishes, tries),
             Act::Words(words) => FrameCourse::new(self.output, &wishes_of(&words), tries),
             Act::Turns(byte) => FrameCourse::power(self.output, byte, tries),
+            Act::Surveys => FrameCourse::survey(self.output, tries),
+            Act::Rests => rest(self.output, tries),
         }
     }
 
@@ -73,6 +81,7 @@ impl Step {
                 Act::Sets(_) => WordAct::Sets(words),
                 Act::Words(wanted) => WordAct::Sets(wanted),
                 Act::Turns(byte) => WordAct::Turns(byte),
+                Act::Surveys | Act::Rests => WordAct::Nothing,
             },
         }
     }
@@ -88,6 +97,7 @@ impl WordStep {
             act: match self.act {
                 WordAct::Sets(words) => Act::Words(words),
                 WordAct::Turns(byte) => Act::Turns(byte),
+                WordAct::Nothing => Act::Rests,
             },
         }
     }
@@ -103,9 +113,19 @@ impl WordStep {
             act: match self.act {
                 WordAct::Sets(words) => WordAct::Sets(words_back(host, self.output, &words)),
                 WordAct::Turns(_) => WordAct::Turns(byte_known(host, self.output)),
+                WordAct::Nothing => WordAct::Nothing,
             },
         }
     }
+}
+
+// The course of a survey that has ended before anything is read.
+fn rest(output: u8, tries: u16) -> FrameCourse
+    ensures { result ≡ to_rest output tries }
+{
+    let mut course = FrameCourse::survey(output, tries);
+    course.end = Some(CourseEnd::Reached);
+    course
 }
 
 // The words that are wanted, as wishes.

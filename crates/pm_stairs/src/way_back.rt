@@ -60,6 +60,7 @@ fn act_fault<S: Sight>(guard: &S, step: &WordStep) -> Option<PlanFault>
             Some(_) => way_back_fault(guard, step),
             None => Some(PlanFault::NotKnown(cell)),
         },
+        WordAct::Nothing => None,
     }
 }
 
@@ -141,7 +142,7 @@ pub fn goal(host: &State, back: &WordStep) -> Option<Wanted>
     match back.act {
         WordAct::Sets(wanted) => Some(wanted),
         WordAct::Turns(byte) if Operation::has_on(byte) => selected(host, back.output, byte),
-        WordAct::Turns(_) => None,
+        WordAct::Turns(_) | WordAct::Nothing => None,
     }
 }
 

@@ -1,7 +1,7 @@
 -- What a caller of the stairs carries out, and its way back.
 use Rattle.std.specs.Option.{option_map_or}
 use Rattle.std.specs.Prelude.{◌==◌, ◌&&◌, option_map, is_none, option_and_then, unwrap_or, Result, map}
-use Rattle.std.proofs.{Math.Path.fun_ext, lemmas.Bool.eqb-true}
+use Rattle.std.proofs.{Math.Path.fun_ext, lemmas.Bool.eqb-true, lemmas.Bool.not-true}
 use Rattle.std.proofs.Common.{◌≡◌, ℕ, Bool, true, false, cond, Option, Some, None, refl, sym, ◌∙◌, ap, subst, not, List, [], ◌∷◌, Ok, Err}
 use Rattle.std.proofs.Common.{◌⊎◌, inl, inr, ◌<◌, ◌++◌}
 use Rattle.std.proofs.lemmas.List.{append-nil, append_assoc}
@@ -51,7 +51,7 @@ use Rattle.pm_stairs_laws.specs.Due as means
 use Rattle.pm_stairs_laws.specs.Due.{IsDone, IsDueOrder, IsFirst, LacksNone, Means, MovesAreDue, is_read, step_under, IsOf}
 use Rattle.pm_stairs_laws.specs.Followed.{IsKnownFrom, IsNextOrder, MayNext, StairsAreFollowed}
 use Rattle.pm_stairs_laws.specs.Handed.{Handed, asks, begins, passes_by, stays}
-use Rattle.pm_stairs_laws.specs.Stairs.{AreOver, AreSound, Deed, IsOver, IsStairs, MayRest, RailStep, Sets, Turns, stair_of, start_of}
+use Rattle.pm_stairs_laws.specs.Stairs.{AreOver, AreSound, Deed, IsOver, IsStairs, MayRest, Nothing, RailStep, Sets, Turns, stair_of, start_of}
 use Rattle.pm_stairs_laws.specs.Stairs.{Rails, StairsHoldInLives}
 
 -- What the stairs say, case by case.
@@ -263,6 +263,7 @@ module _ (config : Config) (passes : ℕ) (part : PartRegisters) (events : List 
       (due_of part limits s output a).order ≡ Some order → IsNextOrder config passes part output (deed_of a) events order.register order.word
   next-order limits output (word.Sets words) order is = (limits, plan-some (plan_of part s limits output (wants_of words)) order is)
   next-order limits output (word.Turns byte) order is = (byte-order (is_busy s) byte order is).1
+  next-order limits output word.Nothing order is = cc
 
   may-order : (step : WordStep) (job : Asked) → IsDueOrder part s step job →
       MayNext config passes part step.output (deed_of step.act) events (accepted_job s job)
@@ -281,13 +282,15 @@ module _ (config : Config) (passes : ℕ) (part : PartRegisters) (events : List 
   over-act limits output (word.Sets words) is = (limits, last-none (plan_of part s limits output (wants_of words)) is)
   over-act limits output (word.Turns byte) is =
       byte-over (is_busy s) (known_word (Out output Operation) (possible_at s (Out output Operation))) byte is
+  over-act limits output word.Nothing is = not-true (is_busy s) is
 
-  -- the plan of a step that begins has an answer, and OPERATION is known
+  -- the plan of a step that begins has an answer, and OPERATION is known; where nothing is ordered the host is idle
   IsAnswered : OutputLimits → ℕ → WordAct → Type 0
   IsAnswered limits output (word.Sets words) = (order : Option PlanOrder) × (plan_of part s limits output (wants_of words) ≡ Ok order)
   IsAnswered limits output (word.Turns byte) = (is_busy s ≡ false)
       × (known_word (Out output Operation) (possible_at s (Out output Operation))
       ≡ Some (unwrap_or (known_word (Out output Operation) (possible_at s (Out output Operation))) 0))
+  IsAnswered limits output word.Nothing = is_busy s ≡ false
 
   answered-order : (limits lacking : OutputLimits) (output : ℕ) (a : WordAct) (order : PlanOrder) →
       (due_of part limits s output a).order ≡ Some order → (due_of part lacking s output a).lacks ≡ None → IsAnswered limits output a
@@ -298,6 +301,7 @@ module _ (config : Config) (passes : ℕ) (part : PartRegisters) (events : List 
     (byte-order (is_busy s) byte order is).0,
     known-some (known_word (Out output Operation) (possible_at s (Out output Operation))) (Out output Operation) lacks,
   )
+  answered-order limits lacking output word.Nothing order is lacks = cc
 
   answered-over : (limits : OutputLimits) (output : ℕ) (a : WordAct) → (due_of part limits s output a).over ≡ true →
       IsAnswered limits output a
@@ -306,11 +310,13 @@ module _ (config : Config) (passes : ℕ) (part : PartRegisters) (events : List 
   answered-over limits output (word.Turns byte) is =
       let over = byte-over (is_busy s) (known_word (Out output Operation) (possible_at s (Out output Operation))) byte is in
       (over.0, over.1 ∙ ap (λ (o : Option ℕ). Some (unwrap_or o 0)) (sym over.1))
+  answered-over limits output word.Nothing is = not-true (is_busy s) is
 
   answered-idle : (limits : OutputLimits) (output : ℕ) (a : WordAct) → IsAnswered limits output a → is_busy s ≡ false
   unfolding IsAnswered
   answered-idle limits output (word.Sets words) is = (is-planned part s limits output (wants_of words) is.0 is.1).idle
   answered-idle limits output (word.Turns byte) is = is.0
+  answered-idle limits output word.Nothing is = is
 
   -- ---- What is noted ----
 
@@ -348,6 +354,7 @@ module _ (config : Config) (passes : ℕ) (part : PartRegisters) (events : List 
     each VoutMin = one VoutMin
   noted-back before done limits output (word.Turns byte) is known = ap (λ (w : ℕ). Turns w)
       (known (unwrap_or (known_word (Out output Operation) (possible_at s (Out output Operation))) 0) is.1)
+  noted-back before done limits output word.Nothing is known = refl
 
 -- ---- Events ----
 
@@ -632,6 +639,8 @@ has_words : Act → Bool
 has_words (act.Sets wishes) = false
 has_words (act.Words words) = true
 has_words (act.Turns byte) = true
+has_words act.Surveys = true
+has_words act.Rests = true
 
 all_words : List Step → Bool
 all_words [] = true
@@ -641,6 +650,8 @@ act-deed : Act → Deed
 act-deed (act.Sets wishes) = Turns 0
 act-deed (act.Words words) = Sets (wants_of words)
 act-deed (act.Turns byte) = Turns byte
+act-deed act.Surveys = Nothing
+act-deed act.Rests = Nothing
 
 rail-of : Step → RailStep
 rail-of step = record { output = step.output; deed = act-deed step.act }
@@ -655,6 +666,8 @@ unfolding has_words rail-of act-deed
 words-with output (act.Sets wishes) words h = cc
 words-with output (act.Words wanted) words h = refl
 words-with output (act.Turns byte) words h = refl
+words-with output act.Surveys words h = refl
+words-with output act.Rests words h = refl
 
 -- a step of such wishes
 words-of : (wishes : Step) (step : WordStep) → IsOf wishes step → has_words wishes.act ≡ true → rail_step step ≡ rail-of wishes
@@ -679,6 +692,7 @@ has-words : (a : WordAct) → has_words (act_of a) ≡ true
 unfolding has_words
 has-words (word.Sets words) = refl
 has-words (word.Turns byte) = refl
+has-words word.Nothing = refl
 
 back-words : (backs : List WordStep) → all_words (map step_of backs) ≡ true
 unfolding all_words
@@ -689,6 +703,7 @@ back-deed : (a : WordAct) → act-deed (act_of a) ≡ deed_of a
 unfolding act-deed
 back-deed (word.Sets words) = refl
 back-deed (word.Turns byte) = refl
+back-deed word.Nothing = refl
 
 -- a step of an output
 abbrev doing : ℕ → Deed → RailStep

@@ -62,7 +62,7 @@ use Rattle.pm_stairs_laws.specs.Followed.{IsKnownFrom, MayNext, StairsAreFollowe
 use Rattle.pm_stairs_laws.specs.Handed as named
 use Rattle.pm_stairs_laws.specs.Handed.{IsOfOneHost, Named, step_of_placed}
 use Rattle.pm_stairs_laws.specs.Ordered.{CellsTakeWhatIsOrdered, MayOrder, OrdersOnly, no_word}
-use Rattle.pm_stairs_laws.specs.Stairs.{Deed, Sets, Turns, IsAtRest, IsOfStep, IsOver, IsReadFor, MayRest, MayStep, Stand, TurnsNothing}
+use Rattle.pm_stairs_laws.specs.Stairs.{Deed, Nothing, Sets, Turns, IsAtRest, IsOfStep, IsOver, IsReadFor, MayRest, MayStep, Stand, TurnsNothing}
 use Rattle.pm_stairs_laws.specs.Stairs.{done_to, stand_by, stands_at, AreOver, AreSound, IsBetween, IsSoundStep, IsStairs, RailStep, Rails}
 use Rattle.pm_stairs_laws.specs.Stairs.{StairsHoldInLives, WasBetween, climbs, stair_of, stair_stand, stands, start_of}
 
@@ -639,6 +639,44 @@ module _ (laws : SegmentsBelow) (config : Config) (passes : ℕ) (part : PartReg
     back = turned-back (held_at config passes before output) (held_at config passes events' output) others;
   }
 
+-- a step that orders nothing: each register of its output keeps its word
+module _ (laws : SegmentsBelow) (config : Config) (passes : ℕ) (part : PartRegisters) (output : ℕ)
+    (newer later before : List Event) (lived : IsLived config passes (newer ++ (later ++ before)))
+    (here : output < config.count) (idle : is_busy (now config passes before).host ≡ false)
+    (lacks : HoldsMissing part config (now config passes before).device.words output)
+    (of : IsOfStep config passes part output Nothing (newer ++ later) before) where
+  nothing-job : (later' before' : List Event) (r : Reg) (job : Option host.Job) →
+      MayStep config passes part output Nothing later' before' job → MayOrder (Out output r) no_word job
+  nothing-job later' before' r (Some (host.Order (Out o q) word)) may = absurd may.1
+  nothing-job later' before' r (Some (host.Order Protect word)) may = λ same. cc
+  nothing-job later' before' r (Some (host.Send RestoreUserAll)) may = may
+  nothing-job later' before' r job may = tt
+
+  nothing-all : (r : Reg) (events before' : List Event) → IsOfStep config passes part output Nothing events before' →
+      OrdersOnly config passes (Out output r) no_word events before'
+  nothing-all r [] before' step = tt
+  nothing-all r (event ∷ events) before' step = (
+    step.0,
+    nothing-job events before' r (asked (now config passes (events ++ before')) event) step.1,
+    nothing-all r events before' step.2,
+  )
+
+  kept-all : (r : Reg) → held_at config passes (newer ++ (later ++ before)) output r ≡ held_at config passes before output r
+  kept-all r = subst (λ (es : List Event). held_at config passes es output r ≡ held_at config passes before output r)
+      (append_assoc newer later before)
+      (laws.cells.kept config passes (Out output r) (newer ++ later) before
+      (subst (λ (es : List Event). IsLived config passes es) (sym (append_assoc newer later before)) lived) here idle
+      (nothing-all r (newer ++ later) before of))
+
+  by-nothing : Segment config passes part output Nothing newer later before
+  by-nothing = record {
+    goes = inr (stands-is config passes (newer ++ (later ++ before)) output
+        ∙ ap (λ (h : Held). stand_by (value_for config output) h) (fun_ext kept-all));
+    over = λ over. kept-all;
+    missing = λ r word is. kept-all r ∙ lacks r word is;
+    back = kept-all;
+  }
+
 -- each deed
 pub segment : SegmentsBelow
     → (config : Config) (passes : ℕ) (part : PartRegisters) (output : ℕ) (deed : Deed) (newer later before : List Event) →
@@ -652,6 +690,8 @@ segment laws config passes part output (Sets wants) newer later before spelled l
     by-plan laws config passes part output wants newer later before spelled lived here none idle read lacks of
 segment laws config passes part output (Turns byte) newer later before spelled lived here none idle read lacks of =
     by-turn laws config passes part output byte newer later before lived here idle read lacks of
+segment laws config passes part output Nothing newer later before spelled lived here none idle read lacks of =
+    by-nothing laws config passes part output newer later before lived here idle lacks of
 
 -- the host is idle where a step is over
 pub over-idle : (config : Config) (passes : ℕ) (part : PartRegisters) (output : ℕ) (deed : Deed) (events : List Event) →
@@ -659,6 +699,7 @@ pub over-idle : (config : Config) (passes : ℕ) (part : PartRegisters) (output 
 over-idle config passes part output (Sets wants) es over =
     (is-planned part (now config passes es).host over.0 output wants None over.1).idle
 over-idle config passes part output (Turns byte) es over = over.0
+over-idle config passes part output Nothing es over = over
 
 -- Steps one after another, at each moment of a life.
 
@@ -702,6 +743,7 @@ module _ (laws : SegmentsBelow) (config : Config) (passes : ℕ) (part : PartReg
         at.fresh (Out output register)
         (read register (subst (λ (h : Held). is_needed h wants register ≡ true) (held-is at output here) needed))
     read-at at output here (Turns byte) read = at.fresh (Out output Operation) read
+    read-at at output here Nothing read = tt
 
     pub segment-at : {done : List RailStep} {older : List Event} → At done older → (step : RailStep) →
         IsSoundStep config passes part before step (stair_of start done step.output) → (newer later : List Event) →
@@ -943,11 +985,13 @@ undone-byte old byte VoutMin = refl
 undone : (old : Held) (deed : Deed) (r : Reg) → done_to (done_to old deed) (back_of old deed) r ≡ old r
 undone old (Sets wants) r = undone-one (wants r) (old r)
 undone old (Turns byte) r = undone-byte old byte r
+undone old Nothing r = refl
 
 -- what undoes a deed turns nothing where it doesn't
 back-still : (old : Held) (deed : Deed) → TurnsNothing deed → TurnsNothing (back_of old deed)
 back-still old (Sets wants) none = ap (λ (o : Option ℕ). option_map (λ (word : ℕ). old Operation) o) none
 back-still old (Turns byte) none = tt
+back-still old Nothing none = tt
 
 -- two steps need the same registers
 some-back : (wants : Option ℕ) (old : ℕ) → is_some (option_map (λ (word : ℕ). old) wants) ≡ is_some wants
@@ -1041,6 +1085,7 @@ module _ (laws : SegmentsBelow) (config : Config) (passes : ℕ) (part : PartReg
         let same = sym (ap (λ (o : Option ℕ). unwrap_or (option_map (λ (word : ℕ). old Operation) o) (held Operation)) none) ∙ own in
         fresh (Out output register) (read register (sym (needed-back old held wants same register) ∙ needed))
     read-back stop output (Turns byte) old held none own fresh read = fresh (Out output Operation) read
+    read-back stop output Nothing old held none own fresh read = tt
 
     module _ (stop : List Event) (fresh : (cell : Cell) →
         (has_read config passes cell before ≡ true → restarted_since config passes cell before ≡ false) →
@@ -1116,6 +1161,7 @@ module _ (config : Config) (passes : ℕ) (part : PartRegisters) where
       MayNext config passes part output deed (later ++ before) job → MayStep config passes part output deed later before job
   next-job output (Sets wants) later before (Some (host.Order (Out o q) word)) may = (may.0, inl may.1)
   next-job output (Turns byte) later before (Some (host.Order (Out o q) word)) may = may
+  next-job output Nothing later before (Some (host.Order (Out o q) word)) may = may
   next-job output deed later before (Some (host.Order Protect word)) may = tt
   next-job output deed later before (Some (host.Send RestoreUserAll)) may = may
   next-job output deed later before job may = tt
@@ -1190,6 +1236,7 @@ module _ (laws : SegmentsBelow) (config : Config) (passes : ℕ) (part : PartReg
   known-deed (Turns byte) before done read words = λ word is.
       ap (λ (o : Option ℕ). unwrap_or o 0) (sym is ∙ known-held-at Operation read (ap (λ (o : Option ℕ). is_none o) is))
       ∙ words Operation
+  known-deed Nothing before done read words = tt
 
 pub stairs-are-followed : SegmentsBelow → StairsAreFollowed
 stairs-are-followed laws = record {
@@ -1211,6 +1258,8 @@ never-at-once : (a : Act) → is_at_once false a ≡ false
 never-at-once (act.Sets wishes) = refl
 never-at-once (act.Words words) = refl
 never-at-once (act.Turns byte) = refl
+never-at-once act.Surveys = refl
+never-at-once act.Rests = refl
 
 no-off : (q : Sequence) (under : Bool) (ahead : Option Placed) → q.is_down ≡ false → off_at_once q under ahead ≡ None
 no-off q under None up = refl

@@ -9,12 +9,13 @@ use Rattle.pm_world.specs.declared.event.Event.{Event}
 use Rattle.pm_world.specs.Honest.{IsSpelled}
 use Rattle.pm_world.specs.Lived.{IsLived}
 use Rattle.pm_world.specs.Plans.{held_at}
-use Rattle.pm_stairs_laws.specs.Stairs.{AreOver, AreSound, Deed, IsStairs, RailStep, Rails, Sets, Turns, stair_of, start_of}
+use Rattle.pm_stairs_laws.specs.Stairs.{AreOver, AreSound, Deed, IsStairs, Nothing, RailStep, Rails, Sets, Turns, stair_of, start_of}
 
 -- what undoes a deed, by the words of before: each register of which a word was wanted gets its old one
 abbrev pub back_of : Held → Deed → Deed
 back_of held (Sets wants) = Sets (λ register. option_map (λ word. held register) (wants register))
 back_of held (Turns byte) = Turns (held Operation)
+back_of held Nothing = Nothing
 
 -- the step that undoes a step, which came after those that are done
 abbrev pub back_step : Rails → List RailStep → RailStep → RailStep

@@ -27,12 +27,13 @@ use Rattle.pm_world.specs.Plans.{held_at}
 use Rattle.pm_world.specs.State.{asked}
 use Rattle.pm_stairs_laws.specs.Back.{back_step, downs_of}
 use Rattle.pm_stairs_laws.specs.Due.{IsOf, step_under}
-use Rattle.pm_stairs_laws.specs.Stairs.{AreOver, AreSound, Deed, IsStairs, MayRest, RailStep, Rails, Sets, Turns, start_of}
+use Rattle.pm_stairs_laws.specs.Stairs.{AreOver, AreSound, Deed, IsStairs, MayRest, Nothing, RailStep, Rails, Sets, Turns, start_of}
 
 -- what a step in words does
 abbrev pub deed_of : WordAct → Deed
 deed_of (act.Sets words) = Sets (wants_of words)
 deed_of (act.Turns byte) = Turns byte
+deed_of act.Nothing = Nothing
 
 abbrev pub rail_step : WordStep → RailStep
 rail_step step = record { output = step.output; deed = deed_of step.act }

@@ -20,13 +20,14 @@ use Rattle.pm_world.specs.Honest.{IsSpelled}
 use Rattle.pm_world.specs.Life.{now}
 use Rattle.pm_world.specs.Lived.{IsLived}
 use Rattle.pm_world.specs.State.{asked}
-use Rattle.pm_stairs_laws.specs.Stairs.{AreOver, AreSound, Deed, IsStairs, MayRest, RailStep, Sets, Turns, stair_of, start_of}
+use Rattle.pm_stairs_laws.specs.Stairs.{AreOver, AreSound, Deed, IsStairs, MayRest, Nothing, RailStep, Sets, Turns, stair_of, start_of}
 
 -- an order that a deed has next, by what the host knows now
 abbrev pub IsNextOrder : Config → ℕ → PartRegisters → ℕ → Deed → List Event → Reg → ℕ → Type 0
 IsNextOrder config passes part output (Sets wants) events register word = (limits : OutputLimits)
     × (plan_of part (now config passes events).host limits output wants ≡ Ok (Some (record { register = register; word = word })))
 IsNextOrder config passes part output (Turns byte) events register word = (register ≡ Operation) × (word ≡ byte)
+IsNextOrder config passes part output Nothing events register word = ⊥
 
 -- what the host is asked for is no restore, and no order but such a one
 abbrev pub MayNext : Config → ℕ → PartRegisters → ℕ → Deed → List Event → Option host.Job → Type 0
@@ -45,6 +46,7 @@ IsKnownFrom config passes part before done output (Sets wants) events =
 IsKnownFrom config passes part before done output (Turns byte) events = (word : ℕ) →
     known_word (Out output Operation) (possible_at (now config passes events).host (Out output Operation)) ≡ Some word →
     word ≡ stair_of (start_of config passes before) done output Operation
+IsKnownFrom config passes part before done output Nothing events = Unit {0}
 
 -- Steps are carried out event by event. None has begun where the host is idle at first (`none`), and an event that asks for
 -- no order of an output, no restore, and restarts no converter, leaves it so (`rest`); where those that have begun are over, another may

@@ -34,10 +34,11 @@ use Rattle.pm_world.specs.State.{asked}
 -- ---- Steps and stairs ----
 
 -- what a step does to its output: it gives its settings the wanted words, by the plan, or it turns it on or off by this
--- byte of OPERATION
+-- byte of OPERATION, or it orders nothing
 pub data Deed : Type 0 where
   Sets : (wants : Wants) → Deed
   Turns : (byte : ℕ) → Deed
+  Nothing : Deed
 
 pub record RailStep : Type 0 where
   pub output : ℕ
@@ -47,6 +48,7 @@ pub record RailStep : Type 0 where
 abbrev pub done_to : Held → Deed → Held
 done_to held (Sets wants) = goal_of held wants
 done_to held (Turns byte) = put held Operation byte
+done_to held Nothing = held
 
 -- the words of each output's registers
 abbrev pub Rails : Type 0
@@ -81,11 +83,12 @@ stair_stand config passes before steps output =
 
 -- ---- What is done, one step after another ----
 
--- the order is one of a deed's: of the plan's next one, or the last one again; or of the byte of OPERATION
+-- the order is one of a deed's: of the plan's next one, or the last one again; or of the byte of OPERATION; or there is none
 abbrev pub IsDeedsOrder : Config → ℕ → PartRegisters → ℕ → Deed → List Event → List Event → Reg → ℕ → Type 0
 IsDeedsOrder config passes part output (Sets wants) later before register word =
     IsPlansOrder config passes part output wants later before (record { register = register; word = word })
 IsDeedsOrder config passes part output (Turns byte) later before register word = (register ≡ Operation) × (word ≡ byte)
+IsDeedsOrder config passes part output Nothing later before register word = ⊥
 
 -- what the host is asked for is no restore, and no order of any output but one of this deed for its own
 abbrev pub MayStep : Config → ℕ → PartRegisters → ℕ → Deed → List Event → List Event → Option host.Job → Type 0
@@ -116,13 +119,14 @@ IsAtRest config passes (event ∷ later) before =
     × IsAtRest config passes later before
 
 -- A step is over by what the host knows: the plan has no further order, whatever the limits are; or the host is idle, and
--- OPERATION is known to hold the byte
+-- OPERATION is known to hold the byte; or the host is idle, where nothing is ordered
 abbrev pub IsOver : Config → ℕ → PartRegisters → ℕ → Deed → List Event → Type 0
 IsOver config passes part output (Sets wants) events =
     (limits : OutputLimits) × (plan_of part (now config passes events).host limits output wants ≡ Ok None)
 IsOver config passes part output (Turns byte) events =
     (is_busy (now config passes events).host ≡ false)
     × (known_word (Out output Operation) (possible_at (now config passes events).host (Out output Operation)) ≡ Some byte)
+IsOver config passes part output Nothing events = is_busy (now config passes events).host ≡ false
 
 -- the last of the steps is over; where there is none, the host is idle
 abbrev pub AreOver : Config → ℕ → PartRegisters → List RailStep → List Event → Type 0
@@ -152,11 +156,13 @@ IsReadFor config passes output (Sets wants) held before = (register : Reg) →
 IsReadFor config passes output (Turns byte) held before =
     has_read config passes (Out output Operation) before ≡ true →
     restarted_since config passes (Out output Operation) before ≡ false
+IsReadFor config passes output Nothing held before = Unit {0}
 
 -- the settings of a step have no word of OPERATION
 abbrev pub TurnsNothing : Deed → Type 0
 TurnsNothing (Sets wants) = wants Operation ≡ None
 TurnsNothing (Turns byte) = Unit {0}
+TurnsNothing Nothing = Unit {0}
 
 -- The output is there; what the host has read of it was read since the converter's last restart; and where the part doesn't
 -- have VOUT_MIN or VOUT_MAX, the converter's cell holds the word that never cuts.

@@ -120,6 +120,43 @@ fn a_way_up_reads_before_it_turns(rt: HostRuntime) {
 }
 
 #[test]
+fn a_step_that_orders_nothing_is_undone_by_a_rest(rt: HostRuntime) {
+    let mut image = host(1);
+    let mut steps = [turns(0, 1, 0), turns(0, 0, 0)];
+    steps[0].kind = 4;
+    steps[1].kind = 3;
+    let mut backs = steps;
+    backs[0].kind = 0;
+    let mut stairs = begun(5, 0);
+    equal(
+        &rt,
+        &ask(&mut stairs, &mut image, &steps, &mut backs),
+        &(0, 2, 0),
+        &1,
+    );
+    equal(
+        &rt,
+        &(
+            stairs.begun,
+            stairs.under.kind,
+            backs[0].kind,
+            backs[0].output,
+        ),
+        &(1, 3, 4, 1),
+        &2,
+    );
+    let mut idle = host(1);
+    let mut down = begun(5, 0);
+    equal(
+        &rt,
+        &ask(&mut down, &mut idle, &steps[..1], &mut backs),
+        &(0x95, 0, 0),
+        &3,
+    );
+    equal(&rt, &end(&down), &(1, 0, 0, 0, 1), &4);
+}
+
+#[test]
 fn wrong_memory_and_wrong_steps_are_refused(rt: HostRuntime) {
     let mut image = host(1);
     let steps = [turns(0, 0, 0)];
@@ -140,7 +177,7 @@ fn wrong_memory_and_wrong_steps_are_refused(rt: HostRuntime) {
         &2,
     );
     far = steps;
-    far[0].kind = 3;
+    far[0].kind = 5;
     equal(
         &rt,
         &ask(&mut stairs, &mut image, &far, &mut []),
