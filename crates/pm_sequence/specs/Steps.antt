@@ -12,6 +12,8 @@ abbrev pub turns_off : Act → Bool
 turns_off (act.Sets wishes) = false
 turns_off (act.Words words) = false
 turns_off (act.Turns byte) = not (has_on byte)
+turns_off act.Surveys = false
+turns_off act.Rests = false
 
 -- what the caller says that the part lacks, as a delivery has it: 1 for STATUS_WORD, 2 for READ_VOUT
 abbrev pub said_lacks : Bool → Bool → ℕ
