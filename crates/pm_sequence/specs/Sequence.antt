@@ -47,7 +47,7 @@ use Rattle.pm_delivery.specs.Deliveries.{new_delivery}
 
 abbrev pub new_sequence : ℕ → Bool → Sequence
 new_sequence tries is_down = record {
-  list = sequence_new tries is_down;
+  list = sequence_new tries (not is_down) (not is_down);
   look = looking (new_delivery 0 0 0 0 0);
   look_host = 0;
   phase = phase.Steps;
@@ -101,10 +101,10 @@ left_out q = record q {
 }
 
 abbrev pub stopped_act : Sequence → End → Act
-stopped_act q end = if q.list.is_down then act.Leaves end else act.Ended end
+stopped_act q end = if q.list.keeps_back then act.Ended end else act.Leaves end
 
 abbrev pub stopped_after : Sequence → End → Sequence
-stopped_after q end = if q.list.is_down then left_out q else record q { end = Some end }
+stopped_after q end = if q.list.keeps_back then record q { end = Some end } else left_out q
 
 -- ---- What comes of what the list says ----
 

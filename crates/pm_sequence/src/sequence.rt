@@ -102,7 +102,7 @@ impl Sequence {
         ensures { result ≡ new_sequence tries is_down }
     {
         Sequence {
-            list: List::new(tries, is_down),
+            list: List::new(tries, !is_down, !is_down),
             look: Look::new(Delivery::new(0, 0, 0, 0, 0)),
             look_host: 0,
             phase: Phase::Steps,
@@ -352,7 +352,7 @@ impl Sequence {
         ensures act { result ≡ stopped_act self.old end }
         ensures after { self.new ≡ stopped_after self.old end }
     {
-        if !self.list.is_down {
+        if self.list.keeps_back {
             self.end = Some(end);
             return Act::Ended(end);
         }

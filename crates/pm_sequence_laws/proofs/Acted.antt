@@ -71,15 +71,15 @@ no-end {x} none is = cc
 module _ (steps : Places) (was : Sequence) where
   stop-by : (q : Sequence) (why : End) → (Some why ≡ reached → ⊥) → q.list.begun ≡ was.list.begun → (q.is_shown ≡ true → was.is_shown ≡ true)
       → (q.is_looked ≡ true → was.is_looked ≡ true) → q.left ≡ was.left → q.end ≡ None → (b : Bool)
-      → Kind steps was (cond b (does.left_out q) (record q { end = Some why }))
-      (marks_of (cond b (does.left_out q) (record q { end = Some why })).list.begun (cond b (act.Leaves why) (act.Ended why)))
-  stop-by q why other begun shows looks lefts on true = leaves (more-some q.left) (no-end on)
-  stop-by q why other begun shows looks lefts on false = quiet begun shows looks lefts (λ e. absurd (other e))
+      → Kind steps was (cond b (record q { end = Some why }) (does.left_out q))
+      (marks_of (cond b (record q { end = Some why }) (does.left_out q)).list.begun (cond b (act.Ended why) (act.Leaves why)))
+  stop-by q why other begun shows looks lefts on true = quiet begun shows looks lefts (λ e. absurd (other e))
+  stop-by q why other begun shows looks lefts on false = leaves (more-some q.left) (no-end on)
 
   stop-kind : (q : Sequence) (why : End) → (Some why ≡ reached → ⊥) → q.list.begun ≡ was.list.begun → (q.is_shown ≡ true → was.is_shown ≡ true)
       → (q.is_looked ≡ true → was.is_looked ≡ true) → q.left ≡ was.left → q.end ≡ None
       → Kind steps was (stopped_after q why) (marks_of (stopped_after q why).list.begun (stopped_act q why))
-  stop-kind q why other begun shows looks lefts on = stop-by q why other begun shows looks lefts on q.list.is_down
+  stop-kind q why other begun shows looks lefts on = stop-by q why other begun shows looks lefts on q.list.keeps_back
 
   module _ (on : was.end ≡ None) where
     look-kind : (step : Option Step) → Kind steps was (look_before was step) []

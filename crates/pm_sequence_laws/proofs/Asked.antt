@@ -46,7 +46,7 @@ module _ (q : Sequence) (unread : q.is_read ≡ false) where
   never e = true≢false (sym e ∙ unread)
 
   stop-read : (list : List) (why : End) → (stopped_after (with_list q list) why).is_read ≡ true → ⊥
-  stop-read list why = either-read ⊥ list.is_down (left_out (with_list q list)) (record q { list = list; end = Some why }) never never
+  stop-read list why = either-read ⊥ list.keeps_back (record q { list = list; end = Some why }) (left_out (with_list q list)) never never
 
   before-read : (step : Option Step) → (look_before q step).is_read ≡ true → ⊥
   before-read None = never
@@ -126,7 +126,7 @@ look-facts g l at small is =
 module _ (g : Guarded) (q : Sequence) (unread : q.is_read ≡ false) (under : Option Step) where
   done-read : (l : Look) (found : Verdict) → (done_after (with_look q l) under found).is_read ≡ true → ⊥
   done-read l found = either-read ⊥ (is_good under found) _ (stopped_after (with_look q l) (end.Does found)) (never q unread)
-      (either-read ⊥ q.list.is_down (left_out (with_look q l)) _ (never q unread) (never q unread))
+      (either-read ⊥ q.list.keeps_back _ (left_out (with_look q l)) (never q unread) (never q unread))
 
   after-read : q.phase ≡ phase.After → (l : Look) (x : LookAct) → (said_after g (with_look q l) under x).is_read ≡ true → ⊥
   after-read is l (look.Ask question) = never q unread

@@ -45,7 +45,7 @@ either true x y first second = first
 either false x y first second = second
 
 stop-quiet : (q : Sequence) (why : End) → is_find (stopped_act q why) ≡ false
-stop-quiet q why = either q.list.is_down (act.Leaves why) (act.Ended why) refl refl
+stop-quiet q why = either q.list.keeps_back (act.Ended why) (act.Leaves why) refl refl
 
 ahead-quiet : (q : Sequence) (ahead : Option Step) → is_find (ahead_act q ahead) ≡ false
 ahead-quiet q None = refl

@@ -53,14 +53,14 @@ over-list q (Some step) ahead = either-list (needs_look q step) _ (ahead_after q
 -- the list stays where a step stops, or the step is left
 data Stops (old new : List) : Type 0 where
   kept : new ≡ old → Stops old new
-  left : old.is_down ≡ true → new ≡ skipped old → Stops old new
+  left : old.keeps_back ≡ false → new ≡ skipped old → Stops old new
 
-stop-by : (q : Sequence) (why : End) (b : Bool) → q.list.is_down ≡ b → Stops q.list (cond b (left_out q) (record q { end = Some why })).list
-stop-by q why true is = left is refl
-stop-by q why false is = kept refl
+stop-by : (q : Sequence) (why : End) (b : Bool) → q.list.keeps_back ≡ b → Stops q.list (cond b (record q { end = Some why }) (left_out q)).list
+stop-by q why true is = kept refl
+stop-by q why false is = left is refl
 
 stop-list : (q : Sequence) (why : End) → Stops q.list (stopped_after q why).list
-stop-list q why = stop-by q why q.list.is_down refl
+stop-list q why = stop-by q why q.list.keeps_back refl
 
 module _ (g : Guarded) (ahead : Option Placed) where
   staying : (old new : List) → Stops old new → ListGoes g ahead old new
