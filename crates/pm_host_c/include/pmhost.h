@@ -404,7 +404,8 @@ typedef struct {
                        * newest step, or on the one before */
     uint8_t host;     /* the place of the host that the next call takes, and on whose bus the frame goes */
     uint8_t is_down;  /* 1 of a way down */
-    uint8_t unused[6];
+    uint8_t ends_at_restart; /* 1 if a restart of a part that was seen ends them, as of a way up */
+    uint8_t unused[5];
     pm_stairs_end end;
     uint64_t held[30];
 } pm_stairs;
