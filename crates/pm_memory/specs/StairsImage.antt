@@ -102,7 +102,7 @@ sequence_held i course coming = record {
   under_host = i.under.host;
   is_free = i.under.is_free == 1;
   is_warned = i.under.is_warned == 1;
-  keeps_back = not (i.is_down == 1);
+  keeps_back = i.keeps_back == 1;
   ends_at_restart = i.ends_at_restart == 1;
 }
 
@@ -150,7 +150,7 @@ stairs_image q end = record {
   tries = q.tries;
   begun = q.begun;
   host = q.host;
-  is_down = flag (not q.keeps_back);
+  keeps_back = flag q.keeps_back;
   ends_at_restart = flag q.ends_at_restart;
   unused = replicate 5 0;
   end = end;

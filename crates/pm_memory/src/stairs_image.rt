@@ -52,8 +52,8 @@ pub struct StairsImage {
     pub begun: u16,
     /// The place of the host that the next call takes.
     pub host: u8,
-    /// 1 if they keep no way back, as on a way down; otherwise 0.
-    pub is_down: u8,
+    /// 1 if a way back is kept, otherwise 0.
+    pub keeps_back: u8,
     /// 1 if a restart of a part that was seen ends them, otherwise 0.
     pub ends_at_restart: u8,
     /// No meaning.
@@ -92,7 +92,7 @@ impl StairsImage {
             tries: stairs.tries,
             begun: stairs.begun,
             host: stairs.host,
-            is_down: flag(!stairs.keeps_back),
+            keeps_back: flag(stairs.keeps_back),
             ends_at_restart: flag(stairs.ends_at_restart),
             unused: [0; 5],
             end,
@@ -146,7 +146,7 @@ impl StairsImage {
             under_host: self.under.host,
             is_free: self.under.is_free == 1,
             is_warned: self.under.is_warned == 1,
-            keeps_back: self.is_down != 1,
+            keeps_back: self.keeps_back == 1,
             ends_at_restart: self.ends_at_restart == 1,
         }
     }
