@@ -368,7 +368,7 @@ static void surveys(void) {
     row("a survey", "writes", parts[0].writes, 0);
     row("a survey", "back", records[0].back.kind, 4);
     parts[0].words[1][0] = 0;
-    begin(&parts[0], &good, 0);
+    begin(&parts[0], &good, 3);
     row("a survey of one that is off", "answer", run(steps, 2), 0x95);
     row("a survey of one that is off", "end", sequence.said.kind, 14);
     row("a survey of one that is off", "verdict", sequence.said.verdict, 2);
@@ -385,12 +385,12 @@ static void stands(void) {
     steps[0] = sets(0, 0, 1100000, 2);
     steps[0].before = records[0].look.before;
     row("what was heard before", "word", steps[0].before.word, 0x8020);
-    begin(&parts[0], &good, 0);
+    begin(&parts[0], &good, 3);
     row("the next list", "answer", run(steps, 1), 0x95);
     row("the next list", "end", sequence.said.kind, 1);
     steps[0] = sets(0, 0, 1000000, 2);
     steps[0].before.asked = 1;
-    begin(&parts[0], &good, 0);
+    begin(&parts[0], &good, 3);
     row("a fault that is new", "answer", run(steps, 1), 0x95);
     row("a fault that is new", "end", sequence.said.kind, 14);
     row("a fault that is new", "verdict", sequence.said.verdict, 5);
@@ -450,7 +450,7 @@ static void any_bytes(void) {
     int at, turn;
     srand(1);
     for (turn = 0; turn < 300; turn++) {
-        begin(&good, &good, (uint8_t)(turn & 7));
+        begin(&good, &good, (uint8_t)(turn & 15));
         for (at = 2 + turn % 2 * 60; at < PM_SEQUENCE_SIZE; at += 1 + rand() % 40)
             if ((at < 2 || at > 3) && (at < 32 || at > 35) && at != 40)
                 ((uint8_t *)&sequence)[at] = (uint8_t)rand();
