@@ -1,8 +1,6 @@
 """Parts that are busy or away for a while of the clock of runs.py, that fall silent, or whose lines are held low."""
 import errno
 
-from pmhost import ModelPart, Output
-
 from . import kernel, odd_parts, runs
 
 STORE_USER_ALL, RESTORE_USER_ALL = 0x15, 0x16
@@ -119,7 +117,7 @@ class At08(odd_parts.Proved):
     """A part at the lowest address."""
 
     def __init__(self):
-        super().__init__(0x08)
+        super().__init__(address=0x08)
 
 
 class At48(odd_parts.Proved):
@@ -129,7 +127,7 @@ class At48(odd_parts.Proved):
     zeros_from = 10**9
 
     def __init__(self):
-        super().__init__(0x48)
+        super().__init__(address=0x48)
 
     def hear(self, frame, ending):
         answer = super().hear(frame, ending)
@@ -154,8 +152,7 @@ class ProtectedAt48(odd_parts.Named):
     low = False
 
     def __init__(self):
-        super().__init__(0x48)
-        self.part = ModelPart(0x48, [Output(command=word) for word in self.commands], protect=0x40)
+        super().__init__(address=0x48, protect=0x40)
 
     def hear(self, frame, ending):
         self.before(frame[1:])

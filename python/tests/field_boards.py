@@ -4,7 +4,7 @@ import re
 import tempfile
 from dataclasses import dataclass, field
 
-from .board_kernel import BoardKernel
+from .kernel import BoardKernel
 from .field import Field
 from .runs import called
 

@@ -3,7 +3,7 @@ each."""
 import tempfile
 from dataclasses import dataclass, field
 
-from .board_kernel import BoardKernel
+from .kernel import BoardKernel
 from .field import Field
 from .runs import called, writes
 

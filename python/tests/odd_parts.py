@@ -1,60 +1,19 @@
-"""Parts that aren't as they should be, as FakeKernel hears them: the proved part, with one thing in front of it that differs."""
+"""Parts that aren't as they should be, as FakeKernel hears them: the part of kernel.py, with one thing in front of it that differs."""
 import errno
 
-from pmhost import ModelPart, Output, PartRefused, ideal, pec
+from pmhost import pec
+
+from .kernel import Lacking, Part, WithoutMinimum as NoMinimum
 
 ADDRESS = 0x58
-CLEAR_FAULTS, PAGE_PLUS_WRITE, PAGE_PLUS_READ, ON_OFF_CONFIG = 0x03, 0x05, 0x06, 0x02
-WRITE_PROTECT, VOUT_MODE, VOUT_COMMAND, VOUT_MIN, STATUS_CML = 0x10, 0x20, 0x21, 0x2B, 0x7E
-# The word of VOUT_COMMAND of each output as it starts.
-COMMANDS = (0x1000, 0x1200)
+CLEAR_FAULTS, PAGE_PLUS_READ, ON_OFF_CONFIG = 0x03, 0x06, 0x02
+VOUT_MODE, VOUT_COMMAND, STATUS_CML = 0x20, 0x21, 0x7E
 
 
-class Proved:
-    """The proved part. An answer is a list of bytes with the read address first, None where the part doesn't acknowledge; a
-    write that it refuses is acknowledged all the same."""
+class Proved(Part):
+    """A part as it should be, its outputs at two voltages."""
 
-    refusal = errno.EREMOTEIO
-    commands = COMMANDS
-
-    def __init__(self, address=ADDRESS):
-        self.address, self.part = address, ModelPart(address, [Output(command=word) for word in self.commands])
-        self.lines = []
-
-    def restart(self):
-        self.part.restart()
-
-    def hear(self, frame, ending):
-        self.lines.append(" ".join(f"{byte:02X}" for byte in frame) + (" /" if ending == "restart" else ""))
-        frame = bytes(frame)
-        return self.asked(frame) if ending == "restart" else self.written(frame)
-
-    def hear_stranger(self, frame, ending):
-        """What it answers to a frame that arrives at another address: nothing."""
-        return list(self.part.hear(bytes(frame), ending == "restart")) or None
-
-    def asked(self, request):
-        """The answer to a request."""
-        try:
-            return list(ideal.answer(self.part, request) or self.part.hear(request, True)) or None
-        except PartRefused:
-            return None
-
-    def written(self, frame):
-        """What became of a write."""
-        try:
-            self.part.hear(frame)
-        except PartRefused:
-            pass
-        return []
-
-    def word(self):
-        return f"{self.part.word(0, 'VOUT_COMMAND'):04X}"
-
-    def answer(self, request, payload):
-        """An answer of these bytes, with its packet error code."""
-        came = [self.address << 1 | 1, *payload]
-        return [*came, pec(bytes([*request, *came]))]
+    starts = (0x1000, 0x1200)
 
 
 class Exchanged(Proved):
@@ -66,7 +25,7 @@ class Exchanged(Proved):
     def asked(self, request):
         self.asked_for_mode += request[1:2] + request[3:5] == bytes([PAGE_PLUS_READ, 0, VOUT_MODE])
         if self.asked_for_mode == 2:
-            self.part = ModelPart(self.address, [Output(mode=0x15, command=0x0800) for _ in self.commands])
+            self.make([0x15, 0x15], (1, 0, 3), self.address, 0, VOUT_COMMAND=0x0800)
         return super().asked(request)
 
 
@@ -100,7 +59,7 @@ class AlwaysOn(Named):
 class PageBlind(Proved):
     """PAGE_PLUS reaches output 0, whatever the page."""
 
-    commands = (0x1000,)
+    starts = (0x1000,)
 
     def asked(self, request):
         if request[1] != PAGE_PLUS_READ:
@@ -112,14 +71,14 @@ class PageBlind(Proved):
 class PageBlindTwice(PageBlind):
     """Output 0 answers in the place of each of two outputs."""
 
-    commands = COMMANDS
+    starts = Proved.starts
 
 
 class WithoutPec(Proved):
     """No answer has a packet error code: the lines are high in its place."""
 
-    def asked(self, request):
-        found = super().asked(request)
+    def hear(self, frame, ending):
+        found = super().hear(frame, ending)
         return found and found[:-1]
 
 
@@ -181,19 +140,10 @@ class WithoutStatus(Proved):
         return None if request[1] == STATUS_CML else super().asked(request)
 
 
-class Lacking(Proved):
-    """Registers by PAGE_PLUS that aren't acknowledged, each of some outputs."""
-
-    lacks = ()
-
-    def asked(self, request):
-        return None if request[1] == PAGE_PLUS_READ and (request[3], request[4]) in self.lacks else super().asked(request)
-
-
-class WithoutMinimum(Lacking):
+class WithoutMinimum(NoMinimum):
     """It has no VOUT_MIN."""
 
-    lacks = ((0, VOUT_MIN), (1, VOUT_MIN))
+    starts = Proved.starts
 
 
 class WithoutMinimumAsHigh(WithoutMinimum):
@@ -206,7 +156,7 @@ class WithoutMinimumAsHigh(WithoutMinimum):
 class WithoutCommand(Lacking):
     """Output 1 has no VOUT_COMMAND."""
 
-    lacks = ((1, VOUT_COMMAND),)
+    starts, lacks = Proved.starts, ((1, VOUT_COMMAND),)
 
 
 class Vid(Proved):
@@ -253,7 +203,7 @@ class Gone(Proved):
     """It acknowledges, and answers nothing but FFh. At 4Ah that is a right answer for WRITE_PROTECT by its packet error code."""
 
     def __init__(self):
-        super().__init__(0x4A)
+        super().__init__(address=0x4A)
 
     def asked(self, request):
         return [self.address << 1 | 1]
@@ -263,8 +213,7 @@ class Protected(Proved):
     """WRITE_PROTECT is 80h."""
 
     def __init__(self):
-        super().__init__()
-        self.part = ModelPart(ADDRESS, [Output(command=word) for word in self.commands], protect=0x80)
+        super().__init__(protect=0x80)
 
 
 class Telemetry(Proved):
@@ -276,11 +225,11 @@ class Telemetry(Proved):
     by_device = {0x7C: 0x80, 0x89: 0xC280, 0x8E: 0xE64C}
     readings = (("READ_VOUT", 0x34CD), ("READ_IOUT", 0xD320)), (("READ_VIN", 0xD300), ("READ_TEMPERATURE_1", 0xE64C))
 
-    def __init__(self, address=ADDRESS):
-        super().__init__(address)
+    def __init__(self, address=ADDRESS, **more):
+        super().__init__(address=address, **more)
         for output, them in zip((0, None), self.readings):
             for name, word in them:
-                self.part.set_reading(output, name, word)
+                self.converter.set_reading(output, name, word)
 
     def asked(self, request):
         found = None
@@ -299,13 +248,11 @@ class Telemetry(Proved):
 class DirectTelemetry(Telemetry):
     """Its outputs are DIRECT, and COEFFICIENTS answers for READ_IOUT with others; for READ_TEMPERATURE_1 with a slope of 0."""
 
+    readings = (("READ_VOUT", 0x0CE4), ("READ_IOUT", 0x04E2)), (("READ_VIN", 0x2EE0), ("READ_TEMPERATURE_1", 0x00FF))
+
     def __init__(self, address=ADDRESS):
-        super().__init__(address)
-        self.part = ModelPart(address, [Output(0x40, command=0x0FA0, max=0x2710, high=0x1000, low=0x0F00, min=0)], (1000, 0, 0))
-        for name, word in (("READ_VOUT", 0x0CE4), ("READ_IOUT", 0x04E2)):
-            self.part.set_reading(0, name, word)
-        for name, word in (("READ_VIN", 0x2EE0), ("READ_TEMPERATURE_1", 0x00FF)):
-            self.part.set_reading(None, name, word)
+        super().__init__(address, modes=[0x40], coefficients=(1000, 0, 0), VOUT_COMMAND=0x0FA0, VOUT_MAX=0x2710, VOUT_MARGIN_HIGH=0x1000,
+                         VOUT_MARGIN_LOW=0x0F00, VOUT_MIN=0)
 
     def asked(self, request):
         if request[1:2] == b"\x30" and request[3:] in (b"\x8C\x01", b"\x8D\x01"):

@@ -7,7 +7,7 @@ A file has a block for each run, a blank line between them. The lines of a block
     mishaps: M M*3 ..    what befalls the transfers (kernel.py), one of them three times here
     part: KIND [M M ..] [coefficients m b R]     the kind of part, and VOUT_MODEs in hexadecimal; `odd.KIND` of odd_parts.py,
                          `busy.KIND` of busy.py, `field.Field` of field.py
-    board: BUS ADDRESS KIND ..                   one of several parts (board_kernel.py), in the place of `part`
+    board: BUS ADDRESS KIND ..                   one of several parts (kernel.py), in the place of `part`
     cell: O REG WORD     a word that the part holds at first; of one of several parts with its address in front
     fault: WHAT ERRNO    the kernel's error for `open`, `slave` or `lock`
     functions: HEX       the adapter's functions
@@ -20,6 +20,8 @@ A file has a block for each run, a blank line between them. The lines of a block
     volts: V V ..        at how many volts the rails of such a part are behind the run
     status: N            the status
     out: TEXT, err: TEXT     a line of standard output, of standard error
+
+A block that begins with `setup: NAME` is no run: its lines stand in each later block that has `like: NAME`, in the place of that line.
 """
 import contextlib
 import errno
@@ -38,7 +40,7 @@ from pmhost.bus.linux import I2C_FUNC_I2C, I2C_SLAVE
 from pmhost.values import CODES
 
 from . import kernel
-from .board_kernel import BoardKernel
+from .kernel import BoardKernel
 
 
 class Clock:
@@ -129,7 +131,7 @@ class Run:
             found = BoardKernel(buses, self.mishaps.split(), faults=self.faults)
         else:
             found = kernel.FakeKernel(parts[7, 0x58], self.mishaps.split(), self.faults, self.functions)
-        found.strikes_looks = self.looks == "struck"
+        found.strikes_looks, found.is_shared = self.looks == "struck", "--share-bus" in self.words.split()
         return found
 
     def made_part(self):
@@ -157,16 +159,19 @@ def made(words, **more):
 
 def blocks(name):
     """The runs of a file."""
-    found = []
+    found, setups = [], {}
     with open(os.path.join(DATA, name), encoding="utf-8") as text:
         for number, block in enumerate(text.read().split("\n\n")):
-            lines = [line for line in block.splitlines() if line and not line.startswith("#")]
+            pairs = [(key, rest[1:]) for key, _, rest in (line.partition(":") for line in block.splitlines() if line and not line.startswith("#"))]
+            lines = [pair for key, rest in pairs for pair in (setups[rest] if key == "like" else [(key, rest)])]
             if not lines:
                 continue
+            if lines[0][0] == "setup":
+                setups[lines[0][1]] = lines[1:]
+                continue
             run = Run(f"{name} {number}")
-            for line in lines:
-                key, _, rest = line.partition(":")
-                run.take(key, rest[1:])
+            for key, rest in lines:
+                run.take(key, rest)
             found.append(run)
     return found
 

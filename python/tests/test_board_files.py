@@ -13,7 +13,7 @@ from pmhost.rails import SETTINGS
 from pmhost.values import CODES
 
 from . import kernel, odd_parts
-from .board_kernel import BoardKernel
+from .kernel import BoardKernel
 from .runs import called
 from .seeded import seeded
 from .test_boards import FATES, PART_BOARDS, Rail, Watched
@@ -159,7 +159,7 @@ class Files(unittest.TestCase):
     """Boards by hand: two parts of one bus, u12 and u13, and one of another, u14."""
 
     def setUp(self):
-        self.parts = {"u12": odd_parts.Named(0x4F), "u13": kernel.Part(address=0x50), "u14": kernel.Part(address=0x4F)}
+        self.parts = {"u12": odd_parts.Named(address=0x4F), "u13": kernel.Part(address=0x50), "u14": kernel.Part(address=0x4F)}
         self.text = "\n".join([table_of("u12", 7, 0x4F, 2, 'model = "LTC3880"'), table_of("u13", 7, 0x50, 2), table_of("u14", 8, 0x4F, 1),
                                *(RAIL.format(name=name, part=part, output=output)
                                  for name, part, output in (("core", "u12", 0), ("io", "u13", 1), ("pll", "u14", 0)))])
@@ -210,7 +210,7 @@ class Files(unittest.TestCase):
     def test_no_part_is_written_to_where_one_is_another_or_not_there(self):
         self.parts["u12"].blocks = {0x9A: b"LTC3887"}
         over = self.over()
-        del over.wires[8].parts[0x4F]
+        del over.buses[8].parts[0x4F]
         for options in ((), ("--dry-run",)):
             status, out, err = applied(self.text, over, *options)
             self.assertEqual((status, out), (1, ""))
@@ -244,7 +244,7 @@ class Files(unittest.TestCase):
     def test_a_store_goes_to_each_part_that_has_rails(self):
         text = self.text + "\n" + table_of("u15", 8, 0x50, 1)
         over = self.over()
-        over.wires[8].parts[0x50] = spare = kernel.Part(address=0x50)
+        over.buses[8].parts[0x50] = spare = kernel.Part(address=0x50)
         status, out, err = applied(text, over, "--store")
         self.assertEqual((status, err, out.splitlines()[-1]),
                          (0, "", "apply: store of u12, u13, u14 acknowledged; a restart loads what was stored, if no pin overrides it, which "

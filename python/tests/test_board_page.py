@@ -19,7 +19,7 @@ from pmhost.survey import Commanded
 from pmhost.values import CODES
 
 from . import kernel, odd_parts
-from .board_kernel import BoardKernel
+from .kernel import BoardKernel
 from .running import DATA, ROOT, stored
 from .runs import called
 from .test_boards import Watched
@@ -65,7 +65,7 @@ class Examples(unittest.TestCase):
 
     def test_the_board_with_several_parts(self):
         text = section("board-file", "A board with several parts")
-        over = BoardKernel({1: {0x4F: odd_parts.Named(0x4F)}, 2: {0x4F: kernel.Part((0x14,), address=0x4F)}})
+        over = BoardKernel({1: {0x4F: odd_parts.Named(address=0x4F)}, 2: {0x4F: kernel.Part((0x14,), address=0x4F)}})
         with tempfile.NamedTemporaryFile("w", suffix=".toml") as file:
             file.write(blocks(text, "toml")[0])
             file.flush()

@@ -47,7 +47,7 @@ class Linux(unittest.TestCase):
         pmbus = free(Device(bus, ADDRESS))
         pmbus.learn(0)
         bus.close()
-        self.over.opened = 1
+        self.over.files[kernel.FIRST_FILE + 1] = 7
         for call in (lambda: bus.write(FRAME), lambda: bus.read(REQUEST, 4)):
             with self.assertRaisesRegex(NoTransfer, "the bus is closed") as raised:
                 call()

@@ -15,7 +15,7 @@ from pmhost.faults import heard_by
 
 from . import running
 from .data.capture_rows import (ADDRESSED, CAPTURES, COUNTS, ENDLESS, FAILED, FAULTY, FAULTY_WAVEFORM, FRAMES, NO_COMMANDS,
-                                READINGS, REFUSED, SHORT, STAND_IN, TIMES, TRANSFERS, UNDRAWN, UNTIMED, WRONG)
+                                READINGS, REFUSED, SHORT, STAND_IN, TIMES, TRANSFERS, UNDRAWN, UNTIMED, WAVEFORM, WRONG)
 from .running import DATA, EXAMPLES, called, needs, needs_tool, pmhost, stored
 
 FOLDER = os.path.join(DATA, "captures")
@@ -43,11 +43,10 @@ class Waveforms(unittest.TestCase):
     """The stored waveforms are those of the packets, and what sigrok-cli makes of them."""
 
     def test_waveforms_are_drawn_from_their_packets(self):
-        faulty = waveform(capture("faults.bus"))
-        self.assertEqual(hashlib.sha256(faulty.encode()).hexdigest(), FAULTY_WAVEFORM)
-        for text, drawn in (stored(EXAMPLES, "bus.trace"), capture("bus.vcd")), (capture("faults.bus"), faulty):
+        for text, wanted in (stored(EXAMPLES, "bus.trace"), WAVEFORM), (capture("faults.bus"), FAULTY_WAVEFORM):
             with self.subTest(text):
-                self.assertEqual(waveform(text), drawn)
+                drawn = waveform(text)
+                self.assertEqual(hashlib.sha256(drawn.encode()).hexdigest(), wanted)
                 self.assertEqual(pmhost("capture", "waveform", text=text), (0, drawn, ""))
 
     def test_bytes_need_no_spaces_between_them(self):
@@ -62,9 +61,10 @@ class Waveforms(unittest.TestCase):
 
     @needs_tool("sigrok-cli")
     def test_sigrok_reads_them_as_stored(self):
-        for drawn, options, wanted in ((capture("bus.vcd"), [], "bus.sigrok"), (capture("kernel.vcd"), [], "kernel.sigrok"),
+        bus = waveform(stored(EXAMPLES, "bus.trace"))
+        for drawn, options, wanted in ((bus, [], "bus.sigrok"), (capture("kernel.vcd"), [], "kernel.sigrok"),
                                        (waveform(capture("faults.bus")), [], "faults.sigrok"),
-                                       (capture("bus.vcd"), ["--protocol-decoder-samplenum"], "bus.samples")):
+                                       (bus, ["--protocol-decoder-samplenum"], "bus.samples")):
             with self.subTest(wanted), tempfile.NamedTemporaryFile("w", suffix=".vcd") as file:
                 file.write(drawn)
                 file.flush()
@@ -72,7 +72,10 @@ class Waveforms(unittest.TestCase):
                                       "i2c:scl=SCL:sda=SDA:address_format=unshifted", "-A", "i2c=addr-data", *options],
                                      capture_output=True, text=True)
                 self.assertEqual(ran.stdout, capture(wanted), ran.stderr)
-        shown = subprocess.run(["sigrok-cli", "-i", os.path.join(FOLDER, "bus.vcd"), "--show"], capture_output=True, text=True)
+        with tempfile.NamedTemporaryFile("w", suffix=".vcd") as file:
+            file.write(bus)
+            file.flush()
+            shown = subprocess.run(["sigrok-cli", "-i", file.name, "--show"], capture_output=True, text=True)
         self.assertIn("Samplerate: 1000000\n", shown.stdout)
 
 

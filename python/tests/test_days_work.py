@@ -7,7 +7,7 @@ import unittest
 
 from pmhost import pec
 
-from .board_kernel import BoardKernel
+from .kernel import BoardKernel
 from .field import Field
 from .runs import CLOCK, called
 from .test_patience import as_shipped
@@ -67,7 +67,7 @@ DAY = (
     ("margin board.toml core low + on board.toml core", 0, "margin core: OPERATION 98 on, margin low confirmed; the output commands 1V",
      "on core: OPERATION 80 on confirmed; the output commands 1.058593V"),
     ("why board.toml pll", 0, "why pll: it is on: READ_VOUT is 0.949951V"),
-    ("why board.toml", 0, "why core: ", "why io: ", "why pll: "),
+    ("why board.toml", 1, "why core: VOUT_COMMAND is 1.058593V, and the file says 1.05V: `apply ", "why io: it is on: ", "why pll: it is on: "),
     ("read board.toml pll VOUT_OV_FAULT_LIMIT", 0, "read pll: VOUT_OV_FAULT_LIMIT"),
     ("read board.toml core READ_VOUT", 0, "READ_VOUT 10F0 1.058593V"),
     ("apply board.toml --store", 0, "store of u12 acknowledged; a restart loads what was stored"),

@@ -6,7 +6,7 @@ import subprocess
 import tempfile
 import unittest
 
-from .board_kernel import BoardKernel
+from .kernel import BoardKernel
 from .field import Field
 from .running import is_there, path_of
 from .runs import called

@@ -202,14 +202,20 @@ class Whys(unittest.TestCase):
     def test_what_is_read_of_which_output(self):
         asked, learned = [], SimpleNamespace(missing={}, unended="")
         host = SimpleNamespace(address=0x58, format=lambda _: None, check=lambda *at: asked.append(at))
-        part = SimpleNamespace(host=host, bus=None, run=lambda: None)
+        part, learned.is_on, learned.only_word = SimpleNamespace(host=host, bus=None, run=lambda: None, lacks=frozenset()), None, lambda _: None
 
         def read(bus, address, output, name, form):
             asked.append((output, name))
             return Reading(name, 1, bits=["VOUT", "CML", "INPUT"] if name == "STATUS_WORD" else [])
         with mock.patch.multiple(why, read=read, survey=lambda *_: learned, commanded=lambda *_: learned):
             self.assertIs(why.findings(part, 1).state, learned)
-        self.assertEqual(asked, [(1, "STATUS_WORD"), (1, "STATUS_VOUT"), (None, "STATUS_CML"), (1, "STATUS_INPUT"), (1, "ON_OFF_CONFIG"), (None, "READ_VIN"),
+        told = [*asked, asked.clear()][:-1]
+        part.lacks = {"STATUS_WORD", "READ_VOUT"}
+        with mock.patch.multiple(why, read=read, survey=lambda *_: learned, commanded=lambda *_: learned):
+            why.findings(part, 1)
+        self.assertEqual([name for _, name in asked], ["ON_OFF_CONFIG", "READ_VIN", "VOUT_OV_FAULT_LIMIT", "VOUT_UV_FAULT_LIMIT", "POWER_GOOD_ON",
+                                                       "WRITE_PROTECT"])
+        self.assertEqual(told, [(1, "STATUS_WORD"), (1, "STATUS_VOUT"), (None, "STATUS_CML"), (1, "STATUS_INPUT"), (1, "ON_OFF_CONFIG"), (None, "READ_VIN"),
                                  (1, "READ_VOUT"), (1, "VOUT_OV_FAULT_LIMIT"), (1, "VOUT_UV_FAULT_LIMIT"), (1, "POWER_GOOD_ON"), (0, "WRITE_PROTECT")])
 
 
@@ -217,7 +223,7 @@ class Whys(unittest.TestCase):
         for bits, config, said in ((["MFR_SPECIFIC", "OFF"], 0x02, "no fault of the standard is noted: STATUS_MFR_SPECIFIC is 5A: the data sheet has its bits"),
                                    (["OFF"], 0x02, "no register says why: "), (["MFR_SPECIFIC", "OFF"], 0x1E, "no fault is noted: ON_OFF_CONFIG is 1E, by which the "),
                                    (["MFR_SPECIFIC", "OFF"], None, "no fault is noted: whether its CONTROL (RUN) pin counts isn't known")):
-            seen = why.Findings(0, SimpleNamespace(), {"STATUS_WORD": Reading("STATUS_WORD", 0x40, bits=bits),
+            seen = why.Findings(why.Place("0"), SimpleNamespace(), {"STATUS_WORD": Reading("STATUS_WORD", 0x40, bits=bits),
                                                        "STATUS_MFR_SPECIFIC": Reading("STATUS_MFR_SPECIFIC", 0x5A)})
             with self.subTest(bits=bits, config=config):
                 self.assertEqual(why.why_off(seen, config)[:len(said)], said)

@@ -15,7 +15,7 @@ from pmhost.readings import Reading
 from pmhost.reads import Read
 from pmhost.states import Known
 from pmhost.survey import Commanded
-from pmhost.why import Findings
+from pmhost.why import Findings, Place
 
 
 class Call:
@@ -98,13 +98,13 @@ class Answers(unittest.TestCase):
 class Causes(unittest.TestCase):
     def ran(self, because, bits, status=0x40, possible=(0x80,)):
         """The status of `why 1`, its answer and its lines."""
-        state = Commanded(cells={"OPERATION": Known(1, "OPERATION", None, possible), "WRITE_PROTECT": Known(None, "WRITE_PROTECT", None, (0x40,))})
+        state = Commanded(is_on="OFF" not in bits, cells={"OPERATION": Known(1, "OPERATION", None, possible), "WRITE_PROTECT": Known(None, "WRITE_PROTECT", None, (0x40,))})
         found = {"STATUS_WORD": Reading("STATUS_WORD", status, bits=bits), **{name: Reading(name, 1) for name in why.BESIDE},
                  "READ_VOUT": Reading("READ_VOUT", 0x1000, value=Decimal(1))}
         lines, said = [], []
         part = SimpleNamespace(host=SimpleNamespace(restart_seen=False))
-        call = SimpleNamespace(part=lambda: part, is_json=False, named=None, say_lines=lines.extend, say=lambda it: said.append(it) or it.status)
-        with mock.patch.multiple(why, findings=lambda *_: Findings(1, state, found), cause=lambda _: because):
+        call = SimpleNamespace(part=lambda: part, is_json=False, named=None, looks=None, say_lines=lines.extend, say=lambda it: said.append(it) or it.status)
+        with mock.patch.multiple(why, findings=lambda *_: Findings(Place("1"), state, found), cause=lambda _: because):
             ended = why.why(argparse.Namespace(call=call, output=1, command="why", said="why 1"))
         return ended, said[0], lines
 

@@ -7,7 +7,7 @@ from unittest import mock
 
 from pmhost import clock
 
-from .board_kernel import BoardKernel
+from .kernel import BoardKernel
 from .runs import called
 from .test_margin_tests import BOARD
 from .test_sequences import ORDER, Watched

@@ -11,7 +11,7 @@ import unittest
 from pmhost import ModelPart, ModelPartBus, Output
 from pmhost.bus.linux import ENDING
 
-from .board_kernel import BoardKernel
+from .kernel import BoardKernel
 from .runs import called
 from .test_board_files import table_of
 

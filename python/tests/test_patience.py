@@ -10,10 +10,9 @@ from pmhost import Host, LinuxBus, PatientBus, Transfers, clock, pec
 from pmhost.bus import patient
 
 from . import runs
-from .board_kernel import BoardKernel
 from .busy import Deaf30, Timed
 from .field import Field
-from .kernel import FakeKernel, Part
+from .kernel import BoardKernel, FakeKernel, Part
 from .odd_parts import Proved
 
 FRAME, REQUEST = bytes.fromhex("B0050400 21CD345A"), bytes.fromhex("B006020021")

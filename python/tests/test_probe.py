@@ -99,10 +99,10 @@ class Frames(unittest.TestCase):
         said = []
 
         class Listening(FakeKernel):
-            def transfer(self, messages):
-                if messages[0].addr == ADDRESS:
+            def transfer(self, number, messages):
+                if messages[0].address == ADDRESS:
                     said.append("transfer")
-                return super().transfer(messages)
+                return super().transfer(number, messages)
 
         with mock.patch("pmhost.cli.probe.complain", said.append):
             runs.called(["-b", "7", "-a", "58", "probe", "--writes"], Listening(Proved()))

@@ -248,7 +248,7 @@ def judged(meant, run):
             strange.append(took)
     for cell in dict.fromkeys(cell for cell, _ in meant):
         last = [word for each, word in meant if each == cell][-1]
-        after = [at for at in run.restarts if at > run.named.get(cell, 0) or at == run.named.get(cell, 0) and run.fault == "restarted"]
+        after = [at for at in run.restarts if at > run.named.get(cell, 0) or at == run.named.get(cell, 0) and (at, "restarted") in run.faults]
         if run.is_success and run.held[cell] != last and not after:
             lost.append((cell, run.held[cell], last))
     return wrong, strange, lost
@@ -262,7 +262,8 @@ class Verdicts(unittest.TestCase):
         held = {cell: draw.choice(words) for cell in CELLS} | {it.cell: it.word for it in took if draw.random() < 0.9}
         named = {cell: draw.randrange(1, 7) for cell in CELLS if draw.random() < 0.8}
         restarts = sorted(draw.sample(range(1, 8), draw.choice((0, 0, 1, 2))))
-        return Run(1, draw.choice(("ok", "restart:0", "restarted")), [], took, held, named, restarts, draw.choice((0, 0, 0, 1, None)))
+        faults = tuple((at, draw.choice(("restart:0", "restarted"))) for at in restarts)
+        return Run(faults, [], took, held, named, restarts, {}, draw.choice((0, 0, 0, 1, None)))
 
     @seeded(3)
     def test_each_verdict_is_the_plain_one_s(self, draw):
@@ -281,7 +282,7 @@ class Verdicts(unittest.TestCase):
                 self.assertEqual(([took for took, _ in verdict.wrong], verdict.strange, sorted(verdict.lost)),
                                  ([took for took, _ in wrong], strange, sorted(lost)))
                 self.assertTrue(all(other in others for (_, other), (_, others) in zip(verdict.wrong, wrong)), verdict.wrong)
-                self.assertEqual(verdict.is_bad, bool(wrong or lost or run.status is None))
+                self.assertEqual(verdict.is_bad, bool(wrong or lost or not run.is_ended))
             for name, them in (("wrong", wrong), ("strange", strange), ("lost", lost)):
                 seen[name] += bool(them)
         self.assertGreater(min(seen.values()), 0, seen)

@@ -8,7 +8,7 @@ from types import SimpleNamespace
 from pmhost.cli.protection import Protection
 from pmhost.errors import refusal
 
-from .board_kernel import BoardKernel
+from .kernel import BoardKernel
 from .field import Field
 from .runs import called, writes
 

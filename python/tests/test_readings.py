@@ -40,7 +40,7 @@ CODES = {
     "STATUS_WORD": 0x79, "STATUS_VOUT": 0x7A, "STATUS_IOUT": 0x7B, "STATUS_INPUT": 0x7C, "STATUS_TEMPERATURE": 0x7D, "STATUS_CML": 0x7E,
     "STATUS_OTHER": 0x7F, "STATUS_MFR_SPECIFIC": 0x80, "STATUS_FANS_1_2": 0x81, "STATUS_FANS_3_4": 0x82, "ON_OFF_CONFIG": 0x02,
     "VOUT_OV_FAULT_LIMIT": 0x40, "VOUT_OV_WARN_LIMIT": 0x42, "VOUT_UV_WARN_LIMIT": 0x43, "VOUT_UV_FAULT_LIMIT": 0x44, "POWER_GOOD_ON": 0x5E,
-    "POWER_GOOD_OFF": 0x5F,
+    "POWER_GOOD_OFF": 0x5F, "TON_DELAY": 0x60, "TON_RISE": 0x61, "TON_MAX_FAULT_LIMIT": 0x62,
 }
 
 
@@ -77,7 +77,7 @@ class Codes(unittest.TestCase):
             "SMBALERT_MASK", "COEFFICIENTS", "READ_KWH_IN", "READ_KWH_OUT", "READ_KWH_CONFIG", "MFR_SPECIFIC_COMMAND_EXT", "PMBUS_COMMAND_EXT"})
 
     def test_sizes_by_hand(self):
-        rows = {"PAGE": "00 byte", "VOUT_OV_FAULT_RESPONSE": "41 byte", "OT_FAULT_LIMIT": "4F word", "TON_DELAY": "60 word", "MFR_SERIAL": "9E block",
+        rows = {"PAGE": "00 byte", "VOUT_OV_FAULT_RESPONSE": "41 byte", "OT_FAULT_LIMIT": "4F word", "TOFF_DELAY": "64 word", "MFR_SERIAL": "9E block",
                 "MFR_VOUT_MAX": "A5 word", "USER_DATA_15": "BF block", "PMBUS_REVISION": "98 byte", "READ_EIN": "86 block", "MFR_MAX_TEMP_1": "C0 word"}
         for name, wanted in rows.items():
             self.assertEqual(f"{codes.CODES[name].code:02X} {codes.CODES[name].kind}", wanted)

@@ -6,7 +6,7 @@ import unittest
 from pmhost import Course, Device, Differs, Host, HostRefused, LimitRefused, PlanRefused, Voltage
 
 from . import field_rounding
-from .board_kernel import BoardKernel
+from .kernel import BoardKernel
 from .field import ADDRESS, Field, FieldBus
 from .fixtures import free
 from .runs import called, writes

@@ -10,8 +10,7 @@ from pmhost.bus import LinuxBus
 from pmhost.bus.linux import NoTransfer
 from pmhost.reserved import RESERVED, why_reserved
 
-from .board_kernel import BoardKernel
-from .kernel import Part
+from .kernel import BoardKernel, Part
 from .odd_parts import Named
 
 

@@ -13,7 +13,7 @@ from pmhost.sequence import in_order, milliseconds
 from pmhost.values import CODES
 
 from . import kernel
-from .board_kernel import BoardKernel
+from .kernel import BoardKernel
 from .running import ROOT, stored
 from .runs import called
 from .test_board_page import blocks

@@ -9,7 +9,7 @@ from pmhost.picture import drawing
 from pmhost.picture.lane import INSIDE, SHADE
 from pmhost.picture.stairs import GRID, HIGH
 
-from .board_kernel import BoardKernel
+from .kernel import BoardKernel
 from .drawn import SVG, Drawn, layout_faults
 from .runs import called
 from .test_board_files import table_of

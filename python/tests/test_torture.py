@@ -17,13 +17,15 @@ from pmhost import cli
 from pmhost.faults import FaultyBus, Struck, read_faults
 from pmhost.packets import pec
 from pmhost.part import ModelPart
-from pmhost.torture import KINDS, Judge, Program, Run, Unjudged, drawn_faults
+from pmhost.torture import KINDS, Judge, Program, Run, Unjudged, causes, drawn_faults, drawn_pairs
+from pmhost.torture.causes import STALE
 from pmhost.torture.i2c_dev import Message
 from pmhost.torture.below import NoBench, preload
 from pmhost.torture.server import Server
+from pmhost.torture.transfer_text import line
 from pmhost.torture.verdict import Verdict
 from pmhost.torture.watched import Took, WatchedPart, read_meant, start_of
-from .running import needs_tool
+from .running import around, command, needs_tool
 
 # A host in the words of a Linux program: transfers of messages by I2C_RDWR, with packet error codes.
 HOST = '''
@@ -79,6 +81,29 @@ for output, low, high in ((0, 0x34, 0x12), (1, 0x45, 0x23)):
     if read([0x06, 0x02, output, 0x21], 3) != bytes([2, low, high]):
         sys.exit(1)
 '''
+# It tries three times, reads back, and takes PAGE for what it wrote last.
+CACHED = HOST + SMBUS + '''
+fcntl.ioctl(file, 0x0703, 0x58)
+fcntl.ioctl(file, 0x0708, 1)
+page = None
+def tried(*words):
+    for turn in range(3):
+        try:
+            return smbus(*words)
+        except OSError:
+            if turn == 2:
+                raise
+for output, code, word in ((0, 0x21, 0x1234), (1, 0x21, 0x2345), (0, 0x25, 0x1357)):
+    for _ in range(3):
+        if page != output:
+            tried(0, 0x00, 2, output)
+            page = output
+        tried(0, code, 3, word)
+        if tried(1, code, 3).word == word:
+            break
+    else:
+        sys.exit(1)
+'''
 
 
 def setUpModule():
@@ -111,12 +136,14 @@ class Programs(unittest.TestCase):
     def test_a_host_that_selects_by_page_puts_a_word_on_a_wrong_output(self):
         status, out, _ = tortured(BY_PAGE, "--again", "4:false")
         self.assertEqual(status, 1)
-        self.assertIn("transfer 4 false: status 0, well: WRONG: output 0 VOUT_COMMAND took 2345, which was meant for output 1, by transfer 5; "
+        self.assertIn("\n1 run, 1 WRONG, 1 FALSE: PAGE of the part wasn't the one that the program had written last\n  PAGE write 01 not heard: 4:false\n"
+                      "  transfer 4 false: status 0, well: WRONG: output 0 VOUT_COMMAND took 2345, which was meant for output 1, by transfer 5; "
                       "FALSE: the program ended well, and output 0 VOUT_COMMAND holds 2345 in place of 1234; FALSE: ", out)
-        self.assertIn("\n  B0 00 01 ED  false: part no, acknowledged\n  B0 21 45 23 43  ok: part taken, acknowledged\n", out)
+        self.assertIn("\n    3  VOUT_COMMAND read 1234 by PAGE 0\n    4  PAGE write 01 not heard, acknowledged (false)\n"
+                      "    5  VOUT_COMMAND write 2345 by PAGE 0\n", out)
         again = re.search(r"^  pmhost torture --again 4:false -- \S+python\S* -S -E \S+\.py$", out, re.M)
         self.assertTrue(again, out)
-        self.assertEqual(out.splitlines()[-1], "1 runs, 1 ended well: 1 with a word on a wrong output, 1 with a false success, 0 not ended; "
+        self.assertEqual(out.splitlines()[-1], "1 run, 1 ended well: 1 with a word on a wrong output, 1 with a false success, 0 not ended; "
                                                "0 with a word that was meant for none")
 
     def test_each_kind_and_as_many_runs_as_are_asked_for(self):
@@ -124,16 +151,50 @@ class Programs(unittest.TestCase):
         found = json.loads(out)
         self.assertEqual((status, found["runs"], found["wrong"]), (1, 12, 2))
         self.assertEqual(found["meant"], {"0:VOUT_COMMAND": "1234", "1:VOUT_COMMAND": "2345"})
-        self.assertEqual([(each["transfer"], each["fault"]) for each in found["bad"]], [(4, "false"), (5, "restart")])
+        self.assertEqual([each["faults"] for each in found["bad"]], [[{"transfer": 4, "fault": "false"}], [{"transfer": 5, "fault": "restart"}]])
+        self.assertEqual([each["cause"] for each in found["bad"]], [STALE] * 2)
         self.assertEqual(found["bad"][0]["wrong"], [{"cell": "0:VOUT_COMMAND", "word": "2345", "meant_for": 1, "by": 5}])
         self.assertEqual(len(found["bad"][0]["trace"]), 6)
         _, out, _ = tortured(BY_PAGE_PLUS, "--json", "--runs", "7", "--strike", "cut")
         self.assertEqual(json.loads(out)["runs"], 7)
 
+    def test_a_cached_page_is_one_paragraph(self):
+        """Of a host that doesn't write PAGE again while it has written it, whatever lost it, and though it tries and reads back."""
+        status, out, _ = tortured(CACHED, "--strike", "damaged,false,restart,restarted")
+        lines = out.splitlines()
+        self.assertEqual((status, lines[1]), (1, f"8 runs, 8 WRONG, 8 FALSE: {STALE}"))
+        self.assertEqual([each.split(":")[0] for each in lines[2:7]],
+                         [f"  PAGE write {page} {how}" for page, how in (("01", "refused"), ("01", "not heard"), ("01", "undone by a restart"),
+                                                                        ("00", "refused"), ("00", "not heard"))])
+        self.assertEqual(sum(" runs, " in each for each in lines), 2)
+
+    def test_pairs_of_faults(self):
+        _, out, _ = tortured(BY_PAGE, "--json", "--pairs", "6", "--strike", "false")
+        found = json.loads(out)
+        self.assertEqual((found["runs"], {len(each["faults"]) for each in found["bad"]}), (6, {2}))
+        self.assertTrue(all({"transfer": 4, "fault": "false"} in each["faults"] for each in found["bad"]), found["bad"])
+        status, out, _ = tortured(BY_PAGE, "--again", "5:twice,4:false")
+        self.assertEqual((status, "  transfer 4 false; transfer 5 twice: status 0, well: WRONG" in out), (1, True), out)
+        self.assertIn("PAGE write 01 not heard: 4:false,5:twice\n", out)
+
+    def test_a_daemon_is_judged_at_its_line(self):
+        """What it orders later is none of the run; it is ended by TERM, and one that ignores it by KILL."""
+        later = "    write(0x05, 0x04, 0, 0x21, 0x01, 0x00)\n"
+        for before, more in (("", ""), ("import signal\nsignal.signal(signal.SIGTERM, signal.SIG_IGN)\n", ""), ("", later)):
+            daemon = before + BY_PAGE + f"print('rails are up', flush=True)\nimport time\nwhile True:\n{more}    time.sleep(0.01)\n"
+            with self.subTest(before=before, more=more):
+                began = time.monotonic()
+                status, out, err = tortured(daemon, "--said", "rails are up", "--again", "4:false")
+                self.assertEqual((status, err, "  transfer 4 false: said so, well: WRONG" in out), (1, "", True), out)
+                self.assertIn("\n    6  VOUT_COMMAND read 2345 by PAGE 0\n  pmhost torture", out)
+                self.assertEqual(time.monotonic() - began > 4, bool(before))
+        status, out, _ = tortured(daemon, "--said", "rails are up", "--seconds", "2", "--again", "2:lost")
+        self.assertEqual((status, "status 1, badly: good" in out), (0, True), out)
+
     def test_a_program_that_says_how_it_went(self):
         said = BY_PAGE.replace("sys.exit(1)", "print('no')") + "print('rails: all well')\nsys.exit(3)\n"
         status, out, _ = tortured(said, "--said", "^rails: all", "--again", "4:false")
-        self.assertEqual((status, "status 3, well: WRONG" in out), (1, True))
+        self.assertEqual((status, "said so, well: WRONG" in out), (1, True))
         self.assertIn("--said '^rails: all' --again 4:false --", out)
         _, out, _ = tortured(said, "--said", "^rails: all", "--seconds", "60", "--meant", "1:21=2346", "--again", "4:false")
         self.assertIn("pmhost torture --said '^rails: all' --seconds 60 --meant 1:VOUT_COMMAND=2346 --again 4:false --", out)
@@ -185,13 +246,14 @@ assert smbus(1, 0x19, 2).byte == 0x80
 '''
         status, out, err = tortured(script, "--again", "7:garbled:1:0")
         self.assertEqual((status, err), (0, ""))
-        self.assertIn("transfer 7 garbled:1:0: status 1, badly: good\n", out)
-        self.assertIn("  B0 00 00 EA  ok: part taken, acknowledged\n  B0 21 34 12 63  ok: part taken, acknowledged\n  B0 21 read 3  ok: ", out)
+        self.assertIn("\n  transfer 7 garbled:1:0: status 1, badly: good\n", out)
+        self.assertIn("\n    1  PAGE write 00\n    2  VOUT_COMMAND write 1234 by PAGE 0\n    3  VOUT_COMMAND read 1234 by PAGE 0\n", out)
+        self.assertRegex(out, r"\n    7  CAPABILITY read [0-9A-F ]+ \(garbled:1:0\)\n")
 
 
-def run(took=(), held=None, named=None, restarts=(), status=0, fault="ok", number=1):
+def run(took=(), held=None, named=None, restarts=(), status=0, faults=()):
     """A run that is over, as the verdict reads it."""
-    return Run(number, fault, [], list(took), {(0, "VOUT_COMMAND"): 1, (1, "VOUT_COMMAND"): 2} | (held or {}), dict(named or {}), list(restarts),
+    return Run(tuple(faults), [], list(took), {(0, "VOUT_COMMAND"): 1, (1, "VOUT_COMMAND"): 2} | (held or {}), dict(named or {}), list(restarts), {},
                status, status == 0)
 
 
@@ -236,7 +298,7 @@ class Verdicts(unittest.TestCase):
         lost = {ONE: 0x10, TWO: 0x01}
         for named, restarts, fault, is_false in ((3, [4], "restart", False), (4, [4], "restarted", False), (4, [4], "restart", True),
                                                  (4, [4], "restart:2", True), (5, [4], "restart", True), (5, [4], "restarted", True)):
-            found = self.judged(held=lost, named={TWO: named}, restarts=restarts, fault=fault)
+            found = self.judged(held=lost, named={TWO: named}, restarts=restarts, faults=[(restarts[0], fault)])
             self.assertEqual(bool(found.lost), is_false, (named, restarts, fault))
 
     def test_what_a_caller_means(self):
@@ -303,6 +365,56 @@ class Watching(unittest.TestCase):
         every = [fault for _, fault in drawn_faults([write, request], KINDS, 0)]
         self.assertEqual(read_faults(" ".join(every)), every)
 
+    def test_pairs_strike_two_transfers(self):
+        some = [Struck(b"\xB0", None, "ok", "", "")] * 3
+        drawn = drawn_pairs(some, KINDS, 0, 50)
+        self.assertEqual((len(drawn), drawn), (50, drawn_pairs(some, KINDS, 0, 50)))
+        self.assertTrue(all(one[0] < other[0] for one, other in drawn))
+        self.assertNotEqual(drawn, drawn_pairs(some, KINDS, 1, 50))
+        self.assertEqual(drawn_pairs(some[:1], KINDS, 0, 50), [])
+
+    def test_a_transfer_in_words(self):
+        """What a frame says, what became of it, and by which PAGE it was heard."""
+        for frame, count, fault, heard, came, page, words in (
+                ("B0 00 01 ED", None, "false", "no", "acknowledged", None, "PAGE write 01 not heard, acknowledged (false)"),
+                ("B0 00 01 ED", None, "lost", "no", "not acknowledged", None, "PAGE write 01 not heard, not acknowledged (lost)"),
+                ("B0 00 01 EC", None, "ok", "refused K1 Frame F5 WrongPec 3", "acknowledged", 0,
+                 "PAGE write 01 EC refused K1 Frame F5 WrongPec 3, acknowledged"),
+                ("B0 21 34 12 63", None, "ok", "taken", "acknowledged", 1, "VOUT_COMMAND write 1234 by PAGE 1"),
+                ("B0 05 04 01 21 34 12 A6", None, "mute", "taken", "not acknowledged", 0, "output 1 VOUT_COMMAND write 1234, not acknowledged (mute)"),
+                ("B0 06 02 01 21", 4, "ok", "answer", "B1 02 34 12 2D", 0, "output 1 VOUT_COMMAND read 1234"),
+                ("B0 19", 2, "short:1", "answer", "", 0, "CAPABILITY read nothing (short:1)"),
+                ("B0 03 46", None, "ok", "taken", "acknowledged", 0, "CLEAR_FAULTS write"),
+                ("B0 DD 01 02", None, "ok", "taken", "acknowledged", 0, "DD write 01 02"),
+                ("B0", 2, "ok", "silent", "", None, "no code read nothing not heard")):
+            sent = bytes.fromhex(frame)
+            sent = sent if heard != "taken" or frame in ("B0 DD 01 02",) else sent[:-1] + bytes([pec(sent[:-1])])
+            back = bytes.fromhex(came) if count and came else b""
+            back = back and back[:-1] + bytes([pec(sent + back[:-1])])
+            with self.subTest(words):
+                self.assertEqual(line(Struck(sent, count, fault, heard, came, back), 7, page), f"  7  {words}")
+
+    def test_runs_of_one_cause_are_told_together(self):
+        """By what the faults did; a write that the part took as another page's is one cause, whatever lost PAGE."""
+        def verdict(frame, fault, heard, count=None, back=b""):
+            it = run(faults=[(1, fault)])
+            it.transfers = [Struck(bytes.fromhex(frame), count, fault, heard, "", back)]
+            return Verdict(it, lost=[(TWO, 1, 2)])
+        write, read = "B0 05 04 01 21 34 12 A6", "B0 06 02 01 21"
+        for each, words in ((verdict(write, "false", "no"), "VOUT_COMMAND write not heard"), (verdict(write, "damaged:5:1", "refused K1 Frame"),
+                            "VOUT_COMMAND write refused"), (verdict(write, "twice", "taken"), "VOUT_COMMAND write heard twice"),
+                            (verdict(write, "mute", "taken"), "VOUT_COMMAND write taken, not acknowledged"),
+                            (verdict(write, "restart:3", "taken"), "VOUT_COMMAND write cut by a restart"),
+                            (verdict(read, "restart", "answer", 4), "VOUT_COMMAND read after a restart"),
+                            (verdict(read, "restarted", "answer", 4), "VOUT_COMMAND read after which the part restarted"),
+                            (verdict(read, "ones", "answer", 4, b"\xB1\xFF"), "VOUT_COMMAND read answered wrongly"),
+                            (verdict(read, "mute", "answer", 4), "VOUT_COMMAND read without an answer")):
+            self.assertEqual([it.words for it in causes([each])], [words])
+        found = causes([verdict(write, "false", "no"), verdict(write, "lost", "no"), verdict(write, "twice", "taken"), Verdict(run())])
+        self.assertEqual([(it.line, it.lost) for it in found],
+                         [("2 runs, 2 FALSE: VOUT_COMMAND write not heard", {"output 1 VOUT_COMMAND write 34 12 A6 not heard": ["1:false", "1:lost"]}),
+                          ("1 run, 1 FALSE: VOUT_COMMAND write heard twice", {"output 1 VOUT_COMMAND write 34 12 A6 heard twice": ["1:twice"]})])
+
 
 class Answers(unittest.TestCase):
     def test_a_controller_clocks_as_many_bytes_as_it_wants(self):
@@ -319,7 +431,7 @@ class Answers(unittest.TestCase):
         self.assertEqual(server.transfer([Message(0x58, 0, 1, b"\x01")] * 2), (-95, []))
         self.assertEqual(server.transfer([Message(0x58, 1, 1)]), (1, [b"\xFF"]))
         self.assertEqual(server.transfer([Message(0x58, 0, 3, bytes.fromhex("00 01 ED"))]), (1, []))
-        self.assertEqual((part.page, part.number), (1, 2))
+        self.assertEqual((part.page, part.number), (1, 1))
 
     def test_what_an_adapter_says_of_a_transfer_that_failed(self):
         """No such device where nobody acknowledged the address, a remote I/O error where a byte behind it wasn't, or no answer came."""
@@ -381,7 +493,7 @@ class Preloading(unittest.TestCase):
                 file.write(script)
             found = Program([sys.executable, "-S", "-E", path], 2, said="^023412$").run(self.below)
         self.assertTrue(found.is_success)
-        self.assertEqual((found.status, [each.word for each in found.took], found.named), (0, [0x1234], {ONE: 2}))
+        self.assertEqual((found.status, [each.word for each in found.took], found.named), (None, [0x1234], {ONE: 2}))
 
     def ran(self, script, said=None, seconds=10):
         """The run of a script without a fault, and what it prints, to which its standard error belongs."""
@@ -390,6 +502,19 @@ class Preloading(unittest.TestCase):
             with open(path, "w", encoding="utf-8") as file:
                 file.write(script)
             return Program([sys.executable, "-S", "-E", path], 2, seconds, said).run(self.below)
+
+    def test_pmhost_by_the_calls_of_the_kernel_itself(self):
+        """Each word reaches its own output whatever befalls a transfer, and success is what the part holds."""
+        words = [*command("-b", "1", "-a", "58", "--outputs", "2", "--no-limit", "--busy-timeout", "0ms"), *"word 0 VOUT_COMMAND 14CD + clear 1".split()]
+        with unittest.mock.patch.dict(os.environ, around()):
+            host = Program(words, 2, 60)
+            whole = host.run(self.below)
+            judge = Judge(whole)
+            self.assertTrue(whole.is_success)
+            self.assertEqual([(it.cell, it.word) for it in whole.took], [((0, "VOUT_COMMAND"), 0x14CD)])
+            write = next(at for at, it in enumerate(whole.transfers, 1) if it.frame[1:2] == b"\x05")
+            for fault in "lost", "mute", "false", "restart":
+                self.assertEqual(judge.judge(host.run(self.below, write, fault)).words, "good", fault)
 
     def test_what_a_program_hears_of_a_part_that_is_not_there(self):
         """Messages and SMBus, each with the kernel's error, and what is read then."""
@@ -405,7 +530,7 @@ print("all told", file=sys.stderr)
 """
         found = self.ran(elsewhere, "^ENXIO ENXIO ENXIO ENXIO all told$")
         self.assertTrue(found.is_success)
-        self.assertEqual((found.status, found.transfers), (0, []))
+        self.assertEqual((found.status, found.transfers), (None, []))
 
     def test_a_wrong_packet_error_code_is_the_kernels_error(self):
         """EBADMSG of a call of SMBus, and not the word."""
@@ -422,7 +547,7 @@ except OSError as fault:
             with open(path, "w", encoding="utf-8") as file:
                 file.write(script)
             for fault, said in (("ok", f"^{start_of(2)[0].command:#x}$"), ("garbled:1:0", "^74$")):
-                self.assertTrue(Program([sys.executable, "-S", "-E", path], 2, said=said).run(self.below, 1, fault).is_success, fault)
+                self.assertTrue(Program([sys.executable, "-S", "-E", path], 2, said=said).run(self.below, [(1, fault)]).is_success, fault)
 
     def test_a_program_that_breaks_off_in_a_call(self):
         """The next one is served all the same."""

@@ -254,8 +254,9 @@ pub struct StairsImage {
     pub tries: u16,
     pub begun: u16,
     pub host: u8,
-    pub is_down: u8,
-    pub unused: [u8; 6],
+    pub keeps_back: u8,
+    pub ends_at_restart: u8,
+    pub unused: [u8; 5],
     pub end: StairsEndImage,
     pub held: [u64; 30],
 }

@@ -1,6 +1,6 @@
 /* Puts trials/c/rows/stand_in.c below a program that is there already, by LD_PRELOAD: its calls for /dev/i2c-1 to /dev/i2c-6, its
- * locks there and its waits go to the stand-in, and all others to the C library. trials/c/run.sh has the command pmhost and
- * the Rust example make their own calls of the kernel so, with the kernel's own structures on the other side. */
+ * locks there and its waits go to the stand-in, and all others to the C library. trials/c/run.sh has the Rust example make
+ * its own calls of the kernel so, with the kernel's own structures on the other side. */
 #define _GNU_SOURCE
 #define IS_PRELOADED
 #include "rows/stand_in.c"

@@ -12,7 +12,7 @@
 # The examples build with no warning. A program that drops an answer that must be asked builds with one. Random calls of every
 # export (trials/c/same.c) over the archives of Rattle's own compiler and over LLVM's answer and write the same. Programs
 # of gcc and clang are run once more with their sanitizers, where they have them. The order over a Linux bus runs over a
-# stand-in for the kernel, with all that a user or a bus does wrong, and so does the command pmhost, where there is a Python.
+# stand-in for the kernel, with all that a user or a bus does wrong.
 # The stack that the archive says it needs must be what the header promises. Says a line for each program, what isn't on this
 # machine, and last how many passed and failed.
 set -u
@@ -177,26 +177,6 @@ ok ok empty ok empty ok damaged|--no-limit --patience=0 /dev/i2c-1 58 0 3300000|
 END
 }
 
-# The same of the command pmhost, which makes its own calls of the kernel; \n parts the lines.
-command_rows() {
-    cat << 'END'
-ok short1 ok short0 short0 ok ok|-b 1 -a 58 --outputs 1 --no-limit --busy-timeout 0ms set 0 3.3V|0|set 0: VOUT_COMMAND 34CD 3.300048V confirmed; the output commands 3.300048V, without limits, delivers 3.300048V; STATUS_WORD 0002 CML; VOUT_OV_FAULT_LIMIT, VOUT_OV_WARN_LIMIT, VOUT_UV_WARN_LIMIT, VOUT_UV_FAULT_LIMIT gave no good answer, and aren't judged|
-ok short0 short0 short0|-b 1 -a 58 --outputs 1 --busy-timeout 0ms clear 0|1|clear 0: unknown|clear 0: 3 transfers failed, the last: 0 of 1 message went; STATUS_CML 00, STATUS_VOUT 00
-deaf deaf deaf|-b 1 -a 58 learn 0|1|learn 0: unknown|learn 0: 3 transfers failed, the last: No such device or address; STATUS_CML 00, STATUS_VOUT 00
-damaged empty damaged|-b 1 -a 58 learn 0|1|learn 0: unknown|learn 0: 3 answers weren't good: F4 WrongCount; STATUS_CML 00, STATUS_VOUT 00
-ok deaf deaf ok deaf ok|-b 1 -a 58 --outputs 1 --passes 1 clear 0|0|clear 0: acknowledged|
-|-b 1 -a 58 probe|0|probe: PEC yes, PAGE_PLUS yes, 1 output: 0 ULINEAR16 -12\nprobe: the part looks at the page: page 1F doesn't answer\nprobe: PMBUS_REVISION 33, Part II 1.3, no good MFR_ID (Remote I/O error), no good MFR_MODEL (Remote I/O error), no good MFR_REVISION (Remote I/O error)\nprobe: WRITE_PROTECT 00\nprobe: output 0: OPERATION 80, VOUT_COMMAND 1000, VOUT_MAX 4000, VOUT_MARGIN_HIGH 1100, VOUT_MARGIN_LOW 0F00, VOUT_MIN 0000\nprobe: output 0: no good ON_OFF_CONFIG (Remote I/O error): whether OPERATION is listened to isn't known\nprobe: whether the part refuses a write without a PEC, or with a wrong one, wasn't tried: probe --writes tries it\npmhost -b 1 -a 58 --outputs 1 --limit 0:LEAST:MOST|probe: the part may note in STATUS_CML that it was asked for what it lacks, and pull SMBALERT#
-|-b 2 -a 58 probe|2||2-0058 is held by a driver of the kernel: unbind it, echo 2-0058 > /sys/bus/i2c/devices/2-0058/driver/unbind, or give --force
-|-b 3 -a 58 probe|2||/dev/i2c-3: Permission denied: be root, or ask for leave to open it (ls -l /dev/i2c-3)
-|-b 4 -a 58 probe|2||/dev/i2c-4: Inappropriate ioctl for device: it is no I2C bus
-|-b 5 -a 58 probe|2||another program drives 5-0058: fuser /dev/i2c-5 names who has the bus open
-|-b 6 -a 58 probe|2||a line is held low: address 02, which no part may have, acknowledges: clock SCL nine times and send a stop, cycle the supply last
-|-b 5 -a 58 --share-bus learn 0|0|learn 0: learned ULINEAR16 -12|
-count ok ok deaf*4|-b 1 -a 58 --outputs 1 clear 0|0|clear 0: acknowledged\n8 transfers, 200 ms|
-|-b 9 -a 58 probe|2||/dev/i2c-9: No such file or directory: load i2c-dev (modprobe i2c-dev), and look for the bus (ls /dev/i2c-*)
-END
-}
-
 # rows NAME PREFIX PROGRAM ..: runs a program on each row of standard input; PREFIX begins what it says on standard error
 rows() {
     local name=$1 prefix=$2 row=0 mishaps arguments status out err ended
@@ -258,19 +238,6 @@ preloaded() {
     command -v gcc > /dev/null || { echo "the stand-in below programs: no gcc here"; return 1; }
     [ -f "$folder/preload.so" ] || gcc -O2 -Wall -Wextra -Werror -shared -fPIC $headers trials/c/preload.c "${archives[@]}" \
         -o "$folder/preload.so" -ldl > "$folder/log" 2>&1 || { told "the stand-in below programs" build; return 1; }
-}
-
-# bus_command: the command pmhost over the stand-in, where Python is there
-bus_command() {
-    command -v python3 > /dev/null || { echo "pmhost: no python3 here"; return; }
-    preloaded || return
-    if ! gcc -shared -Wl,--whole-archive "${archives[@]}" -Wl,--no-whole-archive -Wl,-z,noexecstack \
-        -o "$folder/libpmhost.so" > "$folder/log" 2>&1; then
-        told pmhost build; return
-    fi
-    command_rows > "$folder/rows"
-    rows pmhost pmhost env "PMHOST_LIBRARY=$folder/libpmhost.so" "PYTHONPATH=$PWD/python/src" "LD_PRELOAD=$folder/preload.so" \
-        python3 -m pmhost < "$folder/rows"
 }
 
 # rust_bus: the order of the Rust crate over the stand-in; why the host refuses stands in the C program in more words
@@ -401,7 +368,6 @@ for each in "${archives[@]}"; do
 done
 headers="-Icrates/pm_host_c/include -Icrates/pm_device_c/include"
 for object in "$folder"/objects/*; do bound "$object"; done
-[ -n "$only_gcc" ] || bus_command
 if [ ${#llvm[@]} = 0 ]; then
     if [ -n "$llvm_wanted" ]; then
         tell 1; echo "LLVM's archives: FAILED, rt lib left none to compare"

@@ -135,7 +135,7 @@ uint8_t field_new(field_part *part, uint8_t address, uint8_t outputs) {
     part->address = address, part->outputs = outputs, part->mode = ULINEAR16_12, part->step = 1, part->config_all = 0x04;
     part->transfer_us = 100;
     for (int at = 0; at < outputs; at++) {
-        part->out[at].held = (field_words){0xFFFF, 0xFFFF, 0, 0, 0x0400, 0x0200, ON_BY_BOTH};
+        part->out[at].held = (field_words){0xFFFF, 0xFFFF, 0, 0, 0x0400, 0x0200, ON_BY_BOTH, 0xFFFF, 0xFFFF, 0xFFFF};
         part->out[at].stored = part->out[at].held;
     }
     field_settle(part);
@@ -166,7 +166,8 @@ typedef struct { const char *name; size_t at; uint8_t size; } place;
 static const place WORDS[] = {
     OF_OUTPUT("VOUT_OV_FAULT_LIMIT", held.ov_fault), OF_OUTPUT("VOUT_OV_WARN_LIMIT", held.ov_warn),
     OF_OUTPUT("VOUT_UV_WARN_LIMIT", held.uv_warn), OF_OUTPUT("VOUT_UV_FAULT_LIMIT", held.uv_fault),
-    OF_OUTPUT("POWER_GOOD_ON", held.good_on), OF_OUTPUT("POWER_GOOD_OFF", held.good_off), OF_OUTPUT("ON_OFF_CONFIG", held.on_off_config)};
+    OF_OUTPUT("POWER_GOOD_ON", held.good_on), OF_OUTPUT("POWER_GOOD_OFF", held.good_off), OF_OUTPUT("ON_OFF_CONFIG", held.on_off_config),
+    OF_OUTPUT("TON_DELAY", held.ton_delay), OF_OUTPUT("TON_RISE", held.ton_rise), OF_OUTPUT("TON_MAX_FAULT_LIMIT", held.ton_max)};
 static const place OUTPUTS[] = {
     OF_OUTPUT("is_run_low", is_run_low), OF_OUTPUT("is_good_low", is_good_low), OF_OUTPUT("pin_command", pin_command),
     OF_OUTPUT("on_ms", on_ms), OF_OUTPUT("off_ms", off_ms), OF_OUTPUT("ramp_ms", ramp_ms), OF_OUTPUT("error", error),
@@ -178,7 +179,7 @@ static const place PARTS[] = {
     OF_PART("restart_at", restart_at), OF_PART("away_at_write", away_at_write), OF_PART("away_for", away_for),
     OF_PART("gone_code", gone_code),
     OF_PART("gone_at_write", gone_at_write), OF_PART("gone_at_frame", gone_at_frame), OF_PART("back_at_frame", back_at_frame), OF_PART("lost_at_frame", lost_at_frame), OF_PART("no_page_plus", no_page_plus), OF_PART("no_pec", no_pec), OF_PART("transfers", transfers), OF_PART("writes", writes), OF_PART("stores", stores), OF_PART("questions", questions),
-    OF_PART("now", now)};
+    OF_PART("now", now), OF_PART("STATUS_CML", cml)};
 static const struct { const char *name; uint8_t code; } CELLS[] = {
     {"OPERATION", OPERATION}, {"VOUT_COMMAND", VOUT_COMMAND}, {"VOUT_MAX", 0x24}, {"VOUT_MARGIN_HIGH", 0x25}, {"VOUT_MARGIN_LOW", 0x26},
     {"VOUT_MIN", 0x2B}, {"WRITE_PROTECT", WRITE_PROTECT}};

@@ -26,6 +26,7 @@ enum { FIELD_DEAF = 0, FIELD_REFUSES = 1, FIELD_ONES = 2 };
 /* An output, the words in its format, times in milliseconds. */
 typedef struct {
     uint16_t ov_fault, ov_warn, uv_warn, uv_fault, good_on, good_off, on_off_config;
+    uint16_t ton_delay, ton_rise, ton_max;   /* in LINEAR11; FFFFh where it has none */
 } field_words;
 
 typedef struct {

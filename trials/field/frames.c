@@ -91,6 +91,9 @@ static uint8_t word_of(const field_part *part, uint8_t code, uint8_t at, uint16_
     case 0x44: *word = out->held.uv_fault; return 2;
     case 0x5E: *word = out->held.good_on; return 2;
     case 0x5F: *word = out->held.good_off; return 2;
+    case 0x60: case 0x61: case 0x62:
+        *word = code == 0x60 ? out->held.ton_delay : code == 0x61 ? out->held.ton_rise : out->held.ton_max;
+        return *word == 0xFFFF ? 0 : 2;
     case STATUS_BYTE: *word = (uint16_t)(status_word_of(part, at) & 0xFF); return 1;
     case STATUS_WORD: *word = status_word_of(part, at); return 2;
     case STATUS_VOUT: *word = status_vout_of(part, at); return 1;

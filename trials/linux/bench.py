@@ -54,7 +54,7 @@ import wire  # noqa: E402
 from counted import ERROR  # noqa: E402
 
 SIGNALS = ("sigint", "sigterm", "sigquit", "sighup", "group", "held")
-MOST_SECONDS, MOST_WRONG = 20, 2
+MOST_SECONDS = 20
 MUX = 0x70
 
 
@@ -147,12 +147,10 @@ class Bench:
         told = {"held": parts.held(self.part), "word": self.part.word(), "count": self.count, "struck": self.struck,
                 "plan": self.plan,
                 "kind": type(getattr(self.part, "converter", self.part)).__name__, "maxima": getattr(self.part, "maxima", list)(),
-                "cells": parts.cells(self.part), "ever": self.part.told_ever(),
-                "wrong": getattr(self.part, "wrong", [])[:MOST_WRONG], "behind restart": parts.behind_restart(self.part)}
+                "cells": parts.cells(self.part), "ever": self.part.told_ever()}
         everywhere = dict(self.everywhere())
         if len(everywhere) > 1:
-            told["all"] = {place: {"held": parts.held(part), "cells": parts.cells(part), "ever": part.told_ever(),
-                                   "wrong": getattr(part, "wrong", [])[:MOST_WRONG], "behind restart": parts.behind_restart(part)}
+            told["all"] = {place: {"held": parts.held(part), "cells": parts.cells(part), "ever": part.told_ever()}
                            for place, part in everywhere.items()}
         return json.dumps(told).encode("ascii")
 

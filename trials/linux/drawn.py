@@ -1,7 +1,7 @@
 """pmhost with jobs of every kind under drawn faults: drawn BUS [SEED [LISTS]].
 
 Learns, a voltage, words of all registers, WRITE_PROTECT, clear, store, restore and reads, under each kind of fault at one drawn
-transfer and under LISTS (60) lists of two to five; then what is known of each register is compared with what the part holds, and
+transfer and under LISTS (60) lists of two to five, and answers of ones and of zeros also at 48 and 4A, where they are good ones to WRITE_PROTECT; then what is known of each register is compared with what the part holds, and
 every word that a register ever held with those that were ordered for it. SEED (7) draws the places.
 """
 import collections
@@ -23,7 +23,8 @@ LATER = (("-", "WRITE_PROTECT", "00"), ("0", "OPERATION", "80"), ("1", "VOUT_COM
 JOBS = [*(f"word {output} {register} {word}" for output, register, word in ORDERS), *(f"word {each[0]} {each[1]} {each[2]}" for each in LATER)]
 JOBS = ["learn 0", "set 0 1.3V", *JOBS[:6], "clear 0", "store", *JOBS[6:], "restore --outputs-may-go-off", "read 0", "read 1", "known"]
 # Of the bytes of a write some are left out: `half` is the last.
-MORE = {"twice": "heard twice", "power": "power lost", "arb": "lost to another master", **{f"nack{byte}": f"byte {byte} refused" for byte in (1, 2, 4, 5)}}
+FALSE_ANSWERS = {"ones": "answered by ones", "zeros": "answered by zeros"}
+MORE = {**FALSE_ANSWERS, "twice": "heard twice", "power": "power lost", "arb": "lost to another master", **{f"nack{byte}": f"byte {byte} refused" for byte in (1, 2, 4, 5)}}
 KNOWN = re.compile(r"([-01]) (\w+) (?:([0-9A-F]{2}|[0-9A-F]{4}) (?:[-\d.]+V )?confirmed|possible (.*)|any)")
 WORD = re.compile(r"\b([0-9A-F]{4}|[0-9A-F]{2})\b")
 SEEN = re.compile(r"restart seen: (yes|no)")
@@ -89,10 +90,13 @@ def main(words):
         for _ in range(drawn.choice((2, 3, 4, 5))):
             plan[drawn.randrange(length)] = drawn.choice(list(kinds))
         plans.append(plan)
-    for plan in plans:
-        run = Run(bench, plan, drawn.choice((1, 2, 3)))
+    places = [(plan, "58") for plan in plans]
+    places += [(["ok"] * drawn.randrange(length) + [kind] * drawn.choice((1, length)), address)
+               for address in ("48", "4A") for kind in FALSE_ANSWERS for _ in range(ON_SLOW if bench.number == WIRE else EACH)]
+    for plan, address in places:
+        run = Run(bench, plan, drawn.choice((1, 2, 3)), address)
         wrong, false = list(run.wrong_cells()), list(run.false_statements())
         counts.update({"runs": 1, "wrong register": bool(wrong), "false": bool(false), "ended well": run.status == 0})
-        tally.tell(f"bus {bench.number}, seed {seed}, {' '.join(plan)}", [*wrong, *false])
+        tally.tell(f"bus {bench.number} at {address}, seed {seed}, {' '.join(plan)}", [*wrong, *false])
     print(f"bus {bench.number}, seed {seed}, {length} transfers: " + ", ".join(f"{name} {count}" for name, count in counts.items()), flush=True)
     return tally.end()

@@ -2,8 +2,8 @@
 
 The nine kinds: the part restarts; it doesn't take the frame; it takes the frame and the transfer fails, in two ways; an
 acknowledgement is false; an answer is damaged, or cut; a write is cut, or a bit of it is flipped. Each strikes each
-transfer of the orders once, with 1 and with 3 passes. On the wire a tenth comes to it: an answer to the second address
-that the kernel sends by itself. After each run the host is asked for both outputs and whether it saw a restart, and that
+transfer of the orders once, with 1 and with 3 passes. On the wire two come to them: an answer to the second address
+that the kernel sends by itself, and a clock that is held low for less and for more than the adapter's patience of 50 ms. After each run the host is asked for both outputs and whether it saw a restart, and that
 is compared with what the part holds: a word ordered for one output must never stand at the other, and nothing that was
 said may be false. Both are counted; what isn't promised is counted too, and no fault: a word that was confirmed and went
 with a restart. SEED (7) draws LISTS (60) lists.
@@ -21,7 +21,11 @@ from tally import Tally
 KINDS = {"restart": "restart", "deaf": "not taken", "lost": "lost", "lostall": "lost, second way",
          "false": "falsely acknowledged", "damaged": "damaged", "cut": "cut answer", "half": "cut write",
          "flip": "flipped bit"}
-ON_WIRE = {"stale": "late answer"}
+ON_WIRE = {"stale": "late answer", **{f"stretch{each}": f"clock held {each} ms" for each in (20, 80, 160)}}
+RESTARTS = {"restart": "restart", "power": "power lost"}
+# What else an adapter does to a transfer.
+MORE = {"twice": "heard twice", "hung": "a line held low", "empty": "an answer that nobody wrote", "short0": "short count",
+        "short0h": "short count, heard", "short1": "short count of two"}
 OUTPUTS = (0, 1, 1, 0, 0, 1, 0, 1)
 WORDS = tuple(0x1200 + 0x200 * place for place in range(len(OUTPUTS)))
 START = 0x1000

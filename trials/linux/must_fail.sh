@@ -1,7 +1,7 @@
 #!/usr/bin/env bash
 # Plants bugs into copies of the package and of the C example, each of which a trial over a whole Linux must find: a short
-# count that is taken for success, once in each of the three programs that make transfers; an address that is another
-# part's; and answers of ones that are believed. Each trial has to pass without the bug first. Prints what found them.
+# count that is taken for success, once in each of the three programs that make transfers; and an address that is another
+# part's. Each trial has to pass without the bug first. Prints what found them.
 #
 #   trials/linux/must_fail.sh [OPTIONS]
 #
@@ -53,9 +53,7 @@ plant frames python/src/pmhost/capture/i2ctransfer.py "if ran.returncode or ran.
 tried frames commands 0
 plant address python/src/pmhost/bus/linux.py "return self._send(self.address, " "return self._send(min(self.address, 0x59), "
 tried address several 0 7 short
-plant ones python/src/pmhost/bus/linux.py "return given(answer)" "return answer"
-tried ones ones 0
-names="package frames address ones"
+names="package frames address"
 plant program examples/c/linux_bus.h "return went == count;" "return went >= 0;"
 cache planted "$work/program/tree"
 CACHE=$work/planted tried program programs 0

@@ -7,11 +7,6 @@ the bytes of an answer, [] where a write is acknowledged, None where the part do
     busy WAY MS AWAY [XX]
                 the same, busy for MS milliseconds behind each write and AWAY behind a store: WAY is `deaf`, where it doesn't
                 acknowledge its address, or `ones`, where reads are ones and writes are acknowledged and dropped
-    board SEED N
-                the part of the drawn board N of this seed (python/tests/test_boards.py), which looks behind each frame at what its
-                outputs command
-    of board NAME SEED N
-                the part of this name of a drawn board file (python/tests/test_board_files.py), u1 at 58, u2 at 59 or u3 at 5A
     row FILE N  the part of block N of python/tests/data/FILE, which also stands for formats that no converter takes
     plain       the plain model (python/tests/plain) alone
     ltc2972     the plain model with the registers that the kernel's driver of this name asks for
@@ -20,18 +15,14 @@ PLAIN_PART=1 in the environment has the plain model alone in the place of both.
 """
 import errno
 import os
-import random
 import time
-from unittest import mock
 
 from plain.converter import COMMAND
 from plain.packets import TABLE, pec
-from tests import busy, kernel, test_board_files, test_boards
+from tests import busy, kernel
 from tests.runs import blocks
 
 MOST_PAST = 200
-# Where the parts of a board file are.
-ADDRESSES = {"u1": 0x58, "u2": 0x59, "u3": 0x5A}
 
 
 class Ltc2972(kernel.Part):
@@ -120,18 +111,6 @@ class Mux:
         return []
 
 
-def board(seed, number):
-    """The drawn board of this number."""
-    return test_boards.Board(random.Random(f"{seed} {number}"))
-
-
-def board_of_parts(seed, number, buses=("0", "0", "0")):
-    """The drawn board file of this number, its parts on these buses."""
-    places = {name: (bus, ADDRESSES[name], test_board_files.PLACES[name][2]) for name, bus in zip(ADDRESSES, buses)}
-    with mock.patch.dict(test_board_files.PLACES, places):
-        return test_board_files.Board(random.Random(f"{seed} {number}"))
-
-
 def address_of(run):
     """The address that the words of a run name."""
     words = run.words.split()
@@ -158,11 +137,6 @@ def made_by_name(kind, *words):
     if kind == "busy":
         way, for_ms, away_ms, *address = words
         return Busy(way, int(for_ms), int(away_ms), **({"address": int(address[0], 16)} if address else {}))
-    if kind == "of":
-        _, name, seed, number = words
-        return board_of_parts(seed, number).parts[name]
-    if kind == "board":
-        return board(*words).part
     if kind == "at":
         return kernel.Part(address=int(words[0], 16))
     return kernel.Part(tuple(int(word, 16) for word in words)) if kind == "modes" else kernel.Part()
@@ -177,12 +151,6 @@ def only_part(run):
 def held(part):
     """VOUT_COMMAND of each output, where the part tells its words."""
     return [part.converter.cells[output, COMMAND] for output in part.converter.outputs] if hasattr(part, "converter") else []
-
-
-def behind_restart(part):
-    """How many frames the part heard behind its last restart, None where it had none."""
-    lines = getattr(part, "lines", [])
-    return lines[::-1].index("restart") if "restart" in lines else None
 
 
 def name_of(cell):

@@ -23,12 +23,9 @@
 #   captures  one run, told by pmhost's trace, the kernel's tracepoints and the waveform of the wires
 #   drawn     jobs of every kind under drawn faults, all registers asked behind (SEED, LISTS)
 #   lines     lines that are held low, at rest and from each clock of each byte on
-#   ones      answers of ones and of zeros where they are good ones, and a clock that is held (SEED)
 #   patience  parts that are busy behind each write or away behind a store, by missing acknowledgements and by ones
 #   signals   a signal while a transfer is under way, at each transfer of a call with a job of every kind
-#   boards    `pmhost apply` of a board under each fault at each transfer, and of 200 drawn ones under drawn faults (SEED, BOARDS)
 #   several   two parts at two addresses and one behind a multiplexer, a pmhost for each at once, under each fault (SEED)
-#   board_file  the same three parts by one board file, under each fault, and 40 drawn board files of eight rails, 4 on bus 5 (SEED, BOARDS)
 #   together  both hosts at once, a part that is unplugged, a pmhost that is killed
 #
 # What is wrong is printed, each trial's own last line, and last how many runs passed and failed in all.
@@ -43,7 +40,7 @@ has_cargo=$(command -v cargo) has_sigrok=$(command -v sigrok-cli)
 command -v i2ctransfer > /dev/null || [ -x /usr/sbin/i2ctransfer ] || refuse "no i2ctransfer: install i2c-tools"
 start "$@"
 began=$(date +%s)
-kinds="several board_file boards faults rows signals commands captures together programs patience drawn lines ones"
+kinds="several faults rows signals commands captures together programs patience drawn lines"
 gcc -O2 -Wall -Wextra -Werror -I"$root/crates/pm_host_c/include" "$root/examples/c/i2c_dev.c" "$archive" -o "$CACHE/i2c_dev" ||
     refuse "examples/c/i2c_dev.c doesn't build"
 rm -f "$CACHE/i2c_dev_rust"
@@ -61,8 +58,7 @@ for kind in $kinds; do
         [ $kind$bus != rows0 ] || more=(processes)
         case $kind in
             faults | drawn) more=("${SEED-7}" "${LISTS-60}") ;;
-            boards | board_file) more=("${SEED-7}" ${BOARDS:+"$BOARDS"}) ;;
-            several | ones) more=("${SEED-7}") ;;
+            several) more=("${SEED-7}") ;;
         esac
         VCD=$([ $kind$bus = captures5 ] && echo 1) trial $kind$bus $kind $bus "${more[@]}"
     done

@@ -17,9 +17,8 @@ import os
 import re
 import signal
 
-from boards import MORE, RESTARTS
 from drawn import KNOWN, WORD
-from faults import KINDS, ON_WIRE, SEED
+from faults import KINDS, MORE, ON_WIRE, RESTARTS, SEED
 from guest_bus import WIRE, Bench, places
 from pmhost import cli
 from pmhost.values import CODES

@@ -26,9 +26,11 @@ sys.path.insert(1, os.path.dirname(os.path.dirname(os.path.abspath(__file__))))
 import paths  # noqa: F401,E402  (it puts the package's folder on the path)
 
 from pmhost import cli, log  # noqa: E402
-from pmhost.bus.linux import NoTransfer, Trace  # noqa: E402
+from pmhost.bus.linux import Trace  # noqa: E402
 from pmhost.cli import place  # noqa: E402
-from pmhost.part import ModelPart, ModelPartBus, Output  # noqa: E402
+from pmhost.faults import FaultyBus  # noqa: E402
+from pmhost.part import ModelPart, Output  # noqa: E402
+from pmhost.torture.program import fault_of  # noqa: E402
 from pmhost.packets import read_answer, read_request  # noqa: E402
 from pmhost.errors import PmhostError  # noqa: E402
 from pmhost.values import CODES, NAMES  # noqa: E402
@@ -49,7 +51,7 @@ limits = ["0.8V", "3.5V"]
 """
 
 
-class Struck(ModelPartBus):
+class Struck(FaultyBus):
     """A bus with a model part that drawn faults strike."""
 
     draw = random.Random(0)
@@ -60,47 +62,33 @@ class Struck(ModelPartBus):
 
     def __init__(self, address: int, outputs: int = 2, trace: str | Trace | None = None) -> None:
         draw = type(self).draw
-        super().__init__(ModelPart(address, [Output(command=draw.choice((0x1000, 0x34CD, 0x0F00)), operation=draw.choice((0x80, 0x80, 0x00)))
-                                             for _ in range(outputs)]))
+        starts = [Output(command=draw.choice((0x1000, 0x34CD, 0x0F00)), operation=draw.choice((0x80, 0x80, 0x00))) for _ in range(outputs)]
+        super().__init__(ModelPart(address, starts), [], lambda _: None)
         self.trace = trace if isinstance(trace, Trace) else Trace(trace)
         self.restarts = 0
         Struck.last = self
 
-    def _strike(self, kinds: tuple[str, ...]) -> str:
+    def _strike(self, kinds: tuple[str, ...]) -> None:
+        """The fault of the transfer that begins."""
         draw = type(self).draw
+        self.faults = ["lost"]
         if Struck.left == 0:
-            return "lost"
+            return
         Struck.left -= 1
         if draw.random() < self.rate / 8:
             self.part.restart()
             self.restarts += 1
         if type(self).is_broken_off and draw.random() < 0.04:
             raise cli.Interrupted
-        return draw.choice(kinds) if draw.random() < self.rate else ""
+        self.faults = [fault_of(draw.choice(kinds), draw) if draw.random() < self.rate else "ok"]
 
     def write(self, frame: bytes) -> bool:
-        struck = self._strike(("lost", "unacknowledged", "cut"))
-        if struck == "lost":
-            raise NoTransfer("no acknowledgement")
-        if struck == "cut":
-            super().write(frame[:-2])
-            raise NoTransfer("cut")
-        acked = super().write(frame)
-        if struck == "unacknowledged" or not acked:
-            raise NoTransfer("no acknowledgement")
-        return True
+        self._strike(("lost", "mute", "cut"))
+        return super().write(frame)
 
     def read(self, request: bytes, count: int) -> bytes:
-        struck = self._strike(("lost", "late", "bit"))
-        if struck == "lost":
-            return b""
-        answer = super().read(request, count)
-        if struck == "late":
-            return b""
-        if struck == "bit" and answer:
-            at = type(self).draw.randrange(len(answer))
-            return answer[:at] + bytes([answer[at] ^ 1 << type(self).draw.randrange(8)]) + answer[at + 1:]
-        return answer
+        self._strike(("lost", "mute", "garbled"))
+        return super().read(request, count)
 
     def close(self) -> None:
         self.trace.close()

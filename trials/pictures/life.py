@@ -1,28 +1,55 @@
-"""The life of both ends under a scenario's events, by the proved library; and the program's verdict on the text."""
+"""The life of both ends under a scenario's events, by the plain model of python/tests/plain: what they are at after each event, and what came of
+each event on the bus."""
 from __future__ import annotations
 
-import subprocess
-from collections.abc import Callable
 from dataclasses import dataclass
+from math import ceil, floor
+from typing import Any
 
 import paths  # noqa: F401
-from pmhost.errors import NumberRefused, PartRefused, PmhostError, Refused as LibraryRefused
-from pmhost.states import Known, Sending, Step
-from pmhost.packets import read_answer, read_request
-from pmhost.part import ModelPart, Output
-from pmhost.values import NAMES
-from program import needed
+from plain.converter import MAX, MIN, PROTECT, format_of
+from plain.host import ANY
+from plain.limits import band
+from plain.numbers import millionths, value_of
+from plain.packets import name_of
+from plain.scenario import read_scenario, registers_of
+from plain.world import World, world_fault
+from pmhost.picture.drawing import in_volts
+from pmhost.texts import numbered
 
-from scenario import DIRECT, REGISTERS, Cell, Event, Setup, code_of_cell, read_scenario
-from told import Words, microvolts_of
-
-PROTECT = Cell(None, "WRITE_PROTECT")
-# A VOUT_MODE of ULINEAR16, whose words are 1/4096 V.
-LINEAR = 0x14
+JOBS = ("order", "volts", "check", "learn", "clear", "store", "restore")
+LIMITS = {MAX: "max", MIN: "min"}
 
 
-class Refused(PmhostError):
-    """The program refuses the text; the line that says so."""
+class Refused(Exception):
+    """No scenario that is run: the line that says so."""
+
+
+@dataclass(frozen=True)
+class Cell:
+    """A register of an output, or with None as the output WRITE_PROTECT."""
+
+    output: int | None
+    register: str
+
+
+@dataclass(frozen=True)
+class Event:
+    """A line of the text behind `begin`: its number, its words, and what they say."""
+
+    number: int
+    words: str
+    says: tuple[Any, ...]
+
+    @property
+    def begins(self) -> bool:
+        """Whether it begins a job."""
+        return self.says[0] in JOBS
+
+    @property
+    def cell(self) -> Cell | None:
+        """The register that an order or a check names."""
+        return cell_of(self.says[1]) if self.says[0] in ("order", "volts", "check") else None
 
 
 @dataclass(frozen=True)
@@ -53,223 +80,126 @@ class State:
 
 
 class Life:
-    """A part and a host. `step` takes an event that the program took, and answers what came of it on the bus: a kind, of
-    `good`, `fault`, `restart` and `none`, and words."""
+    """Of a text: `events` are those that are taken, with `marks` of what came of each on the bus, a kind, of `good`, `fault`, `restart` and
+    `none`, and words; `states` what both ends are at, from the start on. Where it stops at an event, that is `stopping`, and `stop` says why;
+    `after` has the events behind it. Refused of a text that is refused."""
 
-    def __init__(self, setup: Setup) -> None:
-        self.setup, self.part, self.host = setup, setup.part(), setup.host()
-        self.outputs = range(len(setup.outputs))
-        self.cells = [PROTECT, *(Cell(output, name) for output in self.outputs for name in setup.registers)]
-        self.words = Words(setup.formats())
-        self.job, self.taken = "none", False
-        self._cuts: dict[tuple[int, ...], tuple[int, str]] = {}
+    def __init__(self, text: bytes) -> None:
+        found = read_scenario(text)
+        if isinstance(found, str):
+            raise Refused(found)
+        self.setup, passes, said = found
+        if fault := world_fault(self.setup, passes):
+            raise Refused(f"X7 Setup {fault}")
+        lines = [(number, line) for number, line in numbered(text)][-len(said):] if said else []
+        every = [Event(number, " ".join(line.decode("ascii").split()), says) for (number, line), says in zip(lines, said)]
+        self.world, self.taken, self.stop = World(self.setup, passes), False, ""
+        self.outputs = self.world.device.outputs
+        self.registers = [name_of(code) for code in registers_of(self.setup["version"])]
+        self.states, self.marks, self.every = [self.state()], list[tuple[str, str]](), every
+        for event in every:
+            mark = self.mark(event.says) if self.is_taken(event.says) else ("none", "")
+            self.stop = self.world.step(event.says) or ""
+            if self.stop:
+                break
+            self.marks.append(mark)
+            self.states.append(self.state())
+        count = len(self.marks)
+        self.events, self.stopping, self.after = every[:count], every[count] if self.stop else None, every[count + 1:]
 
-    # ---- Events ----
-
-    def step(self, event: Event) -> tuple[str, str]:
-        taken = self.taken
-        if event.kind not in ("deliver", "reading"):
-            self.taken = False
-        if event.kind == "restart":
-            return self._restarted(event.is_host)
-        if event.kind == "reading":
-            assert event.cell is not None
-            # The program takes a reading of an output that isn't there, which changes nothing.
-            if event.cell.output in (None, *self.outputs):
-                self.part.set_reading(event.cell.output, event.cell.register, event.value)
-            return "none", ""
-        if event.begins:
-            self._begun(event)
-            return "none", ""
-        sending = self.host.frame()
-        assert sending is not None
-        if event.kind == "deliver":
-            return self._delivered(event, sending.frame)
-        if event.kind == "exchange":
-            return self._exchanged(event, sending)
-        self._told(self.host.write_ended(event.is_acknowledged))
-        if event.is_acknowledged:
-            return ("good", "acknowledged") if taken else ("fault", "acknowledged, not taken")
-        return "fault", "taken, not acknowledged" if taken else "not acknowledged"
-
-    def _restarted(self, is_host: bool) -> tuple[str, str]:
-        if is_host:
-            self.host.restart()
-            self.job = "none"
-            return "restart", "the host restarts"
-        self.part.restart()
-        return "restart", "the converter restarts"
-
-    def _begun(self, event: Event) -> None:
-        if event.kind in ("store", "restore"):
-            getattr(self.host, event.kind)()
-        elif event.cell is None:
-            getattr(self.host, event.kind)(event.value)
-        elif event.kind == "check":
-            self.host.check(*code_of_cell(event.cell))
-        else:
-            if event.kind == "order":
-                self.host.order(*code_of_cell(event.cell), event.value)
-            else:
-                self.host.order_voltage(*code_of_cell(event.cell), f"{event.value}uV")
-        self.job = "pending"
-
-    def _told(self, step: Step) -> None:
-        if not step.is_over:
-            self.job = "pending"
-        else:
-            self.job = step.kind if step.word is None else f"{step.kind} {step.word:04X}"
-
-    def _heard(self, frame: bytes, is_request: bool) -> tuple[str, bytes]:
-        """What the part says of a frame: `taken`, `silent`, `answer` with its bytes, or the letter and name of a refusal."""
-        try:
-            answer = self.part.hear(frame, is_request)
-        except PartRefused as refused:
-            return f"{refused.letter} {refused.name}", b""
-        if answer:
-            return "answer", answer
-        return "taken" if frame[:1] == bytes([self.setup.address << 1]) else "silent", b""
-
-    def _delivered(self, event: Event, sent: bytes) -> tuple[str, str]:
-        frame, is_request = event.arrival.of(sent)
-        reply, _ = self._heard(frame, is_request)
-        if reply == "taken":
-            self.taken = True
-            return "good", "the write is taken"
-        return "fault", f"refused: {reply}" if frame == sent else harm(frame, sent, "the write")
-
-    def _exchanged(self, event: Event, sending: Sending) -> tuple[str, str]:
-        frame, is_request = event.arrival.of(sending.frame, True)
-        _, answer = self._heard(frame, is_request)
-        got, _ = event.back.of(answer)
-        self._told(self.host.read_ended(got))
-        if frame != sending.frame:
-            return "fault", harm(frame, sending.frame, "the request")
-        request = read_request(self.setup.address, sending.frame)
-        try:
-            payload = read_answer(self.setup.address, request, got)
-        except LibraryRefused:
-            return "fault", harm(got, answer, "the answer") if answer else "refused"
-        if len(payload) > 2:
-            return "good", "reads coefficients"
-        word = int.from_bytes(payload, "little")
-        volts = None
-        if request.kind == "PAGE_PLUS_READ" and request.code in NAMES:
-            volts = self.words.volts(Cell(request.page, NAMES[request.code]), word)
-        return "good", f"reads {word:0{2 * len(payload)}X}" + (f", {volts}" if volts else "")
+    def is_taken(self, says: tuple[Any, ...]) -> bool:
+        """Whether the model takes an event: no frame is looked at where none is being sent."""
+        return says[0] not in ("deliver", "finish", "exchange") or self.world.bus_cause(says) is None
 
     # ---- What both ends are at ----
 
     def state(self) -> State:
-        part, known = self.part, {Cell(it.output, it.register): it for it in self.host.known_cells()}
-        words = {cell: part.word(*code_of_cell(cell)) for cell in self.cells}
-        found = {output: self._commanded(output) for output in self.outputs}
+        host, device = self.world.host, self.world.device
+        cells = {cell_of(it): it for it in [PROTECT, *((output, code) for output in device.outputs for code in registers_of(self.setup["version"]))]}
         return State(
-            {output: (part.is_on(output), self._microvolts(output, word)) for output, (word, _) in found.items()},
-            words, {cell: belief_of(known[cell]) for cell in self.cells},
-            {output: (f"{part.status_word(output):04X}", f"{part.status_vout(output):02X}") for output in self.outputs},
-            f"{part.status_cml:02X}", self.host.restart_seen, self.job, {output: self._band(output) for output in self.outputs},
-            {output: limit for output, (_, limit) in found.items() if limit})
+            {it: (device.is_on(it), millionths(device.commanded(it))) for it in device.outputs},
+            {cell: device.cells[it] for cell, it in cells.items()},
+            {cell: self.belief(it) for cell, it in cells.items()},
+            {it: (f"{device.status_word(it):04X}", f"{device.status_vout(it):02X}") for it in device.outputs},
+            f"{device.status_cml():02X}", host.restart_seen(), host.job(),
+            {it: in_microvolts(band(host, it)) for it in device.outputs},
+            {it: LIMITS[device.commanding(it)] for it in device.outputs if device.is_cut(it)})
 
-    def _band(self, output: int) -> tuple[int, int] | None:
-        """The microvolts between which the host knows an output; None where it doesn't know its format, or one of them is
-        beyond what the library tells."""
-        try:
-            found = self.host.band(output)
-        except LibraryRefused:
+    def belief(self, cell: tuple[int, int]) -> Belief:
+        word, words = self.world.host.standing(cell), self.world.host.possible(cell)
+        if word is not None:
+            return Belief("doubtful" if words is ANY else "confirmed", (word,))
+        return Belief("any") if words is ANY else Belief("possible", tuple(words))
+
+    def micro(self, cell: Cell, word: int) -> int | None:
+        """The microvolts of a word of a voltage; None of another register."""
+        if cell.output is None or not cell.register.startswith("VOUT_"):
             return None
-        return found.least.microvolts, found.greatest.microvolts
+        return millionths(value_of(format_of(self.setup["outputs"][cell.output][0], self.setup["coefficients"]), word))
 
-    def _microvolts(self, output: int, word: int) -> int:
-        """What an output commands, as the part tells it; beyond what the library tells, the value of the word."""
-        try:
-            return self.part.voltage(output).microvolts
-        except NumberRefused:
-            return microvolts_of(self.words.formats[output], word)
+    def volts(self, cell: Cell, word: int) -> str | None:
+        """Its volts; None of another register."""
+        micro = self.micro(cell, word)
+        return None if micro is None else in_volts(micro)
 
-    def _commanded(self, output: int) -> tuple[int, str]:
-        """The word whose value an output commands, and the name of the limit that cuts it, or an empty text. Each set of words
-        is judged once."""
-        words = tuple(self.part.word(output, name) for name in REGISTERS)
-        if (output, *words) not in self._cuts:
-            selected, rank = self._selected(output, words), self._rank(output)
-            most, least = words[2], words[5]
-            if rank(least) > rank(most) or rank(selected) > rank(most):
-                found = most, "max"
-            else:
-                found = (least, "min") if rank(selected) < rank(least) else (selected, "")
-            self._cuts[output, *words] = found
-        return self._cuts[output, *words]
+    # ---- What came of an event on the bus ----
 
-    def _selected(self, output: int, words: tuple[int, ...]) -> int:
-        """The word that OPERATION selects: what a part commands with the same words and open limits, in a format of which each
-        word is told exactly."""
-        operation, command, _, high, low, _ = words
-        form, sign = self.words.formats[output], self._sign(output)
-        if form.kind == "DIRECT":
-            ends = (0x8000, 0x7FFF)[::sign]
-            part = ModelPart(self.setup.address, [Output(DIRECT, operation, command, ends[1], high, low, ends[0])], (sign, 0, 3))
-            return sign * int(part.voltage(0) * 1000) & 0xFFFF
-        part = ModelPart(self.setup.address, [Output(LINEAR, operation, command, 0xFFFF, high, low, 0x0000)])
-        return round(part.voltage(0) * 4096)
+    def mark(self, says: tuple[Any, ...]) -> tuple[str, str]:
+        """A kind, and what comes of the event, before it is taken."""
+        taken, self.taken = self.taken, self.taken and says[0] in ("deliver", "reading")
+        if says[0] == "restart":
+            return "restart", "the converter restarts" if says[1] == "device" else "the host restarts"
+        if says[0] == "deliver":
+            return self.mark_of_delivery(says[1])
+        if says[0] == "finish":
+            if says[1]:
+                return ("good", "acknowledged") if taken else ("fault", "acknowledged, not taken")
+            return "fault", "taken, not acknowledged" if taken else "not acknowledged"
+        return self.mark_of_exchange(says) if says[0] == "exchange" else ("none", "")
 
-    def _sign(self, output: int) -> int:
-        """The sign of a format's slope."""
-        form = self.words.formats[output]
-        return -1 if form.kind == "DIRECT" and form.m < 0 else 1
+    def mark_of_delivery(self, arrival: tuple[Any, ...]) -> tuple[str, str]:
+        (frame, ending), sent = self.world.heard(arrival), self.world.host.sending_frame()
+        reply = self.world.device.reply(frame, ending)[0]
+        if reply == "taken":
+            self.taken = True
+            return "good", "the write is taken"
+        return "fault", f"refused: {' '.join(str(reply).split()[:2])}" if frame == sent else harm(frame, sent, "the write")
 
-    def _rank(self, output: int) -> Callable[[int], int]:
-        """What grows with the value of a word."""
-        sign = self._sign(output)
-        if self.words.formats[output].kind == "DIRECT":
-            return lambda word: sign * (word - 0x10000 if word >= 0x8000 else word)
-        return lambda word: word
-
-
-def belief_of(known: Known) -> Belief:
-    """What the host thinks of a register, by what is known of it."""
-    if known.confirmed is not None:
-        return Belief("doubtful" if known.possible is None else "confirmed", (known.confirmed,))
-    return Belief("any") if known.possible is None else Belief("possible", known.possible)
+    def mark_of_exchange(self, says: tuple[Any, ...]) -> tuple[str, str]:
+        (frame, ending), host = self.world.heard(says[1]), self.world.host
+        if frame != host.sending_frame():
+            return "fault", harm(frame, host.sending_frame(), "the request")
+        got, message = self.world.came_back(frame, ending, says[2]), host.sending()
+        payload = host.good(message, ("got", got))
+        if payload is None:
+            answer = self.world.answered(frame, ending)
+            return "fault", harm(got, answer, "the answer") if answer else "refused"
+        if len(payload) > 2:
+            return "good", "reads coefficients"
+        word = int.from_bytes(bytes(payload), "little")
+        is_set = message[1] is not None and (message[1], message[2]) in self.world.device.cells
+        volts = self.volts(cell_of(message[1:3]), word) if is_set else None
+        return "good", f"reads {word:0{2 * len(payload)}X}{f', {volts}' if volts else ''}"
 
 
-def harm(got: bytes, sent: bytes, name: str) -> str:
+def in_microvolts(found: Any) -> tuple[int, int] | None:
+    """The ends of a band in whole microvolts, the least rounded down and the greatest up; None where the format isn't known, and beyond 10^15
+    microvolts."""
+    ends = found and (floor(found[0] * 10**6), ceil(found[1] * 10**6))
+    return ends if ends and max(map(abs, ends)) <= 10**15 else None
+
+
+def cell_of(cell: tuple[int | None, int]) -> Cell:
+    return Cell(None if cell == PROTECT else cell[0], name_of(cell[1]))
+
+
+def digits_of(cell: Cell, word: int) -> str:
+    """A register's word in hexadecimal: two digits of OPERATION and WRITE_PROTECT, four of a voltage."""
+    return f"{word:02X}" if cell.register in ("OPERATION", "WRITE_PROTECT") else f"{word:04X}"
+
+
+def harm(got: list[int], sent: list[int], name: str) -> str:
     """What happened to bytes on their way."""
     if not got:
         return f"{name} is lost"
     return f"{name} is cut" if got == sent[:len(got)] else f"{name} is damaged"
-
-
-@dataclass(frozen=True)
-class Run:
-    """A text's setup, the events that the program takes, and where it stops at one: that event, why, and the events after
-    it."""
-
-    setup: Setup
-    events: list[Event]
-    stopping: Event | None
-    stop: str
-    after: list[Event]
-
-    def every(self) -> list[Event]:
-        """The events of the text, in their order: those that were taken, the one where it stops, and those after it."""
-        return [*self.events, *([self.stopping] if self.stopping else []), *self.after]
-
-    @property
-    def left(self) -> int:
-        """How many events come after the one that wasn't taken."""
-        return len(self.after)
-
-
-def lived(text: bytes) -> Run:
-    """What `pmb replay` says of a text. Refused where it refuses it."""
-    ran = subprocess.run([needed(), "replay"], input=text, capture_output=True)
-    words = ran.stdout.decode("ascii", "replace").partition("\n")[0].split()
-    if len(words) < 2 or words[0] not in ("ran", "stopped"):
-        said = ran.stderr.decode("utf-8", "replace").strip()
-        raise Refused(said.removeprefix("pmb: ") or f"pmb replay ended with status {ran.returncode}")
-    setup, events = read_scenario(text)
-    taken = int(words[1])
-    if words[0] == "ran":
-        return Run(setup, events[:taken], None, "", [])
-    return Run(setup, events[:taken], events[taken], " ".join(words[2:]), events[taken + 1:])

@@ -10,10 +10,8 @@ from pmhost.picture.drawing import (EDGE, EDGES, FAULT, GAP, GOOD, HEADS, INK, L
 from pmhost.picture.lane import INSIDE, OUTSIDE, SHADE, Lane, value_in_words
 from pmhost.status import BITS, names_of
 
-from life import Belief, State
-from scenario import Cell
+from life import Belief, Cell, State, digits_of
 from seen import Job, Row, Seen
-from told import digits_of
 
 PITCH = 15
 PAGE, MOST_PAGE = 20, 25
@@ -107,7 +105,7 @@ class Picture:
 
     def unnamed(self) -> dict[int, str]:
         """The outputs that no event names and on which nothing changes, with what they command; none where a rail is drawn."""
-        names = {word for event in self.seen.run.every() for word in event.words.split() if word.isdecimal() and len(word) == 1}
+        names = {word for event in self.seen.life.every for word in event.words.split() if word.isdecimal() and len(word) == 1}
         found: dict[int, str] = {}
         for output in self.seen.outputs:
             told = {(row.state.outputs[output], row.state.cut.get(output), row.state.status[output]) for row in self.seen.rows}
@@ -127,7 +125,7 @@ class Picture:
         kind, words = belief.kind, belief.words
         if kind == "any":
             return ["any word"]
-        volts = [it for it in (self.seen.words.volts(register, word) for word in words) if it]
+        volts = [it for it in (self.seen.life.volts(register, word) for word in words) if it]
         is_whole = len(set(volts)) == len(words) and not any(it.endswith("uV") for it in volts)
         named = [f"{joined([it.removesuffix(' V') for it in volts])} V"] if is_whole else []
         named.append(joined(hexadecimal(register, words)))
@@ -293,8 +291,8 @@ class Picture:
         for first, end in self.tops.parts:
             self.draw_page(first, end)
         bottom = self.tops.bottom
-        if self.seen.run.left:
-            self.parts.append(text(self.labels_at, bottom + 18, f"events after it: {self.seen.run.left}", fill=PALE))
+        if self.seen.life.after:
+            self.parts.append(text(self.labels_at, bottom + 18, f"events after it: {len(self.seen.life.after)}", fill=PALE))
             bottom += ROW
         high = self.draw_legend(bottom + 30)
         return page(f"{self.name}, event by event", self.width, high, self.parts,

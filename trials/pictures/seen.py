@@ -1,8 +1,7 @@
 """What a picture of a scenario's run shows, row by row."""
 from __future__ import annotations
 
-from life import PROTECT, Life, Run, State
-from scenario import Cell
+from life import Cell, Life, State
 
 # How a picture names the limits; a text of version 1 has no least one.
 LIMITS = {"min": "VOUT_MIN", "max": "VOUT_MAX"}
@@ -25,35 +24,31 @@ class Job:
 
 
 class Seen:
-    """A run with its rows and its jobs. `registers` are those whose beliefs are shown, `words` what words stand for."""
+    """A life with its rows and its jobs. `registers` are those whose beliefs are shown."""
 
-    def __init__(self, run: Run) -> None:
-        self.run, life = run, Life(run.setup)
-        self.outputs, self.words = life.outputs, life.words
-        self.registers = self._named()
-        self.rows = [Row("", "start", ("none", ""), life.state())]
-        for event in run.events:
-            mark, before = life.step(event), self.rows[-1].state
-            state = life.state()
-            if (before.seen, state.seen) == (False, True):
+    def __init__(self, life: Life) -> None:
+        self.life, self.outputs, self.registers = life, life.outputs, self._named(life)
+        self.rows = [Row("", "start", ("none", ""), life.states[0])]
+        for event, mark, state in zip(life.events, life.marks, life.states[1:]):
+            if (self.rows[-1].state.seen, state.seen) == (False, True):
                 mark = "restart", f"{mark[1]}, restart seen"
             self.rows.append(Row(str(event.number), event.words, mark, state, event.begins))
-        if run.stopping:
-            mark = "fault", f"not taken: {run.stop}"
-            self.rows.append(Row(str(run.stopping.number), run.stopping.words, mark, self.rows[-1].state))
-        self.jobs = jobs_of(self.rows[: len(run.events) + 1])
+        self.jobs = jobs_of(self.rows)
+        if life.stopping:
+            mark = "fault", f"not taken: {life.stop}"
+            self.rows.append(Row(str(life.stopping.number), life.stopping.words, mark, self.rows[-1].state))
 
-    def _named(self) -> list[Cell]:
+    @staticmethod
+    def _named(life: Life) -> list[Cell]:
         """The registers that events order or check, WRITE_PROTECT first, then output by output in the order of their codes. Of
         the others the host never knows anything."""
-        named = {event.cell for event in self.run.every() if event.cell and event.kind in ("order", "volts", "check")}
-        shown = [Cell(output, name) for output in self.outputs for name in self.run.setup.registers]
-        return [cell for cell in [PROTECT, *shown] if cell in named]
+        named = {event.cell for event in life.every}
+        return [cell for cell in life.states[0].words if cell in named]
 
     def limits(self, row: Row, output: int) -> dict[str, int]:
         """The microvolts of an output's limits in a row, by their names."""
-        cells = {name: Cell(output, register) for name, register in LIMITS.items() if register in self.run.setup.registers}
-        found = {name: self.words.micro(cell, row.state.words[cell]) for name, cell in cells.items()}
+        cells = {name: Cell(output, register) for name, register in LIMITS.items() if register in self.life.registers}
+        found = {name: self.life.micro(cell, row.state.words[cell]) for name, cell in cells.items()}
         return {name: micro for name, micro in found.items() if micro is not None}
 
 

@@ -1,8 +1,8 @@
 #!/usr/bin/env python3
 """Runs the built program `pmb` on all of examples/ and on a table of command lines and inputs, and
-compares its status and what it wrote on both streams: each status, each kind of line on standard error,
-a full output and closed streams; the examples also byte by byte. What differs is printed; the last
-line says how many runs passed and failed.
+compares its status and what it wrote on both streams: each status, a full output and closed streams, texts at the far end of each limit;
+the examples also byte by byte. (The rows of each refusal and of each code are those of crates/pm_tool_tests.) What differs is printed;
+the last line says how many runs passed and failed.
 
 It runs the built program, or the one that the environment variable PMB names: trials/programs/run_program.py
 """
@@ -16,7 +16,6 @@ sys.path.insert(0, os.path.dirname(os.path.dirname(os.path.abspath(__file__))))
 
 import paths  # noqa: E402, F401
 import program  # noqa: E402
-from plain.restart_rows import RESTARTS  # noqa: E402
 from program import ROOT  # noqa: E402
 from tally import Tally  # noqa: E402
 
@@ -26,50 +25,19 @@ FRAME = b"B0 05 04 00 21 CD 34 5A\n"
 TAKEN = b"taken\noutput 0 VOUT_COMMAND 34CD\noutput 1 VOUT_COMMAND 1000\n"
 NONE = b"output 0 VOUT_COMMAND 1000\noutput 1 VOUT_COMMAND 1000\n"
 LINEAR11 = ["number", "--format=linear11"]
-DIRECT = "--format=direct:"
 
 HEAD = ["scenario 1", "address 58", "passes 2", "protect 00", "coefficients 1 0 0"]
 OUTPUT = "output 14 80 1000 4000 1100 0F00"
-DIRECT_OUTPUT = "output 40 80 1000 4000 1100 0F00"
-ORDER = ["order 0 VOUT_COMMAND 34CD", "deliver whole", "finish ack", "exchange whole whole"]
 
 
-def scenario(outputs, events=(), **changed):
-    """A scenario, some lines of its head changed."""
-    head = [changed.get(line.split()[0], line) for line in HEAD]
-    return "".join(line + "\n" for line in [*head, *outputs, "begin", *events]).encode()
-
-
-def setup(words, outputs=(OUTPUT, OUTPUT), **changed):
-    """A run of a scenario whose setup is refused."""
-    text = scenario(outputs, **changed)
-    return ["replay"], text, 1, b"", f"pmb: X7 Setup {words}\n".encode()
+def scenario(outputs, events=()):
+    """A scenario."""
+    return "".join(line + "\n" for line in [*HEAD, *outputs, "begin", *events]).encode()
 
 
 def faulty(words, text, command="replay"):
     """A run of a text that is refused."""
     return [command], text, 1, b"", f"pmb: {words}\n".encode()
-
-
-def setups():
-    """Each way in which a setup is refused."""
-    mode = lambda byte: OUTPUT.replace("14", byte, 1)
-    yield setup("V1 OutputCount", ())
-    yield setup("V1 OutputCount", [OUTPUT] * 9)
-    yield setup("V1 OutputCount", [OUTPUT] * 256)
-    yield setup("V2 BadStart 0 OPERATION", [OUTPUT.replace("80", "B0")])
-    yield setup("V2 BadStart 7 OPERATION", [OUTPUT] * 7 + [OUTPUT.replace("80", "FF")])
-    yield setup("V2 BadStart WRITE_PROTECT", protect="protect 01")
-    yield setup("V3 Address", address="address 07")
-    yield setup("V3 Address", address="address 78")
-    yield setup("V4 BadMode 0 C3 RelativeMode", [mode("94")])
-    yield setup("V4 BadMode 0 C1 VidMode", [mode("20")])
-    yield setup("V4 BadMode 1 C2 HalfMode", [OUTPUT, mode("60")])
-    yield setup("V4 BadMode 1 C4 BadParameter", [OUTPUT, mode("41")])
-    yield setup("V5 BadCoefficients N1 ZeroSlope", [DIRECT_OUTPUT], coefficients="coefficients 0 0 0")
-    yield setup("V5 BadCoefficients N2 ExponentRange", [DIRECT_OUTPUT], coefficients="coefficients 1 0 13")
-    yield setup("H2 Passes", passes="passes 0")
-    yield setup("H2 Passes", passes="passes 16")
 
 
 def stopped(words):
@@ -85,70 +53,6 @@ def stopped(words):
 def contents(path):
     with open(path, "rb") as file:
         return file.read()
-
-
-def stopped_after_order():
-    """The run of the worked scenario, where an event of the host's isn't taken after the order."""
-    wanted = contents(os.path.join(ROOT, "examples/one-order.report"))
-    wanted = wanted.replace(b"ran 4\n", b"stopped 4 S4 Host H5 BadWord\n", 1)
-    return ["replay"], scenario([OUTPUT] * 2, [*ORDER, "volts 0 OPERATION 5"]), 1, wanted, b""
-
-
-# A trace of each code that is counted, once, and what it says.
-CODES = [
-    ("B0 00 01 ED", "PAGE", "write 01"), ("B0 01 00 FF", "OPERATION", "write 00"),
-    ("B0 10 00 BD", "WRITE_PROTECT", "write 00"), ("B0 7A 00 CA", "STATUS_VOUT", "write 00"),
-    ("B0 7E 00 9E", "STATUS_CML", "write 00"), ("B0 03 46", "CLEAR_FAULTS", "send"),
-    ("B0 15 24", "STORE_USER_ALL", "send"), ("B0 16 2D", "RESTORE_USER_ALL", "send"),
-    ("B0 21 00 10 C0", "VOUT_COMMAND", "write 1000"), ("B0 24 00 10 00", "VOUT_MAX", "write 1000"),
-    ("B0 25 00 10 6B", "VOUT_MARGIN_HIGH", "write 1000"),
-    ("B0 26 00 20 46", "VOUT_MARGIN_LOW", "write 2000"), ("B0 2B 00 10 47", "VOUT_MIN", "write 1000"),
-    ("B0 19 / B1 00 5A", "CAPABILITY", "read 00"),
-    ("B0 20 / B1 14 ED", "VOUT_MODE", "read 14"),
-    ("B0 30 02 21 00 / B1 05 01 00 00 00 03 6B", "COEFFICIENTS", "of 21 side 0 read m 1 b 0 r 3"),
-    ("B0 78 / B1 00 F4", "STATUS_BYTE", "read 00"), ("B0 79 / B1 01 80 48", "STATUS_WORD", "read 8001"),
-    ("B0 88 / B1 00 00 C1", "READ_VIN", "read 0000"), ("B0 8B / B1 00 00 FB", "READ_VOUT", "read 0000"),
-    ("B0 8C / B1 00 00 99", "READ_IOUT", "read 0000"),
-    ("B0 8D / B1 00 00 8F", "READ_TEMPERATURE_1", "read 0000"), ("B0 98 / B1 33 A3", "PMBUS_REVISION", "read 33"),
-]
-
-
-def codes():
-    """The run of the trace of each code, in either order."""
-    for rows in CODES, CODES[::-1]:
-        said = [f"{number} 58 {name} {words}" for number, (_, name, words) in enumerate(rows, 1)]
-        said += [f"count {name} 1" for _, name, _ in rows] + [f"lines {len(rows)} accepted {len(rows)} faults 0 bad 0"]
-        yield ["decode"], "\n".join(row[0] for row in rows).encode(), 0, ("\n".join(said) + "\n").encode(), b""
-
-
-# Each line that is faulty by itself in the scenario of one order: its place, the line, what is said.
-FAULTY_LINES = [
-    (1, "scenario 3", "X1 Syntax"), (3, "passes 256", "X1 Syntax"), (4, "protect 0", "X2 BadHex"),
-    (6, "output 14 8Z 1000", "X2 BadHex"), (7, "output 14 80 1000 4000 1100", "X1 Syntax"),
-    (9, "order 0 OPERATION 34CD", "X2 BadHex"), (9, "order 0 WRITE_PROTECT 40", "X1 Syntax"),
-    (9, "order - VOUT_COMMAND 34CD", "X1 Syntax"),
-    (9, "volts 0 VOUT_COMMAND 9223372036854775808", "X1 Syntax"),
-    (10, "deliver bytes B0050 stop", "X2 BadHex"),
-    (10, "deliver bytes 000102030405060708090A0B0C0D0E0F10 stop", "X2 BadHex"), (11, "finish", "X1 Syntax"),
-]
-
-
-def faulty_lines():
-    for number, line, words in FAULTY_LINES:
-        lines = scenario([OUTPUT] * 2, ORDER).decode().splitlines()
-        lines[number - 1] = line
-        yield faulty(f"{words} line {number}", "\n".join(lines).encode())
-
-
-def restarts():
-    for end, place, first, word, job in RESTARTS:
-        events = [*ORDER[:place], f"restart {end}", *ORDER[place:]]
-        report = stopped("").replace(b"stopped \n", first.encode() + b"\n")
-        report = report.replace(b"1000 host unknown", word.encode(), 1)
-        if word.startswith("34CD"):
-            report = report.replace(b"4096/4096 1000000", b"13517/4096 3300048")
-        report = report.replace(b"job none", b"job " + job.encode())
-        yield ["replay"], scenario([OUTPUT], events), int(first.startswith("stopped")), report, b""
 
 
 def far_ends():
@@ -179,70 +83,25 @@ def parts_of_report():
 RUNS = [
     (["hear"], FRAME, 0, TAKEN, b""),
     (["hear"], b"# first\n" * 300 + FRAME + b"\n" * 70000, 0, TAKEN, b""),
-    (["hear"], b"B0 00 01 ED\nB0 00 /\nrestart\n", 0, b"taken\nanswer B1 01 C5\nrestarted\n" + NONE, b""),
-    (["hear"], b"", 0, NONE, b""),
-    (["hear"], b"/ /\n", 1, b"", b"pmb: X1 Syntax line 1\n"),
     (["hear"], b"\n" * 299 + b"B0 0", 1, b"", b"pmb: X2 BadHex line 300\n"),
     (["hear"], b"#" * 1_048_577, 1, b"", b"pmb: X3 TooLong\n"),
     faulty("X1 Syntax line 1", b""),
-    faulty("X1 Syntax line 7", "\n".join(HEAD + [OUTPUT]).encode()),
-    faulty("X1 Syntax line 12", scenario([OUTPUT] * 2, ORDER[:3] + ["finish"])),
-    faulty("X2 BadHex line 6", scenario(["output 14 8Z 1000"])),
     faulty("X3 TooLong", scenario([OUTPUT]) + b"#" * 1_048_576),
-    *setups(),
+    faulty("X7 Setup V4 BadMode 1 C4 BadParameter", scenario([OUTPUT, OUTPUT.replace("14", "41", 1)])),
     (["replay"], scenario([OUTPUT], ["finish ack"]), 1, stopped("0 S2 NothingSent"), b""),
-    (["replay"], scenario([OUTPUT], ["check 0 VOUT_MAX", "finish ack"]), 1, stopped("1 S3 WrongKind"), b""),
-    (["replay"], scenario([OUTPUT], ORDER[:1] + ["deliver bytes B01000BD stop"]), 1,
-     stopped("1 S1 NotBetrayed"), b""),
-    (["replay"], scenario([OUTPUT], ["learn 1"]), 1, stopped("0 S4 Host H4 UnknownOutput"), b""),
-    (["replay"], scenario([OUTPUT], ["volts 0 OPERATION 5"]), 1, stopped("0 S4 Host H5 BadWord"), b""),
-    stopped_after_order(),
-    (["replay"], scenario([OUTPUT], ["volts 0 VOUT_MAX 5"]), 1, stopped("0 S4 Host H7 FormatUnknown"), b""),
-    (["replay"], scenario([OUTPUT], ["check 0 VOUT_MAX", "clear 0"]), 1, stopped("1 S4 Host H3 Busy"), b""),
-    *codes(),
-    *faulty_lines(),
-    *restarts(),
     *far_ends(),
     (["decode"], b"", 0, b"lines 0 accepted 0 faults 0 bad 0\n", b""),
-    (["decode"], b"B0 03 47\n/\n", 0,
-     b"1 58 write F5 WrongPec 2\n2 -- write F1 NotOurs\nlines 2 accepted 0 faults 2 bad 0\n", b""),
     (["decode"], b"B0 03 46\n#\n/ /\n0\n", 1, b"1 58 CLEAR_FAULTS send\n3 X1 Syntax\n4 X2 BadHex\n"
      b"count CLEAR_FAULTS 1\nlines 3 accepted 1 faults 0 bad 2\n", b""),
-    (["decode"], b"B0 / B1 / B2\nB0 / B1 / B\n", 1,
-     b"1 X1 Syntax\n2 X2 BadHex\nlines 2 accepted 0 faults 0 bad 2\n", b""),
-    (["decode"], b"05" * 301 + b"\n", 1, b"1 X1 Syntax\nlines 1 accepted 0 faults 0 bad 1\n", b""),
     (["decode"], b"/\n" + b"#" * 1_048_575, 1, b"1 -- write F1 NotOurs\n", b"pmb: X3 TooLong\n"),
     (LINEAR11 + ["--word=87FF"], b"", 0, b"word 87FF value -1/65536 micro -16\n", b""),
-    (["number", DIRECT + "1:-32768:-12", "--word=7FFF"], b"", 0,
-     b"word 7FFF value 32767000000032768/1 micro 32767000000032768000000\n", b""),
-    (["number", "--format=ulinear16/-12", "--word=34CD"], b"", 2, b"", b"pmb: bad format\n"),
-    (["number", "--format=direct/1:0/3", "--word=0CE4"], b"", 2, b"", b"pmb: bad format\n"),
-    (["number", DIRECT + "0:5:3", "--word=0001"], b"", 1, b"", b"pmb: N1 ZeroSlope\n"),
-    (["number", DIRECT + "1:5:13", "--word=0001"], b"", 1, b"", b"pmb: N2 ExponentRange\n"),
     (["number", "--format=ulinear16:0", "--micro=-1"], b"", 1, b"", b"pmb: N3 BelowLeast\n"),
-    (LINEAR11 + ["--micro=33521664000001"], b"", 1, b"", b"pmb: N4 AboveGreatest\n"),
-    (LINEAR11 + ["--micro=1000000000000001"], b"", 1, b"", b"pmb: N5 TooLarge\n"),
     (LINEAR11, b"", 2, b"", b"pmb: give one of --word and --micro\n"),
-    (LINEAR11 + ["--word=0001", "--micro=1"], b"", 2, b"", b"pmb: give one of --word and --micro\n"),
-    (["number", "--word=0001"], b"", 2, b"", b"pmb: bad format\n"),
-    (["number", "--format=float", "--word=1"], b"", 2, b"", b"pmb: bad format\n"),
-    (["number", "--format=ulinear16//1", "--word=1"], b"", 2, b"", b"pmb: bad format\n"),
-    (LINEAR11 + ["--word=1"], b"", 2, b"", b"pmb: bad word\n"),
-    (LINEAR11 + ["--micro=+1"], b"", 2, b"", b"pmb: bad micro\n"),
     (["number", b"--word=\xFF"], b"", 2, b"", b"pmb: bad arguments\n"),
-    (["--help"], b"", 0, None, b""),
-    (["number", "--help"], b"", 0, None, b""),
-    (["hear", "--help"], b"", 0, None, b""),
-    (["replay", "--help"], b"", 0, None, b""),
-    (["decode", "--help"], b"", 0, None, b""),
+    *(([*words, "--help"], b"", 0, None, b"") for words in ([], ["number"], ["hear"], ["replay"], ["decode"])),
     (["--version"], b"", 0, None, b""),
-    ([], b"", 2, b"", None),
-    (["listen"], b"", 2, b"", None),
-    (["help"], b"", 2, b"", None),
-    (["hear", "more"], b"", 2, b"", None),
-    (["replay", "more"], b"", 2, b"", None),
-    (["decode", "--word=1"], b"", 2, b"", None),
-    (LINEAR11 + ["--word=1", "--word=2"], b"", 2, b"", None),
+    *((words, b"", 2, b"", None) for words in ([], ["listen"], ["help"], ["hear", "more"], ["replay", "more"], ["decode", "--word=1"],
+                                               LINEAR11 + ["--word=1", "--word=2"])),
 ]
 
 ONE_ORDER = f"< '{os.path.join(ROOT, 'examples/one-order.scenario')}'"

@@ -44,8 +44,8 @@ reboot -f
 
 class Machine(NamedTuple):
     """A board of QEMU, Debian's names of its processor and of its kernel's package, its console, and of a board with parts on a bus its device
-    tree in that package, the driver of its I2C adapter, and the bus by its name in QEMU and by its number in Linux; and options for the kernel and
-    for QEMU."""
+    tree in that package, the driver of its I2C adapter, and the bus by its name in QEMU and by its number in Linux; and options for the
+    kernel."""
 
     name: str
     processor: str
@@ -56,7 +56,6 @@ class Machine(NamedTuple):
     bus: str = ""
     number: int = 0
     options: str = ""
-    words: str = ""
 
     @property
     def emulator(self):
@@ -199,7 +198,7 @@ def run(machine, devices, script, files=None, modules=("i2c_dev",)):
         memory_disk(machine, folder, modules, {**(files or {}), "script": script}, disk)
         words = [*machine.emulator, "-M", machine.name, "-m", "512", "-kernel", f"{folder}/boot/vmlinuz-{version}", "-initrd", disk,
                  "-append", f"console={machine.console},115200n8 panic=-1 {machine.options}", "-display", "none", "-monitor", "null",
-                 "-serial", "stdio", "-no-reboot", "-nic", "none", *machine.words.split()]
+                 "-serial", "stdio", "-no-reboot", "-nic", "none"]
         if machine.tree:
             words += ["-dtb", f"{folder}/usr/lib/linux-image-{version}/{machine.tree}"]
         for address, name in devices.items():

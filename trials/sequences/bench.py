@@ -1,14 +1,18 @@
 """A bus with the two parts of a board, a fault at one of its transfers, and who looks at the parts after each of them."""
 from __future__ import annotations
 
+import contextlib
 import errno
+import io
 import os
 import random
 from dataclasses import dataclass, field
-from typing import Any, Callable, Optional, Sequence
+from typing import Callable, Optional, Sequence
 
+from pmhost import cli, clock
 from pmhost.faults.bus import arriving, heard_by, returning
 from pmhost.torture.i2c_dev import Message
+from tests.kernel import Calls
 
 from board import MARGINS, OFF, ON, REGISTERS, Board, Part, Rail
 
@@ -240,15 +244,25 @@ class Call:
 
 
 class Bench:
-    """Calls of pmhost about the board file, which names the bus of this number. `way` is that by which a call reaches the bench."""
+    """Calls of pmhost about the board file, which names bus 9, in this process. The clock goes by what is waited, and a little at each
+    question."""
 
-    def __init__(self, way: Any, bus: int, seconds: float, folder: str) -> None:
-        self.way, self.bus, self.seconds, self.file = way, bus, seconds, os.path.join(folder, "board.toml")
+    def __init__(self, folder: str) -> None:
+        self.file, self.now = os.path.join(folder, "board.toml"), 1000.0
+        clock.until, clock.wait = self._until, self._wait
+
+    def _until(self, moment: float = 0.0) -> float:
+        self.now = max(self.now + 0.0005, moment)
+        return self.now
+
+    def _wait(self, seconds: float) -> None:
+        self.now += seconds
 
     def call(self, words: Sequence[str], board: Board, bus: Bus) -> Call:
         """One call about the board file."""
         with open(self.file, "w", encoding="utf-8") as file:
-            file.write(board.toml(self.bus))
-        watch = Watch(words[0], board, bus, self.way.now)
-        status, lines = self.way.run([words[0], self.file, *words[1:]], bus, self.seconds)
-        return Call(list(words), status, [line.replace(self.file, "FILE") for line in lines], watch)
+            file.write(board.toml(9))
+        watch, said = Watch(words[0], board, bus, lambda: self.now), io.StringIO()
+        with contextlib.redirect_stdout(said), contextlib.redirect_stderr(said):
+            status = cli.main([words[0], self.file, *words[1:]], Calls({9: bus}))
+        return Call(list(words), status, [line.replace(self.file, "FILE") for line in said.getvalue().splitlines()], watch)

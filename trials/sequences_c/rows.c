@@ -221,7 +221,7 @@ static void one_set(const set *is) {
     first.is_dead = is->is_dead;
     first.trips = is->trips;
     first.gone_after = is->gone_after;
-    begin(&first, &good, 0);
+    begin(&first, &good, 3);
     steps[0] = sets(0, 0, is->microvolts, is->looks);
     steps[0].lacks = is->lacks;
     steps[0].fault_limits = is->fault_limits;
@@ -239,7 +239,7 @@ static void one_set(const set *is) {
 }
 
 static void what_is_kept(void) {
-    begin(&good, &good, 0);
+    begin(&good, &good, 3);
     steps[0] = sets(0, 0, 1200000, 2);
     (void)run(steps, 1);
     row("a good set", "reading", found.has_microvolts, 1);
@@ -261,7 +261,7 @@ static void buses_go(void) {
     for (at = 0; at < 26; at++) {
         part first = good;
         first.gone_after = at;
-        begin(&first, &good, 0);
+        begin(&first, &good, 3);
         steps[0] = sets(0, 0, 1200000, 2);
         (void)run(steps, 1);
         row("a bus that goes", "reached", sequence.said.kind == 1, at >= 24);
@@ -310,18 +310,18 @@ static void lists(void) {
     dead.is_dead = 1;
     deaf.is_deaf = 1;
     gone.gone_after = 0;
-    one_list("up, and the second rail stays off", 0, &good, &dead, 0, 14, 0, 1, 15, up_two);
+    one_list("up, and the second rail stays off", 3, &good, &dead, 0, 14, 0, 1, 15, up_two);
     row("up, and the second rail stays off", "step", sequence.said.step, 1);
     row("up, and the second rail stays off", "pauses", pauses, 10 + 20 + 40);
-    one_list("up, and the first rail stays off", 0, &dead, &good, 0, 14, 0, 0, 0, up_one);
-    one_list("down", 3, &good, &good, 1, 1, 0, 3, 10, down);
+    one_list("up, and the first rail stays off", 3, &dead, &good, 0, 14, 0, 0, 0, up_one);
+    one_list("down", 4, &good, &good, 1, 1, 0, 3, 10, down);
     row("down", "a way back", records[0].back.kind, 0xAA);
-    one_list("down, and the first output stays on", 3, &deaf, &good, 1, 10, 1, 2, 10, down_deaf);
+    one_list("down, and the first output stays on", 4, &deaf, &good, 1, 10, 1, 2, 10, down_deaf);
     row("down, and the first output stays on", "the step that was left", left.step, 0);
-    one_list("down, and the second part is gone", 3, &good, &gone, 1, 10, 1, 2, 10, far_gone);
+    one_list("down, and the second part is gone", 4, &good, &gone, 1, 10, 1, 2, 10, far_gone);
     row("down, and the second part is gone", "the step that was left", left.step, 1);
-    one_list("down, and the first part is gone", 3, &gone, &good, 1, 10, 2, 1, 10, near_gone);
-    one_list("up", 0, &good, &good, 0, 1, 0, 3, 20, up);
+    one_list("down, and the first part is gone", 4, &gone, &good, 1, 10, 2, 1, 10, near_gone);
+    one_list("up", 3, &good, &good, 0, 1, 0, 3, 20, up);
     for (at = 0; at < 3; at++)
         backs[at] = records[2 - at].back;
     pm_sequence_new(&sequence, 60, 0);
@@ -329,7 +329,7 @@ static void lists(void) {
     row("and back", "end", sequence.said.kind, 1);
     for (at = 0; at < 4; at++)
         row("and back", "VOUT_COMMAND", parts[at / 2].words[at % 2][1], 0x1000);
-    begin(&good, &good, 0);
+    begin(&good, &good, 3);
     stops_at = 0x98;
     row("stopped at a wait", "answer", run(steps, 3), 0x98);
     row("stopped at a wait", "milliseconds", sequence.said.milliseconds, 15);
@@ -341,7 +341,7 @@ static void lists(void) {
 
 /* A list that asks says each order before it begins, and begins nothing if it is stopped there. */
 static void asks(void) {
-    begin(&good, &good, 4);
+    begin(&good, &good, 11);
     steps[0] = sets(0, 0, 1200000, 2);
     stops_at = 0x99;
     row("a list that asks", "answer", run(steps, 1), 0x99);
@@ -357,7 +357,7 @@ static void asks(void) {
 
 /* A step that orders nothing: its rail is looked at, and it is undone by one that reads nothing. */
 static void surveys(void) {
-    begin(&good, &good, 0);
+    begin(&good, &good, 3);
     steps[0] = step_of(0, 1, 2);
     steps[0].kind = 3;
     steps[1] = step_of(0, 1, 0);
@@ -368,7 +368,7 @@ static void surveys(void) {
     row("a survey", "writes", parts[0].writes, 0);
     row("a survey", "back", records[0].back.kind, 4);
     parts[0].words[1][0] = 0;
-    begin(&parts[0], &good, 0);
+    begin(&parts[0], &good, 3);
     row("a survey of one that is off", "answer", run(steps, 2), 0x95);
     row("a survey of one that is off", "end", sequence.said.kind, 14);
     row("a survey of one that is off", "verdict", sequence.said.verdict, 2);
@@ -378,19 +378,19 @@ static void surveys(void) {
 static void stands(void) {
     part first = good;
     first.has_tripped = 1;
-    begin(&first, &good, 0);
+    begin(&first, &good, 3);
     steps[0] = sets(0, 0, 1200000, 2);
     row("a fault that stood", "answer", run(steps, 1), 0x95);
     row("a fault that stood", "end", sequence.said.kind, 1);
     steps[0] = sets(0, 0, 1100000, 2);
     steps[0].before = records[0].look.before;
     row("what was heard before", "word", steps[0].before.word, 0x8020);
-    begin(&parts[0], &good, 0);
+    begin(&parts[0], &good, 3);
     row("the next list", "answer", run(steps, 1), 0x95);
     row("the next list", "end", sequence.said.kind, 1);
     steps[0] = sets(0, 0, 1000000, 2);
     steps[0].before.asked = 1;
-    begin(&parts[0], &good, 0);
+    begin(&parts[0], &good, 3);
     row("a fault that is new", "answer", run(steps, 1), 0x95);
     row("a fault that is new", "end", sequence.said.kind, 14);
     row("a fault that is new", "verdict", sequence.said.verdict, 5);
@@ -411,7 +411,7 @@ static void refuses(const char *name, uint64_t count, uint64_t room, uint8_t wan
 static void refusals(void) {
     static const uint8_t none[3] = {0, 0, 0};
     int at;
-    begin(&good, &good, 0);
+    begin(&good, &good, 3);
     steps[0] = sets(0, 0, 1200000, 2);
     refuses("no room", 1, 0, 0xEA);
     refuses("a list that is too long", 65536, 65536, 0xEF);
@@ -450,7 +450,7 @@ static void any_bytes(void) {
     int at, turn;
     srand(1);
     for (turn = 0; turn < 300; turn++) {
-        begin(&good, &good, (uint8_t)(turn & 7));
+        begin(&good, &good, (uint8_t)(turn & 15));
         for (at = 2 + turn % 2 * 60; at < PM_SEQUENCE_SIZE; at += 1 + rand() % 40)
             if ((at < 2 || at > 3) && (at < 32 || at > 35) && at != 40)
                 ((uint8_t *)&sequence)[at] = (uint8_t)rand();

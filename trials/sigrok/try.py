@@ -1,6 +1,6 @@
 #!/usr/bin/env python3
 """Tries the decoder for sigrok. Its tables must be those that make_tables.py makes; what it tells of random packets must be
-what `pmb decode --all --values` tells; and where sigrok-cli is installed, it must tell the stored waveforms as decode
+what `pmb decode --all --values` tells; and where sigrok-cli is installed, it must tell the captures' waveforms as decode
 tells their traces, and waveforms that are drawn of the rows of trials/programs/told_rows.py as those have it by hand. What is wrong
 is printed, and the status is then 1.
 
@@ -39,7 +39,7 @@ NAMES = ["bus", "faults", "kernel"]
 ADDRESSES = ["", "", "58:", "5a:"]
 # What the decoder says of a packet that isn't good, by the fault that `decode` tells.
 WORDS = {"F1": "another address answers", "F5": "wrong PEC"}
-# Of the first packet of bus.vcd and of the third, what stands below its bytes, and how its PEC is.
+# Of the first packet of examples/bus.trace and of the third, what stands below its bytes, and how its PEC is.
 BYTES = ["address 58", "PAGE_PLUS_WRITE", "count", "page 0", "VOUT_COMMAND", "data", "data"]
 THIRD = ["address 58", "PAGE_PLUS_WRITE", "count", "page 1", "VOUT_COMMAND", "data", "data"]
 PECS = ["PEC right", "PEC right", "PEC 5A, 4C would be right", "PEC right", "PEC right", "PEC right", "PEC right"]
@@ -117,13 +117,20 @@ def sigrok(drawn, options="", row="packets"):
     return [line.partition(": ")[2] for line in ran.stdout.splitlines()], ran.stderr
 
 
-def stored(name):
-    with open(os.path.join(CAPTURES, name), encoding="utf-8") as file:
+def stored(name, folder=CAPTURES):
+    with open(os.path.join(folder, name), encoding="utf-8") as file:
         return file.read()
 
 
+def shown(name):
+    """The waveform of a capture: one of the kernel's is stored, the others are drawn."""
+    if name == "bus":
+        return waveform(stored("bus.trace", os.path.join(program.ROOT, "examples")))
+    return stored("kernel.vcd") if name == "kernel" else waveform(stored("faults.bus"))
+
+
 def waveform_faults(decode, name):
-    """A stored waveform is told as its trace is; a comment of the trace is no packet."""
+    """The waveform of a capture is told as its trace is; a comment of the trace is no packet."""
     lines = [*trace("sigrok", stored(f"{name}.sigrok").splitlines(), 0x58)]
     told = decode("\n".join(lines).encode(), ["--all", "--values"])[1].splitlines()
     by_line = {int(line.split(" ")[0]): line.partition(" ")[2] for line in told if line[0].isdigit()}
@@ -136,7 +143,7 @@ def waveform_faults(decode, name):
     # A packet that the capture's end cuts isn't told.
     if wanted and wanted[-1].startswith("no stop"):
         wanted.pop()
-    found, errors = sigrok(waveform(stored("faults.bus")) if name == "faults" else stored(f"{name}.vcd"), ":address=58")
+    found, errors = sigrok(shown(name), ":address=58")
     if found != wanted:
         yield f"it tells {found} {errors!r}, and not {wanted}"
 
@@ -250,7 +257,7 @@ def page_faults(decode, seed):
 
 def byte_faults():
     """What stands below the bytes of a packet, and what is said of a bad option."""
-    drawn = stored("bus.vcd")
+    drawn = shown("bus")
     found = [line for line in sigrok(drawn, row="bytes")[0] if not line.startswith("PEC")]
     pecs = [line for line in sigrok(drawn, row="bytes")[0] if line.startswith("PEC")]
     if found[:7] != BYTES or found[16:23] != THIRD or pecs != PECS:

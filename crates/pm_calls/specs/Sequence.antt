@@ -44,9 +44,15 @@ use Rattle.pm_calls.specs.Paged.{IsPagedSending}
 use Rattle.pm_calls.specs.SequenceSaid.{nothing_said, number_said, rail_said, step_said, IsSaid}
 use Rattle.pm_calls.specs.SequenceStep.{back_image, step_in}
 
--- the rules that a number says: 1 a way down, 2 a step that stops is left, 4 each order is told before it begins, or a sum
+-- the rules that a number says: 1 a way back is kept, 2 a restart ends the list, 4 a step that stops is left, 8 each order is told before
+-- it begins, or a sum
 abbrev pub rules_said : ℕ → Rules
-rules_said n = record { is_down = n % 2 == 1; leaves = n / 2 % 2 == 1; asks = n / 4 % 2 == 1 }
+rules_said n = record {
+  keeps_back = n % 2 == 1;
+  ends_at_restart = n / 2 % 2 == 1;
+  leaves = n / 4 % 2 == 1;
+  asks = n / 8 % 2 == 1;
+}
 
 -- no step has begun
 abbrev pub sequence_begun : ℕ → ℕ → SequenceImage
@@ -71,7 +77,7 @@ step_under steps begun = if nat_lt 0 begun then step_at steps (begun - 1) else O
 
 -- there is room for the way back, where one is kept
 abbrev pub lacks_room : Sequence → ℕ → ℕ → Bool
-lacks_room q steps room = not q.list.is_down && nat_lt room steps
+lacks_room q steps room = q.list.keeps_back && nat_lt room steps
 
 abbrev pub list_fault : Sequence → ℕ → ℕ → Option ℕ
 list_fault q steps room = if nat_lt 65535 steps then Some no_step else (if lacks_room q steps room then Some no_room else None)
@@ -199,7 +205,7 @@ with_look records at look = put_at records at (look_of look)
 abbrev pub backs_after : Sequence → Sequence → Option WordStep → List SequenceRecordImage → List SequenceRecordImage
 backs_after was is None records = records
 backs_after was is (Some back) records =
-    if was.list.is_down then records else with_back records was.list.begun (back_image is.list.under_host back)
+    if was.list.keeps_back then with_back records was.list.begun (back_image is.list.under_host back) else records
 
 abbrev pub looks_after : Sequence → Act → List SequenceRecordImage → List SequenceRecordImage
 looks_after is said records =

@@ -41,9 +41,9 @@ use Rattle.pm_calls.specs.StairsStep.{placed_in}
 use Rattle.pm_memory.specs.StairsImage.{stairs_image, stairs_in}
 use Rattle.pm_calls.specs.StairsStep.{step_image}
 
--- stairs are made
+-- stairs are made: a way up keeps a way back and ends at a restart, and a way down does neither
 abbrev pub stairs_begun : ℕ → ℕ → StairsImage
-stairs_begun tries is_down = stairs_image (sequence_new tries (not (is_down == 0))) end_none
+stairs_begun tries is_down = stairs_image (sequence_new tries (is_down == 0) (is_down == 0)) end_none
 
 -- the first step that hasn't begun, or what is wrong with it
 abbrev pub ahead_read : Result Placed ℕ → Result (Option Placed) ℕ
@@ -59,7 +59,7 @@ first_ahead steps begun = step_read (slice_get steps begun)
 
 -- there is room for the way back, where one is noted
 abbrev pub lacks_room : Sequence → ℕ → ℕ → Bool
-lacks_room q steps room = not q.is_down && nat_lt room steps
+lacks_room q steps room = q.keeps_back && nat_lt room steps
 
 -- the job that is named, the step that undoes the one that has begun, and whether it begins with the job
 abbrev pub job_said : Turn → Option Asked
@@ -104,11 +104,11 @@ abbrev pub kept_at : List StairsStepImage → ℕ → StairsStepImage → List S
 kept_at backs at step = if nat_lt at (length backs) then slice_set backs at step else backs
 
 abbrev pub backs_with : Bool → List StairsStepImage → ℕ → ℕ → Option WordStep → List StairsStepImage
-backs_with is_down backs at host None = backs
-backs_with is_down backs at host (Some back) = if is_down then backs else kept_at backs at (step_image host back)
+backs_with keeps_back backs at host None = backs
+backs_with keeps_back backs at host (Some back) = if keeps_back then kept_at backs at (step_image host back) else backs
 
 abbrev pub backs_after : Sequence → Sequence → Turn → List StairsStepImage → List StairsStepImage
-backs_after was is said backs = backs_with was.is_down backs was.begun is.under_host (back_said said)
+backs_after was is said backs = backs_with was.keeps_back backs was.begun is.under_host (back_said said)
 
 -- the stairs where the host or its limits refuse what they named
 abbrev pub stopped_by : Sequence → ℕ → Asked → StairsImage
@@ -194,9 +194,9 @@ pub record TellsStairs (old : GuardImage) (was : StairsImage) (entry : Entry) (r
   pub refused : is_heard (host_of old.host) (stairs_in was) entry ≡ false → new ≡ old
   pub refused_stairs : is_heard (host_of old.host) (stairs_in was) entry ≡ false → is ≡ was
 
--- a step of a way down is left, where one has stopped
+-- a step of a way down, which keeps no way back, is left, where one has stopped
 abbrev pub may_skip : StairsImage → Sequence → Bool
-may_skip was q = q.is_down && is_stopped was.end
+may_skip was q = not q.keeps_back && is_stopped was.end
 
 abbrev pub skip_number : StairsImage → Option Sequence → ℕ
 skip_number was None = no_stairs

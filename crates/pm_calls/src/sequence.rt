@@ -35,14 +35,16 @@ struct Asked {
     ahead: Option<Step>,
 }
 
-// The rules that a number says: 1 a way down, 2 a step that stops is left, 4 each order is told before it begins, or a sum.
+// The rules that a number says: 1 a way back is kept, 2 a restart ends the list, 4 a step that stops is left, 8 each order is told before it
+// begins, or a sum.
 fn rules_of(rules: u8) -> Rules
     ensures { result ≡ rules_said rules }
 {
     Rules {
-        is_down: rules % 2 == 1,
-        leaves: rules / 2 % 2 == 1,
-        asks: rules / 4 % 2 == 1,
+        keeps_back: rules % 2 == 1,
+        ends_at_restart: rules / 2 % 2 == 1,
+        leaves: rules / 4 % 2 == 1,
+        asks: rules / 8 % 2 == 1,
     }
 }
 
@@ -81,7 +83,7 @@ fn step_under(steps: &[SequenceStepImage], begun: u16) -> Result<Option<Step>, u
 fn lacks_room(was: &Sequence, steps: usize, room: usize) -> bool
     ensures { result ≡ spec_lacks_room was.now steps room }
 {
-    !was.list.is_down && room < steps
+    was.list.keeps_back && room < steps
 }
 
 // What is asked; or the number of why the memories, the list or the room are refused.
@@ -239,7 +241,7 @@ fn keep(records: &mut [SequenceRecordImage], was: &Sequence, is: &Sequence, act:
     ensures { records.new ≡ records_after was.now is.now act records.old }
 {
     if let Some(back) = back_said(act) {
-        if !was.list.is_down {
+        if was.list.keeps_back {
             keep_back(
                 records,
                 usize::from(was.list.begun),

@@ -37,7 +37,7 @@ struct Asked {
 fn lacks_room(stairs: &Sequence, steps: usize, room: usize) -> bool
     ensures { result ≡ spec_lacks_room stairs.now steps room }
 {
-    !stairs.is_down && room < steps
+    stairs.keeps_back && room < steps
 }
 
 // The first step that hasn't begun, or the number of what is wrong with it.
@@ -164,10 +164,10 @@ fn stopped(kept: &Sequence, number: u8, job: Job) -> StairsImage
 
 // Keeps the step that undoes the one that has begun, if a way back is noted.
 fn keep_back(backs: &mut [StairsStepImage], was: &Sequence, is: &Sequence, said: Turn)
-    ensures { backs.new ≡ backs_with was.now.is_down backs.old was.now.begun is.now.under_host (spec_back_said said) }
+    ensures { backs.new ≡ backs_with was.now.keeps_back backs.old was.now.begun is.now.under_host (spec_back_said said) }
 {
     if let Some(back) = back_said(said) {
-        if !was.is_down {
+        if was.keeps_back {
             keep(
                 backs,
                 usize::from(was.begun),

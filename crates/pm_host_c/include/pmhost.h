@@ -403,8 +403,8 @@ typedef struct {
     uint16_t begun;   /* how many steps have begun or were left. But for those that were left, the outputs stand on this stair, that of the
                        * newest step, or on the one before */
     uint8_t host;     /* the place of the host that the next call takes, and on whose bus the frame goes */
-    uint8_t is_down;  /* 1 of a way down */
-    uint8_t unused[6];
+    uint8_t keeps_back, ends_at_restart; /* 1 of a way up, 0 of a way down: a way back is kept; a restart that was seen ends them */
+    uint8_t unused[5];
     pm_stairs_end end;
     uint64_t held[30];
 } pm_stairs;
@@ -482,8 +482,8 @@ typedef struct {
     uint16_t tries;        /* how many jobs each step has at most */
     uint16_t begun;        /* how many steps have begun or were left */
     uint8_t host;          /* the place of the host that the next call takes, and on whose bus the frame goes */
-    uint8_t is_down;       /* 1 of PM_DOWN */
-    uint8_t unused_too[6];
+    uint8_t keeps_back, ends_at_restart; /* 1 of PM_KEEPS_BACK, 1 of PM_ENDS_AT_RESTART */
+    uint8_t unused_too[5];
     uint64_t held[44];
 } pm_sequence;
 
@@ -885,16 +885,17 @@ uint8_t pm_stairs_check(const pm_host *host, const pm_stairs_step *step, pm_stai
  * An end PM_REACHED says that each step is over, that none was left, and that each rail with PM_LOOK_MUST delivered, or went off, after its
  * step's last order. */
 
-/* Makes a sequence, whatever stood in the memory: no step has begun, and each has at most this many jobs. `rules` is the sum of: */
+/* Makes a sequence, whatever stood in the memory: no step has begun, and each has at most this many jobs. `rules` is 0 or the sum of: */
 enum {
-    PM_DOWN = 1,   /* a way down: no way back is kept, and nothing is read before an order that turns an output off */
-    PM_LEAVES = 2, /* a step that stops is left and told, and the next one goes on; otherwise it ends the list, as a restart of a part does */
-    PM_ASKS = 4    /* each order is told by PM_ASKED before it begins */
+    PM_KEEPS_BACK = 1,      /* a way back is kept: OPERATION is read before an order that turns an output off, so that it can be undone */
+    PM_ENDS_AT_RESTART = 2, /* a restart of a part that was seen ends the list; otherwise what the part holds is learned anew */
+    PM_LEAVES = 4,          /* a step that stops is left and told, and the next one goes on; otherwise it ends the list */
+    PM_ASKS = 8             /* each order is told by PM_ASKED before it begins */
 };
 void pm_sequence_new(pm_sequence *sequence, uint16_t tries, uint8_t rules);
 
 /* What comes next, by the host at the place sequence->host. `steps` is the whole list, the same each time. `records` has one record for each
- * step; with PM_DOWN `room` may be less, and nothing is kept of the steps beyond. With all but PM_OK the frame is PM_NOTHING.
+ * step; without PM_KEEPS_BACK `room` may be less, and nothing is kept of the steps beyond. With all but PM_OK the frame is PM_NOTHING.
  *   PM_OK           the frame goes on the bus of that host, and stays the same until pm_sequence_write_ended or pm_sequence_read_ended
  *   PM_AGAIN        ask at once, by the host at sequence->host, which may be another
  *   PM_WAIT         ask again once sequence->said.milliseconds have passed: the wait of a step, or the time that a rail is given

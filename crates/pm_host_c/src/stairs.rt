@@ -38,7 +38,8 @@ pub extern "C" fn pm_stairs_version() -> u16
 pub extern "C" fn pm_stairs_new(stairs: &mut StairsImage, tries: u16, is_down: u8)
     ensures { stairs.new ≡ stairs_begun tries is_down }
 {
-    *stairs = StairsImage::of(&Sequence::new(tries, is_down != 0), StairsEndImage::none());
+    let is_up = is_down == 0;
+    *stairs = StairsImage::of(&Sequence::new(tries, is_up, is_up), StairsEndImage::none());
 }
 
 /// What is to be sent now, by the host at the place that the stairs name. 96h if another host is to be asked or this one again, 97h
@@ -90,7 +91,7 @@ pub extern "C" fn pm_stairs_skip(stairs: &mut StairsImage) -> u8
     let Some(mut left) = stairs.stairs() else {
         return NO_STAIRS;
     };
-    if !left.is_down || !stairs.end.is_stopped() {
+    if left.keeps_back || !stairs.end.is_stopped() {
         return NO_STEP;
     }
     left.skip();

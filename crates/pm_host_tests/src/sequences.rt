@@ -95,13 +95,15 @@ pub(crate) fn after(wait: u32, step: Step) -> Step {
 
 // A way up that ends at a step that stops, and a way down that leaves it. Neither asks before orders.
 pub(crate) const UP: Rules = Rules {
-    is_down: false,
+    keeps_back: true,
+    ends_at_restart: true,
     leaves: false,
     asks: false,
 };
 
 pub(crate) const DOWN: Rules = Rules {
-    is_down: true,
+    keeps_back: false,
+    ends_at_restart: false,
     leaves: true,
     asks: false,
 };
@@ -510,7 +512,7 @@ fn a_step_that_orders_nothing_surveys_or_rests(rt: HostRuntime) {
         ..PART
     };
     let rows = [
-        ("a survey", PART, Act::Surveys, blind, End::Reached, 0, 6),
+        ("a survey", PART, Act::Surveys, blind, End::Reached, 0, 5),
         ("a rest", PART, Act::Rests, blind, End::Reached, 0, 0),
         (
             "a survey that is looked at",
@@ -519,16 +521,7 @@ fn a_step_that_orders_nothing_surveys_or_rests(rt: HostRuntime) {
             MUST,
             End::Reached,
             1,
-            8,
-        ),
-        (
-            "a rest that is looked at",
-            PART,
-            Act::Rests,
-            MUST,
-            End::Reached,
-            1,
-            2,
+            7,
         ),
         (
             "a rest of a part that is gone",
@@ -564,7 +557,13 @@ fn steps_that_order_nothing_stand_between_others(rt: HostRuntime) {
     let [part, _] = parts;
     equal(
         &rt,
-        &(run.end, run.founds, part.writes, part.words[0][1], part.words[1][1]),
+        &(
+            run.end,
+            run.founds,
+            part.writes,
+            part.words[0][1],
+            part.words[1][1],
+        ),
         &(Some(End::Reached), 4, 1, 0x1333, 0x1000),
         &"over two outputs",
     );

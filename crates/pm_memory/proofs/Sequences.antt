@@ -48,7 +48,8 @@ none-at : (q : List) (end : StairsEndImage) (coming : Option FrameCourse) → If
 none-at q end None is = rw (
   flag-kept q.is_free,
   flag-kept q.is_warned,
-  flag-kept q.is_down,
+  flag-kept q.keeps_back,
+  flag-kept q.ends_at_restart,
   flag-kept q.stairs.reading,
   flag-kept q.stairs.restarted,
 ) refl
@@ -56,7 +57,8 @@ none-at q end (Some c) is = rw (
   kept c is,
   flag-kept q.is_free,
   flag-kept q.is_warned,
-  flag-kept q.is_down,
+  flag-kept q.keeps_back,
+  flag-kept q.ends_at_restart,
   flag-kept q.stairs.reading,
   flag-kept q.stairs.restarted,
 ) refl
@@ -68,7 +70,8 @@ some-at q end output (words.Sets wanted) course None own is = rw (
   wanted-kept wanted,
   flag-kept q.is_free,
   flag-kept q.is_warned,
-  flag-kept q.is_down,
+  flag-kept q.keeps_back,
+  flag-kept q.ends_at_restart,
   flag-kept q.stairs.reading,
   flag-kept q.stairs.restarted,
 ) refl
@@ -78,7 +81,8 @@ some-at q end output (words.Sets wanted) course (Some c) own is = rw (
   wanted-kept wanted,
   flag-kept q.is_free,
   flag-kept q.is_warned,
-  flag-kept q.is_down,
+  flag-kept q.keeps_back,
+  flag-kept q.ends_at_restart,
   flag-kept q.stairs.reading,
   flag-kept q.stairs.restarted,
 ) refl
@@ -86,7 +90,8 @@ some-at q end output (words.Turns byte) course None own is = rw (
   kept course own,
   flag-kept q.is_free,
   flag-kept q.is_warned,
-  flag-kept q.is_down,
+  flag-kept q.keeps_back,
+  flag-kept q.ends_at_restart,
   flag-kept q.stairs.reading,
   flag-kept q.stairs.restarted,
 ) refl
@@ -95,7 +100,8 @@ some-at q end output (words.Turns byte) course (Some c) own is = rw (
   kept c is,
   flag-kept q.is_free,
   flag-kept q.is_warned,
-  flag-kept q.is_down,
+  flag-kept q.keeps_back,
+  flag-kept q.ends_at_restart,
   flag-kept q.stairs.reading,
   flag-kept q.stairs.restarted,
 ) refl
@@ -104,7 +110,8 @@ some-at q end output words.Nothing course None own is = rw (
   kept course own,
   flag-kept q.is_free,
   flag-kept q.is_warned,
-  flag-kept q.is_down,
+  flag-kept q.keeps_back,
+  flag-kept q.ends_at_restart,
   flag-kept q.stairs.reading,
   flag-kept q.stairs.restarted,
 ) refl
@@ -113,7 +120,8 @@ some-at q end output words.Nothing course (Some c) own is = rw (
   kept c is,
   flag-kept q.is_free,
   flag-kept q.is_warned,
-  flag-kept q.is_down,
+  flag-kept q.keeps_back,
+  flag-kept q.ends_at_restart,
   flag-kept q.stairs.reading,
   flag-kept q.stairs.restarted,
 ) refl

@@ -1,5 +1,5 @@
 -- Stairs and their ends as plain numbers in a caller's memory, and what they mean. This project's own choice.
-use Rattle.std.specs.Prelude.{ℕ, Bool, false, ◌&&◌, ◌==◌, nat_lt, if◌then◌else◌, replicate}
+use Rattle.std.specs.Prelude.{ℕ, Bool, false, not, ◌&&◌, ◌==◌, nat_lt, if◌then◌else◌, replicate}
 use Rattle.std.specs.Prelude.{Option, Some, None, is_some, option_map, unwrap_or}
 use Rattle.std.specs.Option.{option_map_or}
 use Rattle.pm_table.specs.declared.commands.Code.{Code}
@@ -102,7 +102,8 @@ sequence_held i course coming = record {
   under_host = i.under.host;
   is_free = i.under.is_free == 1;
   is_warned = i.under.is_warned == 1;
-  is_down = i.is_down == 1;
+  keeps_back = i.keeps_back == 1;
+  ends_at_restart = i.ends_at_restart == 1;
 }
 
 abbrev pub held_with : StairsImage → Option FrameCourse → Option FrameCourse → Option Sequence
@@ -149,8 +150,9 @@ stairs_image q end = record {
   tries = q.tries;
   begun = q.begun;
   host = q.host;
-  is_down = flag q.is_down;
-  unused = replicate 6 0;
+  keeps_back = flag q.keeps_back;
+  ends_at_restart = flag q.ends_at_restart;
+  unused = replicate 5 0;
   end = end;
   under = under_image q q.stairs.under;
   course = course_written (option_map (λ under. under.course) q.stairs.under);

@@ -52,10 +52,12 @@ pub struct StairsImage {
     pub begun: u16,
     /// The place of the host that the next call takes.
     pub host: u8,
-    /// 1 of a way down, otherwise 0.
-    pub is_down: u8,
+    /// 1 if a way back is kept, otherwise 0.
+    pub keeps_back: u8,
+    /// 1 if a restart of a part that was seen ends them, otherwise 0.
+    pub ends_at_restart: u8,
     /// No meaning.
-    pub unused: [u8; 6],
+    pub unused: [u8; 5],
     /// How they ended.
     pub end: StairsEndImage,
     /// The step under way, and marks.
@@ -90,8 +92,9 @@ impl StairsImage {
             tries: stairs.tries,
             begun: stairs.begun,
             host: stairs.host,
-            is_down: flag(stairs.is_down),
-            unused: [0; 6],
+            keeps_back: flag(stairs.keeps_back),
+            ends_at_restart: flag(stairs.ends_at_restart),
+            unused: [0; 5],
             end,
             under: UnderImage::of(stairs),
             course: course_of(course_under(stairs)),
@@ -143,7 +146,8 @@ impl StairsImage {
             under_host: self.under.host,
             is_free: self.under.is_free == 1,
             is_warned: self.under.is_warned == 1,
-            is_down: self.is_down == 1,
+            keeps_back: self.keeps_back == 1,
+            ends_at_restart: self.ends_at_restart == 1,
         }
     }
 }

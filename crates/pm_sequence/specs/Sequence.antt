@@ -50,7 +50,7 @@ use Rattle.pm_delivery.specs.Deliveries.{new_delivery}
 
 abbrev pub new_sequence : ℕ → Rules → Sequence
 new_sequence tries rules = record {
-  list = sequence_new tries rules.is_down;
+  list = sequence_new tries rules.keeps_back rules.ends_at_restart;
   look = looking (new_delivery 0 0 0 0 0);
   look_host = 0;
   phase = phase.Steps;

@@ -76,8 +76,10 @@ pub enum Act {
 /// How a list is carried out.
 #[derive(Clone, Copy, Debug, PartialEq, Eq)]
 pub struct Rules {
-    /// Whether it is a way down: no way back is wanted, a step that turns its output off begins with nothing read, and a restart ends nothing.
-    pub is_down: bool,
+    /// Whether a way back is kept: OPERATION is read before a step that turns its output off, and a way back that would be refused is said.
+    pub keeps_back: bool,
+    /// Whether a restart of a part that was seen ends the list. Otherwise what it holds is learned anew, and the list goes on.
+    pub ends_at_restart: bool,
     /// Whether a step that stops is left, and the next one goes on. Otherwise it ends the list, as a restart of a part does whatever this says.
     pub leaves: bool,
     /// Whether each order is told, by [`Act::Order`], before it begins.
@@ -121,7 +123,7 @@ impl Sequence {
         ensures { result ≡ new_sequence tries rules }
     {
         Sequence {
-            list: List::new(tries, rules.is_down),
+            list: List::new(tries, rules.keeps_back, rules.ends_at_restart),
             look: Look::new(Delivery::new(0, 0, 0, 0, 0)),
             look_host: 0,
             phase: Phase::Steps,

@@ -26,8 +26,8 @@ use Rattle.pm_stairs.specs.Steps.{step_course, step_with}
 use Rattle.pm_stairs.specs.WayBack.{way_back_fault}
 
 -- no step has begun
-abbrev pub sequence_new : ℕ → Bool → Sequence
-sequence_new tries is_down = record {
+abbrev pub sequence_new : ℕ → Bool → Bool → Sequence
+sequence_new tries keeps_back ends_at_restart = record {
   stairs = stairs_new;
   tries = tries;
   begun = 0;
@@ -35,7 +35,8 @@ sequence_new tries is_down = record {
   under_host = 0;
   is_free = false;
   is_warned = false;
-  is_down = is_down;
+  keeps_back = keeps_back;
+  ends_at_restart = ends_at_restart;
 }
 
 -- the step under way is asked first, unless it was over just now
@@ -50,17 +51,17 @@ host_ahead host (Some placed) = placed.host
 abbrev pub host_due : Sequence → Option Placed → ℕ
 host_due q ahead = if is_under q ahead then q.under_host else host_ahead q.host ahead
 
--- on a way down a step that turns an output off begins at once, with nothing read
+-- a step that turns an output off begins at once, with nothing read, where no way back is kept
 abbrev pub is_at_once : Bool → Act → Bool
-is_at_once is_down (act.Sets wishes) = false
-is_at_once is_down (act.Words words) = false
-is_at_once is_down (act.Turns byte) = is_down && not (has_on byte)
-is_at_once is_down act.Surveys = false
-is_at_once is_down act.Rests = false
+is_at_once keeps_back (act.Sets wishes) = false
+is_at_once keeps_back (act.Words words) = false
+is_at_once keeps_back (act.Turns byte) = not keeps_back && not (has_on byte)
+is_at_once keeps_back act.Surveys = false
+is_at_once keeps_back act.Rests = false
 
 abbrev pub off_at_once : Sequence → Bool → Option Placed → Option Step
 off_at_once q under None = None
-off_at_once q under (Some placed) = rule (not under && is_at_once q.is_down placed.step.act) placed.step
+off_at_once q under (Some placed) = rule (not under && is_at_once q.keeps_back placed.step.act) placed.step
 
 -- the first step ahead, where it is asked apart from the one under way, which was over by its own host just now
 abbrev pub asked_apart : Sequence → Option Placed → Option Step
@@ -70,7 +71,7 @@ asked_apart q (Some placed) = rule q.is_free placed.step
 -- the first step ahead, where it is asked with the one under way: of the same host
 abbrev pub ahead_here : Sequence → Option Placed → Option Step
 ahead_here q None = None
-ahead_here q (Some placed) = rule (placed.host == q.host && not (is_at_once q.is_down placed.step.act)) placed.step
+ahead_here q (Some placed) = rule (placed.host == q.host && not (is_at_once q.keeps_back placed.step.act)) placed.step
 
 -- a list has at most 65,535 steps
 abbrev pub one_more : ℕ → ℕ
@@ -93,9 +94,9 @@ at_once stairs step tries = record stairs {
   reading = false;
 }
 
--- why the way back of a step would be refused, where that wasn't said and a way back is wanted
+-- why the way back of a step would be refused, where that wasn't said and a way back is kept
 abbrev pub refused_back : Guarded → Sequence → WordStep → Option PlanFault
-refused_back g q back = if q.is_down || q.is_warned then None else way_back_fault g back
+refused_back g q back = if not q.keeps_back || q.is_warned then None else way_back_fault g back
 
 -- what comes of what the stairs say
 abbrev pub begins_turn : Asked → WordStep → Option PlanFault → Turn
@@ -150,8 +151,8 @@ pub data Says (g : Guarded) (ahead : Option Placed) (q : Sequence) : Move → St
   apart : (step : Step) (said : Move) (asked : Stairs) → asked_apart q ahead ≡ Some step → GoesApart g q.tries step q.stairs said asked →
       Says g ahead q said asked
 
--- What comes next by the host at the place that was named. Another one is named where that is the one to ask (`elsewhere`). On a way
--- down an output is turned off at once (`at_once_of`). Otherwise the stairs are asked (`asks`).
+-- What comes next by the host at the place that was named. Another one is named where that is the one to ask (`elsewhere`). Where no way
+-- back is kept an output is turned off at once (`at_once_of`). Otherwise the stairs are asked (`asks`).
 pub data Turns (g : Guarded) (ahead : Option Placed) (old : Sequence) : Turn → Sequence → Type 0 where
   elsewhere : old.host ≢ host_due old ahead → Turns g ahead old turn.Again (record old { host = host_due old ahead })
   at_once_of : (step : Step) → old.host ≡ host_due old ahead → off_at_once old (is_under old ahead) ahead ≡ Some step →
@@ -164,9 +165,9 @@ pub data Turns (g : Guarded) (ahead : Option Placed) (old : Sequence) : Turn →
 abbrev pub refused_in : Sequence → Sequence → Bool → Sequence
 refused_in q named begins = record q { is_free = false; stairs = record q.stairs { reading = begins || named.stairs.reading } }
 
--- the course whose job was named last has become this one; a restart of a part ends no way down
+-- the course whose job was named last has become this one; a restart of a part is noted where it ends the list
 abbrev pub heard_with : Sequence → FrameCourse → Bool → Sequence
-heard_with q course restarted = record q { stairs = with_course q.stairs course (restarted && not q.is_down) }
+heard_with q course restarted = record q { stairs = with_course q.stairs course (restarted && q.ends_at_restart) }
 
 -- what stopped is the step under way
 abbrev pub has_begun : Sequence → Bool

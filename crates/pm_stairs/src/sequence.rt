@@ -42,8 +42,10 @@ pub struct Sequence {
     pub is_free: bool,
     /// Whether it was said that the first step ahead has no way back.
     pub is_warned: bool,
-    /// Whether no way back is wanted.
-    pub is_down: bool,
+    /// Whether a way back is kept: OPERATION is read before a step turns an output off, and a way back that would be refused is said.
+    pub keeps_back: bool,
+    /// Whether a restart of a part that was seen ends the list. Otherwise what it forgot is learned anew, and the list goes on.
+    pub ends_at_restart: bool,
 }
 
 /// What comes next in a list of steps.
@@ -67,8 +69,8 @@ pub enum Turn {
 
 impl Sequence {
     /// No step has begun. Each gets so many tries.
-    pub fn new(tries: u16, is_down: bool) -> Sequence
-        ensures { result ≡ sequence_new tries is_down }
+    pub fn new(tries: u16, keeps_back: bool, ends_at_restart: bool) -> Sequence
+        ensures { result ≡ sequence_new tries keeps_back ends_at_restart }
     {
         Sequence {
             stairs: Stairs::new(),
@@ -78,7 +80,8 @@ impl Sequence {
             under_host: 0,
             is_free: false,
             is_warned: false,
-            is_down,
+            keeps_back,
+            ends_at_restart,
         }
     }
 
@@ -165,12 +168,12 @@ impl Sequence {
         }
     }
 
-    // Whether a step begins at once, with nothing read: on a way down one that turns an output off.
+    // Whether a step begins at once, with nothing read: one that turns an output off, if no way back is kept.
     fn is_at_once(&self, step: &Step) -> bool
-        ensures { result ≡ spec_is_at_once self.now.is_down step.now.act }
+        ensures { result ≡ spec_is_at_once self.now.keeps_back step.now.act }
     {
         match step.act {
-            Act::Turns(byte) => self.is_down && !Operation::has_on(byte),
+            Act::Turns(byte) => !self.keeps_back && !Operation::has_on(byte),
             _ => false,
         }
     }
@@ -275,11 +278,11 @@ impl Sequence {
         }
     }
 
-    // Why the way back of the first step ahead would be refused, if it wasn't said.
+    // Why the way back of the first step ahead would be refused, if one is kept and that wasn't said.
     fn refused_back<S: Sight>(&self, guard: &S, back: &WordStep) -> Option<PlanFault>
         ensures { result ≡ spec_refused_back (S.guarded guard.now) self.now back.now }
     {
-        if self.is_down || self.is_warned {
+        if !self.keeps_back || self.is_warned {
             None
         } else {
             way_back_fault(guard, back)
@@ -310,12 +313,14 @@ impl Sequence {
         self.stairs.course_open()
     }
 
-    /// That course has become this one, and an answer showed that the part restarted or was exchanged, or didn't. It ends no way down.
+    /// That course has become this one, and an answer showed that the part restarted or was exchanged, or didn't.
     pub fn with_course(&self, course: FrameCourse, restarted: bool) -> Sequence
         ensures { result ≡ heard_with self.now course restarted }
     {
         let mut heard = *self;
-        heard.stairs = self.stairs.with_course(course, restarted && !self.is_down);
+        heard.stairs = self
+            .stairs
+            .with_course(course, restarted && self.ends_at_restart);
         heard
     }
 

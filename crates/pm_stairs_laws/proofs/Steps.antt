@@ -1253,15 +1253,15 @@ stairs-are-followed laws = record {
 
 -- A list of steps over one host names what its stairs do.
 
--- on a way up no step begins at once
-never-at-once : (a : Act) → is_at_once false a ≡ false
+-- no step begins at once where a way back is kept
+never-at-once : (a : Act) → is_at_once true a ≡ false
 never-at-once (act.Sets wishes) = refl
 never-at-once (act.Words words) = refl
 never-at-once (act.Turns byte) = refl
 never-at-once act.Surveys = refl
 never-at-once act.Rests = refl
 
-no-off : (q : Sequence) (under : Bool) (ahead : Option Placed) → q.is_down ≡ false → off_at_once q under ahead ≡ None
+no-off : (q : Sequence) (under : Bool) (ahead : Option Placed) → q.keeps_back ≡ true → off_at_once q under ahead ≡ None
 no-off q under None up = refl
 no-off q true (Some placed) up = refl
 no-off q false (Some placed) up = rw (up, never-at-once placed.step.act) refl

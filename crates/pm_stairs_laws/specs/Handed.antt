@@ -43,7 +43,7 @@ pub data Handed (config : Config) (passes : ℕ) (part : PartRegisters) (steps :
       IsClimb config passes part steps before (step ∷ begun) (back ∷ backs) rest is events →
       Handed config passes part steps before begun backs ahead events g (Passed back) g is
 
--- What is said of a list whose steps are all of one host, on no way down: the stairs are asked with both steps (`asked`), and what they
+-- What is said of a list whose steps are all of one host, and which keeps a way back: the stairs are asked with both steps (`asked`), and what they
 -- name is answered, or that the way back of a step would be refused; then nothing changes that they go by (`warned`).
 pub data Named (g : Guarded) (tries : ℕ) (ahead : Option Step) (old new : Stairs) : Turn → Type 0 where
   job : (named : Asked) → Goes g tries ahead old (move.Job named) new → Named g tries ahead old new (turn.Job named)
@@ -59,7 +59,7 @@ step_of_placed ahead = option_map (λ placed. placed.step) ahead
 
 -- all that the sequence goes by is of the host that it names
 pub record IsOfOneHost (q : Sequence) (ahead : Option Placed) : Type 0 where
-  pub up : q.is_down ≡ false
+  pub up : q.keeps_back ≡ true
   pub bound : q.is_free ≡ false
   pub under : q.under_host ≡ q.host
   pub next : option_map (λ placed. placed.host) ahead ≡ option_map (λ placed. q.host) ahead

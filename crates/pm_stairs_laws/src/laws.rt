@@ -94,7 +94,7 @@ pub fn climbs_come_back()
     stairs_hold_in_lives();
 }
 
-/// The calls of stairs over frames are steps of such a caller (`hands`, `hears`). A list of steps over one host, on no way down, names what its
+/// The calls of stairs over frames are steps of such a caller (`hands`, `hears`). A list of steps over one host that keeps a way back names what its
 /// stairs do, or says once that a way back would be refused (`sequences`).
 pub fn stairs_are_handed()
     ensures { StairsAreHanded }

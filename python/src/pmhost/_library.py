@@ -139,7 +139,8 @@ class StairsEndImage(c.Structure):
 
 class StairsImage(c.Structure):
     _fields_ = [("mark", c.c_uint16), ("version", c.c_uint16), ("tries", c.c_uint16), ("begun", c.c_uint16), ("host", c.c_uint8),
-                ("is_down", c.c_uint8), ("unused", c.c_uint8 * 6), ("end", StairsEndImage), ("held", c.c_uint64 * 30)]
+                ("keeps_back", c.c_uint8), ("ends_at_restart", c.c_uint8), ("unused", c.c_uint8 * 5), ("end", StairsEndImage),
+                ("held", c.c_uint64 * 30)]
 
 
 class JudgementImage(c.Structure):

@@ -30,6 +30,15 @@ from .values import Format
 AS_WANTED = ("confirmed", "accepted")
 
 
+def word_of(rail: Rail, key: str, form: Format) -> int:
+    """The word of a setting: one that keeps the bound of VOUT_MAX or VOUT_MIN; of a voltage that equals a bound of its rail
+    that bound's; otherwise the nearest one. Refused."""
+    micro, (least, most) = rail.settings[key], rail.limits
+    is_most = key == "max" or key in WORDS and micro in (rail.settings.get("max"), most)
+    is_least = key == "min" or key in WORDS and micro in (rail.settings.get("min"), least)
+    return (form.at_most if is_most else form.at_least if is_least else form.nearest)(micro)
+
+
 @dataclass
 class Board:
     """The rails of a file, and the parts that have them, by their names. `described` has what a board file says of its parts; why a
@@ -138,15 +147,11 @@ class Board:
         self.settings += [Setting(rail, key, word, word) for key, word in words.items()]
 
     def word(self, rail: Rail, key: str) -> int:
-        """The word of a setting: one that keeps the bound of VOUT_MAX or VOUT_MIN; of a voltage that equals a bound of its rail
-        that bound's; otherwise the nearest one."""
-        micro, (least, most), form = rail.settings[key], rail.limits, self.format(rail)
-        is_most = key == "max" or key in WORDS and micro in (rail.settings.get("max"), most)
-        is_least = key == "min" or key in WORDS and micro in (rail.settings.get("min"), least)
+        """The word of a setting. Stopped."""
         try:
-            return (form.at_most if is_most else form.at_least if is_least else form.nearest)(micro)
+            return word_of(rail, key, self.format(rail))
         except Refused as fault:
-            raise Stopped(f"{rail.name}.{key}: {voltages.shown(micro)}: {fault.letter} {fault.name}, in the rail's format") from None
+            raise Stopped(f"{rail.name}.{key}: {voltages.shown(rail.settings[key])}: {fault.letter} {fault.name}, in the rail's format") from None
 
     def format(self, rail: Rail) -> Format:
         return self.formats[rail.name]

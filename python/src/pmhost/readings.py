@@ -36,7 +36,8 @@ KINDS = {
     "STATUS_OTHER": Kind(0x7F, 1), "STATUS_MFR_SPECIFIC": Kind(0x80, 1), "STATUS_FANS_1_2": Kind(0x81, 1),
     "STATUS_FANS_3_4": Kind(0x82, 1), "ON_OFF_CONFIG": Kind(0x02, 1), "VOUT_OV_FAULT_LIMIT": Kind(0x40, 2, "V"),
     "VOUT_OV_WARN_LIMIT": Kind(0x42, 2, "V"), "VOUT_UV_WARN_LIMIT": Kind(0x43, 2, "V"), "VOUT_UV_FAULT_LIMIT": Kind(0x44, 2, "V"),
-    "POWER_GOOD_ON": Kind(0x5E, 2, "V"), "POWER_GOOD_OFF": Kind(0x5F, 2, "V"),
+    "POWER_GOOD_ON": Kind(0x5E, 2, "V"), "POWER_GOOD_OFF": Kind(0x5F, 2, "V"), "TON_DELAY": Kind(0x60, 2, "ms"), "TON_RISE": Kind(0x61, 2, "ms"),
+    "TON_MAX_FAULT_LIMIT": Kind(0x62, 2, "ms"),
 }
 # Those in the format of their output's voltages.
 IN_OUTPUTS_FORMAT = {name for name, kind in KINDS.items() if kind.unit == "V" and name != "READ_VIN"}

@@ -102,7 +102,8 @@ UNTIMED = [
     ("saleae", f"{TIMED}start,0,,,,\nstop,0,,,,\nstart,1e12,,,,", "line 4: its time has more than 18 digits"),
     ("saleae", f"{TIMED}start\n", "line 2: no seconds in the column start_time"),
 ]
-# The SHA-256 of the waveform of faults.bus, of which sigrok-cli 0.7.2 made faults.sigrok.
+# The SHA-256 of the waveforms of examples/bus.trace and of faults.bus, of which sigrok-cli 0.7.2 made bus.sigrok and faults.sigrok.
+WAVEFORM = "39c36b8f0da584a9c8dc76affc846fe3ce5f6ea3b0cd9c998835e36b970b9274"
 FAULTY_WAVEFORM = "631e87c54fd23184fb75c8da6f2863a45a5da367d0038ae7390d8d497863e9c3"
 # What `decode` counts of the traces of faults: an address that nobody acknowledged is no packet, and no fault of one.
 COUNTS = [("faults.trace", "lines 4 accepted 3 faults 1 bad 0"),

@@ -20,7 +20,8 @@ fn begun(tries: u16, rules: u8) -> SequenceImage {
         &Sequence::new(
             0,
             Rules {
-                is_down: false,
+                keeps_back: false,
+                ends_at_restart: false,
                 leaves: false,
                 asks: false,
             },
@@ -87,7 +88,7 @@ fn a_way_down_orders_first_and_looks_last(rt: HostRuntime) {
     let mut image = host(1);
     let steps = [turns(0, 1, 0, 1)];
     let mut records = [record()];
-    let mut sequence = begun(4, 1);
+    let mut sequence = begun(4, 0);
     let sent = next(&mut sequence, &mut image, &steps, &mut records);
     equal(&rt, &sent, &(0, 1, 0), &1);
     let step = pm_sequence_write_ended(&mut sequence, &mut image, 1);
@@ -107,7 +108,7 @@ fn memory_without_a_sequence_is_refused(rt: HostRuntime) {
     let mut none = no_host();
     let steps = [turns(0, 1, 0, 1)];
     let mut records = [record()];
-    let mut sequence = begun(4, 0);
+    let mut sequence = begun(4, 3);
     let said = next(&mut sequence, &mut none, &steps, &mut records);
     equal(&rt, &said, &(0xE0, 0, 0), &1);
     let step = pm_sequence_read_ended(&mut sequence, &mut none, &[]);

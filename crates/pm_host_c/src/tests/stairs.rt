@@ -13,7 +13,7 @@ use std::mem::size_of;
 
 // Stairs of which no step has begun.
 fn begun(tries: u16, is_down: u8) -> StairsImage {
-    let mut image = StairsImage::of(&Sequence::new(0, false), StairsEndImage::none());
+    let mut image = StairsImage::of(&Sequence::new(0, true, true), StairsEndImage::none());
     image.mark = 0;
     pm_stairs_new(&mut image, tries, is_down);
     image
@@ -136,7 +136,12 @@ fn a_step_that_orders_nothing_is_undone_by_a_rest(rt: HostRuntime) {
     );
     equal(
         &rt,
-        &(stairs.begun, stairs.under.kind, backs[0].kind, backs[0].output),
+        &(
+            stairs.begun,
+            stairs.under.kind,
+            backs[0].kind,
+            backs[0].output,
+        ),
         &(1, 3, 4, 1),
         &2,
     );

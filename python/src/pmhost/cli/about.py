@@ -121,7 +121,10 @@ margin 0: OPERATION A8 on, margin high confirmed; the output commands 3.399902V,
     "restore": About(
         "has the part load its stored settings", f"{ORDER} restore --outputs-may-go-off",
         """On some parts it is a reset, and the outputs go off."""),
-    "why": About("says why an output is off: what its registers say, the likeliest cause, and what to do", f"{LIMITED} why 0"),
+    "why": About("says why a rail isn't as it should be: what its registers say, the likeliest cause, and what to do", f"{LIMITED} why 0",
+        """The status is 0 only if the rail does what its file says, or without a file what it is commanded: it is on or off, at that voltage, within its
+        limits, and delivers. It is 1 if the part notes a fault of its memory. A rail that is late is asked for TON_DELAY, TON_RISE and
+        TON_MAX_FAULT_LIMIT."""),
     "known": About("prints what is known of every register, and sends nothing", f"{ONE} read 0 + known"),
     "band": About("prints which voltages an output may be commanded to, and sends nothing", f"{LIMITED} survey 0 + band 0"),
     "apply": About(

@@ -80,7 +80,7 @@ def expanded(part: list[str], has_value: set[str]) -> list[tuple[list[str], Name
 
 def attach(arguments: argparse.Namespace, named: Named) -> None:
     """A command is about a rail of a file, or about all of them, which the call hears of as it is judged."""
-    arguments.rails, arguments.named, arguments.goes_on = named.found, named.rail, named.is_one_of_all
+    arguments.rails, arguments.named, arguments.goes_on, arguments.of_file = named.found, named.rail, named.is_one_of_all, named.file
     words = arguments.said.split()
     name = shown(named.file) if named.rail is None else named.rail.name
     arguments.said = " ".join([words[0], name, *words[2:]])

@@ -100,7 +100,7 @@ def named(*fronts: str) -> str:
 
 
 READS = (f"{', '.join(REGISTERS)}, or {DEVICE} with - in the place of O. A reading: {named('READ_')}. A status register: {named('STATUS_')}. "
-         f"Further {named('ON_', 'VOUT_', 'POWER_')}. Any other name of the standard, or a code with its shape, as DD:word, 9E:block or EF:byte. "
+         f"Further {named('ON_', 'VOUT_', 'POWER_', 'TON_')}. Any other name of the standard, or a code with its shape, as DD:word, 9E:block or EF:byte. "
          f"VOUT_COMMAND or {DEVICE} if left out")
 
 

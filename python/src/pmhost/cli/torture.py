@@ -13,7 +13,9 @@ from .. import torture
 from ..faults import read_faults
 from ..torture.cuse import cuse
 from ..torture.below import NoBench, preload
-from ..torture.program import Run, Way
+from ..torture.causes import again as faults_of
+from ..torture.program import TO_END, Fault, Run, Way
+from ..torture.transfer_text import line
 from ..torture.verdict import Judge, Unjudged, Verdict
 from ..torture.watched import ADDRESS, Cell, read_meant
 from . import streams
@@ -28,6 +30,7 @@ output O has voltages in ULINEAR16 with the exponent O - 12. A program that is l
 
   pmhost torture -- ./your-host --bus 1
   pmhost torture --strike lost,garbled --runs 100 -- sh set-rails.sh
+  pmhost torture --pairs 100 --said 'rails are up' -- ./your-daemon
   pmhost torture --again 7:cut:4 -- sh set-rails.sh
 
 First the program runs without a fault: what each register takes then is what it is meant to take. A run is WRONG if a
@@ -48,24 +51,30 @@ def kinds_of(word: str) -> list[str]:
     return found
 
 
-def again_of(word: str) -> tuple[int, str]:
-    """N:FAULT, the transfer and its fault."""
-    number, _, fault = word.partition(":")
-    try:
-        only, = read_faults(fault)
-    except ValueError:
-        only = ""
-    if not number.isdecimal() or int(number) == 0 or not only:
-        raise argparse.ArgumentTypeError(f"again {shown(word)}: give a transfer's number and its fault, as 7:cut:4")
-    return int(number), only
+def again_of(word: str) -> tuple[Fault, ...]:
+    """N:FAULT,..: transfers, each with its fault."""
+    found = []
+    for each in word.split(","):
+        number, _, fault = each.partition(":")
+        try:
+            only, = read_faults(fault)
+        except ValueError:
+            only = ""
+        if not number.isdecimal() or int(number) == 0 or not only or int(number) in dict(found):
+            raise argparse.ArgumentTypeError(f"again {shown(word)}: give a transfer's number and its fault, as 7:cut:4")
+        found.append((int(number), only))
+    return tuple(sorted(found))
 
 
 def add(commands: Any) -> None:
     parser = commands.add_parser("torture", help=COMMANDS["torture"].brief, description=ABOUT)
     parser.add_argument("--strike", type=kinds_of, default=list(torture.KINDS), metavar="KIND,..",
                         help=f"the kinds of faults, of {', '.join(torture.KINDS)}; all if left out. pmhost faults --help says what each is")
-    parser.add_argument("--runs", type=whole(1, 10**6, "runs"), metavar="N",
-                        help="how many runs, drawn at random, at most 1000000; if left out each kind once at each transfer")
+    chosen_by = parser.add_mutually_exclusive_group()
+    chosen_by.add_argument("--runs", type=whole(1, 10**6, "runs"), metavar="N",
+                           help="how many runs, drawn at random, at most 1000000; if left out each kind once at each transfer")
+    chosen_by.add_argument("--pairs", type=whole(1, 10**6, "pairs"), metavar="N",
+                           help="how many runs with two faults at two transfers, drawn at random, at most 1000000; one fault in each run if left out")
     parser.add_argument("--seed", type=whole(0, 10**9 - 1, "seed"), default=0, metavar="N", help="draws places and bits, 0 if left out")
     parser.add_argument("--seconds", type=whole(1, 3600, "seconds"), default=SECONDS, metavar="N",
                         help=f"how many seconds a run may take, 1 to 3600; {SECONDS} if left out")
@@ -73,10 +82,11 @@ def add(commands: Any) -> None:
                         help="how many outputs the converter has, 1 to 8; 2 if left out")
     parser.add_argument("--meant", action="append", default=[], metavar="O:CODE=WORD",
                         help="what a register is meant to hold, as 1:21=34CD; what the run without a fault shows if left out")
-    parser.add_argument("--said", metavar="REGEX", dest="finds", help="a run went well if a line of the program's output matches this, whatever its status; its status decides if left out")
+    parser.add_argument("--said", metavar="REGEX", dest="finds", help="a run went well if a line of the program's output matches this. The "
+                        f"registers are judged as they are then, and the program is ended by TERM, after {TO_END} s by KILL; its status decides if left out")
     parser.add_argument("--cuse", type=whole(0, 255, "cuse"), metavar="N", help="the bus is a device /dev/i2c-N of this number, made by CUSE of the "
                         "kernel, which reaches every program: it needs root, and the kernel's module cuse")
-    parser.add_argument("--again", type=again_of, metavar="N:FAULT", help="only one run: the fault at the transfer of this number; all if left out")
+    chosen_by.add_argument("--again", type=again_of, metavar="N:FAULT,..", help="only one run: each fault at the transfer of its number; all if left out")
     parser.add_argument("--json", action="store_true", dest="is_json", help="prints one object with all of it; lines if left out")
     parser.add_argument("words", nargs=argparse.REMAINDER, metavar="-- PROGRAM ..", help="the program and its words")
     parser.set_defaults(run=run, judge=judge)
@@ -122,35 +132,38 @@ def bench(arguments: argparse.Namespace, way: Way) -> int:
     program: torture.Program = arguments.program
     plain = program.run(way)
     meant: list[tuple[Cell, int]] = arguments.meant
-    verdicts, judged = [], Judge(plain, meant)
+    verdicts, judged = list[Verdict](), Judge(plain, meant)
     if not arguments.is_json:
         streams.write("meant: " + "; ".join(f"output {cell[0]} {cell[1]} {word:04X}" for cell, word in judged.last.items()))
-    for number, fault in chosen(arguments, plain):
-        found = judged.judge(program.run(way, number, fault))
-        verdicts.append(found)
-        if not arguments.is_json and (found.is_bad or found.strange or arguments.again):
-            tell(arguments, found)
-    total = Total(verdicts)
-    if arguments.is_json:
-        streams.write(json.dumps({**total.facts(), "meant": {place(cell): f"{word:04X}" for cell, word in judged.last.items()},
-                                  "bad": [facts(arguments, each) for each in verdicts if each.is_bad or each.strange]}))
-    else:
-        streams.write(total.line())
+    try:
+        for faults in chosen(arguments, plain):
+            verdicts.append(judged.judge(program.run(way, faults)))
+    finally:
+        # (an interrupted bench tells what it has found)
+        found, total = torture.causes(verdicts), Total(verdicts)
+        if arguments.is_json:
+            streams.write(json.dumps({**total.facts(), "meant": {place(cell): f"{word:04X}" for cell, word in judged.last.items()},
+                                      "bad": [facts(arguments, cause, each) for cause in found for each in cause.runs]}))
+        else:
+            tell(arguments, found, verdicts)
+            streams.write(total.line())
     return int(total.is_bad)
 
 
-def chosen(arguments: argparse.Namespace, plain: Run) -> list[tuple[int, str]]:
-    """The runs: one only, or all, or as many as were asked for of all of them again and again."""
+def chosen(arguments: argparse.Namespace, plain: Run) -> list[tuple[Fault, ...]]:
+    """The faults of each run: one run only, or all, or as many as were asked for of all of them again and again, or of pairs."""
     if arguments.again:
         return [arguments.again]
+    if arguments.pairs is not None:
+        return torture.drawn_pairs(plain.transfers, arguments.strike, arguments.seed, arguments.pairs)
     if arguments.runs is None:
-        return torture.drawn_faults(plain.transfers, arguments.strike, arguments.seed)
-    found: list[tuple[int, str]] = []
+        return [(each,) for each in torture.drawn_faults(plain.transfers, arguments.strike, arguments.seed)]
+    found: list[tuple[Fault, ...]] = []
     for turn in range(arguments.runs):
         some = torture.drawn_faults(plain.transfers, arguments.strike, arguments.seed * 1_000_003 + turn)
         if not some:
             break
-        found.append(random.Random(f"{arguments.seed} {turn}").choice(some))
+        found.append((random.Random(f"{arguments.seed} {turn}").choice(some),))
     return found
 
 
@@ -164,22 +177,34 @@ def again(arguments: argparse.Namespace, found: Verdict) -> str:
     more += ["--outputs", str(arguments.count)] * (arguments.count != 2) + ["--said", arguments.finds or ""] * (arguments.finds is not None)
     more += ["--seconds", str(arguments.seconds)] * (arguments.seconds != SECONDS)
     more += [word for (output, register), meant in arguments.meant for word in ("--meant", f"{output}:{register}={meant:04X}")]
-    return shlex.join(["pmhost", "torture", *more, "--again", f"{found.run.number}:{found.run.fault}", "--", *arguments.program.words])
+    return shlex.join(["pmhost", "torture", *more, "--again", faults_of(found.run.faults), "--", *arguments.program.words])
 
 
-def tell(arguments: argparse.Namespace, found: Verdict) -> None:
-    """A run that isn't good: what is wrong, its transfers, and the line that repeats it."""
-    ended = "not ended" if found.run.status is None else f"status {found.run.status}, {'well' if found.run.is_success else 'badly'}"
-    streams.write(f"transfer {found.run.number} {found.run.fault}: {ended}: {found.words}")
-    for transfer in found.run.transfers:
-        streams.write(f"  {transfer.line}")
+def tell(arguments: argparse.Namespace, found: list[torture.Cause], verdicts: list[Verdict]) -> None:
+    """A paragraph for each cause: how many runs it has, which, and its first one; of one run that was asked for whatever it is."""
+    for cause in found:
+        streams.write(cause.line)
+        for words, faults in cause.lost.items():
+            streams.write(f"  {words}: {', '.join(faults)}")
+        tell_run(arguments, cause.runs[0])
+    if not found and arguments.again:
+        tell_run(arguments, *verdicts)
+
+
+def tell_run(arguments: argparse.Namespace, found: Verdict) -> None:
+    """A run: what is wrong, its transfers, and the line that repeats it."""
+    run = found.run
+    ended = "not ended" if not run.is_ended else "said so, well" if run.status is None else f"status {run.status}, {'well' if run.is_success else 'badly'}"
+    streams.write(f"  {'; '.join(f'transfer {number} {fault}' for number, fault in run.faults)}: {ended}: {found.words}")
+    for number, transfer in enumerate(run.transfers, 1):
+        streams.write(f"  {line(transfer, number, run.pages.get(number))}")
     streams.write(f"  {again(arguments, found)}")
 
 
-def facts(arguments: argparse.Namespace, found: Verdict) -> dict[str, Any]:
+def facts(arguments: argparse.Namespace, cause: torture.Cause, found: Verdict) -> dict[str, Any]:
     """A run that isn't good, for programs."""
-    return {"transfer": found.run.number, "fault": found.run.fault, "status": found.run.status, "well": found.run.is_success,
-            "ended": found.is_ended,
+    return {"faults": [{"transfer": number, "fault": fault} for number, fault in found.run.faults], "cause": cause.words,
+            "status": found.run.status, "well": found.run.is_success, "ended": found.run.is_ended,
             "wrong": [{"cell": place(each.cell), "word": f"{each.word:04X}", "meant_for": other, "by": each.transfer} for each, other in found.wrong],
             "strange": [{"cell": place(each.cell), "word": f"{each.word:04X}", "by": each.transfer} for each in found.strange],
             "false": [{"cell": place(cell), "holds": f"{held:04X}", "meant": f"{word:04X}"} for cell, held, word in found.lost],
@@ -195,7 +220,7 @@ class Total:
         self.wrong = sum(bool(each.wrong) for each in verdicts)
         self.strange = sum(bool(each.strange) for each in verdicts)
         self.false = sum(bool(each.lost) for each in verdicts)
-        self.unended = sum(not each.is_ended for each in verdicts)
+        self.unended = sum(not each.run.is_ended for each in verdicts)
 
     @property
     def is_bad(self) -> bool:
@@ -206,5 +231,5 @@ class Total:
                 "strange": self.strange}
 
     def line(self) -> str:
-        return (f"{self.runs} runs, {self.well} ended well: {self.wrong} with a word on a wrong output, {self.false} with a false success, "
+        return (f"{self.runs} run{'s' * (self.runs != 1)}, {self.well} ended well: {self.wrong} with a word on a wrong output, {self.false} with a false success, "
                 f"{self.unended} not ended; {self.strange} with a word that was meant for none")

@@ -2,9 +2,10 @@
 from __future__ import annotations
 
 import argparse
+import shlex
 from typing import Any
 
-from ..why import BESIDE, Findings, cause, findings
+from ..why import BESIDE, Findings, TIMES, Place, cause, findings
 from .about import described
 from .answer import Answer
 from .call import Call, said
@@ -25,9 +26,9 @@ def add(commands: Any) -> None:
 
 
 def why(arguments: argparse.Namespace) -> int:
-    """Says what the registers say, and the cause. The status is 0 if the rail is on and its power is good, or it is commanded off."""
+    """Says what the registers say, and the cause. The status is 0 if the rail does what its file says, or without a file what it is commanded."""
     call: Call = arguments.call
-    seen = findings(call.part(), arguments.output)
+    seen = findings(call.part(), arguments.output, call.looks, place_of(arguments))
     because = cause(seen)
     found = Answer(said(arguments), "fault" if because else "told", because or well(seen), 1 if because else 0, output=arguments.output,
                    commanded=seen.state, rows=[row_of(it) for it in seen.found.values()], restart_seen=call.part().host.restart_seen)
@@ -37,18 +38,26 @@ def why(arguments: argparse.Namespace) -> int:
     return call.say(found)
 
 
+def place_of(arguments: argparse.Namespace) -> Place:
+    """What a command calls the rail."""
+    rail = arguments.call.named
+    file = "" if rail is None else shlex.quote(arguments.of_file)
+    return Place(str(arguments.output) if rail is None else f"{file} {rail.name}", file, rail)
+
+
 def well(seen: Findings) -> str:
     """What is said if nothing is wrong."""
-    if "OFF" in seen.bits("STATUS_WORD"):
-        return f"it is off, since OPERATION turns it off: `on {seen.output}` turns it on"
+    if seen.state.is_on is False:
+        return "it is off, since OPERATION turns it off: " + (
+            f"`on {seen.place.words}` turns it on" if seen.place.rail is None else "the file says that it is to be off")
     return f"it is on: {seen.value('READ_VOUT')}"
 
 
 def lines_of(seen: Findings) -> list[str]:
     """The registers in lines: status, what turns it on, and voltages."""
-    status = [it.words for name, it in seen.found.items() if name not in BESIDE]
+    status = [it.words for name, it in seen.found.items() if name not in (*BESIDE, *TIMES)]
     held = [(name, seen.state.only_word(name)) for name in ("OPERATION", DEVICE)]
     cells = [f"no good {name}" if word is None else f"{name} {word:02X}" for name, word in held]
-    on_off, *voltages = [seen.found[name].words for name in BESIDE]
-    return ["; ".join(status), "; ".join([on_off, *cells]), "; ".join(voltages),
+    on_off, *voltages = [seen.found[name].words for name in BESIDE if name in seen.found]
+    return ["; ".join(status) or "the part lacks STATUS_WORD", "; ".join([on_off, *cells]), "; ".join(voltages),
             rail_words(seen.state)]

@@ -69,13 +69,15 @@ def changed(frame: bytes, place: int, bit: int) -> bytes:
 @dataclass(frozen=True)
 class Struck:
     """A transfer that is over: the frame of the host, of a request how many bytes it asks for after the read address, the fault that
-    struck it, what the part made of it, and what the host heard: `acknowledged`, `not acknowledged`, or `back` with bytes."""
+    struck it, what the part made of it, and what the host heard: `acknowledged`, `not acknowledged`, or `back` with bytes, which
+    are `back`, the read address first."""
 
     frame: bytes
     count: int | None
     fault: str
     heard: str
     came: str
+    back: bytes = b""
 
     @property
     def line(self) -> str:
@@ -147,7 +149,7 @@ class FaultyBus(ModelPartBus):
         heard, answer = self._heard(arriving(request, kind, numbers), kind not in ("cut", "restarting"), kind)
         back = self._before if kind == "late" else returning(answer, kind, numbers)
         self._before = answer
-        self.tell(Struck(request, count, fault, heard, f"back {in_hexadecimal(back) or 'nothing'}"))
+        self.tell(Struck(request, count, fault, heard, f"back {in_hexadecimal(back) or 'nothing'}", back))
         return back[1:] if back[:1] == answer[:1] else b""
 
     def _heard(self, sent: bytes, is_request: bool, kind: str) -> tuple[str, bytes]:

@@ -2,7 +2,7 @@
 from __future__ import annotations
 
 import errno
-from collections.abc import Sequence
+from collections.abc import Callable, Sequence
 
 from ..faults.bus import FaultyBus
 from .i2c_dev import HAS_COUNT, MOST_BLOCK, Message
@@ -10,17 +10,18 @@ from .watched import ADDRESS, WatchedPart
 
 
 class Server:
-    """A part and its bus, in one run of a program."""
+    """A part and its bus, in one run of a program. `before` is called before each transfer."""
 
-    def __init__(self, part: WatchedPart, bus: FaultyBus) -> None:
-        self.part, self.bus = part, bus
+    def __init__(self, part: WatchedPart, bus: FaultyBus, before: Callable[[], object] = lambda: None) -> None:
+        self.part, self.bus, self.before = part, bus, before
 
     def transfer(self, messages: Sequence[Message]) -> tuple[int, list[bytes]]:
         """How many messages went, or minus the error, and what the reads have."""
         if any(each.address != ADDRESS for each in messages):
             return -errno.ENXIO, []
+        self.before()
         kinds = [each.is_read for each in messages]
-        self.part.number += kinds != [True]
+        self.part.number += kinds in ([False], [False, True])
         if kinds == [False]:
             went = self.bus.write(bytes([ADDRESS << 1]) + messages[0].data)
             return (1, []) if went else (self._error(), [])

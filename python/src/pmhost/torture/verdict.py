@@ -16,7 +16,7 @@ class Unjudged(ValueError):
 class Verdict:
     """What is wrong with a run. `wrong`: a register took a word that was meant for the same register of another output, and never for
     this one. `strange`: a register took a word that was meant for none. `lost`: the run ended well, and a register doesn't hold what was
-    meant. `is_ended`: it ended within its seconds."""
+    meant."""
 
     run: Run
     wrong: list[tuple[Took, int]] = field(default_factory=list)
@@ -24,12 +24,8 @@ class Verdict:
     lost: list[tuple[Cell, int, int]] = field(default_factory=list)
 
     @property
-    def is_ended(self) -> bool:
-        return self.run.status is not None
-
-    @property
     def is_bad(self) -> bool:
-        return bool(self.wrong or self.lost or not self.is_ended)
+        return bool(self.wrong or self.lost or not self.run.is_ended)
 
     @property
     def words(self) -> str:
@@ -40,7 +36,7 @@ class Verdict:
                   for took in self.strange]
         found += [f"FALSE: the program ended well, and output {cell[0]} {cell[1]} holds {held:04X} in place of {meant:04X}"
                   for cell, held, meant in self.lost]
-        return "; ".join(found + ["NOT ENDED"] * (not self.is_ended)) or "good"
+        return "; ".join(found + ["NOT ENDED"] * (not self.run.is_ended)) or "good"
 
 
 class Judge:
@@ -49,7 +45,7 @@ class Judge:
     def __init__(self, plain: Run, meant: Iterable[tuple[Cell, int]] = ()) -> None:
         given = list(meant)
         if not plain.is_success:
-            ended = "didn't end in its seconds" if plain.status is None else f"didn't end well (status {plain.status})"
+            ended = "didn't end in its seconds" if not plain.is_ended else f"didn't end well (status {plain.status})"
             raise Unjudged(f"without a fault the program {ended}: nothing can be judged")
         took = given or [(each.cell, each.word) for each in plain.took]
         if not took:
@@ -92,4 +88,4 @@ class Judge:
     def _is_excused(run: Run, cell: Cell) -> bool:
         """The part restarted after the program's last packet of this cell: no host can know of it."""
         last = run.named.get(cell, 0)
-        return any(at > last or at == last and run.fault == "restarted" for at in run.restarts)
+        return any(at > last or at == last and (at, "restarted") in run.faults for at in run.restarts)

@@ -45,12 +45,15 @@ class WatchedPart(ModelPart):
         # The transfers that named each cell last, and at which the part restarted.
         self.named: dict[Cell, int] = {}
         self.restarts: list[int] = []
+        # PAGE as it stood when a transfer was heard, by the transfer's number.
+        self.pages: dict[int, int] = {}
 
     def words(self) -> dict[Cell, int]:
         """What each register of each output holds."""
         return {(output, register): self.word(output, register) for output in range(self.outputs) for register in REGISTERS}
 
     def hear(self, frame: bytes, is_request: bool = False) -> bytes:
+        self.pages[self.number] = self.page
         for cell in self._cells_of(frame):
             self.named[cell] = self.number
         before = self.words()
