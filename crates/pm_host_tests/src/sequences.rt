@@ -512,12 +512,12 @@ fn a_step_that_orders_nothing_surveys_or_rests(rt: HostRuntime) {
         ..PART
     };
     let rows = [
-        ("a survey", PART, Act::Surveys, blind, End::Reached, 0, 5),
-        ("a rest", PART, Act::Rests, blind, End::Reached, 0, 0),
+        ("a survey", PART, Does::Surveys, blind, End::Reached, 0, 5),
+        ("a rest", PART, Does::Rests, blind, End::Reached, 0, 0),
         (
             "a survey that is looked at",
             PART,
-            Act::Surveys,
+            Does::Surveys,
             MUST,
             End::Reached,
             1,
@@ -526,7 +526,7 @@ fn a_step_that_orders_nothing_surveys_or_rests(rt: HostRuntime) {
         (
             "a rest of a part that is gone",
             gone,
-            Act::Rests,
+            Does::Rests,
             blind,
             End::Reached,
             0,
@@ -535,7 +535,7 @@ fn a_step_that_orders_nothing_surveys_or_rests(rt: HostRuntime) {
     ];
     for (name, part, act, looks, end, found, frames) in &rows {
         let steps = [step_of(0, 1, *act, *looks)];
-        let (run, parts) = over(&rt, false, [*part, PART], &steps);
+        let (run, parts) = over(&rt, UP, [*part, PART], &steps);
         equal(
             &rt,
             &(run.end, run.founds, parts[0].frames, parts[0].writes),
@@ -548,12 +548,12 @@ fn a_step_that_orders_nothing_surveys_or_rests(rt: HostRuntime) {
 #[test]
 fn steps_that_order_nothing_stand_between_others(rt: HostRuntime) {
     let steps = [
-        step_of(0, 1, Act::Surveys, MUST),
+        step_of(0, 1, Does::Surveys, MUST),
         sets(0, 0, 1_200_000, MUST),
-        step_of(0, 1, Act::Rests, MUST),
-        step_of(0, 0, Act::Surveys, MUST),
+        step_of(0, 1, Does::Rests, MUST),
+        step_of(0, 0, Does::Surveys, MUST),
     ];
-    let (run, parts) = over(&rt, false, [PART, PART], &steps);
+    let (run, parts) = over(&rt, UP, [PART, PART], &steps);
     let [part, _] = parts;
     equal(
         &rt,
