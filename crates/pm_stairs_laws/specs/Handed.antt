@@ -1,5 +1,5 @@
 -- What the calls of stairs do, over a life: this project's own choice. Lists are newest first, but for the steps that are ahead.
-use Rattle.std.specs.Prelude.{◌≡◌, ℕ, false, List, ◌∷◌, Option, Some, option_map, Result, Ok}
+use Rattle.std.specs.Prelude.{◌≡◌, ℕ, true, false, List, ◌∷◌, Option, Some, option_map, Result, Ok}
 use Rattle.pm_device.specs.declared.config.Config.{Config}
 use Rattle.pm_host.specs.declared.fault.Untold.{Untold}
 use Rattle.pm_host.specs.declared.job.Job.{Job as Asked}
