@@ -1,6 +1,6 @@
 -- What a sequence hands out and hears, by the stage at which a host's job stands.
 use Rattle.std.proofs.Common.{◌≡◌, ◌∙◌, Bool, true, false, cond, Option, Some, None, refl, sym, ap, subst}
-use Rattle.std.specs.Prelude.{◌||◌, option_map, Result, Ok, Err}
+use Rattle.std.specs.Prelude.{◌||◌, option_map, Result, Ok, Err, IsSomeAnd, MatchOption}
 use Rattle.pm_table.specs.declared.cell.Cell.TheVariants.{Out, Protect}
 use Rattle.pm_host.specs.declared.fault.Untold.{Untold}
 use Rattle.pm_host.specs.declared.host.Told.{Told}
@@ -9,14 +9,14 @@ use Rattle.pm_host.specs.declared.question.Question.TheVariants.{Word, Mode, Coe
 use Rattle.pm_host.specs.declared.stage.Stage.{Stage}
 use Rattle.pm_host.specs.declared.stage.Stage.TheVariants.{Writes, Reads, Asks, Sends}
 use Rattle.pm_host.specs.Refusals.{may_come}
-use Rattle.pm_host.specs.Summary.{Summary}
+use Rattle.pm_host.specs.Summary.{Summary, stage_message}
 use Rattle.pm_host.specs.Told.{entry_told, is_awaited}
 use Rattle.pm_host.specs.Transcript.{Entry}
 use Rattle.pm_limits.specs.Guard.{Guarded}
 use Rattle.pm_course.specs.declared.frame_course.FrameCourse.{FrameCourse}
 use Rattle.pm_course.specs.declared.frames.Sending.{Sending}
 use Rattle.pm_course.specs.declared.hosted.Heard.{Heard}
-use Rattle.pm_course.specs.Frames.{Hears as CourseHears, IsSent}
+use Rattle.pm_course.specs.Frames.{Hears as CourseHears, IsSendingOf}
 use Rattle.pm_course.specs.Frames as course
 use Rattle.pm_course.specs.Hosted.{IsSentAt}
 use Rattle.pm_course.specs.Surprise.{surprises}
@@ -30,13 +30,13 @@ use Rattle.pm_sequence.specs.Frames.{Hears, HearsAt}
 use Rattle.pm_sequence.specs.Frames as it
 use Rattle.pm_sequence.specs.Sequence.{with_list}
 
--- the frame of the stage at which a job stands, or none, is what the host is sending
-pub as-sent : (g : Guarded) (at : Option Stage) (sent : Option Sending) → g.host.stage ≡ at → IsSentAt g at sent → IsSent g sent
-as-sent g None sent is s = rw is s
-as-sent g (Some stage) sent is s = rw is s
+-- the frame of a stage is that of its message, and none is sent where no job stands anywhere
+abbrev pub IsSentBy : Guarded → Option Sending → Option Stage → Type 0
+IsSentBy g sent at = MatchOption (option_map stage_message at) (sent ≡ None) (λ message. IsSomeAnd sent (IsSendingOf g.host.setup.addr message))
 
-pub at-sent : (g : Guarded) (stage : Stage) (sent : Option Sending) → g.host.stage ≡ Some stage → IsSent g sent → IsSentAt g (Some stage) sent
-at-sent g stage sent is s = rw is at s
+pub sent-by : (g : Guarded) (sent : Option Sending) (at : Option Stage) → IsSentAt g at sent → IsSentBy g sent at
+sent-by g sent None s = s
+sent-by g sent (Some stage) s = s
 
 -- ---- What isn't heard changes nothing ----
 

@@ -1,11 +1,12 @@
 use Rattle.std.proofs.Common.{◌≡◌, ◌∙◌, Option, Some, None, sym, subst}
+use Rattle.pm_host.specs.declared.stage.Stage.{Stage}
 use Rattle.pm_limits.specs.Guard.{Guarded, guard_fault}
 use Rattle.pm_course.specs.declared.frames.Sending.{Sending}
 use Rattle.pm_sequence.specs.declared.sequence.Act.{Act}
 use Rattle.pm_sequence.specs.declared.sequence.Sequence.{Sequence}
 use Rattle.pm_sequence.specs.declared.step.Step.{Step}
 use Rattle.pm_sequence.specs.Frames.{HandsOut, again, begins, refused, refusal_end, refused_act, refused_after, says}
-use Rattle.pm_sequence.proofs.Hosts.{as-sent}
+use Rattle.pm_sequence.proofs.Hosts.{IsSentBy, sent-by}
 use Rattle.pm_sequence.proofs.sequence.Sequence.hand_out.Goals as goal
 
 -- nothing of what is named changes where the guard refuses it
@@ -22,7 +23,8 @@ pub returns-then-is_job_at-clause-hands : goal.returns-then-is_job_at-clause-han
 returns-then-is_job_at-clause-hands g c = λ sent is.
     let old = g.H.Hosted.guarded c.args.host.now in
     let opened : old.host.stage ≡ Some c.in-Some.at = sym c.requires.stage ∙ c.in-Some.is in
-    again c.in-Some.at sent opened (sym c.is_job_at.ensures ∙ c.if-is_job_at.true) (as-sent old (Some c.in-Some.at) sent opened is)
+    again c.in-Some.at sent opened (sym c.is_job_at.ensures ∙ c.if-is_job_at.true)
+    (subst (λ (at : Option Stage). IsSentBy old sent at) (sym opened) (sent-by old sent (Some c.in-Some.at) is))
 
 pub returns-in-None-clause-hands : goal.returns-in-None-clause-hands
 returns-in-None-clause-hands g c = λ sent none.
@@ -35,7 +37,7 @@ pub returns-in-Ok-clause-hands : goal.returns-in-Ok-clause-hands
 returns-in-Ok-clause-hands g c = λ sent is.
     let new = g.H.Hosted.guarded c.begin_at.new.self in
     begins c.in-Some-job.job c.next_at-act.result sent new c.next_at-act.new.self (sym c.job.ensures ∙ c.in-Some-job.is) c.next_at-act.ensures
-    c.in-Ok.ensures.begins (as-sent new c.in-Ok.at sent (sym c.in-Ok.ensures.stage) is)
+    c.in-Ok.ensures.begins (subst (λ (at : Option Stage). IsSentBy new sent at) c.in-Ok.ensures.stage (sent-by new sent c.in-Ok.at is))
 
 pub returns-in-Err-clause-hands : goal.returns-in-Err-clause-hands
 returns-in-Err-clause-hands g c = λ sent none.

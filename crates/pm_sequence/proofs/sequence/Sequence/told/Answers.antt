@@ -35,5 +35,5 @@ returns-clause-hears g c =
     let opened : old.host.stage ≡ Some c.in-Some-stage.stage = sym c.stage.ensures ∙ c.in-Some-stage.is in
     let comes : may_come old.host (entry_told c.args.told) ≡ true =
     comes-awaited old.host c.in-Some-stage.stage c.args.told opened ∙ sym c.awaits.ensures ∙ c.if-not-awaits.false in
-    hears-told old new c.args.self.now c.hear_by.new.self c.in-Some-stage.stage c.args.told c.hear_by.result c.in-Some.course
+    hears-told old new c.args.self.now c.hear_by.new.self c.in-Some-stage.stage c.args.told c.hear_by.result c.in-Some._course
     (sym c.course_open.ensures ∙ c.in-Some.is) opened comes c.hear_by.ensures.hears
