@@ -222,8 +222,10 @@ fn is_look_said(act: Act) -> bool
 fn keep_back(records: &mut [SequenceRecordImage], at: usize, back: SequenceStepImage)
     ensures { records.new ≡ with_back records.old at back }
 {
-    if at < records.len() {
-        records[at].back = back;
+    if let Some(record) = records.get(at) {
+        let mut kept = *record;
+        kept.back = back;
+        records[at] = kept;
     }
 }
 
@@ -231,8 +233,10 @@ fn keep_back(records: &mut [SequenceRecordImage], at: usize, back: SequenceStepI
 fn keep_look(records: &mut [SequenceRecordImage], at: usize, look: DeliveryImage)
     ensures { records.new ≡ with_look records.old at look }
 {
-    if at < records.len() {
-        records[at].look = look;
+    if let Some(record) = records.get(at) {
+        let mut kept = *record;
+        kept.look = look;
+        records[at] = kept;
     }
 }
 
