@@ -105,7 +105,6 @@ some-at q end output (words.Turns byte) course (Some c) own is = rw (
   flag-kept q.stairs.reading,
   flag-kept q.stairs.restarted,
 ) refl
-
 some-at q end output words.Nothing course None own is = rw (
   kept course own,
   flag-kept q.is_free,
