@@ -2,24 +2,27 @@
 
 ghost use Rattle.pm_sequence_laws.specs.Finds.{FindsAreVerdicts};
 ghost use Rattle.pm_sequence_laws.specs.Judged.{OrdersAreJudged, OrdersAreTold};
-ghost use Rattle.pm_sequence_laws.specs.Read.{LimitsAreRead};
+ghost use Rattle.pm_sequence_laws.specs.Read.{EarlierAnswersCount, LimitsAreRead};
 ghost use Rattle.pm_sequence_laws.specs.Runs.{ReachedSequencesDeliver};
 ghost use Rattle.pm_sequence_laws.specs.Turned.{SequencesTurn};
 
 use pm_sequence_laws::{
-    finds_are_verdicts, limits_are_read, orders_are_judged, orders_are_told,
+    earlier_answers_count, finds_are_verdicts, limits_are_read, orders_are_judged, orders_are_told,
     reached_sequences_deliver, sequences_turn,
 };
 
 /// A caller's own loop begins no order that wasn't judged by fault limits that were asked to the end; nor one that wasn't told, in a list that asks.
+/// What an earlier list heard of STATUS_WORD isn't asked again.
 pub fn orders_of_a_sequence()
     ensures judged { OrdersAreJudged }
     ensures read { LimitsAreRead }
     ensures told { OrdersAreTold }
+    ensures earlier { EarlierAnswersCount }
 {
     orders_are_judged();
     limits_are_read();
     orders_are_told();
+    earlier_answers_count();
 }
 
 /// A list that ends as reached has each rail that has to deliver do so, by pm_delivery's verdict.

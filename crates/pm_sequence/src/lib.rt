@@ -11,6 +11,7 @@ mod frames;
 mod gate;
 mod look;
 mod sequence;
+mod sight;
 mod step;
 
 pub use gate::Gate;

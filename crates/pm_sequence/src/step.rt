@@ -100,7 +100,7 @@ impl Step {
         delivery
     }
 
-    // The same, as what stands before the first order is looked at.
+    // A delivery that looks at what stands before its first order.
     pub(crate) fn delivery_before(&self) -> Delivery
         ensures { result ≡ before_of self.now }
     {

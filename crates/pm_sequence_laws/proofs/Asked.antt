@@ -96,7 +96,7 @@ none-again None is = cc
 none-again (Some question) is = cc
 
 -- what is due of a look before
-due-is : (g : Guarded) (d : Delivery) → d.look ≡ before_number → nat_lt d.output 8 ≡ true → due_in g d ≡ asked (due_before d g.host.setup.passes)
+pub due-is : (g : Guarded) (d : Delivery) → d.look ≡ before_number → nat_lt d.output 8 ≡ true → due_in g d ≡ asked (due_before d g.host.setup.passes)
 due-is g d at small =
     let here : (d.look == before_number) ≡ true = eq-eqb d.look before_number at in
     rw (small, here) refl

@@ -61,8 +61,8 @@ over-quiet q (Some step) ahead = either (needs_look q step) act.Again (ahead_act
 gate-quiet : (q : Sequence) (job : Job) (x : Act) → is_find x ≡ false → (is : Gate) → is_find (gated_act q is job x) ≡ false
 gate-quiet q job x quiet gate_is.Goes = either (is_untold q.asks q.told job) (act.Order job) x refl quiet
 gate-quiet q job x quiet gate_is.Looks = refl
-gate-quiet q job x quiet (gate_is.Beyond fault) = stop-quiet q _
-gate-quiet q job x quiet gate_is.Unjudged = stop-quiet q _
+gate-quiet q job x quiet (gate_is.Beyond fault) = stop-quiet q (end.Beyond fault)
+gate-quiet q job x quiet gate_is.Unjudged = stop-quiet q end.Unjudged
 
 turn-quiet : (g : Guarded) (under ahead : Option Step) (q : Sequence) (x : Turn) (list : List) → is_find (act_of g under ahead q x list) ≡ false
 turn-quiet g under ahead q turn.Again list = refl
@@ -71,7 +71,7 @@ turn-quiet g under ahead q (turn.Begins job back) list = gate-quiet q job (act.B
 turn-quiet g under ahead q (turn.Passes back) list = refl
 turn-quiet g under ahead q (turn.NoWayBack fault) list = refl
 turn-quiet g under ahead q turn.Reached list = over-quiet (with_list q list) under ahead
-turn-quiet g under ahead q (turn.Stops why) list = stop-quiet (with_list q list) _
+turn-quiet g under ahead q (turn.Stops why) list = stop-quiet (with_list q list) (end.Stopped why)
 
 data FindsSo (g : Guarded) (under : Option Step) (new : Sequence) : Act → Type 0 where
   a-find : (found : Verdict) → IsFound g under new found → FindsSo g under new (act.Does found)
@@ -82,7 +82,7 @@ done-by : (g : Guarded) (q : Sequence) (under : Option Step) (b : Bool)
     → FindsSo g under (cond b (record q { phase = phase.Steps; is_looked = true }) (stopped_after q (end.Does (verdict_in g q.look.delivery))))
     (cond b (act.Does (verdict_in g q.look.delivery)) (stopped_act q (end.Does (verdict_in g q.look.delivery))))
 done-by g q under true good = a-find _ (record { is = refl; good = good })
-done-by g q under false good = none _ (stop-quiet q _)
+done-by g q under false good = none _ (stop-quiet q (end.Does (verdict_in g q.look.delivery)))
 
 found-so : (g : Guarded) (p : Phase) (q : Sequence) (under : Option Step)
     → FindsSo g under (judged_in p q under (verdict_in g q.look.delivery)) (found_in p q under (verdict_in g q.look.delivery))

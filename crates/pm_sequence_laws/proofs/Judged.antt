@@ -23,6 +23,7 @@ use Rattle.pm_sequence.specs.declared.look.LookAct.TheVariants as look
 use Rattle.pm_sequence.specs.declared.sequence.Act.{Act}
 use Rattle.pm_sequence.specs.declared.sequence.Act.TheVariants as act
 use Rattle.pm_sequence.specs.declared.sequence.End.{End}
+use Rattle.pm_sequence.specs.declared.sequence.End.TheVariants as end
 use Rattle.pm_sequence.specs.declared.sequence.Phase.{Phase}
 use Rattle.pm_sequence.specs.declared.sequence.Phase.TheVariants as phase
 use Rattle.pm_sequence.specs.declared.sequence.Sequence.{Sequence}
@@ -70,7 +71,7 @@ over-quiet q (Some step) ahead = either (needs_look q step) act.Again (ahead_act
 
 done-quiet : (q : Sequence) (under : Option Step) (found : Verdict) → is_named (done_act q under found) ≡ false
 done-quiet q under found =
-    either (is_good under found) (act.Does found) (stopped_act q _) refl (stop-quiet q _)
+    either (is_good under found) (act.Does found) (stopped_act q (end.Does found)) refl (stop-quiet q (end.Does found))
 
 found-quiet : (p : Phase) (q : Sequence) (under : Option Step) (said : Verdict) → is_named (found_in p q under said) ≡ false
 found-quiet phase.Before q under said = refl
@@ -119,7 +120,7 @@ data NamesSo (g : Guarded) (under ahead : Option Step) (q new : Sequence) : Act 
       → NamesSo g under ahead q new (act.Order job)
   none : (said : Act) → is_named said ≡ false → NamesSo g under ahead q new said
 
--- where an order may begin it is told, or begins
+-- an order that may begin is told, or begins
 job-goes : (g : Guarded) (under ahead : Option Step) (q : Sequence) (job : Job) (list : List)
     → Turns g (shown q ahead) q.list (turn.Job job) list → IsJudged g q under job list → (b : Bool) → is_untold q.asks q.told job ≡ b
     → NamesSo g under ahead q (cond b (told_with q job) (job_after q job list)) (cond b (act.Order job) (act.Job job))
@@ -138,8 +139,8 @@ job-so : (g : Guarded) (under ahead : Option Step) (q : Sequence) (job : Job) (l
 job-so g under ahead q job list says gate_is.Goes goes =
     job-goes g under ahead q job list says (judged g q under job list goes) (is_untold q.asks q.told job) refl
 job-so g under ahead q job list says gate_is.Looks goes = none act.Again refl
-job-so g under ahead q job list says (gate_is.Beyond fault) goes = none _ (stop-quiet q _)
-job-so g under ahead q job list says gate_is.Unjudged goes = none _ (stop-quiet q _)
+job-so g under ahead q job list says (gate_is.Beyond fault) goes = none _ (stop-quiet q (end.Beyond fault))
+job-so g under ahead q job list says gate_is.Unjudged goes = none _ (stop-quiet q end.Unjudged)
 
 begin-so : (g : Guarded) (under ahead : Option Step) (q : Sequence) (job : Job) (back : WordStep) (list : List)
     → Turns g (shown q ahead) q.list (turn.Begins job back) list
@@ -148,8 +149,8 @@ begin-so : (g : Guarded) (under ahead : Option Step) (q : Sequence) (job : Job) 
 begin-so g under ahead q job back list says gate_is.Goes goes =
     begin-goes g under ahead q job back list says (judged g q ahead job list goes) (is_untold q.asks q.told job) refl
 begin-so g under ahead q job back list says gate_is.Looks goes = none act.Again refl
-begin-so g under ahead q job back list says (gate_is.Beyond fault) goes = none _ (stop-quiet q _)
-begin-so g under ahead q job back list says gate_is.Unjudged goes = none _ (stop-quiet q _)
+begin-so g under ahead q job back list says (gate_is.Beyond fault) goes = none _ (stop-quiet q (end.Beyond fault))
+begin-so g under ahead q job back list says gate_is.Unjudged goes = none _ (stop-quiet q end.Unjudged)
 
 turn-so : (g : Guarded) (under ahead : Option Step) (q : Sequence) (said : Turn) (list : List) → Turns g (shown q ahead) q.list said list
     → NamesSo g under ahead q (after_of g under ahead q said list) (act_of g under ahead q said list)
@@ -160,7 +161,7 @@ turn-so g under ahead q (turn.Begins job back) list says =
 turn-so g under ahead q (turn.Passes back) list says = none (act.Passes back) refl
 turn-so g under ahead q (turn.NoWayBack fault) list says = none (act.NoWayBack fault) refl
 turn-so g under ahead q turn.Reached list says = none _ (over-quiet (with_list q list) under ahead)
-turn-so g under ahead q (turn.Stops why) list says = none _ (stop-quiet (with_list q list) _)
+turn-so g under ahead q (turn.Stops why) list says = none _ (stop-quiet (with_list q list) (end.Stopped why))
 
 steps-so : (g : Guarded) (under ahead : Option Step) (q new : Sequence) (said : Act) → Steps g under ahead q said new
     → NamesSo g under ahead q new said

@@ -6,3 +6,4 @@ pub mod Deliver
 pub mod Listed
 pub mod Asked
 pub mod Found
+pub mod Stood

@@ -2,7 +2,7 @@
 
 ghost use Rattle.pm_sequence_laws.specs.Finds.{FindsAreVerdicts};
 ghost use Rattle.pm_sequence_laws.specs.Judged.{OrdersAreJudged, OrdersAreTold};
-ghost use Rattle.pm_sequence_laws.specs.Read.{LimitsAreRead};
+ghost use Rattle.pm_sequence_laws.specs.Read.{EarlierAnswersCount, LimitsAreRead};
 ghost use Rattle.pm_sequence_laws.specs.Runs.{ReachedSequencesDeliver};
 ghost use Rattle.pm_sequence_laws.specs.Turned.{SequencesTurn};
 
@@ -36,6 +36,12 @@ pub fn sequences_turn()
 /// What stands before the first order counts as read only once nothing of it was left to ask.
 pub fn limits_are_read()
     ensures { LimitsAreRead }
+{}
+
+/// What an earlier list heard of an output before its first order is where the look before the first order starts: it is asked again only if no
+/// good answer came, and fewer times than the host has passes.
+pub fn earlier_answers_count()
+    ensures { EarlierAnswersCount }
 {}
 
 /// What is told of a rail is pm_delivery's verdict of what was heard; of a step that has to deliver it is `Delivers`, or `WentOff`.

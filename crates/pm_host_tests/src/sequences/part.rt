@@ -1,7 +1,7 @@
 //! Parts with two outputs, which answer as their fields say, and a sequence that is carried over them.
 
 use pm_course::Sending;
-use pm_delivery::{Verdict, request};
+use pm_delivery::Verdict;
 use pm_frame::{pec, pec_after};
 use pm_limits::Guard;
 use pm_sequence::{Act, End, Sequence, Step};
@@ -168,15 +168,6 @@ fn under_at(steps: &[Step], begun: u16) -> Option<Step> {
     }
 }
 
-// What is asked beside the host's jobs.
-fn asked_by(act: Act, output: u8) -> Option<[u8; 5]> {
-    match act {
-        Act::Ask(question) if output < 8 => Some(request(0x58, output, question)),
-        Act::Probe => Some([0xB0, 0x06, 2, output, 0x01]),
-        _ => None,
-    }
-}
-
 // One frame of a sequence over the part of the host that is named, and what was said.
 fn steps_once(sequence: &mut Sequence, guard: &mut Guard, part: &mut Part, steps: &[Step]) -> Act {
     let begun = sequence.list.begun;
@@ -197,7 +188,7 @@ fn steps_once(sequence: &mut Sequence, guard: &mut Guard, part: &mut Part, steps
         }
         None => {}
     }
-    if let Some(bytes) = asked_by(act, sequence.look.delivery.output) {
+    if let Some(bytes) = sequence.request(guard, act) {
         let (answer, count) = part.answers(&bytes);
         let count = if 8 < count { 0 } else { count };
         sequence.answered(guard, &answer[..count]);

@@ -5,7 +5,7 @@ use crate::sequences::part::Part;
 use crate::sequences::{DOWN, ListRow, MUST, PART, UP, after, check_lists, guard, off, over, sets};
 use pm_course::CourseEnd;
 use pm_delivery::{Heard, Question, Verdict};
-use pm_host::Job;
+use pm_host::{Job, Untold};
 use pm_sequence::{Act, End, Rules, Sequence, Step};
 use pm_stairs::StepEnd;
 use pm_table::{Cell, Reg};
@@ -265,4 +265,72 @@ fn a_step_from_another_start_looks_anew(rt: HostRuntime) {
         let (run, _) = over(&rt, UP, [part, PART], &[first, second]);
         equal(&rt, &run.end, &Some(*end), name);
     }
+}
+
+#[test]
+fn requests_beside_the_jobs_read_the_output_that_is_looked_at(rt: HostRuntime) {
+    let guard = guard(&rt);
+    let mut sequence = Sequence::new(60, UP);
+    sequence.look.delivery.output = 1;
+    let rows = [
+        (
+            Act::Ask(Question::Before),
+            Some([0xB0, 0x06, 0x02, 0x01, 0x79]),
+        ),
+        (
+            Act::Ask(Question::OvFaultLimit),
+            Some([0xB0, 0x06, 0x02, 0x01, 0x40]),
+        ),
+        (
+            Act::Ask(Question::ReadVout),
+            Some([0xB0, 0x06, 0x02, 0x01, 0x8B]),
+        ),
+        (Act::Probe, Some([0xB0, 0x06, 0x02, 0x01, 0x01])),
+        (Act::Again, None),
+        (Act::Order(Job::Learn(0)), None),
+    ];
+    for (act, bytes) in &rows {
+        equal(&rt, &sequence.request(&guard, *act), bytes, act);
+    }
+}
+
+#[test]
+fn what_no_frame_was_sent_for_changes_nothing(rt: HostRuntime) {
+    let mut guard = guard(&rt);
+    let mut sequence = Sequence::new(60, DOWN);
+    let step = off(0, 0, MUST);
+    let before = sequence;
+    equal(
+        &rt,
+        &sequence.write_ended(&mut guard, true),
+        &Err(Untold::NothingSent),
+        &"no step",
+    );
+    equal(&rt, &sequence, &before, &"no step");
+    for _ in 0..2usize {
+        let _ = sequence.frame(&mut guard, None, Some(step));
+    }
+    let begun = sequence;
+    equal(
+        &rt,
+        &sequence.write_ended(&mut guard, true),
+        &Err(Untold::NothingSent),
+        &"no job",
+    );
+    equal(&rt, &sequence, &begun, &"no job");
+    let _ = sequence.frame(&mut guard, Some(step), None);
+    let sent = sequence;
+    equal(
+        &rt,
+        &sequence.read_ended(&mut guard, &[]),
+        &Err(Untold::WrongKind),
+        &"a write is sent",
+    );
+    equal(&rt, &sequence, &sent, &"a write is sent");
+    equal(
+        &rt,
+        &sequence.write_ended(&mut guard, true),
+        &Ok(()),
+        &"the write ended",
+    );
 }

@@ -1,0 +1,36 @@
+use Rattle.std.proofs.Common.{◌≡◌, ◌∙◌, Bool, Option, Some, None, ap, sym, subst}
+use Rattle.pm_host.specs.declared.stage.Stage.{Stage}
+use Rattle.pm_host.specs.Image.{held}
+use Rattle.pm_host.specs.Summary.{Summary}
+use Rattle.pm_host.specs.Told.{entry_told}
+use Rattle.pm_course.specs.Surprise.{surprises}
+use Rattle.pm_stairs.specs.declared.sequence.Sequence.{Sequence as List}
+use Rattle.pm_stairs.specs.Sequence.{heard_with}
+use Rattle.pm_sequence.specs.Frames.{HearsAt, alone, course}
+use Rattle.pm_sequence.specs.Sequence.{with_list}
+use Rattle.pm_sequence.proofs.sequence.Sequence.hear_by.Goals as goal
+
+pub returns-in_default-clause-hears : goal.returns-in_default-clause-hears
+returns-in_default-clause-hears g c =
+    let hears = c.hear_at.ensures in
+    alone (sym c.course_open.ensures ∙ c.in_default.is) (record {
+      after = hears.after;
+      limits = hears.limits;
+      registers = hears.registers;
+      step = hears.step;
+      at = hears.stage;
+    })
+
+pub returns-clause-hears : goal.returns-clause-hears
+returns-clause-hears g c =
+    let old = g.H.Hosted.guarded c.args.host.now in
+    let new = g.H.Hosted.guarded c.hear_by-result.new.host in
+    let was = c.args.self.now in
+    let entry = entry_told c.args.told in
+    let whole : held (Some c.args.stage) c.state.result.now ≡ old.host =
+    ap (λ (at : Option Stage). held at c.state.result.now) (sym c.requires.stage) ∙ c.state.ensures.state in
+    let shown : c.surprises-restarted.result ≡ surprises old.host c.args.stage entry =
+    c.surprises-restarted.ensures ∙ ap (λ (s : Summary). surprises s c.args.stage entry) whole in
+    subst (λ (list : List). HearsAt old was c.args.stage entry c.hear_by-result.result new (with_list was list))
+    (sym (c.with_course-self.ensures ∙ ap (λ (b : Bool). heard_with was.list c.hear_by-result.new.self b) shown))
+    (course c.in-Some.course c.hear_by-result.new.self (sym c.course_open.ensures ∙ c.in-Some.is) c.hear_by-result.ensures.told)

@@ -1,0 +1,5 @@
+use Rattle.pm_sequence_laws.proofs.Stood.{answers-count}
+use Rattle.pm_sequence_laws.proofs.laws.earlier_answers_count.Goals as goal
+
+pub returns : goal.returns
+returns c = answers-count
