@@ -119,7 +119,7 @@ def named():
     words, text = words_of_types(), WORK["names.rt"]
     found = {int(number, 0): words[name, variant] for number, name, variant in re.findall(
         r"(0x\w+) => (?:Some\()?(?:LimitFault::Host\()?(?:HostFault::Num\()?(\w+Fault)::(\w+)", text) if (name, variant) in words}
-    return found | {int(number, 0): name for number, name in re.findall(r'(0xE\w) => Some\("(\w+)"\)', text)}
+    return found | {int(number, 0): name for number, name in re.findall(r'(0x[EF]\w) => Some\("(\w+)"\)', text)}
 
 
 def refusals():
@@ -132,7 +132,7 @@ def refusals():
         r"^    (\w+) = (0x\w\w),", read("rust/src/refusal.rs"), re.MULTILINE)}}
     text = HEADERS["pm_host_c"]
     found = {int(number, 0): spaced(name) for name, number in re.findall(r"\bPM_([A-Z]\d_\w+) = (\w+)", text)}
-    found |= {int(number, 0): camel(name) for name, number in re.findall(r"\bPM_(NO_\w+|OTHER_FRAME) = (0xE\w)", text)}
+    found |= {int(number, 0): camel(name) for name, number in re.findall(r"\bPM_(NO_\w+|OTHER_FRAME) = (0x[EF]\w)", text)}
     yield "refusals of pm_host_c", {number: it for number, it in types.items() if it[0] in "HNLFP"} | alone, {"its header": found}
     found = {re.sub("^(PART|HEARD)_", "", name): int(number, 0) for name, number in re.findall(r"\bPM_(\w+) = (\w+)", HEADERS["pm_device_c"])}
     faults = {number: spaced(name) for name, number in found.items() if re.match(r"[A-Z]\d_", name)}

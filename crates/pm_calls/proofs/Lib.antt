@@ -5,4 +5,4 @@ mod Named
 mod Ceils
 mod TellsStairs
 mod HandsStairs
-pub mod Sequences
+mod Sequences

@@ -60,8 +60,8 @@ pub unheard : (g : Guarded) (q : Sequence) (entry : Entry) (fault : Untold) →
 unheard g q entry fault why = by (course_open q.list.stairs) refl where
   by : (o : Option FrameCourse) → course_open q.list.stairs ≡ o → Unheard g q entry
   by None shut = record { is = q; fault = NothingSent; hears = nothing shut }
-  by (Some course) open = record {
+  by (Some course) own = record {
     is = with_list q (heard_with q.list course (shows_restart g entry));
     fault = fault;
-    hears = heard course course (Err fault) g open (why course);
+    hears = heard course course (Err fault) g own (why course);
   }

@@ -160,13 +160,13 @@ back_said (act.Leaves why) = None
 back_said (act.Ended why) = None
 
 -- what was heard of a rail is kept where that ends its look, or the goal is beyond a limit
-abbrev pub is_beyond : End → Bool
-is_beyond end.Reached = false
-is_beyond (end.Left steps) = false
-is_beyond (end.Stopped why) = false
-is_beyond (end.Beyond fault) = true
-is_beyond end.Unjudged = false
-is_beyond (end.Does found) = true
+abbrev pub is_kept_at : End → Bool
+is_kept_at end.Reached = false
+is_kept_at (end.Left steps) = false
+is_kept_at (end.Stopped why) = false
+is_kept_at (end.Beyond fault) = true
+is_kept_at end.Unjudged = false
+is_kept_at (end.Does found) = true
 
 abbrev pub is_look_said : Act → Bool
 is_look_said (act.Job job) = false
@@ -180,13 +180,10 @@ is_look_said (act.Wait milliseconds) = false
 is_look_said act.Again = false
 is_look_said (act.NoWayBack fault) = false
 is_look_said (act.Does found) = true
-is_look_said (act.Leaves why) = is_beyond why
-is_look_said (act.Ended why) = is_beyond why
+is_look_said (act.Leaves why) = is_kept_at why
+is_look_said (act.Ended why) = is_kept_at why
 
 -- one record is another now, where there is room
-abbrev pub no_record : SequenceRecordImage → SequenceRecordImage
-no_record r = r
-
 abbrev pub back_of : SequenceStepImage → SequenceRecordImage → SequenceRecordImage
 back_of back r = record r { back = back }
 

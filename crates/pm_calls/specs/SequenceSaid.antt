@@ -1,5 +1,5 @@
 -- What a sequence says, as plain numbers. This project's own choice.
-use Rattle.std.specs.Prelude.{◌≡◌, ℕ, ℤ, Bool, true, false, ◌-◌, ◌*◌, ◌^◌, ◌==◌, nat_lt, min, if◌then◌else◌, pos, Option, Some, None, is_some, unwrap_or, IfSome}
+use Rattle.std.specs.Prelude.{◌≡◌, ℕ, ℤ, true, ◌-◌, ◌==◌, nat_lt, if◌then◌else◌, pos, Option, Some, None, is_some, unwrap_or}
 use Rattle.pm_delivery.specs.declared.delivery.Delivery.{Delivery}
 use Rattle.pm_delivery.specs.declared.verdict.Verdict.{Verdict}
 use Rattle.pm_host.specs.declared.job.Job.{Job}
@@ -90,7 +90,16 @@ rail_said (act.Ended why) = rail_of why
 
 -- how long is waited before all is asked once more: 10 milliseconds, twice as long each time, 5,120 at most
 abbrev pub pause_of : ℕ → ℕ
-pause_of round = 10 * 2 ^ min (round - 1) 9
+pause_of round =
+    if nat_lt round 2 then 10
+    else (if round == 2 then 20
+    else (if round == 3 then 40
+    else (if round == 4 then 80
+    else (if round == 5 then 160
+    else (if round == 6 then 320
+    else (if round == 7 then 640
+    else (if round == 8 then 1280
+    else (if round == 9 then 2560 else 5120))))))))
 
 -- the numbers of what is said
 abbrev pub nothing_said : SaidImage

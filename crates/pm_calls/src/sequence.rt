@@ -4,7 +4,7 @@ ghost use Rattle.std.specs.Prelude.{◌≡◌, ◌≤◌, true, IfOk, IfSome, On
 ghost use Rattle.pm_frame.specs.Layout.{is_carried};
 ghost use Rattle.std.specs.Result.{result_err};
 ghost use Rattle.pm_host.specs.Told.{entry_told};
-ghost use Rattle.pm_calls.specs.Sequence.{asked_fault, back_said as spec_back_said, both_fault, is_look as spec_is_look, is_look_said as spec_is_look_said, lacks_room as spec_lacks_room, number_next as spec_number_next, read_named as spec_read_named, records_after, rules_said, sequence_begun, step_at as spec_step_at, step_under as spec_step_under, with_back, with_look, AreAsked, AreBoth, HandsOutAt, HearsIn, IsPutNext, NextIn, ReadIn};
+ghost use Rattle.pm_calls.specs.Sequence.{asked_fault, back_said as spec_back_said, backs_after, both_fault, is_look as spec_is_look, is_look_said as spec_is_look_said, lacks_room as spec_lacks_room, looks_after, number_next as spec_number_next, read_named as spec_read_named, records_after, rules_said, sequence_begun, step_at as spec_step_at, step_under as spec_step_under, with_back, with_look, AreAsked, AreBoth, HandsOutAt, HearsIn, IsPutNext, NextIn, ReadIn};
 ghost use Rattle.pm_memory.specs.Guard.{guard_of};
 ghost use Rattle.pm_memory.specs.Hosted.{IsThere, guard_in};
 ghost use Rattle.pm_memory.specs.Memory.{IsMemory};
@@ -171,13 +171,7 @@ fn read_named(act: Act) -> Option<(u8, u8)>
 }
 
 // The frame of a stage, or the request of what is asked beside the host's jobs, or nothing.
-fn put(
-    host: &GuardImage,
-    is: &Sequence,
-    at: Option<Stage>,
-    act: Act,
-    sending: &mut SendingImage,
-)
+fn put(host: &GuardImage, is: &Sequence, at: Option<Stage>, act: Act, sending: &mut SendingImage)
     requires there { IsThere host.now }
     requires open { IfSome at (λ stage. (guard_in host.now).host.stage ≡ Some stage) }
     ensures { IsPutNext (guard_in host.now) is.now at act sending.new }
@@ -218,21 +212,53 @@ fn is_look_said(act: Act) -> bool
     }
 }
 
-// Keeps the step that undoes another one at its place, if there is room.
-fn keep_back(records: &mut [SequenceRecordImage], at: usize, back: SequenceStepImage)
+// Keeps a step that undoes another one at its place, if there is room.
+fn put_back(records: &mut [SequenceRecordImage], at: usize, back: SequenceStepImage)
     ensures { records.new ≡ with_back records.old at back }
 {
-    if at < records.len() {
-        records[at].back = back;
+    if let Some(record) = records.get(at) {
+        let mut kept = *record;
+        kept.back = back;
+        records[at] = kept;
     }
 }
 
 // Keeps what was heard of a rail at the place of its step, if there is room.
-fn keep_look(records: &mut [SequenceRecordImage], at: usize, look: DeliveryImage)
+fn put_look(records: &mut [SequenceRecordImage], at: usize, look: DeliveryImage)
     ensures { records.new ≡ with_look records.old at look }
 {
-    if at < records.len() {
-        records[at].look = look;
+    if let Some(record) = records.get(at) {
+        let mut kept = *record;
+        kept.look = look;
+        records[at] = kept;
+    }
+}
+
+// Keeps the step that undoes the one that begins, if a way back is kept.
+fn keep_back(records: &mut [SequenceRecordImage], was: &Sequence, is: &Sequence, act: Act)
+    ensures { records.new ≡ backs_after was.now is.now (spec_back_said act) records.old }
+{
+    if let Some(back) = back_said(act) {
+        if was.list.keeps_back {
+            put_back(
+                records,
+                usize::from(was.list.begun),
+                SequenceStepImage::back(is.list.under_host, &back),
+            );
+        }
+    }
+}
+
+// Keeps what was heard of a rail, if that is to be kept.
+fn keep_look(records: &mut [SequenceRecordImage], is: &Sequence, act: Act)
+    ensures { records.new ≡ looks_after is.now act records.old }
+{
+    if is_look_said(act) {
+        put_look(
+            records,
+            usize::from(step_said(is, act)),
+            DeliveryImage::of(is.look.delivery),
+        );
     }
 }
 
@@ -240,22 +266,8 @@ fn keep_look(records: &mut [SequenceRecordImage], at: usize, look: DeliveryImage
 fn keep(records: &mut [SequenceRecordImage], was: &Sequence, is: &Sequence, act: Act)
     ensures { records.new ≡ records_after was.now is.now act records.old }
 {
-    if let Some(back) = back_said(act) {
-        if was.list.keeps_back {
-            keep_back(
-                records,
-                usize::from(was.list.begun),
-                SequenceStepImage::back(is.list.under_host, &back),
-            );
-        }
-    }
-    if is_look_said(act) {
-        keep_look(
-            records,
-            usize::from(step_said(is, act)),
-            DeliveryImage::of(is.look.delivery),
-        );
-    }
+    keep_back(records, was, is, act);
+    keep_look(records, is, act);
 }
 
 /// The work of `pm_sequence_next`.
@@ -295,10 +307,7 @@ fn number_next(at: Option<Stage>, act: Act) -> u8
 }
 
 // A sequence and the stage of the host's open job; or the number of why their memories are refused.
-fn read_both(
-    sequence: &SequenceImage,
-    host: &GuardImage,
-) -> Result<(Sequence, Option<Stage>), u8>
+fn read_both(sequence: &SequenceImage, host: &GuardImage) -> Result<(Sequence, Option<Stage>), u8>
     ensures fault { result_err result ≡ both_fault (guard_of host.now) (sequence_in sequence.now) }
     ensures there { OnOk result (IsThere host.now) }
     ensures stage { IfOk result (λ both. both.1 ≡ (guard_in host.now).host.stage) }

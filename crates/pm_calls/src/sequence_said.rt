@@ -189,9 +189,12 @@ fn said_with(numbers: SaidImage, word: u16, reading: Option<i64>) -> SaidImage
 {
     let mut said = numbers;
     said.word = word;
-    if let Some(microvolts) = reading {
-        said.has_microvolts = 1;
-        said.microvolts = microvolts;
+    match reading {
+        Some(microvolts) => {
+            said.has_microvolts = 1;
+            said.microvolts = microvolts;
+        }
+        None => {}
     }
     said
 }

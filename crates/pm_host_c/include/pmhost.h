@@ -135,7 +135,7 @@ enum {
 
 /* What pm_course_frame and pm_course_next answer if the course has ended, pm_delivery_frame if nothing is left to ask, and pm_stairs_ask,
  * pm_stairs_check and pm_sequence_next if stairs or a sequence have ended. The others are answers of these three, the last three of
- * pm_sequence_next alone. */
+ * pm_sequence_next only. */
 enum { PM_ENDED = 0x95, PM_AGAIN = 0x96, PM_NO_WAY_BACK = 0x97, PM_WAIT = 0x98, PM_ASKED = 0x99, PM_TOLD = 0x9A };
 
 /* The cells: an output and one of these command codes; with WRITE_PROTECT, which is the device's, the
@@ -430,7 +430,7 @@ typedef struct {
     uint8_t looks;            /* PM_LOOK_NOT, PM_LOOK or PM_LOOK_MUST */
     uint8_t fault_limits;     /* as of a delivery: PM_FAULT_LIMITS_REFUSE, or another of these */
     uint8_t lacks;            /* what the part lacks by its data sheet: PM_LACKS_STATUS_WORD, PM_LACKS_READ_VOUT, or the sum */
-    uint8_t tells_power_good; /* not 0: a rail of which POWER_GOOD# alone speaks against it counts as one that delivers */
+    uint8_t tells_power_good; /* not 0: a rail against which nothing but POWER_GOOD# speaks counts as one that delivers */
     uint16_t within, rounds;  /* as of a delivery */
     uint32_t wait;            /* milliseconds that pass before anything of it is sent */
     pm_heard before;          /* what an earlier list heard of STATUS_WORD before its first order of this output; zeros if there was none */

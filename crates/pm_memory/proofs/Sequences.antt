@@ -1,9 +1,7 @@
 -- How the memory of a sequence is kept.
-use Rattle.std.proofs.Common.{◌≡◌, ◌∙◌, ℕ, Bool, true, false, Option, Some, None, refl, ap, rules}
-use Rattle.std.specs.Prelude.{◌==◌, if◌then◌else◌, is_some, option_map, IfSome}
-use Rattle.pm_rail.specs.declared.wanted.Wanted.{Wanted}
+use Rattle.std.proofs.Common.{◌≡◌, ℕ, Option, Some, None, refl}
+use Rattle.std.specs.Prelude.{IfSome}
 use Rattle.pm_course.specs.declared.frame_course.FrameCourse.{FrameCourse}
-use Rattle.pm_course.specs.FrameCourse.{to_survey}
 use Rattle.pm_stairs.specs.declared.sequence.Sequence.{Sequence as List}
 use Rattle.pm_stairs.specs.declared.stairs.Under.{Under}
 use Rattle.pm_stairs.specs.declared.step.WordAct.{WordAct}
@@ -14,10 +12,9 @@ use Rattle.pm_sequence.specs.declared.sequence.Phase.TheVariants as phase
 use Rattle.pm_sequence.specs.declared.sequence.Sequence.{Sequence}
 use Rattle.pm_memory.specs.declared.stairs_end.StairsEndImage.{StairsEndImage}
 use Rattle.pm_memory.specs.declared.sequence_image.SaidImage.{SaidImage}
-use Rattle.pm_memory.specs.CourseImage.{course_image, course_in, IsKept}
-use Rattle.pm_memory.specs.Flag.{flag}
+use Rattle.pm_memory.specs.CourseImage.{IsKept}
 use Rattle.pm_memory.specs.SequenceImage.{look_image, look_read, phase_number, phase_read, sequence_image, sequence_in, IsKeptList, IsKeptSequence, SequencesAreKept}
-use Rattle.pm_memory.specs.StairsImage.{course_written, end_none, held_with, sequence_held, stairs_image, stairs_in, under_image, under_words}
+use Rattle.pm_memory.specs.StairsImage.{end_none, stairs_image, stairs_in}
 use Rattle.pm_memory.proofs.Courses.{kept}
 use Rattle.pm_memory.proofs.Kept.{flag-kept, wanted-kept}
 
@@ -105,7 +102,6 @@ some-at q end output (words.Turns byte) course (Some c) own is = rw (
   flag-kept q.stairs.reading,
   flag-kept q.stairs.restarted,
 ) refl
-
 some-at q end output words.Nothing course None own is = rw (
   kept course own,
   flag-kept q.is_free,

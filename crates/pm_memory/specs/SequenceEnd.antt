@@ -45,18 +45,18 @@ verdict_numbers verdict.DeliversByVoltage = verdict_said 14 0 0 0
 -- what a command code means: of 79h STATUS_WORD after an order
 abbrev pub question_read : ℕ → Option Question
 question_read code =
-    if code == 0x40 then Some OvFaultLimit
-    else (if code == 0x42 then Some OvWarnLimit
-    else (if code == 0x43 then Some UvWarnLimit
-    else (if code == 0x44 then Some UvFaultLimit
-    else (if code == 0x5E then Some PowerGoodOn
-    else (if code == 0x5F then Some PowerGoodOff
-    else (if code == 0x79 then Some StatusWord
-    else (if code == 0x7A then Some StatusVout
-    else (if code == 0x7B then Some StatusIout
-    else (if code == 0x7C then Some StatusInput
-    else (if code == 0x7D then Some StatusTemperature
-    else (if code == 0x8B then Some ReadVout else None)))))))))))
+    if code == question_code OvFaultLimit then Some OvFaultLimit
+    else (if code == question_code OvWarnLimit then Some OvWarnLimit
+    else (if code == question_code UvWarnLimit then Some UvWarnLimit
+    else (if code == question_code UvFaultLimit then Some UvFaultLimit
+    else (if code == question_code PowerGoodOn then Some PowerGoodOn
+    else (if code == question_code PowerGoodOff then Some PowerGoodOff
+    else (if code == question_code StatusWord then Some StatusWord
+    else (if code == question_code StatusVout then Some StatusVout
+    else (if code == question_code StatusIout then Some StatusIout
+    else (if code == question_code StatusInput then Some StatusInput
+    else (if code == question_code StatusTemperature then Some StatusTemperature
+    else (if code == question_code ReadVout then Some ReadVout else None)))))))))))
 
 abbrev pub verdict_read : VerdictNumbers → Option Verdict
 verdict_read i =

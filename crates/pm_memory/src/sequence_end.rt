@@ -8,6 +8,7 @@ use crate::stairs_end::numbers_of;
 use pm_delivery::{DeliveryFault, Question, Verdict};
 use pm_sequence::End;
 use pm_stairs::StepEnd;
+use pm_table::Code;
 
 /// What a rail does, as numbers.
 #[derive(Clone, Copy, Debug)]
@@ -127,6 +128,13 @@ fn said(kind: u8, code: u8, bit: u8, fault: u8) -> VerdictNumbers
     }
 }
 
+// The command codes of registers that the table has.
+const STATUS_WORD: u8 = Code::STATUS_WORD.0;
+
+const STATUS_VOUT: u8 = Code::STATUS_VOUT.0;
+
+const READ_VOUT: u8 = Code::READ_VOUT.0;
+
 // The register of a command code: of 79h STATUS_WORD after an order.
 fn question_of(code: u8) -> Option<Question>
     ensures { result ≡ question_read code }
@@ -138,12 +146,12 @@ fn question_of(code: u8) -> Option<Question>
         0x44 => Some(Question::UvFaultLimit),
         0x5E => Some(Question::PowerGoodOn),
         0x5F => Some(Question::PowerGoodOff),
-        0x79 => Some(Question::StatusWord),
-        0x7A => Some(Question::StatusVout),
+        STATUS_WORD => Some(Question::StatusWord),
+        STATUS_VOUT => Some(Question::StatusVout),
         0x7B => Some(Question::StatusIout),
         0x7C => Some(Question::StatusInput),
         0x7D => Some(Question::StatusTemperature),
-        0x8B => Some(Question::ReadVout),
+        READ_VOUT => Some(Question::ReadVout),
         _ => None,
     }
 }
