@@ -412,7 +412,9 @@ for each in $compilers; do
         program "$name bring-up" examples/c/bring_up.expected "$compiler $strict" examples/c/bring_up.c $rest --
         case $each in gcc | clang)
             program "$name firmware" examples/firmware/console.expected "$compiler $strict -Iexamples/firmware" $firmware --
-            program "$name field" trials/field/rows.expected "$compiler $strict" trials/field/{rows,field,frames}.c -- trials/field/rows.txt ;;
+            program "$name field" trials/field/rows.expected "$compiler $strict" trials/field/{rows,field,frames}.c -- trials/field/rows.txt
+            awk '/^```C$/ {within = 1; next} /^```$/ {within = 0} within' docs/c.md > "$folder/two_rails.c"
+            program "$name two rails of docs/c.md" trials/field/two_rails.expected "$compiler $strict" "$folder/two_rails.c" trials/field/{two_rails,field,frames}.c -- ;;
         esac
         # Random calls over the archive of either compiler write one line, whoever compiled them.
         if [ "$(cat "$folder/same.wanted")" = first ]; then
