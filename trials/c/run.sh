@@ -67,7 +67,7 @@ bound() {
         promised "$1" PM_PART_STACK "$says"
     else
         promised "$1" PM_STAIRS_STACK "$says"
-        promised "$1" PM_STACK "$(trials/c/frames.py "$1" pm_stairs_ask pm_stairs_write_ended pm_stairs_read_ended | cut -d' ' -f1)"
+        promised "$1" PM_STACK "$(trials/c/stack.py "$1" pm_stairs_ask pm_stairs_write_ended pm_stairs_read_ended | cut -d' ' -f1)"
     fi
 }
 
