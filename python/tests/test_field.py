@@ -1,6 +1,7 @@
 """Parts as they are in the field (trials/field): what pmhost says of them, each case by its name; what Python's API raises; and random
 boards, of which no rail that is dead ends well."""
 import asyncio
+import os
 import pickle
 import threading
 import unittest
@@ -15,8 +16,8 @@ from .runs import blocks, called
 from .seeded import seeded
 from .test_runs import Blocks
 
-BOARDS = 60
-CALLS = 12
+# How many random boards there are, and how many calls of each command.
+BOARDS, CALLS = int(os.environ.get("PMHOST_FIELD_BOARDS", "60")), int(os.environ.get("PMHOST_FIELD_CALLS", "12"))
 
 
 class Rows(Blocks):
@@ -198,7 +199,6 @@ class Threads(unittest.TestCase):
 class Boards(unittest.TestCase):
     @seeded(2)
     def test_status_0_means_that_each_rail_delivers(self, draw):
-        """trials/field/boards.py has a thousand of them."""
         well, unsure, wrong = field_boards.counts(draw, BOARDS)
         self.assertEqual(wrong, [])
         self.assertGreater(well, BOARDS // 10)
@@ -208,7 +208,7 @@ class Boards(unittest.TestCase):
 class Calls(unittest.TestCase):
     @seeded(3)
     def test_no_call_ends_well_over_a_dead_rail(self, draw):
-        """trials/field/calls.py has thousands. Nor does an off end well while the rail is on."""
+        """Nor does an off end well while the rail is on."""
         well, wrong = field_calls.counts(draw, CALLS)
         self.assertEqual(wrong, [])
         self.assertGreater(sum(well.values()), CALLS)

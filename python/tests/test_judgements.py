@@ -236,7 +236,8 @@ class NewFaults(unittest.TestCase):
                                             ("STATUS_WORD", 0x0020, 5, "VOUT_OV_FAULT")):
             found = Delivered(0, Verdict("fault", register, bit), Looks(), status=status)
             with self.subTest(register=register):
-                self.assertEqual((found.said.rpartition(": ")[2], found.why), (f"{name} came with this call", f"{name} came with this call: `why` says more"))
+                self.assertEqual((found.said.rpartition(": ")[2], found.why, found.why_told),
+                                 (*[f"{name} came with this call"] * 2, f"{name} came with this call: `why` says more"))
 
 
 class Places(unittest.TestCase):

@@ -1,7 +1,6 @@
 """Random events beside the plain host and the plain converter of python/tests/plain: library and model say the same after each. PMHOST_EVENTS
-says how many they are for each of the two, 10000 where it isn't given, and PMHOST_SEED which."""
+says how many they are for each of the two, 10000 where it isn't given."""
 import os
-import random
 import unittest
 from fractions import Fraction
 from math import ceil, floor
@@ -15,8 +14,9 @@ from plain import limits as plain_limits  # noqa: E402
 from plain.converter import PROTECT, REGISTERS, Converter, setup_fault  # noqa: E402
 from plain.host import ANY, Host as PlainHost  # noqa: E402
 from plain.packets import CODES, pec  # noqa: E402
+from .seeded import seeded
 
-ADDRESS, EVENTS, SEED = 0x58, int(os.environ.get("PMHOST_EVENTS", "10000")), int(os.environ.get("PMHOST_SEED", "7"))
+ADDRESS, EVENTS = 0x58, int(os.environ.get("PMHOST_EVENTS", "10000"))
 STATES = {"yes": "within", "no": "outside", "unknown": "not known", "none": "no limits"}
 FAR = 10**9
 
@@ -254,15 +254,17 @@ class PartLife:
 
 
 class RandomLives(unittest.TestCase):
-    def lives(self, kind):
-        draw, lived = random.Random(SEED), 0
+    def lives(self, kind, draw):
+        lived = 0
         while lived < EVENTS:
             length = draw.choice((40, 80, 160))
             kind(self, draw).live(length)
             lived += length
 
-    def test_events_of_a_host(self):
-        self.lives(HostLife)
+    @seeded(7)
+    def test_events_of_a_host(self, draw):
+        self.lives(HostLife, draw)
 
-    def test_events_of_a_part(self):
-        self.lives(PartLife)
+    @seeded(7)
+    def test_events_of_a_part(self, draw):
+        self.lives(PartLife, draw)

@@ -1,5 +1,5 @@
 """Parts that round (trials/field): a held word is as wanted where its value is near enough, by the line, by the file and in Python."""
-import random
+import os
 import tempfile
 import unittest
 
@@ -10,8 +10,10 @@ from .kernel import BoardKernel
 from .field import ADDRESS, Field, FieldBus
 from .fixtures import free
 from .runs import called, writes
+from .seeded import seeded
 
-BOARDS = 20
+# How many random boards there are.
+BOARDS = int(os.environ.get("PMHOST_FIELD_BOARDS", "20"))
 ONE = ["-b", "7", "-a", "58"]
 # Steps of eight words: 1.05 V (10CDh) becomes 10C8h, 1.048828125 V, and 0.95 V (0F33h) becomes 0F30h, 0.94921875 V.
 RAILS = """outputs = 2
@@ -211,9 +213,9 @@ class Api(unittest.TestCase):
 
 
 class Boards(unittest.TestCase):
-    def test_apply_again_orders_nothing_and_verify_ends_well(self):
-        """trials/field/rounding.py has five hundred of them."""
-        well, wrong = field_rounding.counts(random.Random(2), BOARDS)
+    @seeded(2)
+    def test_apply_again_orders_nothing_and_verify_ends_well(self, draw):
+        well, wrong = field_rounding.counts(draw, BOARDS)
         self.assertEqual(wrong, [])
         self.assertGreater(well, BOARDS // 3)
 

@@ -4,6 +4,7 @@ use core::convert::Infallible;
 use core::{error, fmt};
 
 use crate::bus::Bus;
+use crate::done::words_and_source;
 use crate::ffi;
 use crate::host::{step_of, Cell, Host, Register, Sending, Step};
 use crate::jobs::Job;
@@ -39,7 +40,7 @@ impl fmt::Display for AnswerFault {
 }
 
 /// Why a course didn't reach what is wanted. `E` is the error of the bus.
-#[derive(Clone, Copy, Debug, PartialEq, Eq)]
+#[derive(Clone, Copy, PartialEq, Eq)]
 pub enum NotReached<E = Infallible> {
     /// Nothing more is ordered, and before the first order nothing was written.
     Refused {
@@ -134,6 +135,17 @@ impl<E> fmt::Display for NotReached<E> {
                 to.write_str(if error.is_some() { "; a transfer failed" } else { "" })
             }
         }
+    }
+}
+
+impl<E: fmt::Debug> fmt::Debug for NotReached<E> {
+    /// Its words, and what the bus said: a `main` that answers an error prints them.
+    fn fmt(&self, to: &mut fmt::Formatter<'_>) -> fmt::Result {
+        let said = match self {
+            NotReached::Spent { error, .. } => error.as_ref(),
+            _ => None,
+        };
+        words_and_source(to, self, said)
     }
 }
 

@@ -245,7 +245,7 @@ impl fmt::Display for BeyondFaultLimit {
 }
 
 /// Why an output doesn't do what is wanted. `E` is the error of the bus.
-#[derive(Clone, Copy, Debug, PartialEq, Eq)]
+#[derive(Clone, Copy, PartialEq, Eq)]
 pub enum NotDelivered<E> {
     /// The course didn't reach what is wanted.
     NotReached(NotReached<E>),
@@ -266,6 +266,16 @@ impl<E> fmt::Display for NotDelivered<E> {
             }
             NotDelivered::Does(delivered) => write!(to, "{delivered}"),
             NotDelivered::Refused(refusal) => write!(to, "refused: {refusal}"),
+        }
+    }
+}
+
+impl<E: fmt::Debug> fmt::Debug for NotDelivered<E> {
+    /// Its words, and what the bus said: a `main` that answers an error prints them.
+    fn fmt(&self, to: &mut fmt::Formatter<'_>) -> fmt::Result {
+        match self {
+            NotDelivered::NotReached(why) => write!(to, "{why:?}"),
+            _ => write!(to, "{self}"),
         }
     }
 }

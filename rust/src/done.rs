@@ -18,7 +18,7 @@ pub enum Done {
 
 /// Why a job wasn't done. `E` is the error of the bus. If that is an error of `core`, this is one too, and its source is what
 /// the bus said of the last transaction that failed.
-#[derive(Clone, Copy, Debug, PartialEq, Eq)]
+#[derive(Clone, Copy, PartialEq, Eq)]
 pub enum NotDone<E> {
     /// The host refused it. Nothing was sent, and nothing changed.
     Refused(Refusal),
@@ -65,6 +65,27 @@ impl<E> fmt::Display for NotDone<E> {
             NotDone::NoFormat => to.write_str("the output's voltages have a format that this host doesn't have"),
         }
     }
+}
+
+impl<E: fmt::Debug> fmt::Debug for NotDone<E> {
+    /// Its words, and what the bus said: a `main` that answers an error prints them.
+    fn fmt(&self, to: &mut fmt::Formatter<'_>) -> fmt::Result {
+        let said = match self {
+            NotDone::Unknown { error, .. } => error.as_ref(),
+            _ => None,
+        };
+        words_and_source(to, self, said)
+    }
+}
+
+/// The words of an error, and what the bus said.
+pub(crate) fn words_and_source(
+    to: &mut fmt::Formatter<'_>,
+    words: &dyn fmt::Display,
+    said: Option<&impl fmt::Debug>,
+) -> fmt::Result {
+    write!(to, "{words}")?;
+    said.map_or(Ok(()), |said| write!(to, ": {said:?}"))
 }
 
 impl<E: error::Error + 'static> error::Error for NotDone<E> {

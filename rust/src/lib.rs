@@ -18,6 +18,7 @@ mod loops;
 #[cfg(feature = "linux")]
 mod no_transfer;
 mod number;
+mod off_on_drop;
 mod packet;
 mod part;
 mod patient;
@@ -42,6 +43,7 @@ pub use linux::{LinuxBus, NoBus, SystemClock};
 #[cfg(feature = "linux")]
 pub use no_transfer::NoTransfer;
 pub use number::Format;
+pub use off_on_drop::OffOnDrop;
 pub use packet::{pec, Block, Bytes, Data, Packet};
 pub use part::{Heard, NoAnswer, Output, Part, Reading};
 pub use patient::{Clock, NotHeard, Patient, Unheard};

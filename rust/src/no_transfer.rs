@@ -13,7 +13,7 @@ use crate::reserved::Reserved;
 pub(crate) const ENXIO: i32 = 6;
 
 /// Why a transfer failed.
-#[derive(Clone, Copy, Debug, PartialEq, Eq)]
+#[derive(Clone, Copy, PartialEq, Eq)]
 pub enum NoTransfer {
     /// The kernel's error, by its number.
     Errno(i32),
@@ -57,6 +57,13 @@ impl fmt::Display for NoTransfer {
     }
 }
 
+impl fmt::Debug for NoTransfer {
+    /// Its words: a `main` that answers an error prints them.
+    fn fmt(&self, to: &mut fmt::Formatter<'_>) -> fmt::Result {
+        write!(to, "{self}")
+    }
+}
+
 impl error::Error for NoTransfer {}
 
 /// The kernel's words of an error, without its number.
@@ -96,7 +103,7 @@ mod tests {
                 "61 is kept for the SMBus device default address: no part may have it",
             ),
         ] {
-            assert_eq!(format!("{error}"), words);
+            assert_eq!((format!("{error}"), format!("{error:?}")), (words.into(), words.into()));
         }
     }
 }

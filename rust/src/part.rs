@@ -211,12 +211,19 @@ fn written<T: Default>(call: impl FnOnce(&mut T) -> u8) -> Result<T, Refusal> {
 }
 
 /// Nothing acknowledged, or nothing came.
-#[derive(Clone, Copy, Debug, PartialEq, Eq)]
+#[derive(Clone, Copy, PartialEq, Eq)]
 pub struct NoAnswer;
 
 impl fmt::Display for NoAnswer {
     fn fmt(&self, to: &mut fmt::Formatter<'_>) -> fmt::Result {
         to.write_str("the part didn't acknowledge or answer")
+    }
+}
+
+impl fmt::Debug for NoAnswer {
+    /// Its words: a `main` that answers an error prints them.
+    fn fmt(&self, to: &mut fmt::Formatter<'_>) -> fmt::Result {
+        write!(to, "{self}")
     }
 }
 

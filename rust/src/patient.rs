@@ -3,6 +3,7 @@
 use core::{error, fmt};
 
 use crate::bus::{Bus, Operation};
+use crate::done::words_and_source;
 use crate::packet::Block;
 
 const CAPABILITY: u8 = 0x19;
@@ -33,7 +34,7 @@ pub trait Clock {
 }
 
 /// Why a transaction over a patient bus failed.
-#[derive(Clone, Copy, Debug, PartialEq, Eq)]
+#[derive(Clone, Copy, PartialEq, Eq)]
 pub enum NotHeard<E> {
     /// What the bus below said.
     Bus(E),
@@ -48,6 +49,17 @@ impl<E> fmt::Display for NotHeard<E> {
             NotHeard::Bus(_) => "the transfer failed",
             NotHeard::Ones => "nothing but FFh",
         })
+    }
+}
+
+impl<E: fmt::Debug> fmt::Debug for NotHeard<E> {
+    /// Its words, and what the bus said: a `main` that answers an error prints them.
+    fn fmt(&self, to: &mut fmt::Formatter<'_>) -> fmt::Result {
+        let said = match self {
+            NotHeard::Bus(error) => Some(error),
+            NotHeard::Ones => None,
+        };
+        words_and_source(to, self, said)
     }
 }
 

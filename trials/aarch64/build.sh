@@ -1,5 +1,6 @@
 #!/usr/bin/env bash
-# Builds pmb for aarch64 Linux into a folder, linked statically: for a Raspberry Pi, a BMC.
+# Builds pmb for aarch64 Linux into a folder, linked statically: for a Raspberry Pi, a BMC. Beside it stands pmb.emulated, which runs it by
+# qemu-aarch64 (qemu-user): trials/programs/run_program.py and compare_with_plain.py try it, with PMB=FOLDER/pmb.emulated.
 #
 #   trials/aarch64/build.sh FOLDER
 #
@@ -22,4 +23,6 @@ if ! [ -s "crates/pmb/out/pmb.o" ] || ! grep -q '^logic=proved .*target=aarch64-
 fi
 mv "crates/pmb/out/pmb.o" "$folder/pmb.o"
 aarch64-linux-gnu-gcc -O2 -Wall -Wextra -Werror -static trials/aarch64/runtime.c "$folder/pmb.o" -o "$folder/pmb"
+printf '#!/bin/sh\nexec qemu-aarch64 "%s/pmb" "$@"\n' "$folder" > "$folder/pmb.emulated"
+chmod +x "$folder/pmb.emulated"
 echo "$folder/pmb: $(stat -c %s "$folder/pmb") bytes"

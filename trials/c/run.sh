@@ -1,7 +1,7 @@
 #!/usr/bin/env bash
 # Builds the static libraries of crates/pm_host_c and crates/pm_device_c and, with each compiler of this machine, the programs of
-# examples/c and examples/firmware over them; runs them and compares what they write. So it does with the packages rust/ and
-# python/, and their tests.
+# examples/c and examples/firmware over them; runs them and compares what they write. So it does with the example of rust/, and with the package
+# of python/ as it is installed. (tools/packages.sh runs the tests of both, tools/test lint their lints.)
 #
 #   trials/c/run.sh [--built FOLDER] [--gcc]
 #
@@ -67,7 +67,7 @@ bound() {
         promised "$1" PM_PART_STACK "$says"
     else
         promised "$1" PM_STAIRS_STACK "$says"
-        promised "$1" PM_STACK "$(trials/c/frames.py "$1" pm_stairs_ask pm_stairs_write_ended pm_stairs_read_ended pm_sequence_next \
+        promised "$1" PM_STACK "$(trials/c/stack.py "$1" pm_stairs_ask pm_stairs_write_ended pm_stairs_read_ended pm_sequence_next \
             pm_sequence_write_ended pm_sequence_read_ended | cut -d' ' -f1)"
     fi
 }
@@ -414,7 +414,9 @@ for each in $compilers; do
         program "$name bring-up" examples/c/bring_up.expected "$compiler $strict" examples/c/bring_up.c $rest --
         case $each in gcc | clang)
             program "$name firmware" examples/firmware/console.expected "$compiler $strict -Iexamples/firmware" $firmware --
-            program "$name field" trials/field/rows.expected "$compiler $strict" trials/field/{rows,field,frames}.c -- trials/field/rows.txt ;;
+            program "$name field" trials/field/rows.expected "$compiler $strict" trials/field/{rows,field,frames}.c -- trials/field/rows.txt
+            awk '/^```C$/ {within = 1; next} /^```$/ {within = 0} within' docs/c.md > "$folder/two_rails.c"
+            program "$name two rails of docs/c.md" trials/field/two_rails.expected "$compiler $strict" "$folder/two_rails.c" trials/field/{two_rails,field,frames}.c -- ;;
         esac
         # Random calls over the archive of either compiler write one line, whoever compiled them.
         if [ "$(cat "$folder/same.wanted")" = first ]; then
@@ -477,14 +479,6 @@ packaged() {
 
 if command -v cargo > /dev/null; then
     export PM_ARCHIVES=$built CARGO_TARGET_DIR=$folder/cargo
-    packaged "Rust package" cargo test --offline --manifest-path rust/Cargo.toml --all-features
-    if cargo clippy --version > /dev/null 2>&1 && cargo fmt --version > /dev/null 2>&1; then
-        packaged "Rust lints" cargo clippy --offline --manifest-path rust/Cargo.toml --all-targets --all-features -- -D warnings
-        packaged "Rust lints, no_std" cargo clippy --offline --manifest-path rust/Cargo.toml --all-targets -- -D warnings
-        packaged "Rust layout" cargo fmt --manifest-path rust/Cargo.toml --check
-    else
-        echo "cargo clippy and cargo fmt: not on this machine"
-    fi
     cp examples/c/order.expected "$folder/wanted"
     cargo run -q --offline --manifest-path rust/Cargo.toml --example order > "$folder/out" 2> "$folder/log"
     told "Rust order" $?
@@ -497,8 +491,6 @@ if command -v python3 > /dev/null && python3 -c 'import venv, ensurepip' 2> /dev
         PMHOST_ARCHIVES='$built' '$folder/venv/bin/pip' install --no-index '$folder/python' &&
         cp '$folder'/venv/lib/python3*/site-packages/pmhost/libpmhost.so '$folder/venv/'"
     packaged "Python package, its command" sh -c "cd '$folder' && venv/bin/pmhost -b model --outputs 1 --no-limit set 0 3.3V"
-    packaged "Python package" env PMHOST_LIBRARY="$folder/venv/libpmhost.so" PYTHONPATH=python/src \
-        python3 -B -m unittest discover -s python/tests -t python
 else
     echo "python3 with venv: not on this machine"
 fi

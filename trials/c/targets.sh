@@ -139,9 +139,9 @@ instructions() {
 deepest() {
     local of=$1; shift
     if [ -f "$folder/$of.passed" ]; then
-        trials/c/stack.py "$folder/$of.passed" "$folder/$of.su" "${call[${of%.part}]-0}" "$@" 2>&1
+        trials/c/stack.py --frames "$folder/$of.su" --each "${call[${of%.part}]-0}" "$folder/$of.passed" "$@" 2>&1
     else
-        trials/c/frames.py "$folder/$of.a" "$@" 2>&1
+        trials/c/stack.py "$folder/$of.a" "$@" 2>&1
     fi
 }
 

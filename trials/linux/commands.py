@@ -1,7 +1,7 @@
-"""The commands of the pages for who has a board and of docs/captures.md, word for word, over a bus of the guest: commands BUS.
+"""Commands of the pages that want a kernel's own programs, word for word, over a bus of the guest: commands BUS.
 
 The page's bus is 1; over another its number stands in the commands in the place of that. A command that the page doesn't
-have is a fault. Beside them: pmhost capture i2ctransfer with i2c-tools where transfers fail, what the page says of a driver that
+have is a fault. They are pmhost capture i2ctransfer with i2c-tools, also where transfers fail, what the page says of a driver that
 holds the part, and i2cdetect over all addresses, which finds the part and changes nothing.
 """
 import os
@@ -14,20 +14,9 @@ from rows import bound, read
 from tally import Tally
 
 PLACE = "/run/commands"
-PROBE = "PEC yes, PAGE_PLUS yes, 2 outputs: 0 ULINEAR16 -12, 1 DIRECT 1 0 3\n"
 # What probe tells behind its first line, and says before.
 FURTHER, BEFORE = "(probe: .*\n)+pmhost -b 1 .*\n", "pmhost: probe: the part may note .*\n"
-ORDER = "pmhost -b 1 -a 58 --outputs 2 --limit 0:3.135V:3.465V --trace bus.trace set 0 3.3V"
-ORDERED = "set 0: VOUT_COMMAND 34CD 3.300048V confirmed; the output commands 3.300048V, within 3.135V to 3.465V\n"
 FRAMES = r"printf 'B0 19 /\nB0 06 02 00 20 /\n' | pmhost capture i2ctransfer 1"
-# OPERATION is read before the first order, and CAPABILITY behind each write, until the part is ready.
-LEARNED = """1 58 page 0 OPERATION read 80
-2 58 page 0 VOUT_MODE read 14
-3 58 page 0 VOUT_COMMAND write 34CD
-4 58 CAPABILITY read 80
-5 58 page 0 VOUT_COMMAND read 34CD
-"""
-TRACED = "echo > /sys/kernel/tracing/trace", "echo 1 > /sys/kernel/tracing/events/i2c/enable", "cat /sys/kernel/tracing/trace"
 PAGES = ("getting-started", "command-line", "board-file", "adapters", "captures", "tried")
 
 
@@ -56,9 +45,9 @@ class Page:
         around = {**os.environ, "PATH": f"{PLACE}:{os.environ['PATH']}"}
         return subprocess.run(["bash", "-c", self.command(words)], capture_output=True, text=True, env=around)
 
-    def tell(self, words, out, err="", status=0, more=(), on_page=True):
-        """Runs a command and compares; `more` are further things that are wrong."""
-        ran, faults = self.run(words), list(more)
+    def tell(self, words, out, err="", status=0, on_page=True):
+        """Runs a command and compares."""
+        ran, faults = self.run(words), []
         if on_page and words not in self.text:
             faults.append("no page has it")
         found = ran.returncode, ran.stdout, ran.stderr
@@ -72,28 +61,9 @@ def exactly(text):
     return re.escape(text)
 
 
-def without_comments(trace):
-    """The packets of a trace; that address 02 was asked is a comment."""
-    return "".join(line for line in trace.splitlines(True) if not line.startswith("#"))
-
-
-def board(page):
-    """From a board to a confirmed setting, and what went over the wire."""
-    page.bench.put("modes 14 40")
-    page.tell("pmhost -b 1 -a 58 probe", exactly(f"probe: {PROBE}") + FURTHER, BEFORE, more=[] if PROBE.strip() in page.text else ["the page has another"])
-    page.bench.put("proved")
-    for words in TRACED[:2]:
-        page.tell(words, "")
-    page.tell(ORDER, exactly(ORDERED), more=[] if page.command(ORDERED) in page.text else ["the page has another answer"])
-    page.tell("pmb decode < bus.trace", exactly(LEARNED) + "(.*\n)*lines 10 accepted 10 faults 0 bad 0\n")
-    page.tell("grep failed bus.trace", "", status=1)
-    kernel = without_comments(page.run(f"{TRACED[2]} | pmhost capture linux --address=58 --bus={page.number}").stdout)
-    sent = without_comments(read("bus.trace"))
-    page.tally.tell(f"bus {page.number}, the kernel's tracepoints", [] if kernel == sent else [f"{kernel!r}, not {sent!r}"])
-
-
 def frames(page):
     """Frames that are written by hand, over i2c-tools."""
+    page.bench.put("proved")
     number = page.number
     page.tell(FRAMES, f"i2ctransfer -y {number} w1@0x58 0x19 r2\ni2ctransfer -y {number} w4@0x58 0x06 0x02 0x00 0x20 r3\n")
     decoded = exactly("1 58 CAPABILITY read 80\n2 58 page 0 VOUT_MODE read 14\n") + "(.*\n)*"
@@ -138,7 +108,6 @@ def detect(page):
 
 def main(words):
     page = Page(int(words[0]))
-    board(page)
     frames(page)
     drivers(page)
     detect(page)

@@ -5,14 +5,11 @@ transfer and under LISTS (60) lists of two to five, and answers of ones and of z
 every word that a register ever held with those that were ordered for it. SEED (7) draws the places.
 """
 import collections
-import contextlib
-import io
 import random
 import re
 
 from faults import KINDS, ON_WIRE
 from guest_bus import WIRE, Bench
-from pmhost import cli
 from pmhost.values import CODES
 from tally import Tally
 
@@ -35,11 +32,8 @@ class Run:
 
     def __init__(self, bench, plan, passes, address="58"):
         bench.put(f"at {address}", " ".join(plan))
-        out, err = io.StringIO(), io.StringIO()
-        with contextlib.redirect_stdout(out), contextlib.redirect_stderr(err):
-            self.status = cli.main(["-b", str(bench.number), "-a", address, "--outputs=2", "--no-limit", "--busy-timeout=0ms", f"--passes={passes}",
-                                    *" + ".join(JOBS).split()])
-        self.said, self.err, self.told = out.getvalue().splitlines(), err.getvalue(), bench.ask()
+        self.status, out, self.err = bench.pmhost(f"--passes={passes}", *" + ".join(JOBS).split(), address=address)
+        self.said, self.told = out.splitlines(), bench.ask()
         self.has_restarted = not {"restart", "power"}.isdisjoint(plan)
         self.seen = [found[1] for found in map(SEEN.fullmatch, self.said) if found]
 

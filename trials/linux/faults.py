@@ -2,20 +2,17 @@
 
 The nine kinds: the part restarts; it doesn't take the frame; it takes the frame and the transfer fails, in two ways; an
 acknowledgement is false; an answer is damaged, or cut; a write is cut, or a bit of it is flipped. Each strikes each
-transfer of the orders once, with 1 and with 3 passes. On the wire two come to them: an answer to the second address
+transfer of the orders once (over the slow bus 5 some of them), with 1 and with 3 passes. On the wire two come to them: an answer to the second address
 that the kernel sends by itself, and a clock that is held low for less and for more than the adapter's patience of 50 ms. After each run the host is asked for both outputs and whether it saw a restart, and that
 is compared with what the part holds: a word ordered for one output must never stand at the other, and nothing that was
 said may be false. Both are counted; what isn't promised is counted too, and no fault: a word that was confirmed and went
 with a restart. SEED (7) draws LISTS (60) lists.
 """
 import collections
-import contextlib
-import io
 import random
 import re
 
-from guest_bus import Bench
-from pmhost import cli
+from guest_bus import Bench, places
 from tally import Tally
 
 KINDS = {"restart": "restart", "deaf": "not taken", "lost": "lost", "lostall": "lost, second way",
@@ -29,7 +26,8 @@ MORE = {"twice": "heard twice", "hung": "a line held low", "empty": "an answer t
 OUTPUTS = (0, 1, 1, 0, 0, 1, 0, 1)
 WORDS = tuple(0x1200 + 0x200 * place for place in range(len(OUTPUTS)))
 START = 0x1000
-LISTS, SEED = 60, 7
+# FEW transfers stand for all of them over the slow bus.
+LISTS, SEED, FEW = 60, 7, 20
 ORDERS = " + ".join(f"word {output} VOUT_COMMAND {word:04X}" for output, word in zip(OUTPUTS, WORDS))
 STATE = re.compile(r"([01]) VOUT_COMMAND (?:(\w{4}) confirmed|possible ([0-9A-F ]+)|any)")
 DONE = re.compile(r"word [01]: VOUT_COMMAND \w{4} confirmed; ")
@@ -41,12 +39,8 @@ class Run:
 
     def __init__(self, bench, plan, passes, part="proved"):
         bench.put(part, " ".join(plan))
-        out, err = io.StringIO(), io.StringIO()
-        words = ["-b", str(bench.number), "-a", "58", "--outputs=2", "--no-limit", "--busy-timeout=0ms", f"--passes={passes}",
-                 *f"{ORDERS} + known".split()]
-        with contextlib.redirect_stdout(out), contextlib.redirect_stderr(err):
-            self.status = cli.main(words)
-        self.said = out.getvalue().splitlines()
+        self.status, out, err = bench.pmhost(f"--passes={passes}", *f"{ORDERS} + known".split())
+        self.said = out.splitlines()
         told = bench.ask()
         self.held, self.count, self.has_restarted = told["held"], told["count"], "restart" in plan
         self.ends = [line for line in self.said if line.startswith("word ")]
@@ -120,11 +114,11 @@ def main(words):
     print(f"bus {bench.number}: {clean.count} transfers, the part is {bench.ask()['kind']}", flush=True)
     for passes in (1, 3):
         for kind, name in kinds.items():
-            for place in range(clean.count):
+            for place in places(bench, clean.count, FEW, seed=seed):
                 table.run(f"{name}, {passes} pass{'es' * (passes > 1)}", ["ok"] * place + [kind], passes)
     drawn = random.Random(seed)
     for _ in range(lists):
-        plan = ["ok"] * 24
+        plan = ["ok"] * clean.count
         for _ in range(drawn.choice((2, 3, 4))):
             plan[drawn.randrange(clean.count)] = drawn.choice(list(kinds))
         table.run("two to four, 3 passes", plan, 3)

@@ -8,6 +8,7 @@ import random
 
 from counted import BENCH
 from pmhost.bus.linux import I2C_M_RD, I2C_RDWR, Message, Messages
+from tests.running import called
 
 # The most that i2c-dev takes.
 ROOM = 8192
@@ -36,6 +37,10 @@ class Bench:
         back = ctypes.create_string_buffer(ROOM)
         self.messages(Message(BENCH, I2C_M_RD, ROOM, ctypes.addressof(back)))
         return json.loads(back.raw.rstrip(b"\0"))
+
+    def pmhost(self, *words, address="58", outputs=2, patience=("--busy-timeout=0ms",)):
+        """The status of a call of pmhost over this bus, in this process, and what it prints on both streams."""
+        return called("-b", str(self.number), "-a", address, f"--outputs={outputs}", "--no-limit", *patience, *words)
 
     def put(self, part, mishaps=""):
         """A part as it is made, and mishaps for its transfers."""

@@ -6,13 +6,10 @@ or confirmed that isn't so, by orders, clear, store, restore, reads and probe. O
 first's answer comes once more to the second's read: it passes for that just where the two reads share their packet error code up to
 the read address. The bench tells whether a fault struck: a row whose fault didn't has failed.
 """
-import contextlib
-import io
 import os
 import re
 
 from guest_bus import WIRE, Bench
-from pmhost import cli
 from pmhost.values import CODES
 from rows import read
 from tally import Tally
@@ -32,17 +29,10 @@ LEARNED = [f"learn {output}" for output in OUTPUTS]
 TRACE = "/run/lines.trace"
 
 
-def call(bench, words, *more, outputs=2):
-    out, err = io.StringIO(), io.StringIO()
-    with contextlib.redirect_stdout(out), contextlib.redirect_stderr(err):
-        status = cli.main(["-b", str(bench.number), "-a", "58", f"--outputs={outputs}", "--no-limit", "--busy-timeout=0ms", *more, *words.split()])
-    return status, out.getvalue(), err.getvalue()
-
-
 def transfers(bench):
     """Of each transfer of the order how many bytes it has, and whether it is a read."""
     bench.put("proved")
-    call(bench, ORDER, f"--trace={TRACE}")
+    bench.pmhost(f"--trace={TRACE}", *ORDER.split())
     packets = [line for line in read(TRACE).splitlines() if not line.startswith("#")]
     os.unlink(TRACE)
     return [(len(packet.replace("/", "").split()), "/" in packet) for packet in packets]
@@ -80,7 +70,7 @@ def passed_on(bench, first, second):
     """Whether a late answer is believed where it shouldn't be, or not where the packet error code can't tell."""
     bench.put(THREE, " ".join(["ok"] * (len(LEARNED) + 1) + ["last"]))
     jobs = [*LEARNED, *(f"read {output} {name}" for output, name in (first, second))]
-    status, out, err = call(bench, " + ".join(jobs), "--passes=1", outputs=len(OUTPUTS))
+    status, out, err = bench.pmhost("--passes=1", *" + ".join(jobs).split(), outputs=len(OUTPUTS))
     told = bench.ask()
     held = {(output, name): told["cells"][f"{output} {CODES[name]:02X}"] for output, name in (first, second)}
     found = re.search(rf"read {second[0]}: {second[1]} (\w+)", out)
@@ -96,7 +86,7 @@ def main(words):
             for each in CALLS:
                 bench.put("proved")
                 bench.say(f"low {line}")
-                ran = call(bench, each)
+                ran = bench.pmhost(*each.split())
                 bench.say("low none")
                 tally.tell(f"bus {WIRE}, {line} held low, {each}", [*claims(each, ran), *(names_the_line(each, ran) if line == "sda" else ())])
         struck = [(place, f"{line}{byte}.{clock}", 1 + 2 * ((byte + clock) & 1)) for place, (length, _) in enumerate(transfers(bench))
@@ -104,16 +94,16 @@ def main(words):
     else:
         for each in CALLS:
             bench.put("proved", "hung " * 200)
-            tally.tell(f"bus {bench.number}, each transfer fails as with a line held low, {each}", claims(each, call(bench, each)))
+            tally.tell(f"bus {bench.number}, each transfer fails as with a line held low, {each}", claims(each, bench.pmhost(*each.split())))
             bench.put("proved", "ok ok " + "gone " * 200)
             each = "learn 0 + word 0 VOUT_COMMAND 34CD + known 0"
-            tally.tell(f"bus {bench.number}, the adapter is unplugged in the middle", untrue(bench, each, call(bench, each)))
+            tally.tell(f"bus {bench.number}, the adapter is unplugged in the middle", untrue(bench, each, bench.pmhost(*each.split())))
         # (an answer that nobody wrote is one of a read)
         struck = [(place, kind, passes) for place, (_, reads) in enumerate(transfers(bench))
                   for kind in ("hung", "gone", *(["empty"] if reads else [])) for passes in (1, 3)]
     for place, kind, passes in struck:
         bench.put("proved", " ".join(["ok"] * place + [kind]))
-        ran = call(bench, ORDER, f"--passes={passes}")
+        ran = bench.pmhost(f"--passes={passes}", *ORDER.split())
         bench.say("plan")
         tally.tell(f"bus {bench.number}, {kind} in transfer {place}, {passes} passes", untrue(bench, ORDER, ran))
     for first in REGISTERS:

@@ -5,15 +5,12 @@ again, at a part that is busy for 1, 10, 30 or 150 milliseconds behind each writ
 acknowledgements and by ones. With the patience that each has by itself all ends well; with none some end unknown where the part is
 busy for 30 or more (on the slow bus for 150), and at no delay is anything false said. A part at 08h is driven.
 """
-import contextlib
-import io
 import os
 import re
 import subprocess
 
 from faults import ORDERS, OUTPUTS, START, WORDS
 from guest_bus import WIRE, Bench
-from pmhost import cli
 from tally import Tally
 
 PROGRAMS = [path for path in (os.path.join(os.environ["CACHE"], name) for name in ("i2c_dev", "i2c_dev_rust")) if os.path.exists(path)]
@@ -31,10 +28,8 @@ class Call:
 
     def __init__(self, bench, part, words, address="58"):
         bench.put(part)
-        out, err = io.StringIO(), io.StringIO()
-        with contextlib.redirect_stdout(out), contextlib.redirect_stderr(err):
-            self.status = cli.main(["-b", str(bench.number), "-a", address, "--outputs=2", "--no-limit", *words, *JOBS.split()])
-        self.said, self.err = out.getvalue().splitlines(), err.getvalue()
+        self.status, out, self.err = bench.pmhost(*words, *JOBS.split(), address=address, patience=())
+        self.said = out.splitlines()
         self.held = bench.ask()["held"]
         self.ends = [line for line in self.said if line.startswith("word ")]
         self.done = sum(map(bool, map(DONE.match, self.ends)))

@@ -18,7 +18,7 @@
 #
 #   rows      every run of python/tests/data that is about a bus, on bus 0 by pmhost as a process
 #   faults    eight orders under nine kinds of fault at each transfer, and 60 lists of two to four faults (SEED and LISTS in the environment)
-#   commands  the commands of the pages on boards and captures, and i2cdetect over all addresses
+#   commands  commands of the pages over i2c-tools and beside a driver, and i2cdetect over all addresses
 #   programs  examples/c/i2c_dev.c under each fault
 #   captures  one run, told by pmhost's trace, the kernel's tracepoints and the waveform of the wires
 #   drawn     jobs of every kind under drawn faults, all registers asked behind (SEED, LISTS)

@@ -13,6 +13,9 @@ and glibc. With the toolchain alone `rt try --fail-alloc N -- hear < stdin` in c
 allocation, the Nth, of one run, and takes some 20 seconds.
 """
 import os
+import re
+import shutil
+import subprocess
 import sys
 import tempfile
 
@@ -21,9 +24,38 @@ sys.path.insert(0, os.path.dirname(os.path.dirname(os.path.abspath(__file__))))
 
 import paths  # noqa: E402, F401
 import program  # noqa: E402
-import refuser  # noqa: E402
 from tally import Tally  # noqa: E402
 
+# C that stands before the C library: counts the allocations, refuses one, and tells how many there were where the program ends by itself.
+SOURCE = r"""
+#include <errno.h>
+#include <stddef.h>
+#include <stdio.h>
+#include <stdlib.h>
+#include <unistd.h>
+extern void *__libc_malloc(size_t size);
+extern void *__libc_realloc(void *block, size_t size);
+extern void *__libc_calloc(size_t count, size_t size);
+static long made, refused = -1;
+static int is_refused(void) {
+    if (refused < 0) {
+        const char *number = getenv("REFUSED_ALLOCATION");
+        refused = number ? atol(number) : 0;
+    }
+    if (++made != refused) return 0;
+    errno = ENOMEM;
+    return 1;
+}
+void *malloc(size_t size) { return is_refused() ? NULL : __libc_malloc(size); }
+void *realloc(void *block, size_t size) { return is_refused() ? NULL : __libc_realloc(block, size); }
+void *calloc(size_t count, size_t size) { return is_refused() ? NULL : __libc_calloc(count, size); }
+__attribute__((destructor)) static void tell(void) {
+    char line[64];
+    int length = snprintf(line, sizeof line, "allocations %ld\n", made);
+    if (write(2, line, length) != length) _exit(99);
+}
+"""
+TOLD = re.compile(rb"allocations (\d+)\n\Z")
 HEAD = b"scenario 1\naddress 58\npasses 2\nprotect 00\ncoefficients 1 0 0\n"
 OUTPUT = b"output 14 80 1000 4000 1100 0F00\n"
 ORDER = b"order 0 VOUT_COMMAND 34CD\ndeliver whole\nfinish ack\nexchange whole whole\n"
@@ -150,10 +182,22 @@ def wants_memory(arguments, found, whole):
     return status == 1 and is_first_part and told == WANT_OF_MEMORY
 
 
+def built_in(folder):
+    """What refuses, built in a folder. Without a C compiler the script ends."""
+    if not shutil.which("cc"):
+        sys.exit("no C compiler: cc")
+    shared = os.path.join(folder, "refuser.so")
+    subprocess.run(["cc", "-O1", "-shared", "-fPIC", "-x", "c", "-", "-o", shared], input=SOURCE.encode(), check=True)
+    return shared
+
+
 def result_of(shared, arguments, text, number=0):
-    """The status and what was written on either stream, and how many allocations were made."""
-    *found, made = refuser.ended(shared, [program.PROGRAM, *arguments], number, input=text)
-    return tuple(found), made
+    """The status and what was written on either stream where the allocation of this number is refused, none where it is 0; and how many
+    allocations were made, None where that wasn't told."""
+    environment = {"LD_PRELOAD": shared, "REFUSED_ALLOCATION": str(number)}
+    ran = subprocess.run([program.PROGRAM, *arguments], input=text, capture_output=True, env=environment)
+    told = TOLD.search(ran.stderr)
+    return (ran.returncode, ran.stdout, ran.stderr[:told.start()] if told else ran.stderr), int(told[1]) if told else None
 
 
 def main():
@@ -161,7 +205,7 @@ def main():
     program.needed()
     tally, seen = Tally(), 0
     with tempfile.TemporaryDirectory() as folder:
-        shared = refuser.built_in(folder)
+        shared = built_in(folder)
         for arguments, text in RUNS:
             whole, made = result_of(shared, arguments, text)
             wanting = unneeded = 0

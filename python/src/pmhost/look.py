@@ -119,6 +119,11 @@ class Delivered:
         return " and ".join([*held, *(register_words(*each) for each in self.registers.items())])
 
     @property
+    def why_told(self) -> str:
+        """The same for a line of the command, whose user has `why`."""
+        return f"{self.why}: `why` says more" if self.is_bad and self.verdict.kind != "not known" else self.why
+
+    @property
     def why(self) -> str:
         """Why it is bad, in a sentence; nothing if it isn't."""
         kind, bit = self.verdict.kind, self.verdict
@@ -130,7 +135,7 @@ class Delivered:
         if said is None:
             does = "is off" if self.is_off else "delivers"
             return f"whether the rail {does} isn't known: {self.lacking if self.is_missing else f'{bit.register}: ' + (bit.fault or 'no good answer')}"
-        return f"{said}: `why` says more"
+        return said
 
     @property
     def said(self) -> str:

@@ -165,7 +165,7 @@ class RailCourse:
         found = self.board.delivered[self.rail.name] = look.after()
         self.board.looked_at[self.rail.name] = self.board.orders
         is_outside = found.verdict.kind == "outside" and self.board.state(self.rail).limits_state == "outside"
-        return f"{self.rail.name}: {OUTSIDE if is_outside else found.why}" if found.is_bad else ""
+        return f"{self.rail.name}: {OUTSIDE if is_outside else found.why_told}" if found.is_bad else ""
 
     def judge(self) -> None:
         """Stops if it has ended, and neither as it is wanted nor refused."""

@@ -323,3 +323,73 @@ fn an_error_is_one_line() {
         assert_eq!(boxed.to_string(), line);
     }
 }
+
+#[test]
+fn what_was_turned_on_is_turned_off_again_the_last_one_first() {
+    let (neither, fault_limits) = (false, FaultLimits::Skip);
+    let unseen = DeliveryOptions { has_status_word: neither, has_read_vout: neither, fault_limits, ..DeliveryOptions::default() };
+    type Orders = &'static [(u8, u8)];
+    const ALL: Orders = &[(0, 0x80), (1, 0x80), (2, 0x80), (2, 0), (1, 0), (0, 0)];
+    // OPERATION of the outputs before, which are brought up, whether they are kept, and the orders of OPERATION.
+    let rows: [([u8; 3], &[u8], bool, Orders); 6] = [
+        ([0; 3], &[0, 1, 2], false, ALL),
+        ([0; 3], &[0, 1, 2], true, &ALL[..3]),
+        ([0; 3], &[0, 0], false, &[(0, 0x80), (0, 0)]),
+        ([0x80, 0x40, 0x80], &[0, 1, 2], false, &[(1, 0x80), (1, 0)]),
+        ([0x98, 0, 0], &[0], false, &[(0, 0x80)]),
+        ([0; 3], &[], false, &[]),
+    ];
+    for (before, outputs, keeps, orders) in rows {
+        let starts = before.map(|operation| Output { operation, ..Output::default() });
+        let mut bus = Watched { part: Part::new(0x58, &starts, (1, 0, 3)).unwrap(), frames: Vec::new() };
+        let mut host = free(0x58, 3, 3);
+        let mut board = OffOnDrop::new(&mut host, &mut bus);
+        for &output in outputs {
+            let mut course = Course::power(output, 0x80, COURSE_TRIES).unwrap();
+            let _ = board.deliver(&mut course, &mut Delivery::new(output, &unseen).unwrap(), || ()).unwrap();
+        }
+        if keeps {
+            board.keep();
+        } else {
+            drop(board);
+        }
+        let writes = bus.frames.iter().filter(|frame| frame[1] == 0x05 && frame[4] == 0x01);
+        assert_eq!(writes.map(|frame| (frame[3], frame[5])).collect::<Vec<_>>(), orders, "{before:?} {outputs:?}");
+    }
+}
+
+#[test]
+fn nothing_is_ordered_of_an_output_of_which_nothing_is_known() {
+    let (mut host, mut bus) = (free(0x58, 1, 1), Scripted::new(&[Fails(&[])]));
+    let mut board = OffOnDrop::new(&mut host, &mut bus);
+    let mut course = Course::power(0, 0x80, COURSE_TRIES).unwrap();
+    let ended = board.deliver(&mut course, &mut Delivery::new(0, &DeliveryOptions::default()).unwrap(), || ());
+    assert!(matches!(ended, Err(NotDelivered::NotReached(NotReached::Spent { .. }))));
+    drop(board);
+    assert!(bus.frames.iter().all(|frame| frame[1] != 0x05), "{:?}", bus.frames);
+}
+
+#[test]
+fn a_main_prints_the_words_of_an_error() {
+    let spent = NotReached::Spent { cell: None, fault: Some(AnswerFault::NoAnswer), error: Some(NoAnswer) };
+    let of_spent = "no try is left to learn the format; the last answer: no answer; a transfer failed: the part didn't acknowledge or answer";
+    for (said, words) in [
+        (format!("{NoAnswer:?}"), "the part didn't acknowledge or answer"),
+        (format!("{:?}", NotHeard::Bus(NoAnswer)), "the transfer failed: the part didn't acknowledge or answer"),
+        (format!("{:?}", NotHeard::<NoAnswer>::Ones), "nothing but FFh"),
+        (
+            format!("{:?}", NotDone::<Broken>::Differs { word: 0x1000 }),
+            "the part holds 1000: the order was lost, refused, limited or rounded",
+        ),
+        (
+            format!("{:?}", NotDone::Unknown { error: Some(NoAnswer), fault: None }),
+            "it isn't known what became of the job: no good answer or acknowledgement came; a transfer failed: \
+             the part didn't acknowledge or answer",
+        ),
+        (format!("{spent:?}"), of_spent),
+        (format!("{:?}", NotDelivered::NotReached(spent)), of_spent),
+        (format!("{:?}", NotDelivered::<Broken>::Refused(Refusal::H3Busy)), "refused: H3 Busy"),
+    ] {
+        assert_eq!(said, words);
+    }
+}

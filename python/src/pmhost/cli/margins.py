@@ -190,7 +190,7 @@ class RailTest:
         self.rows.append(Row(self.rail, point, commanded(self.part, self.rail.output), found))
         state = self.rows[-1].state
         if found.is_bad:
-            raise self.stopped(f"at {point}: {found.why}")
+            raise self.stopped(f"at {point}: {found.why_told}")
         if state.limits_state != "within" or state.value is None or not state.is_value(state.value):
             raise self.stopped(f"at {point}: it isn't known to command its voltage{limit_words(state)}")
 

@@ -219,7 +219,7 @@ def deliver(found: Answer, delivered: Delivered) -> None:
     # An output that commands a voltage outside its limits is told as that.
     if delivered.is_bad and not (found.status and delivered.verdict.kind == "outside"):
         found.status, found.end = 1, "not delivered"
-        found.why += f"{'; ' * bool(found.why)}{delivered.why}"
+        found.why += f"{'; ' * bool(found.why)}{delivered.why_told}"
 
 
 def reached(arguments: argparse.Namespace, part: Device, register: str, state: Commanded, is_accepted: bool, turns_off: bool) -> Answer:
