@@ -53,6 +53,15 @@ class Near(Watched):
         return found
 
 
+class StoredHigh(Near):
+    """One that is at its voltages, and has the high margin in its store."""
+
+    def __init__(self, starts):
+        super().__init__([HIGH for _ in starts])
+        for output, byte in enumerate(starts):
+            self.bus.write(Packet("PAGE_PLUS_WRITE", 0x01, output, 1, byte).frame(0x58))
+
+
 class RestartsAnother(Watched):
     """A part beside which another one restarts as output 0 comes to its low margin."""
 
@@ -140,6 +149,19 @@ class Rows(unittest.TestCase):
         self.assertEqual((status, orders), (1, []))
         self.assertIn("MFR_MODEL", err)
 
+    def test_no_margin_is_ordered_after_a_restart(self):
+        """Of a part whose stored OPERATION is a margin, at each transfer from the first that is read to those before the first order."""
+        status, orders, _, _ = self.run_test("core", kind=StoredHigh)
+        self.assertEqual((status, orders), (0, CORE))
+        ends = []
+        for place in range(8, self.part.places[0] - 7):
+            status, orders, _, err = self.run_test("core", kind=StoredHigh, mishaps=["ok"] * place + ["restart"])
+            with self.subTest(place=place):
+                self.assertIn(orders, ([], [(0, ON)]), err)
+                self.assertIn("OPERATION A8 on, margin high: `on` first: nothing was ordered" if status == 1 else "u1 restarted", err)
+            ends.append(status)
+        self.assertEqual(set(ends), {1, 3})
+
     def test_a_rail_that_does_not_deliver_at_a_margin(self):
         for byte, point, orders in ((HIGH, "high", [(0, HIGH), (0, ON)]), (LOW, "low", CORE)):
             status, found, out, err = self.run_test(kind=Trips, byte=byte)
@@ -170,7 +192,7 @@ class Rows(unittest.TestCase):
                     else:
                         self.assertEqual(status, 3, err)
                         self.assertRegex(err, "(core|io): at (high|low|nominal): (u1 restarted: OPERATION is 80 now: call again|"
-                                         "OPERATION (A8|98): the part restarted, or was exchanged: the same call again may end well)")
+                                         "OPERATION (A8|98): u1 restarted, or was exchanged: the same call again may end well)")
                     self.assertEqual(self.part.held(), [ON, ON])
                 ends.append(status)
         self.assertGreater(ends.count(3), 3 * ends.count(0))

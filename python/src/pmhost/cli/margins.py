@@ -144,7 +144,7 @@ class RailTest:
             read(self.part, output, selected_by(byte) or "")
         elif end is not None and end.kind != "reached":
             raise self.stopped(self.why_ended(byte, end))
-        elif end is not None and course.guarded is None:
+        elif end is not None:
             return
         with self.stopping():
             if self.look.has_looked_before:
@@ -238,7 +238,7 @@ class RailTest:
             return f"{said}: {why or SAYINGS.get(fault.letter, fault.name)}: {fault.letter} {fault.name}"
         if end.word is not None:
             return f"{said}: {end.register} is {in_hexadecimal(end.register, end.word)}"
-        return f"{said}: {WHY.get(end.kind) or self.part.transfers.why() or end.fault or 'no good answer'}"
+        return f"{said}: {WHY.get(end.kind, '').replace('the part', self.rail.part or 'the part') or self.part.transfers.why() or end.fault or 'no good answer'}"
 
     def stopped(self, why: str) -> Stopped:
         return Stopped(f"{self.rail.name}: {why}", self.rail.part)
