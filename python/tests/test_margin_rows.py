@@ -5,11 +5,12 @@ import tempfile
 import unittest
 from unittest import mock
 
-from pmhost import clock
+from pmhost import ModelPart, ModelPartBus, Output, Packet, clock
 
 from .kernel import BoardKernel
 from .runs import called
-from .test_margin_tests import BOARD
+from .test_board_files import table_of
+from .test_margin_tests import BOARD, Part, rail_of
 from .test_sequences import ORDER, Watched
 
 HIGH, LOW, ON = 0xA8, 0x98, 0x80
@@ -25,6 +26,51 @@ class Trips(Watched):
         heard = super().hear(frame, ending)
         if (0, self.byte) in self.orders:
             self.bus.part.set_reading(0, "READ_VOUT", 0)
+        return heard
+
+
+class TripsAnother(Watched):
+    """A part whose output 1 delivers nothing once output 0 is at a margin."""
+
+    def hear(self, frame, ending):
+        heard = super().hear(frame, ending)
+        if (0, HIGH) in self.orders:
+            self.bus.part.set_reading(1, "READ_VOUT", 0)
+        return heard
+
+
+class Near(Watched):
+    """A part whose margins are 3 % away from its voltages, which READ_VOUT alone doesn't tell from these. `places` has which transfers were orders."""
+
+    def __init__(self, starts):
+        super().__init__(starts)
+        self.bus = ModelPartBus(ModelPart(0x58, [Output(operation=byte, high=0x107B, low=0x0F85) for byte in starts]))
+        self.places = []
+
+    def hear(self, frame, ending):
+        before, found = len(self.orders), super().hear(frame, ending)
+        self.places += [self.over.transfers] * (len(self.orders) - before)
+        return found
+
+
+class StoredHigh(Near):
+    """One that is at its voltages, and has the high margin in its store."""
+
+    def __init__(self, starts):
+        super().__init__([HIGH for _ in starts])
+        for output, byte in enumerate(starts):
+            self.bus.write(Packet("PAGE_PLUS_WRITE", 0x01, output, 1, byte).frame(0x58))
+
+
+class RestartsAnother(Watched):
+    """A part beside which another one restarts as output 0 comes to its low margin."""
+
+    other = None
+
+    def hear(self, frame, ending):
+        before, heard = len(self.orders), super().hear(frame, ending)
+        if (0, LOW) in self.orders[before:]:
+            self.other.restart()
         return heard
 
 
@@ -53,15 +99,16 @@ class Time:
 
 
 class Rows(unittest.TestCase):
-    def run_test(self, *words, kind=Watched, starts=(ON, ON), board=BOARD, mishaps=(), **facts):
+    def run_test(self, *words, kind=Watched, starts=(ON, ON), board=BOARD, mishaps=(), more=None, **facts):
         """The status, the bytes that were ordered, and what was said."""
-        part = kind(starts)
+        part = self.part = kind(starts)
         vars(part).update(facts)
-        time = Time()
+        time, over = Time(), BoardKernel({7: {0x58: part} | (more or {})}, list(mishaps))
+        part.over, over.strikes_looks = over, True
         with tempfile.NamedTemporaryFile("w", suffix=".toml") as file, mock.patch.multiple(clock, until=time.until, wait=time.wait):
             file.write(board)
             file.flush()
-            status, out, err = called(["margin-test", file.name, *words], BoardKernel({7: {0x58: part}}, list(mishaps)))
+            status, out, err = called(["margin-test", file.name, *words], over)
         self.assertEqual((err == ""), status == 0, err)
         return status, part.orders, out, err
 
@@ -91,10 +138,29 @@ class Rows(unittest.TestCase):
     def test_nothing_is_ordered_before_all_is_judged(self):
         status, orders, _, err = self.run_test(starts=(ON, 0))
         self.assertEqual((status, orders), (1, []))
+        self.assertIn("io: OPERATION 00 off: `on` first: nothing was ordered", err)
+        status, orders, _, err = self.run_test("io", starts=(ON, 0), board=f"{BOARD}\non = false")
+        self.assertEqual((status, orders), (1, []))
         self.assertIn("io: the output is off, and a margin would turn it on: order `on` first: nothing was ordered", err)
+        status, orders, _, err = self.run_test("core", board=BOARD.replace('volts = "1V"', 'volts = "1.01V"'))
+        self.assertEqual((status, orders), (1, []))
+        self.assertIn("core.volts is 1000 1V, and the file says 1029 1.010009V; io.volts is 1000 1V, and the file says", err)
         status, orders, _, err = self.run_test(board=BOARD.replace("outputs = 2", 'outputs = 2\nmodel = "LTC"'))
         self.assertEqual((status, orders), (1, []))
         self.assertIn("MFR_MODEL", err)
+
+    def test_no_margin_is_ordered_after_a_restart(self):
+        """Of a part whose stored OPERATION is a margin, at each transfer from the first that is read to those before the first order."""
+        status, orders, _, _ = self.run_test("core", kind=StoredHigh)
+        self.assertEqual((status, orders), (0, CORE))
+        ends = []
+        for place in range(8, self.part.places[0] - 7):
+            status, orders, _, err = self.run_test("core", kind=StoredHigh, mishaps=["ok"] * place + ["restart"])
+            with self.subTest(place=place):
+                self.assertIn(orders, ([], [(0, ON)]), err)
+                self.assertIn("OPERATION A8 on, margin high: `on` first: nothing was ordered" if status == 1 else "u1 restarted", err)
+            ends.append(status)
+        self.assertEqual(set(ends), {1, 3})
 
     def test_a_rail_that_does_not_deliver_at_a_margin(self):
         for byte, point, orders in ((HIGH, "high", [(0, HIGH), (0, ON)]), (LOW, "low", CORE)):
@@ -103,6 +169,45 @@ class Rows(unittest.TestCase):
                 self.assertEqual((status, found), (1, orders))
                 self.assertIn(f"core: at {point}: ", err)
                 self.assertIn("core: back, OPERATION 80 confirmed", out)
+
+    def test_a_rail_that_trips_while_another_is_at_a_margin(self):
+        status, found, out, err = self.run_test("core", kind=TripsAnother)
+        self.assertEqual((status, found), (1, [(0, HIGH), (0, ON)]))
+        self.assertIn("core: at high: io: READ_VOUT is outside the limits: `why` says more", err)
+        self.assertIn("core: back, OPERATION 80 confirmed", out)
+
+    def test_a_restart_at_a_margin_is_told(self):
+        """At each transfer from the order of a margin to the order back: status 3, but between the reads after a look and the next order, where
+        each margin was measured and none is left."""
+        status, orders, _, _ = self.run_test(kind=Near)
+        part = self.part
+        self.assertEqual((status, orders), (0, CORE + IO))
+        ends = []
+        for first, last in (part.places[0:3:2], part.places[3:6:2]):
+            for place in range(first + 1, last + 1):
+                status, _, _, err = self.run_test(kind=Near, mishaps=["ok"] * place + ["restart"])
+                with self.subTest(place=place):
+                    if status == 0:
+                        self.assertLess(min(it for it in part.places if it >= place) - place, 7)
+                    else:
+                        self.assertEqual(status, 3, err)
+                        self.assertRegex(err, "(core|io): at (high|low|nominal): (u1 restarted: OPERATION is 80 now: call again|"
+                                         "OPERATION (A8|98): u1 restarted, or was exchanged: the same call again may end well)")
+                    self.assertEqual(self.part.held(), [ON, ON])
+                ends.append(status)
+        self.assertGreater(ends.count(3), 3 * ends.count(0))
+
+    def test_a_restart_of_another_part_is_told(self):
+        """Its stored voltage is 1 % away from the file's, so that no look finds it."""
+        other = Part((ON,))
+        other.bus = ModelPartBus(ModelPart(0x59, [Output(command=0x1029)]))
+        self.assertEqual(other.hear(Packet("PAGE_PLUS_WRITE", 0x21, count=2, word=0x1000).frame(0x59), "stop"), [])
+        board = "\n".join([BOARD, table_of("u2", 7, 0x59, 1), rail_of("aux", 0).replace("u1", "u2")])
+        self.assertEqual(self.run_test("core", board=board, more={0x59: other})[:2], (0, CORE))
+        status, orders, out, err = self.run_test("core", kind=RestartsAnother, board=board, more={0x59: other}, other=other)
+        self.assertEqual((status, orders), (3, CORE))
+        self.assertIn("u2 restarted meanwhile: nothing that was read before holds: run this again", err)
+        self.assertIn("core: back, OPERATION 80 confirmed", out)
 
     def test_a_margin_that_is_not_taken(self):
         status, orders, _, err = self.run_test(kind=Deaf)

@@ -89,7 +89,7 @@ impl<'a, B: Bus> OffOnDrop<'a, B> {
         }
     }
 
-    /// Turns off what it turned on, the last one first, and forgets it. Each is tried, and the first that fails is told.
+    /// Turns off what it turned on, the last one first, and forgets it. Each is tried; the answer is why the first one that failed did.
     pub fn turn_off(&mut self) -> Result<(), NotReached<B::Error>> {
         let mut found = Ok(());
         while self.count > 0 {

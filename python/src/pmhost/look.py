@@ -229,6 +229,11 @@ class Look:
         limit, and MarginRefused if it is a margin that may trip the rail."""
         if self.has_looked_before or order.register == "OPERATION" and (order.word or 0) < 0x80:
             return
+        self.read_before()
+        self.judge(course, order)
+
+    def read_before(self) -> None:
+        """Reads what stands before an order of this rail or of another one."""
         self.delivery.look_before()
         self._ask()
         self.has_looked_before = True
@@ -236,7 +241,6 @@ class Look:
         if silent and "limits" not in self.part.absent:
             self.notes.append(f"{', '.join(silent)} gave no good answer, and {'is' if len(silent) == 1 else 'are'}n't judged")
             self.part.absent.add("limits")
-        self.judge(course, order)
 
     def judge(self, course: Course, order: Job | None = None) -> None:
         """P8 if the course's goal is at or beyond a fault limit, by what was read before, and MarginRefused. The goal of a register whose order

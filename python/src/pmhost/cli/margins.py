@@ -1,4 +1,5 @@
-"""`margin-test board.toml`: each rail at its voltage, at its high and its low margin, measured at each, and back at its voltage."""
+"""`margin-test board.toml`: a test of the board that the file describes. Each rail at its voltage, at its high and its low margin, measured at each
+while all others are looked at, and back at its voltage."""
 from __future__ import annotations
 
 import argparse
@@ -8,29 +9,30 @@ from dataclasses import dataclass, field
 from typing import Any, Callable, Iterator
 
 from .. import rails, voltages
-from ..apply import Board
+from ..apply import AS_WANTED, Board
 from ..back import OPERATION, Held
 from ..course import Course, CourseEnd, Job, in_hexadecimal
 from ..cuts import cuts
 from ..errors import SAYINGS, MarginRefused, PlanRefused, refusal
 from ..look import Delivered, Look, Looks, register_words
-from ..operation import ANOTHER, MARGINS, ON, margin_byte, selected_by
+from ..operation import MARGINS, ON, margin_byte, selected_by
 from ..parts import BadRails
-from ..rail_course import Due, Stopped
-from ..rails import Rail
+from ..rail_course import Due, Restarted, Stopped
+from ..rails import ONLY, Rail
 from ..rehearsal import first_not_reached
 from ..stairs import WHY, StairsStep
 from ..step_run import StepCourse, StepRun
 from ..survey import TRIES, Commanded, Nobody, commanded, complete, only_word, read, survey
 from ..zeros import NotBelieved
 from .about import described
+from .again import RESTARTED
 from .answer import Answer, between, delivery_of, number
 from .back import words_of
 from .call import Call, said
 from .completion import FILES, completed_by
 from .names import IGNORE
 from .orders import IGNORING
-from .outcome import IGNORED, limit_words, why_not, why_refused
+from .outcome import IGNORED, cell_words, limit_words, why_not, why_refused
 from .parser import BadCall, bus_options, file_of, shown
 
 # A margin isn't to be selected at the end, whatever came.
@@ -90,19 +92,19 @@ class Row:
 
 @dataclass
 class RailTest:
-    """The test of one rail. `byte` is that of OPERATION by which it is at its voltage; the part ignores faults at the margins, or acts on them."""
+    """The test of one rail, the part of which ignores faults at the margins, or acts on them. `looks` are those at all rails of the board."""
 
     call: Call
+    board: Board
     rail: Rail
+    looks: dict[str, Look]
     rows: list[Row]
     ignores_faults: bool
-    byte: int = ON
     is_back: bool = False
     look: Look = field(init=False)
 
     def __post_init__(self) -> None:
-        self.part = self.call.places()[self.rail.part].pmbus()
-        self.look = Look(self.part, self.rail.output, self.call.looks or Looks())
+        self.part, self.look = self.board.on(self.rail), self.looks[self.rail.name]
 
     # ---- Before any order ----
 
@@ -113,8 +115,6 @@ class RailTest:
             raise self.stopped(why_not(found))
         if found.is_on is False:
             raise Stopped(f"{name}: the output is off, and a margin would turn it on: order `on` first")
-        byte = only_word(self.part, self.rail.output, OPERATION)
-        self.byte = byte if byte is not None and not byte & ANOTHER else ON
         for point in POINTS:
             self.plan(point)
         refused = first_not_reached(self.part, self.rail.output, map(self.byte_at, POINTS), self.call.protection.is_in_the_way(self.rail.part))
@@ -126,7 +126,7 @@ class RailTest:
 
     def byte_at(self, point: str) -> int:
         """The byte of OPERATION by which the rail is at a point."""
-        return margin_byte(point, self.ignores_faults) if point in MARGINS else self.byte
+        return margin_byte(point, self.ignores_faults) if point in MARGINS else ON
 
     def plan(self, point: str) -> None:
         """Goes up to the order by which the rail is at a point. Stopped if that would be refused."""
@@ -144,7 +144,7 @@ class RailTest:
             read(self.part, output, selected_by(byte) or "")
         elif end is not None and end.kind != "reached":
             raise self.stopped(self.why_ended(byte, end))
-        elif end is not None and course.guarded is None:
+        elif end is not None:
             return
         with self.stopping():
             if self.look.has_looked_before:
@@ -159,17 +159,17 @@ class RailTest:
         protection, part = self.call.protection, self.rail.part
         protection.touch(part)
         protection.lift(part)
-        self.call.back.note(Held(self.rail.name, part, self.rail.output, {OPERATION: self.byte}))
+        self.call.back.note(Held(self.rail.name, part, self.rail.output, {OPERATION: ON}))
         way = [self.byte_at(point) for point in POINTS[:-1]]
         run = StepRun([(self.part, StairsStep.turns(0, self.rail.output, byte)) for byte in way], TRIES)
         for place, (point, byte) in enumerate(zip(POINTS, way)):
             self.turn(point, byte, functools.partial(run.carry_out, place))
-            self.measure(point)
+            self.measure(point, byte)
         for held, why in self.call.back.go():
             self.is_back = not why
             if why:
                 raise Stopped(words_of(held, why))
-        self.measure(POINTS[-1])
+        self.measure(POINTS[-1], ON)
 
     def turn(self, point: str, byte: int, carry_out: Callable[..., None]) -> None:
         """Orders a byte, a step of stairs. Stopped if that isn't confirmed."""
@@ -184,15 +184,36 @@ class RailTest:
         if end.kind != "reached":
             raise self.stopped(f"at {point}: {self.why_ended(byte, end)}")
 
-    def measure(self, point: str) -> None:
-        """Looks at the rail. Stopped if it doesn't deliver."""
+    def measure(self, point: str, byte: int) -> None:
+        """Looks at the rail and at all others, which stay as they are. Restarted, or Stopped if one doesn't do what it is to."""
         found = self.look.after()
+        others = [(rail, self.looks[rail.name].after(not rail.is_on)) for rail in self.board.rails if rail is not self.rail]
+        silent = self.read_again(point, byte)
         self.rows.append(Row(self.rail, point, commanded(self.part, self.rail.output), found))
         state = self.rows[-1].state
         if found.is_bad:
             raise self.stopped(f"at {point}: {found.why_told}")
+        for rail, other in others:
+            if other.is_bad:
+                raise Stopped(f"{self.rail.name}: at {point}: {rail.name}: {other.why_told}", rail.part)
+        if silent:
+            raise self.stopped(f"at {point}: {silent}")
         if state.limits_state != "within" or state.value is None or not state.is_value(state.value):
             raise self.stopped(f"at {point}: it isn't known to command its voltage{limit_words(state)}")
+
+    def read_again(self, point: str, byte: int) -> str:
+        """Reads OPERATION and the register that it selects after a look: a restart before that may pass for a margin that is near. Why one
+        gave no good answer. Restarted."""
+        for register in (OPERATION, selected_by(byte) or ""):
+            self.part.host.check(self.rail.output, register)
+            if self.part.run().kind != "done":
+                return f"{register}: {self.part.transfers.why() or 'no good answer'}"
+            if self.board.has_restarted(self.rail):
+                word = only_word(self.part, self.rail.output, register)
+                is_held = "isn't known" if word is None else f"is {in_hexadecimal(register, word)}"
+                raise Restarted(f"{self.rail.name}: at {point}: {self.rail.part or 'the part'} restarted: {register} {is_held} now: call again", self.rail.part)
+        held = only_word(self.part, self.rail.output, OPERATION)
+        return "" if held == byte else f"{OPERATION} isn't {byte:02X} any more"
 
     # ---- Courses ----
 
@@ -217,36 +238,65 @@ class RailTest:
             return f"{said}: {why or SAYINGS.get(fault.letter, fault.name)}: {fault.letter} {fault.name}"
         if end.word is not None:
             return f"{said}: {end.register} is {in_hexadecimal(end.register, end.word)}"
-        return f"{said}: {WHY.get(end.kind) or self.part.transfers.why() or end.fault or 'no good answer'}"
+        return f"{said}: {WHY.get(end.kind, '').replace('the part', self.rail.part or 'the part') or self.part.transfers.why() or end.fault or 'no good answer'}"
 
     def stopped(self, why: str) -> Stopped:
-        return Stopped(f"{self.rail.name}: {why}")
+        return Stopped(f"{self.rail.name}: {why}", self.rail.part)
+
+
+def judge_board(board: Board) -> None:
+    """Reads the whole board, and looks at it. Stopped if it isn't as the file describes it."""
+    board.read()
+    for rail in board.rails:
+        byte = only_word(board.on(rail), rail.output, OPERATION)
+        if rail.is_on and byte is not None and byte != ON:
+            said = cell_words(argparse.Namespace(output=rail.output), board.on(rail), OPERATION, byte)
+            raise Stopped(f"{rail.name}: {said}: `on` first")
+    board.take()
+    wrong = [f"{it.name} is {board.shown(it, it.last)}, and the file says {board.shown(it, it.asked)}" for it in board.settings
+             if it.state not in AS_WANTED and it.last is not None]
+    if wrong:
+        raise Stopped("; ".join(wrong))
+    board.finish()
 
 
 def margin_test(arguments: argparse.Namespace) -> int:
-    """Tests the rails: all are read and judged before the first order, and the first that fails ends the test. The status."""
+    """Tests the rails: all of the file are read and judged before the first order, and the first that fails ends the test. The status."""
     call: Call = arguments.call
-    places, file, rows = call.places(), arguments.rails, list[Row]()
-    board = Board({name: place.pmbus() for name, place in places.items()}, arguments.chosen, file.parts if file.is_board else {},
-                  lambda name: places[name].ask_operation())
-    why, begun = "", list[RailTest]()
+    places, file, rows, begun = call.places(), arguments.rails, list[Row](), list[RailTest]()
+    board = Board({name: place.pmbus() for name, place in places.items()}, file.rails, file.parts if file.is_board else {},
+                  lambda name: places[name].ask_operation(), looks=call.looks or Looks())
+    why, status = "", 0
     try:
-        board.identify()
-        tests = [RailTest(call, rail, rows, arguments.ignore_faults) for rail in arguments.chosen]
+        judge_board(board)
+        looks = {rail.name: Look(board.on(rail), rail.output, call.looks or Looks()) for rail in file.rails}
+        tests = [RailTest(call, board, rail, looks, rows, arguments.ignore_faults) for rail in arguments.chosen]
         for each in tests:
             each.judge()
+        for look in looks.values():
+            if not look.has_looked_before:
+                look.read_before()
         for each in tests:
             begun.append(each)
             each.run()
+        for rail in file.rails:
+            board.look_at(rail)
     except Stopped as stopped:
-        why = str(stopped) if begun else f"{stopped}: nothing was ordered"
+        why, status = str(stopped) if begun else f"{stopped}: nothing was ordered", status_of(board, stopped)
     for held, fault in call.back.go():
-        begun[-1].is_back = not fault
+        begun[-1].is_back, status = not fault, 1 if fault else status
         why += f"; {words_of(held, fault)}"
-    return tell(arguments, begun, rows, why)
+    return tell(arguments, begun, rows, why, status)
 
 
-def tell(arguments: argparse.Namespace, begun: list[RailTest], rows: list[Row], why: str) -> int:
+def status_of(board: Board, stopped: Stopped) -> int:
+    """RESTARTED if the part that it is about restarted meanwhile."""
+    part = board.parts.get(stopped.part or ONLY)
+    is_restart = part is not None and part.restart_seen and (stopped.part or ONLY) not in board.had_restarted
+    return RESTARTED if isinstance(stopped, Restarted) or stopped.part is not None and is_restart else 1
+
+
+def tell(arguments: argparse.Namespace, begun: list[RailTest], rows: list[Row], why: str, status: int) -> int:
     """Says it: the table, and which rails are back. The status."""
     call: Call = arguments.call
     call.maybe = ""
@@ -254,7 +304,7 @@ def tell(arguments: argparse.Namespace, begun: list[RailTest], rows: list[Row], 
         lines = [("rail", "point", "commands", "READ_VOUT", "STATUS_WORD"), *(row.columns() for row in rows)]
         wide = [max(len(line[at]) for line in lines) for at in range(4)]
         call.say_lines(["  ".join([*(line[at].ljust(wide[at]) for at in range(4)), line[4]]).rstrip() for line in lines])
-        call.say_lines([f"{each.rail.name}: back, {OPERATION} {each.byte:02X} confirmed" for each in begun if each.is_back])
+        call.say_lines([f"{each.rail.name}: back, {OPERATION} {ON:02X} confirmed" for each in begun if each.is_back])
     backs = [{"rail": each.rail.name, "point": "back", "confirmed": each.is_back} for each in begun]
-    return call.say(Answer(said(arguments), "stopped" if why else "done", "", 1 if why else 0, why, rows=[*(row.by_names() for row in rows), *backs],
+    return call.say(Answer(said(arguments), "restarted" if status == RESTARTED else "stopped" if why else "done", "", status, why, rows=[*(row.by_names() for row in rows), *backs],
                            restart_seen=any(place.pmbus().restart_seen for place in call.places().values())))
