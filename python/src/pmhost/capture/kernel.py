@@ -91,7 +91,7 @@ def cut(buses: dict[str, Messages], ending: str) -> list[Transfer]:
 
 def transfers(lines: Iterable[str], clock: Clock | None = None, wanted: int | None = None, only: int | None = None) -> Iterator[Transfer]:
     """Each transfer as the kernel shows its result, of all buses or of the one that is wanted; `only` is the one address that
-    matters, if there is one. NoCapture where an address is on two adapters, so that nobody knows which part is meant."""
+    matters, if there is one. NoCapture if an address is on two adapters, so that nobody knows which part is meant."""
     buses: dict[str, Messages] = {}
     adapters = Adapters()
     smbus = is_told = False

@@ -11,8 +11,8 @@ LINE = re.compile(r"(?:(?:^| )(i2c-\d+): |^|[ :])(Start repeat|Start|Stop|NACK|(
 
 
 def transfers(lines: Iterable[str], clock: Clock | None = None) -> Iterator[Transfer]:
-    """Each transfer as it ends: by a stop, or by the next start, which leaves it without a stop. NoCapture where a second decoder
-    of I2C begins, whose bytes would be taken for those of the first."""
+    """Each transfer as it ends: by a stop, or by the next start, which leaves it without a stop. NoCapture if a second decoder of
+    I2C begins, whose bytes would be taken for those of the first."""
     transfer: Transfer | None = None
     decoder: str | None = None
     for number, line in enumerate(lines, 1):
