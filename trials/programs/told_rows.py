@@ -188,7 +188,7 @@ B0 05 04 00 2B 00 00 *                    58 page 0 VOUT_MIN write 0000 0 V
 B0 06 02 00 8B / B1 02 01 00 *            58 page 0 READ_VOUT read 0001 0.000244 V
 B0 05 04 01 21 CD 34 *                    58 page 1 VOUT_COMMAND write 34CD
 B2 05 04 00 21 CD 34 *                    59 page 0 VOUT_COMMAND write 34CD
-B0 21 CD 34 *                             58 VOUT_COMMAND write 34CD 3.300048 V
+B0 21 CD 34 *                             58 VOUT_COMMAND write 34CD
 B0 06 02 00 20 / B1 01 13 *               58 page 0 VOUT_MODE read 13 ULINEAR16 -13
 B0 05 04 00 21 CD 34 *                    58 page 0 VOUT_COMMAND write 34CD 1.650024 V
 B0 06 02 00 20 / B1 01 21 *               58 page 0 VOUT_MODE read 21 VID
@@ -200,9 +200,9 @@ B0 06 02 00 20 / B1 01 14 !               58 read F5 WrongPec 3 bytes B0 06 02 0
 B0 05 04 00 21 CD 34 *                    58 page 0 VOUT_COMMAND write 34CD
 
 B0 06 02 FF 20 / B1 01 0F *               58 page 255 VOUT_MODE read 0F ULINEAR16 15
-B0 05 04 FF 21 01 00 *                    58 page 255 VOUT_COMMAND write 0001 32768 V
+B0 05 04 FF 21 01 00 *                    58 page 255 VOUT_COMMAND write 0001
 B0 06 02 FF 20 / B1 01 10 *               58 page 255 VOUT_MODE read 10 ULINEAR16 -16
-B0 05 04 FF 21 01 00 *                    58 page 255 VOUT_COMMAND write 0001 0.000015 V
+B0 05 04 FF 21 01 00 *                    58 page 255 VOUT_COMMAND write 0001
 B0 05 04 FE 21 01 00 *                    58 page 254 VOUT_COMMAND write 0001
 
 # DIRECT needs both; the coefficients are those of the code, on the side of the packet, or the other one where it has none.
@@ -301,7 +301,7 @@ B2 21 02 00 *                             59 page 1? VOUT_COMMAND write 0002
 """),
     ("--values --vout=ulinear16:-12", """
 B0 06 02 00 20 / B1 01 97 *               58 page 0 VOUT_MODE read 97 ULINEAR16 -9 relative
-B0 05 04 00 21 00 10 *                    58 page 0 VOUT_COMMAND write 1000 1 V
+B0 05 04 00 21 00 10 *                    58 page 0 VOUT_COMMAND write 1000 8 V
 B0 05 04 00 25 00 10 *                    58 page 0 VOUT_MARGIN_HIGH write 1000
 """),
     # A list by address: the first entry that fits.
@@ -315,26 +315,26 @@ B0 05 04 07 21 00 10 *                    58 page 7 VOUT_COMMAND write 1000 1 V
 B0 21 00 10 *                             58 VOUT_COMMAND write 1000
 B2 21 00 10 *                             59 VOUT_COMMAND write 1000 1 V
 """),
-    # What all outputs of an address agree on holds where the output isn't known, and of page FF; where they differ there is no value.
+    # A format is its output's alone: where the output isn't known, and of page FF, there is none, nor that of `--vout`.
     ("--values --vout=ulinear16:-9", """
 B0 06 02 00 20 / B1 01 13 *               58 page 0 VOUT_MODE read 13 ULINEAR16 -13
-B0 21 00 20 *                             58 VOUT_COMMAND write 2000 1 V
-B0 05 04 FF 21 00 20 *                    58 page 255 VOUT_COMMAND write 2000 1 V
+B0 21 00 20 *                             58 VOUT_COMMAND write 2000
+B0 05 04 FF 21 00 20 *                    58 page 255 VOUT_COMMAND write 2000
 B0 06 02 01 20 / B1 01 13 *               58 page 1 VOUT_MODE read 13 ULINEAR16 -13
-B0 21 00 20 *                             58 VOUT_COMMAND write 2000 1 V
+B0 21 00 20 *                             58 VOUT_COMMAND write 2000
 B0 05 04 02 21 00 20 *                    58 page 2 VOUT_COMMAND write 2000 16 V
 B2 21 00 20 *                             59 VOUT_COMMAND write 2000 16 V
 B0 06 02 01 20 / B1 01 14 *               58 page 1 VOUT_MODE read 14 ULINEAR16 -12
 B0 21 00 20 *                             58 VOUT_COMMAND write 2000
 B0 05 04 FF 21 00 20 *                    58 page 255 VOUT_COMMAND write 2000
 B0 06 02 00 20 / B1 01 14 *               58 page 0 VOUT_MODE read 14 ULINEAR16 -12
-B0 21 00 20 *                             58 VOUT_COMMAND write 2000 2 V
+B0 21 00 20 *                             58 VOUT_COMMAND write 2000
 B0 05 03 01 20 17 *                       58 write F7 WrongDirection 4 bytes B0 05 03 01 20 17 *
 B0 21 00 20 *                             58 VOUT_COMMAND write 2000
 B0 06 02 01 20 / B1 01 14 *               58 page 1 VOUT_MODE read 14 ULINEAR16 -12
-B0 21 00 20 *                             58 VOUT_COMMAND write 2000 2 V
+B0 21 00 20 *                             58 VOUT_COMMAND write 2000
 B0 06 02 FF 20 / B1 01 17 *               58 page 255 VOUT_MODE read 17 ULINEAR16 -9
-B0 05 04 FF 21 00 20 *                    58 page 255 VOUT_COMMAND write 2000 16 V
+B0 05 04 FF 21 00 20 *                    58 page 255 VOUT_COMMAND write 2000
 B0 21 00 20 *                             58 VOUT_COMMAND write 2000
 """),
     # DIRECT by its side: side 0 for what is written, side 1 for what is read, and the other one where that was taught alone.
@@ -360,7 +360,7 @@ B0 05 04 00 21 CD 34 *                    58 page 0 VOUT_COMMAND write 34CD 3.30
 B0 06 02 00 20 / B1 01 13 *               58 page 0 VOUT_MODE read 13 ULINEAR16 -13
 B0 05 04 00 21 CD 34 *                    58 page 0 VOUT_COMMAND write 34CD 1.650024 V
 B0 05 04 01 21 CD 34 *                    58 page 1 VOUT_COMMAND write 34CD 3.300048 V
-B0 21 CD 34 *                             58 VOUT_COMMAND write 34CD 1.650024 V
+B0 21 CD 34 *                             58 VOUT_COMMAND write 34CD
 B0 06 02 00 20 / B1 01 21 *               58 page 0 VOUT_MODE read 21 VID
 B0 05 04 00 21 CD 34 *                    58 page 0 VOUT_COMMAND write 34CD
 B0 06 02 00 20 / B1 01 40 *               58 page 0 VOUT_MODE read 40 DIRECT
@@ -872,7 +872,7 @@ B0 79 / B1 00 00 *         {"line":10,"address":"58","code":"79","name":"STATUS_
 B0 7E / B1 04 *            {"line":11,"address":"58","code":"7E","name":"STATUS_CML","direction":"read","payload":"04","flags":["bit 2"]}
 B0 05 04 01 21 CD 34 5A    {"line":12,"address":"58","code":"05","direction":"write","packet":"B0 05 04 01 21 CD 34 5A","fault":"F5 WrongPec","place":7}
 B0 06 02 00 21 / B1 02 CD  {"line":13,"address":"58","code":"06","direction":"read","packet":"B0 06 02 00 21 / B1 02 CD","fault":"F2 Short","place":3}
-B0 21 CD 34 *              {"line":14,"address":"58","code":"21","name":"VOUT_COMMAND","direction":"write","payload":"CD 34","numerator":13517,"denominator":4096,"volts":3.300048}
+B0 21 CD 34 *              {"line":14,"address":"58","code":"21","name":"VOUT_COMMAND","direction":"write","payload":"CD 34"}
 B0 19 / B1 B0 *            {"line":15,"address":"58","code":"19","name":"CAPABILITY","direction":"read","payload":"B0","value":"PEC, 400 kHz, SMBALERT#"}
 /                          {"line":16,"direction":"write","packet":"/","fault":"F1 NotOurs"}
 B0 88 / B1 FF 87 *         {"line":17,"address":"58","code":"88","name":"READ_VIN","direction":"read","payload":"FF 87","numerator":-1,"denominator":65536,"volts":-0.000016}
@@ -1024,7 +1024,7 @@ B0 21 CD 34 *                             58 page 1? VOUT_COMMAND write 34CD 3.3
 B0 00 / B1 01 *                           58 PAGE read 01
 B0 21 CD 34 *                             58 page 1? VOUT_COMMAND write 34CD 3.300048 V
 B0 00 FF *                                58 PAGE write FF
-B0 21 CD 34 *                             58 page 255? VOUT_COMMAND write 34CD 3.300048 V
+B0 21 CD 34 *                             58 page 255? VOUT_COMMAND write 34CD
 = count VOUT_COMMAND 10
 = count PAGE 4
 = count VOUT_MODE 1
@@ -1065,7 +1065,7 @@ B0 21 CD 34 *                             58 page 3? VOUT_COMMAND write 34CD
 B0 00 03 *                                58 PAGE write 03
 B2 00 04 *                                59 PAGE write 04
 # no stop: B0 05 04
-B0 21 CD 34 *                             58 VOUT_COMMAND write 34CD
+B0 21 CD 34 *                             58 page 3? VOUT_COMMAND write 34CD
 B2 21 CD 34 *                             59 page 4? VOUT_COMMAND write 34CD
 B0 00 03 *                                58 PAGE write 03
 B2 00 04 *                                59 PAGE write 04
@@ -1074,12 +1074,12 @@ B0 21 CD 34 *                             58 VOUT_COMMAND write 34CD
 B2 21 CD 34 *                             59 VOUT_COMMAND write 34CD
 B0 00 03 *                                58 PAGE write 03
 #
-B0 21 CD 34 *                             58 VOUT_COMMAND write 34CD
+B0 21 CD 34 *                             58 page 3? VOUT_COMMAND write 34CD
 B0 00 03 *                                58 PAGE write 03
 # another devic
-B0 21 CD 34 *                             58 VOUT_COMMAND write 34CD
+B0 21 CD 34 *                             58 page 3? VOUT_COMMAND write 34CD
 """),
-    # What ends every page, in every address: a bad line of either kind, and a comment but for three.
+    # What ends every page, in every address: a bad line of either kind, and a comment that packets are missing; a person's ends none.
     ("--pages", """
 B0 00 03 *                                58 PAGE write 03
 B2 00 04 *                                59 PAGE write 04
@@ -1088,7 +1088,7 @@ B0 21 CD 34 *                             58 VOUT_COMMAND write 34CD
 B2 21 CD 34 *                             59 VOUT_COMMAND write 34CD
 B0 00 03 *                                58 PAGE write 03
 #another device: A0 00 01
-B0 21 CD 34 *                             58 VOUT_COMMAND write 34CD
+B0 21 CD 34 *                             58 page 3? VOUT_COMMAND write 34CD
 B0 00 03 *                                58 PAGE write 03
  # another device: A0 00 01               X2 BadHex
 B0 21 CD 34 *                             58 VOUT_COMMAND write 34CD
@@ -1132,8 +1132,8 @@ B0 21 E4 0C *                             58 page 0? VOUT_COMMAND write 0CE4 3.3
 B0 05 04 00 21 E4 0C *                    58 page 0 VOUT_COMMAND write 0CE4 3.3 V
 B0 00 FF *                                58 PAGE write FF
 B0 20 / B1 14 *                           58 page 255? VOUT_MODE read 14 ULINEAR16 -12
-B0 21 CD 34 *                             58 page 255? VOUT_COMMAND write 34CD 3.300048 V
-B0 05 04 FF 21 CD 34 *                    58 page 255 VOUT_COMMAND write 34CD 3.300048 V
+B0 21 CD 34 *                             58 page 255? VOUT_COMMAND write 34CD
+B0 05 04 FF 21 CD 34 *                    58 page 255 VOUT_COMMAND write 34CD
 B0 05 04 02 21 CD 34 *                    58 page 2 VOUT_COMMAND write 34CD
 B0 00 02 !                                58 write F5 WrongPec 3 bytes B0 00 02 !
 B0 21 CD 34 *                             58 VOUT_COMMAND write 34CD WRONG PAGE? lines 17 and 18
@@ -1149,7 +1149,7 @@ B0 21 CD 34 *                             58 page 1? VOUT_COMMAND write 34CD 1.6
 B0 20 / B1 21 *                           58 page 1? VOUT_MODE read 21 VID
 B0 21 CD 34 *                             58 page 1? VOUT_COMMAND write 34CD
 # a loss
-B0 21 CD 34 *                             58 VOUT_COMMAND write 34CD
+B0 21 CD 34 *                             58 page 1? VOUT_COMMAND write 34CD
 """),
     # A mode that was written over, or restored, isn't known until it is read again: of one output, or of all.
     ("--values", """
@@ -1178,7 +1178,8 @@ B0 05 04 01 21 CD 34 *                    58 page 1 VOUT_COMMAND write 34CD 1.65
 B0 05 03 FF 20 17 *                       58 write F7 WrongDirection 4 bytes B0 05 03 FF 20 17 *
 B0 05 04 01 21 CD 34 *                    58 page 1 VOUT_COMMAND write 34CD
 """),
-    # The same of the output that PAGE selects, where that is sure; `--vout` gives no value in its place. A restart ends all.
+    # The same of the output that PAGE selects, where that is sure; `--vout` gives no value in its place. A restart ends all of an
+    # address whose mode was written.
     ("--pages --all --values --vout=ulinear16:-10", """
 B0 00 00                                  58 PAGE write 00, no PEC
 B0 20 / B1 14                             58 page 0? VOUT_MODE read 14 ULINEAR16 -12, no PEC
@@ -1195,13 +1196,121 @@ B0 21 00 10                               58 page 1? VOUT_COMMAND write 1000 8 V
 B0 00 / B1 00                             58 PAGE read 00, no PEC WRONG PAGE? lines 6 and 13
 B0 00 01                                  58 PAGE write 01, no PEC
 B0 21 00 10                               58 page 1? VOUT_COMMAND write 1000, no PEC
-B0 05 04 02 21 00 10 *                    58 page 2 VOUT_COMMAND write 1000 4 V
+B0 05 04 02 21 00 10 *                    58 page 2 VOUT_COMMAND write 1000
 B0 20 / B1 17                             58 page 1? VOUT_MODE read 17 ULINEAR16 -9, no PEC
 B0 00 / B1                                58 code 00 PAGE read, no PEC
 B0 06 02 00 20 / B1 01 14 *               58 page 0 VOUT_MODE read 14 ULINEAR16 -12
 B0 20 17                                  58 page 1? code 20 VOUT_MODE write 17, no PEC WRONG PAGE? lines 18 and 20
 B0 05 04 00 21 00 10 *                    58 page 0 VOUT_COMMAND write 1000
 B0 05 04 01 21 00 10 *                    58 page 1 VOUT_COMMAND write 1000
+"""),
+    # `--vout` serves until the capture shows a write of VOUT_MODE or a RESTORE: of a part without PAGE, of page FF, read back at once.
+    ("--values --all --pages --vout=ulinear16:-12", """
+B0 21 00 10 *                             58 VOUT_COMMAND write 1000 1 V
+B0 20 17 *                                58 code 20 VOUT_MODE write 17, PEC right
+B0 21 00 10 *                             58 VOUT_COMMAND write 1000
+B0 20 / B1 17 *                           58 VOUT_MODE read 17 ULINEAR16 -9
+B0 21 00 10 *                             58 VOUT_COMMAND write 1000 8 V
+B0 20 16 / B1 16                          58 code 20 VOUT_MODE write 16 read 16, no PEC
+B0 21 00 10 *                             58 VOUT_COMMAND write 1000
+B2 00 FF *                                59 PAGE write FF
+B2 21 00 10 *                             59 page 255? VOUT_COMMAND write 1000 1 V
+B2 20 17 *                                59 page 255? code 20 VOUT_MODE write 17, PEC right
+B2 21 00 10 *                             59 page 255? VOUT_COMMAND write 1000
+B2 05 04 03 21 00 10 *                    59 page 3 VOUT_COMMAND write 1000
+B4 21 00 10 *                             5A VOUT_COMMAND write 1000 1 V
+B4 16 *                                   5A RESTORE_USER_ALL send
+B4 21 00 10 *                             5A VOUT_COMMAND write 1000
+B6 05 03 01 20 17 *                       5B page 1 code 20 VOUT_MODE write 17, PEC right
+B6 05 04 01 21 00 10 *                    5B page 1 VOUT_COMMAND write 1000
+B6 05 04 00 21 00 10 *                    5B page 0 VOUT_COMMAND write 1000 1 V
+B6 05 03 01 20 17 !                       5B write F5 WrongPec 6 bytes B6 05 03 01 20 17 !
+B6 05 04 00 21 00 10 *                    5B page 0 VOUT_COMMAND write 1000
+90 20 / 91 97                             48 VOUT_MODE read 97 ULINEAR16 -9 relative, no PEC
+90 8B / 91 99 01                          48 READ_VOUT read 0199 0.798828 V, no PEC
+"""),
+    # One output's format says nothing of another, nor of a packet whose output isn't known, and no packet that is marked teaches.
+    ("--values --all --pages", """
+B0 00 00 *                                58 PAGE write 00
+B0 20 / B1 14 *                           58 page 0? VOUT_MODE read 14 ULINEAR16 -12
+B0 00 FF *                                58 PAGE write FF
+B0 21 00 10 *                             58 page 255? VOUT_COMMAND write 1000
+B0 00 01 *                                58 PAGE write 01
+B0 20 / B1 17 *                           58 page 1? VOUT_MODE read 17 ULINEAR16 -9
+B0 00 / B1                                58 code 00 PAGE read, no PEC
+B0 20 / B1 14 *                           58 page 1? VOUT_MODE read 14 ULINEAR16 -12 WRONG PAGE? lines 7 and 8
+B0 00 01 *                                58 PAGE write 01
+B0 21 00 10 *                             58 page 1? VOUT_COMMAND write 1000 8 V
+# the kernel dropped events
+B0 20 / B1 14 *                           58 VOUT_MODE read 14 ULINEAR16 -12
+B0 21 00 10 *                             58 VOUT_COMMAND write 1000
+B2 20 / B3 14 *                           59 VOUT_MODE read 14 ULINEAR16 -12
+B2 05 04 FF 21 00 10 *                    59 page 255 VOUT_COMMAND write 1000
+"""),
+    # Comments that show a packet of PAGE, cut or whole, begin a mark; a read alone, a glitch and a person's comment end nothing.
+    ("--pages", """
+B0 00 00 *                                58 PAGE write 00
+# no stop: B0 00 01
+B0 21 00 30 *                             58 VOUT_COMMAND write 3000 WRONG PAGE? lines 2 and 3
+# a read alone: B1
+# a part with no byte: 
+# no stop: 
+# no stop: B0 05 04
+# page 1 is the core's
+B0 21 00 30 *                             58 VOUT_COMMAND write 3000 WRONG PAGE? lines 2 and 9
+B0 00 01 *                                58 PAGE write 01
+# a part with no byte: 
+# no stop: B0 8B
+B0 21 00 30 *                             58 page 1? VOUT_COMMAND write 3000
+# no result: B0 00 / B1
+B0 21 00 30 *                             58 page 1? VOUT_COMMAND write 3000 WRONG PAGE? lines 14 and 15
+# no result: B0 00 02 ED
+B0 21 00 30 *                             58 VOUT_COMMAND write 3000 WRONG PAGE? lines 16 and 17
+"""),
+    # A transfer of several devices, a general call and a write to a zone end the pages and formats of all, also with `--address`.
+    ("--pages --values", """
+B0 00 00 *                                58 PAGE write 00
+B0 20 / B1 14 *                           58 page 0? VOUT_MODE read 14 ULINEAR16 -12
+# another device: B2 8B / B3 00 10
+B0 21 00 30 *                             58 page 0? VOUT_COMMAND write 3000 3 V
+# another device: B2 00 01 / B0 00 01
+B0 21 00 30 *                             58 VOUT_COMMAND write 3000
+B0 00 00 *                                58 PAGE write 00
+B0 21 00 30 *                             58 page 0? VOUT_COMMAND write 3000
+B0 20 / B1 14 *                           58 page 0? VOUT_MODE read 14 ULINEAR16 -12
+# a read alone: 19 B0 / B2 00 01
+B0 21 00 30 *                             58 VOUT_COMMAND write 3000
+B0 00 00 *                                58 PAGE write 00
+B0 20 / B1 14 *                           58 page 0? VOUT_MODE read 14 ULINEAR16 -12
+# another device: 6E 20 17
+B0 21 00 30 *                             58 VOUT_COMMAND write 3000
+B0 00 00 *                                58 PAGE write 00
+B0 20 / B1 14 *                           58 page 0? VOUT_MODE read 14 ULINEAR16 -12
+# another device: 6E 03
+# another device: A0 00 / A1 00 01
+B0 21 00 30 *                             58 page 0? VOUT_COMMAND write 3000 3 V
+# 3 parts: B0 20 17 / B2 20 17 / B4 20 17
+B0 00 00 *                                58 PAGE write 00
+B0 21 00 30 *                             58 page 0? VOUT_COMMAND write 3000
+"""),
+    # Comments that show a write of VOUT_MODE or a RESTORE end the formats of their address.
+    ("--pages --values", """
+B0 00 00 *                                58 PAGE write 00
+B2 06 02 00 20 / B3 01 14 *               59 page 0 VOUT_MODE read 14 ULINEAR16 -12
+B0 20 / B1 14 *                           58 page 0? VOUT_MODE read 14 ULINEAR16 -12
+# failed (-110): B0 20 17 21
+B0 21 00 10 *                             58 page 0? VOUT_COMMAND write 1000
+B0 20 / B1 14 *                           58 page 0? VOUT_MODE read 14 ULINEAR16 -12
+# no stop: B0 16
+B0 21 00 10 *                             58 page 0? VOUT_COMMAND write 1000
+B0 20 / B1 14 *                           58 page 0? VOUT_MODE read 14 ULINEAR16 -12
+# failed (-6): B0 20 / B1
+B0 21 00 10 *                             58 page 0? VOUT_COMMAND write 1000 1 V
+# no result: B0 05 03 01 20 17
+B0 21 00 10 *                             58 page 0? VOUT_COMMAND write 1000
+B2 05 04 00 21 00 10 *                    59 page 0 VOUT_COMMAND write 1000 1 V
+# the kernel dropped events
+B2 05 04 00 21 00 10 *                    59 page 0 VOUT_COMMAND write 1000
 """),
     # What contradicts itself.
     ("--pages", """
@@ -1215,7 +1324,7 @@ B0 00 02 *                                58 PAGE write 02
 B2 00 / B3 01 *                           59 PAGE read 01
 B0 00 / B1 01 *                           58 PAGE read 01 WRONG PAGE? lines 7 and 9
 # a loss
-B0 00 / B1 00 *                           58 PAGE read 00
+B0 00 / B1 00 *                           58 PAGE read 00 WRONG PAGE? lines 7 and 11
 B0 00 05 *                                58 PAGE write 05
 B0 03 47                                  58 write F5 WrongPec 2
 B0 00 / B1 00 *                           58 PAGE read 00
@@ -1322,16 +1431,16 @@ B2 21 00 30 *                             59 VOUT_COMMAND write 3000 WRONG PAGE?
 B0 21 00 30 *                             58 page 2? VOUT_COMMAND write 3000
 B2 21 00 30 *                             59 VOUT_COMMAND write 3000 WRONG PAGE? lines 9 and 14
 # a read alone: B3 00
-B2 21 00 30 *                             59 VOUT_COMMAND write 3000
+B2 21 00 30 *                             59 VOUT_COMMAND write 3000 WRONG PAGE? lines 9 and 16
 # no stop: b2 05
 B0 21 00 30 *                             58 page 2? VOUT_COMMAND write 3000
 # no stop: B0 05 04
-B0 21 00 30 *                             58 VOUT_COMMAND write 3000
+B0 21 00 30 *                             58 page 2? VOUT_COMMAND write 3000
 B0 00 02 *                                58 PAGE write 02
 # failed (-6): B0
 B0 21 00 30 *                             58 page 2? VOUT_COMMAND write 3000
 # failed (-6)
-B0 21 00 30 *                             58 VOUT_COMMAND write 3000
+B0 21 00 30 *                             58 page 2? VOUT_COMMAND write 3000
 B0 00 02 *                                58 PAGE write 02
 # 3 parts: B2 00 / B3 / B3
 B0 21 00 30 *                             58 VOUT_COMMAND write 3000
@@ -1358,8 +1467,8 @@ B0 00 02 !                                58 write F5 WrongPec 3
 B0 21 CD 34 *                             58 VOUT_COMMAND write 34CD WRONG PAGE? lines 2 and 3
 B2 21 CD 34 *                             59 VOUT_COMMAND write 34CD
 # a loss
-B0 88 / B1 00 D3 *                        58 READ_VIN read D300
-B0 8B / B1 00 D3 *                        58 READ_VOUT read D300
+B0 88 / B1 00 D3 *                        58 READ_VIN read D300 WRONG PAGE? lines 2 and 6
+B0 8B / B1 00 D3 *                        58 READ_VOUT read D300 WRONG PAGE? lines 2 and 7
 B0 05 04 00 21 CD 34 *                    58 page 0 VOUT_COMMAND write 34CD
 B0 00                                     58 write F2 Short 2
 B0 03 *                                   58 CLEAR_FAULTS send WRONG PAGE? lines 9 and 10
@@ -1444,12 +1553,12 @@ B0 24 FF FF *                             58 page 1? VOUT_MAX write FFFF 15.9997
 B0 24 / B1 FF FF                          58 page 1? VOUT_MAX read FFFF 15.999755 V, no PEC
 B2 8B / B3 FF FF                          59 READ_VOUT read FFFF, all ones: nobody answered?
 B0 24 00 10 !                             58 write F5 WrongPec 4 bytes B0 24 00 10 !
-B0 24 / B1 FF FF                          58 VOUT_MAX read FFFF 15.999755 V, no PEC
+B0 24 / B1 FF FF                          58 VOUT_MAX read FFFF, no PEC
 B0 00 01                                  58 PAGE write 01, no PEC
 B0 88 / B1 00 D3 *                        58 page 1? READ_VIN read D300 12 V
 B0 24 / B1 FF FF                          58 page 1? VOUT_MAX read FFFF 15.999755 V, no PEC
 B0 8B / B1 FF FF                          58 code 8B READ_VOUT read FF FF, all ones: nobody answered
-B0 8B / B1 00 10                          58 READ_VOUT read 1000 1 V, no PEC
+B0 8B / B1 00 10                          58 READ_VOUT read 1000, no PEC
 B2 00 01                                  59 PAGE write 01, no PEC
 B2 96 / B3 34 12 *                        59 page 1? code 96 READ_POUT read 34 12, PEC right
 B2 96 / B3 FF FF                          59 code 96 READ_POUT read FF FF, all ones: nobody answered
@@ -1501,14 +1610,14 @@ B0 21 00 10                               58 page 0? VOUT_COMMAND write 1000 1 V
 B0 96 / B1                                58 code 96 READ_POUT read, no PEC
 B0 21 00 10                               58 VOUT_COMMAND write 1000, no PEC
 B0 00 01                                  58 PAGE write 01, no PEC
-B0 8B / B1 FF FF                          58 page 1? READ_VOUT read FFFF, all ones: nobody answered?
-B0 21 00 02                               58 page 1? VOUT_COMMAND write 0200, no PEC
+B0 8B / B1 FF FF                          58 page 1? READ_VOUT read FFFF 127.998046 V, all ones: nobody answered?
+B0 21 00 02                               58 page 1? VOUT_COMMAND write 0200 1 V, no PEC
 B0 00 01                                  58 PAGE write 01, no PEC
 B0 00 / B1 FF                             58 PAGE read FF, all ones: nobody answered?
-B0 21 00 02                               58 page 1? VOUT_COMMAND write 0200, no PEC WRONG PAGE? lines 18 and 19
+B0 21 00 02                               58 page 1? VOUT_COMMAND write 0200 1 V, no PEC WRONG PAGE? lines 18 and 19
 B0 00 01                                  58 PAGE write 01, no PEC
 B0 00 / B1                                58 code 00 PAGE read, no PEC
-B0 21 00 02                               58 page 1? VOUT_COMMAND write 0200, no PEC WRONG PAGE? lines 21 and 22
+B0 21 00 02                               58 page 1? VOUT_COMMAND write 0200 1 V, no PEC WRONG PAGE? lines 21 and 22
 B0 00 01                                  58 PAGE write 01, no PEC
 B0 00 02 03 04                            58 code 00 PAGE write 02 03 04, no PEC
 B0 21 00 02                               58 VOUT_COMMAND write 0200, no PEC WRONG PAGE? lines 24 and 25
@@ -1535,7 +1644,7 @@ B0 00 02 !                 {"line":7,"address":"58","code":"00","direction":"wri
 B0 21 CD 34 *              {"line":8,"address":"58","code":"21","name":"VOUT_COMMAND","direction":"write","payload":"CD 34","wrong":[7,8]}
 B0 7A / B1 10 *            {"line":9,"address":"58","code":"7A","name":"STATUS_VOUT","direction":"read","payload":"10","flags":["VOUT_UV_FAULT"],"wrong":[7,9]}
 B0 88 / B1 00 D3 *         {"line":10,"address":"58","code":"88","name":"READ_VIN","direction":"read","payload":"00 D3","numerator":768,"denominator":64,"volts":12,"wrong":[7,10]}
-B0 05 04 01 21 CD 34 *     {"line":11,"address":"58","page":1,"code":"21","name":"VOUT_COMMAND","direction":"write","payload":"CD 34"}
+B0 05 04 01 21 CD 34 *     {"line":11,"address":"58","page":1,"code":"21","name":"VOUT_COMMAND","direction":"write","payload":"CD 34","numerator":13517,"denominator":4096,"volts":3.300048}
 B0 9                       {"line":12,"fault":"X2 BadHex"}
 B0 00 FF *                 {"line":13,"address":"58","code":"00","name":"PAGE","direction":"write","payload":"FF"}
 B0 01 80 *                 {"line":14,"address":"58","page":255,"followed":true,"code":"01","name":"OPERATION","direction":"write","payload":"80","value":"on"}
@@ -1848,10 +1957,10 @@ WHOLE = [
     ("--all", b"B0 03\n", 0, "1 58 CLEAR_FAULTS send, no PEC\ncount CLEAR_FAULTS 1\nlines 1 accepted 1 other 0 faults 0 bad 0\n"),
     # Lines that say nothing end no page; a comment does, of whatever length, also the last one.
     ("--pages", b"B0 00 01 ED\r\n# another device\r\n\r\n  \r\nB0 03 46\r\n#\r\nB0 03 46\n# x", 0,
-     "1 58 PAGE write 01\n5 58 page 1? CLEAR_FAULTS send\n7 58 CLEAR_FAULTS send\ncount PAGE 1\ncount CLEAR_FAULTS 2\n"
+     "1 58 PAGE write 01\n5 58 page 1? CLEAR_FAULTS send\n7 58 page 1? CLEAR_FAULTS send\ncount PAGE 1\ncount CLEAR_FAULTS 2\n"
      "lines 3 accepted 3 faults 0 bad 0\n"),
     ("--pages", b"B0 00 01 ED\n# another device:" + b" A0" * 9999 + b"\nB0 03 46\n# a part of more than 300 bytes:" + b" B0" * 9999
-     + b"\nB0 03 46\n", 0, "1 58 PAGE write 01\n3 58 page 1? CLEAR_FAULTS send\n5 58 CLEAR_FAULTS send\ncount PAGE 1\n"
+     + b"\nB0 03 46\n", 0, "1 58 PAGE write 01\n3 58 page 1? CLEAR_FAULTS send\n5 58 page 1? CLEAR_FAULTS send\ncount PAGE 1\n"
      "count CLEAR_FAULTS 2\nlines 3 accepted 3 faults 0 bad 0\n"),
     ("--pages", b"B0 00 01 ED\n" + b"B0" * 301 + b"\nB0 03 46\n", 1, "1 58 PAGE write 01\n2 X1 Syntax\n3 58 CLEAR_FAULTS send\n"
      "count PAGE 1\ncount CLEAR_FAULTS 1\nlines 3 accepted 2 faults 0 bad 1\n"),

@@ -1,7 +1,7 @@
 -- PAGE followed through a capture: what is known of the address of a packet as it comes, and what the packet is marked with.
 -- What ends a page is this project's own choice.
 use Rattle.std.specs.Prelude.{ℕ, Bool, true, false, ◌||◌, if◌then◌else◌, is_some, List, [], ◌∷◌, Option, Some, None, Result, Ok, Err}
-use Rattle.pm_trace.specs.Pages.{Pages, contradicted, doubting, failed_at, lost_at, lost_in, nowhere, output_of, pages_by, place_in, use_of}
+use Rattle.pm_trace.specs.Pages.{Pages, contradicted, doubting, failed_at, lost_in, nowhere, output_of, pages_by, place_in, use_of}
 use Rattle.pm_trace.specs.Trace.{Judged, Accepted, Faulty, BadSyntax, BadHex}
 use Rattle.pm_trace.specs.declared.line_fault.LineFault.{LineFault}
 use Rattle.pm_trace.specs.declared.pages.PageLine.{PageLine}
@@ -9,14 +9,14 @@ use Rattle.pm_trace.specs.declared.pages.PageUse.{PageUse}
 use Rattle.pm_trace.specs.declared.pages.PageUse.TheVariants.{Written, ReadBack, Failed, Lost, OfOutput, Beside}
 use Rattle.pm_trace.specs.declared.pages.Place.{Place}
 use Rattle.pm_trace.specs.declared.trace_line.TraceLine.{TraceLine}
-use Rattle.pm_packets.specs.Otherwise.{is_doubtful, is_nobody}
+use Rattle.pm_packets.specs.Otherwise.{has_pec, is_doubtful, is_nobody}
 use Rattle.pm_packets.specs.declared.answers.Ones.{Ones}
 use Rattle.pm_values.specs.Modes.{change_of}
 use Rattle.pm_values.specs.declared.mode_changes.ModeChange.{ModeChange}
-use Rattle.pm_values.specs.declared.mode_changes.ModeChange.TheVariants.{OfAll}
-use Rattle.pm_capture.specs.Readings.{is_without_pec, judged_by, other_address}
+use Rattle.pm_values.specs.declared.mode_changes.ModeChange.TheVariants.{OfNone, OfOutput as OfOneOutput, OfAll, OfRestart}
+use Rattle.pm_capture.specs.Readings.{is_told, is_without_pec, judged_by, other_address}
 use Rattle.pm_capture.specs.declared.comment.Remark.{Remark}
-use Rattle.pm_capture.specs.declared.comment.Remark.TheVariants.{Elsewhere, Unacknowledged, LossAt, Loss}
+use Rattle.pm_capture.specs.declared.comment.Remark.TheVariants.{Elsewhere, Unacknowledged, Rewritten, Loss}
 use Rattle.pm_capture.specs.declared.comment.Remark.TheVariants.{Failed as FailedPage}
 use Rattle.pm_capture.specs.declared.options.TellOptions.{TellOptions}
 use Rattle.pm_capture.specs.declared.page_steps.Marks.{Marks}
@@ -125,9 +125,21 @@ marks_by ones lacks (Some step) = record {
   is_turned = is_turned step.used (contradicted step.place step.used);
 }
 
--- the modes that a packet with these marks may change: all of its address if that restarted
-abbrev pub change_by : Marks → TraceLine → ModeChange
-change_by marks parts = if marks.is_turned then OfAll else change_of parts.write (is_some parts.read) marks.page
+-- a packet is shown as good, or by its code and bytes, or has the right PEC
+abbrev pub is_clear : Option ℕ → Judged → TraceLine → Bool
+is_clear other judged parts = is_told other judged || has_pec parts.write parts.read
+
+-- nobody knows which output a packet names that isn't clear
+abbrev pub change_if : Bool → ModeChange → ModeChange
+change_if is_clear OfNone = OfNone
+change_if is_clear (OfOneOutput page) = if is_clear then OfOneOutput page else OfAll
+change_if is_clear OfAll = OfAll
+change_if is_clear OfRestart = OfRestart
+
+-- the modes that a packet with these marks may change
+abbrev pub change_by : Marks → Option ℕ → Judged → TraceLine → ModeChange
+change_by marks other judged parts = if marks.is_turned then OfRestart
+    else change_if (is_clear other judged parts) (change_of marks.page parts.write)
 
 abbrev pub marks_of : TellOptions → Pages → Ones → Option ℕ → TraceLine → Marks
 marks_of options pages ones time parts =
@@ -150,11 +162,10 @@ abbrev pub pages_read : TellOptions → ℕ → Ones → Option ℕ → Result T
 pages_read options number ones time (Ok parts) pages = pages_at number (step_of options pages ones time parts) pages
 pages_read options number ones time (Err fault) pages = if options.pages then lost_in number pages else pages
 
--- What is known of pages after a comment. It is one of a loss unless it speaks of a device whose packets are no lines, of a packet
--- that no device heard or that failed, or of the next packet.
+-- what is known of pages after a comment
 abbrev pub pages_noted : ℕ → Remark → Pages → Pages
 pages_noted number Elsewhere pages = pages
 pages_noted number Unacknowledged pages = doubting pages
 pages_noted number (FailedPage addr writes) pages = failed_at number addr writes pages
-pages_noted number (LossAt addr) pages = lost_at addr pages
+pages_noted number (Rewritten addr) pages = pages
 pages_noted number Loss pages = lost_in number pages

@@ -1,10 +1,11 @@
 -- What a line of a capture reads as: the packet's bytes, as `pm_trace` reads them, and with times the number that
 -- stands before them. The forms are this project's own choice.
-use Rattle.std.specs.Prelude.{ℕ, is_some, ℤ, pos, negsuc, Bool, true, false, not, ◌&&◌, ◌||◌, ◌==◌, nat_eq, nat_lt, if◌then◌else◌, List, [], ◌∷◌, codes, drop, length, map, filter, option_map, slice_index, take, ◌/◌, Option, Some, None, Result, Ok, Err}
+use Rattle.std.specs.Prelude.{ℕ, is_some, ℤ, pos, negsuc, Bool, true, false, not, ◌&&◌, ◌||◌, ◌==◌, nat_eq, nat_lt, if◌then◌else◌, List, [], ◌∷◌, codes, drop, length, map, filter, slice_index, take, ◌/◌, ◌%◌, Option, Some, None, Result, Ok, Err}
 use Rattle.std.specs.List.{enumerate_from, starts_with}
 use Rattle.pm_lines.specs.Digits.{signed_of}
 use Rattle.pm_lines.specs.Pairs.{pair_of}
 use Rattle.pm_lines.specs.Lines.{Numbered, is_skipped, is_space, lines_of}
+use Rattle.pm_table.specs.Codes as command
 use Rattle.pm_trace.specs.Marks.{before}
 use Rattle.pm_trace.specs.Trace.{Judged, line_read, parts_judged, reading_judged}
 use Rattle.pm_trace.specs.declared.line_fault.LineFault.{LineFault}
@@ -12,8 +13,9 @@ use Rattle.pm_trace.specs.declared.line_fault.LineFault.TheVariants as fault
 use Rattle.pm_trace.specs.declared.trace_line.TraceLine.{TraceLine}
 use Rattle.pm_packets.specs.Otherwise.{address_otherwise, has_pec, is_accepted, judged_anyway, lacks_pec}
 use Rattle.pm_packets.specs.declared.answers.Ones.{Ones}
+use Rattle.pm_values.specs.Modes.{is_restore}
 use Rattle.pm_capture.specs.declared.comment.Remark.{Remark}
-use Rattle.pm_capture.specs.declared.comment.Remark.TheVariants.{Elsewhere, Unacknowledged, Failed, LossAt, Loss}
+use Rattle.pm_capture.specs.declared.comment.Remark.TheVariants.{Elsewhere, Unacknowledged, Failed, Rewritten, Loss}
 use Rattle.pm_capture.specs.declared.options.TellOptions.{TellOptions}
 
 -- ---- the word before a packet
@@ -80,37 +82,84 @@ first_byte [] = None
 first_byte (high ∷ []) = None
 first_byte (high ∷ low ∷ rest) = pair_of high low
 
--- the bytes of a packet after their colon: its address, its code, and whether a read part follows at once
-abbrev pub address_shown : List ℕ → Option ℕ
-address_shown bytes = option_map (λ byte. byte / 2) (first_byte bytes)
+-- the byte that a text begins with, behind a space
+abbrev pub spaced_byte : List ℕ → Option ℕ
+spaced_byte [] = None
+spaced_byte (space ∷ rest) = if space == 32 then first_byte rest else None
 
-abbrev pub is_page_shown : List ℕ → Bool
-is_page_shown bytes = starts_with nat_eq (drop 2 bytes) (codes " 00")
+-- what follows the first slash between two spaces. 47 is `/`.
+abbrev pub behind_slash : List ℕ → List ℕ
+behind_slash [] = []
+behind_slash (byte ∷ []) = []
+behind_slash (byte ∷ next ∷ []) = []
+behind_slash (byte ∷ next ∷ last ∷ rest) =
+    if byte == 32 && (next == 47 && last == 32) then rest else behind_slash (next ∷ last ∷ rest)
 
-abbrev pub is_read_shown : List ℕ → Bool
-is_read_shown bytes = starts_with nat_eq (drop 5 bytes) (codes " /")
+-- a packet of a code may change VOUT_MODE: PAGE_PLUS_WRITE may carry it
+abbrev pub is_rewriting : ℕ → Bool → Bool
+is_rewriting code has_data = is_restore code || (has_data && (code == command.vout_mode || code == command.page_plus_write))
 
--- a packet that failed: one of PAGE counts, and no other can change it
-abbrev pub failed_by : Option ℕ → Bool → Bool → Remark
-failed_by None is_page is_read = Loss
-failed_by (Some addr) is_page is_read = if is_page then Failed addr (not is_read) else Elsewhere
+-- a packet by its address byte, the text of its bytes, and its code
+abbrev pub coded : ℕ → List ℕ → Option ℕ → Remark
+coded first bytes None = Elsewhere
+coded first bytes (Some code) = if first % 2 == 1 then Elsewhere
+    else (if code == command.page then Failed (first / 2) (not (starts_with nat_eq (drop 5 bytes) (codes " /")))
+    else (if is_rewriting code (is_some (spaced_byte (drop 5 bytes))) then Rewritten (first / 2) else Elsewhere))
 
-abbrev pub failed_in : List ℕ → Remark
-failed_in bytes = failed_by (address_shown bytes) (is_page_shown bytes) (is_read_shown bytes)
+abbrev pub packet_shown : ℕ → List ℕ → Remark
+packet_shown first bytes = coded first bytes (spaced_byte (drop 2 bytes))
 
--- a packet of which nobody knows what it did
-abbrev pub loss_by : Option ℕ → Remark
-loss_by None = Loss
-loss_by (Some addr) = LossAt addr
+-- a general call or a write to a zone may be of any part, and a packet of another device is of none
+abbrev pub is_of_all : ℕ → Bool
+is_of_all addr = addr == 0x00 || addr == 0x37
+
+abbrev pub if_elsewhere : Bool → Remark → Remark
+if_elsewhere is_elsewhere remark = if is_elsewhere then Elsewhere else remark
+
+abbrev pub addressed : ℕ → Bool → Remark → Remark
+addressed addr is_elsewhere (Failed of writes) = if is_of_all addr then Loss else if_elsewhere is_elsewhere (Failed of writes)
+addressed addr is_elsewhere (Rewritten of) = if is_of_all addr then Loss else if_elsewhere is_elsewhere (Rewritten of)
+addressed addr is_elsewhere Elsewhere = Elsewhere
+addressed addr is_elsewhere Unacknowledged = if_elsewhere is_elsewhere Unacknowledged
+addressed addr is_elsewhere Loss = if_elsewhere is_elsewhere Loss
+
+-- a part of another device follows, or a third part
+abbrev pub is_joined : ℕ → List ℕ → Option ℕ → Bool
+is_joined first rest None = false
+is_joined first rest (Some second) =
+    not (second / 2 == first / 2) || (second % 2 == 0 || is_some (first_byte (behind_slash rest)))
+
+abbrev pub is_together : ℕ → List ℕ → Bool
+is_together first rest = is_joined first rest (first_byte rest)
+
+-- a transfer whose bytes begin a text
+abbrev pub transfer_by : List ℕ → Bool → Option ℕ → Remark
+transfer_by bytes is_elsewhere None = Elsewhere
+transfer_by bytes is_elsewhere (Some first) = if is_together first (behind_slash bytes) then Loss
+    else addressed (first / 2) is_elsewhere (packet_shown first bytes)
+
+abbrev pub transfer_shown : List ℕ → Bool → Remark
+transfer_shown bytes is_elsewhere = transfer_by bytes is_elsewhere (first_byte bytes)
+
+-- packets are missing, or a transfer had more than two parts, or a second one of another device
+abbrev pub is_missing : List ℕ → Bool
+is_missing text = starts_with nat_eq text (codes "# the kernel dropped events")
+    || (starts_with nat_eq text (codes "# the kernel shows ") || (starts_with nat_eq text (codes "# the capture shows ")
+    || (starts_with nat_eq text (codes "# the second part is no read")
+    || (starts_with nat_eq (drop 3 text) (codes " parts: ") || starts_with nat_eq (drop 4 text) (codes " parts: ")))))
+
+-- a transfer is shown that failed, was cut, or is no packet
+abbrev pub is_packet_comment : List ℕ → Bool
+is_packet_comment text = starts_with nat_eq text (codes "# failed")
+    || (starts_with nat_eq text (codes "# no stop: ") || (starts_with nat_eq text (codes "# no result: ")
+    || (starts_with nat_eq text (codes "# a read alone: ") || starts_with nat_eq text (codes "# a part "))))
 
 -- what a comment says, as `pmhost capture` writes them, by its first bytes
 abbrev pub remark_in : List ℕ → Remark
-remark_in text = if starts_with nat_eq text (codes "# another device") then Elsewhere
-    else (if starts_with nat_eq text (codes "# no device acknowledged the address") then Elsewhere
-    else (if starts_with nat_eq text (codes "# byte ") then Unacknowledged
-    else (if starts_with nat_eq text (codes "# failed (") then failed_in (behind_colon text)
-    else (if starts_with nat_eq text (codes "# no stop: ") || starts_with nat_eq text (codes "# a read alone: ")
-    then loss_by (address_shown (behind_colon text)) else Loss))))
+remark_in text = if starts_with nat_eq text (codes "# byte ") then Unacknowledged
+    else (if is_missing text then Loss
+    else (if starts_with nat_eq text (codes "# another device: ") then transfer_shown (behind_colon text) true
+    else (if is_packet_comment text then transfer_shown (behind_colon text) false else Elsewhere)))
 
 abbrev pub remark_of : List ℕ → Remark
 remark_of line = remark_in (take 63 line)

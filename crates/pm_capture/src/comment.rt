@@ -1,24 +1,26 @@
 //! Comments of a capture while their bytes come.
 ghost use Rattle.std.specs.Prelude.{◌≡◌, drop, take};
-ghost use Rattle.pm_capture.specs.Readings.{address_shown as spec_address_shown, behind_colon as spec_behind_colon, failed_in as spec_failed_in, loss_by, remark_in as spec_remark_in};
+ghost use Rattle.pm_capture.specs.Readings.{addressed as spec_addressed, behind_colon as spec_behind_colon, behind_slash as spec_behind_slash, first_byte, is_missing as spec_is_missing, is_packet_comment as spec_is_packet_comment, is_rewriting as spec_is_rewriting, is_together as spec_is_together, packet_shown as spec_packet_shown, remark_in as spec_remark_in, spaced_byte as spec_spaced_byte, transfer_shown as spec_transfer_shown};
 
 use arrayvec::ArrayVec;
 use pm_lines::{pair_of, without_carriage_return};
+use pm_table::Code;
+use pm_values::is_restore;
 use std::marker::Model;
 
 /// What a comment says, as `pmhost capture` writes them.
 #[derive(Clone, Copy, Debug, PartialEq, Eq)]
 pub enum Remark {
-    /// `# another device` speaks of a device whose packets are no lines, and `# no device acknowledged the address` of a
-    /// packet that no device heard; `# failed (-6): B0 21 00 30 20` shows a packet that can't change PAGE.
+    /// It ends nothing: a person's, one of a packet of another device, or of one that changes neither PAGE nor VOUT_MODE.
     Elsewhere,
     /// `# byte 3 wasn't acknowledged` stands above a packet of which nobody knows what it did.
     Unacknowledged,
-    /// `# failed (-6): B0 00 / B1` shows a packet of PAGE that failed: its address, and whether it may have written PAGE.
+    /// `# failed (-6): B0 00 / B1` and `# no stop: B0 00 01` show a packet of PAGE that failed or was cut: its address, and
+    /// whether it may have written PAGE.
     Failed(u8, bool),
-    /// `# no stop: B0 05 04` and `# a read alone: 19 B0` show a packet of this address of which nobody knows what it did.
-    LossAt(u8),
-    /// Any other one may tell that something was lost.
+    /// `# no result: B0 20 17` shows a packet that may have changed VOUT_MODE of this address.
+    Rewritten(u8),
+    /// Packets are missing, or a transfer had parts of several devices.
     Loss,
 }
 
@@ -91,19 +93,40 @@ fn front(text: &[u8]) -> &[u8]
 fn remark_in(text: &[u8]) -> Remark
     ensures { result ≡ spec_remark_in text.now }
 {
-    if text.starts_with(b"# another device")
-        || text.starts_with(b"# no device acknowledged the address")
-    {
-        Remark::Elsewhere
-    } else if text.starts_with(b"# byte ") {
+    if text.starts_with(b"# byte ") {
         Remark::Unacknowledged
-    } else if text.starts_with(b"# failed (") {
-        failed_in(behind_colon(text))
-    } else if text.starts_with(b"# no stop: ") || text.starts_with(b"# a read alone: ") {
-        loss_of(address_shown(behind_colon(text)))
-    } else {
+    } else if is_missing(text) {
         Remark::Loss
+    } else if text.starts_with(b"# another device: ") {
+        transfer_shown(behind_colon(text), true)
+    } else if is_packet_comment(text) {
+        transfer_shown(behind_colon(text), false)
+    } else {
+        Remark::Elsewhere
     }
+}
+
+// Whether the comment says that packets are missing, or that a transfer had more than two parts, or a second one of another device.
+fn is_missing(text: &[u8]) -> bool
+    ensures { result ≡ spec_is_missing text.now }
+{
+    text.starts_with(b"# the kernel dropped events")
+        || text.starts_with(b"# the kernel shows ")
+        || text.starts_with(b"# the capture shows ")
+        || text.starts_with(b"# the second part is no read")
+        || behind(text, 3).starts_with(b" parts: ")
+        || behind(text, 4).starts_with(b" parts: ")
+}
+
+// Whether the comment shows a transfer that failed, was cut, or is no packet.
+fn is_packet_comment(text: &[u8]) -> bool
+    ensures { result ≡ spec_is_packet_comment text.now }
+{
+    text.starts_with(b"# failed")
+        || text.starts_with(b"# no stop: ")
+        || text.starts_with(b"# no result: ")
+        || text.starts_with(b"# a read alone: ")
+        || text.starts_with(b"# a part ")
 }
 
 // What follows the first colon and space.
@@ -123,18 +146,83 @@ fn behind_colon(text: &[u8]) -> &[u8]
     }
 }
 
-// What the comment says of a packet that failed, whose bytes begin a text.
-fn failed_in(bytes: &[u8]) -> Remark
-    ensures { result ≡ spec_failed_in bytes.now }
+// What follows the first slash between two spaces.
+fn behind_slash(text: &[u8]) -> &[u8]
+    ensures { result.now ≡ spec_behind_slash text.now }
 {
-    let Some(addr) = address_shown(bytes) else {
-        return Remark::Loss;
+    let [byte, more @ ..] = text else {
+        return &[];
     };
-    if behind(bytes, 2).starts_with(b" 00") {
-        Remark::Failed(addr, !behind(bytes, 5).starts_with(b" /"))
+    let [next, last, rest @ ..] = more else {
+        return &[];
+    };
+    if *byte == b' ' && *next == b'/' && *last == b' ' {
+        rest
+    } else {
+        behind_slash(more)
+    }
+}
+
+// What a transfer says whose bytes begin a text; `is_elsewhere` is whether it is another device's.
+fn transfer_shown(bytes: &[u8], is_elsewhere: bool) -> Remark
+    ensures { result ≡ spec_transfer_shown bytes.now is_elsewhere }
+{
+    let Some(first) = byte_shown(bytes) else {
+        return Remark::Elsewhere;
+    };
+    if is_together(first, behind_slash(bytes)) {
+        return Remark::Loss;
+    }
+    addressed(first / 2, is_elsewhere, packet_shown(first, bytes))
+}
+
+// Whether a part of another device follows, which begins a text, or a third part.
+fn is_together(first: u8, rest: &[u8]) -> bool
+    ensures { result ≡ spec_is_together first rest.now }
+{
+    match byte_shown(rest) {
+        Some(second) => second / 2 != first / 2
+            || second % 2 == 0
+            || byte_shown(behind_slash(rest)).is_some(),
+        None => false,
+    }
+}
+
+// What a packet says of its address: a general call or a write to a zone may be of any, and one of another device is of none.
+fn addressed(addr: u8, is_elsewhere: bool, remark: Remark) -> Remark
+    ensures { result ≡ spec_addressed addr is_elsewhere remark }
+{
+    match remark {
+        Remark::Failed(_, _) | Remark::Rewritten(_) if addr == 0x00 || addr == 0x37 => Remark::Loss,
+        _ if is_elsewhere => Remark::Elsewhere,
+        _ => remark,
+    }
+}
+
+// What a packet says whose bytes begin a text, the first of which is this one.
+fn packet_shown(first: u8, bytes: &[u8]) -> Remark
+    ensures { result ≡ spec_packet_shown first bytes.now }
+{
+    let Some(code) = spaced_byte(behind(bytes, 2)) else {
+        return Remark::Elsewhere;
+    };
+    if first % 2 == 1 {
+        Remark::Elsewhere
+    } else if Code(code) == Code::PAGE {
+        Remark::Failed(first / 2, !behind(bytes, 5).starts_with(b" /"))
+    } else if is_rewriting(code, spaced_byte(behind(bytes, 5)).is_some()) {
+        Remark::Rewritten(first / 2)
     } else {
         Remark::Elsewhere
     }
+}
+
+// Whether a packet of a code may change VOUT_MODE; `has_data` is whether a byte follows the code.
+fn is_rewriting(code: u8, has_data: bool) -> bool
+    ensures { result ≡ spec_is_rewriting code has_data }
+{
+    is_restore(code)
+        || (has_data && (Code(code) == Code::VOUT_MODE || Code(code) == Code::PAGE_PLUS_WRITE))
 }
 
 // What follows so many bytes.
@@ -149,25 +237,22 @@ fn behind(bytes: &[u8], count: usize) -> &[u8]
     }
 }
 
-// The address of a packet whose bytes begin a text.
-fn address_shown(bytes: &[u8]) -> Option<u8>
-    ensures { result ≡ spec_address_shown bytes.now }
+// The byte that a text begins with.
+fn byte_shown(bytes: &[u8]) -> Option<u8>
+    ensures { result ≡ first_byte bytes.now }
 {
     match bytes {
-        [high, low, ..] => match pair_of(*high, *low) {
-            Some(byte) => Some(byte / 2),
-            None => None,
-        },
+        [high, low, ..] => pair_of(*high, *low),
         _ => None,
     }
 }
 
-// A packet of this address, if it is known, of which nobody knows what it did.
-fn loss_of(addr: Option<u8>) -> Remark
-    ensures { result ≡ loss_by addr }
+// The byte that a text begins with, behind a space.
+fn spaced_byte(bytes: &[u8]) -> Option<u8>
+    ensures { result ≡ spec_spaced_byte bytes.now }
 {
-    match addr {
-        Some(addr) => Remark::LossAt(addr),
-        None => Remark::Loss,
+    match bytes {
+        [space, rest @ ..] if *space == b' ' => byte_shown(rest),
+        _ => None,
     }
 }

@@ -4,7 +4,7 @@ ghost use Rattle.pm_trace.specs.ShownLines.{judged_in};
 ghost use Rattle.pm_trace.specs.Trace.{parts_judged, reading_judged};
 ghost use Rattle.pm_packets.specs.Otherwise.{IsCompleted, content_of, is_accepted};
 ghost use Rattle.pm_capture.specs.Readings.{is_checked as spec_is_checked, is_told as spec_is_told};
-ghost use Rattle.pm_capture.specs.PageSteps.{change_by};
+ghost use Rattle.pm_capture.specs.PageSteps.{change_by, is_clear as spec_is_clear};
 ghost use Rattle.pm_capture.specs.Readings.{is_without_pec};
 ghost use Rattle.pm_capture.specs.ShownReadings.{packet_in};
 
@@ -31,15 +31,25 @@ pub struct PacketLine<'a> {
     pub other: Option<u8>,
 }
 
-/// The modes that a packet with these marks may change: all of its address if that restarted.
-pub fn change_in(marks: &Marks, packet: &Packet<'_>) -> ModeChange
-    ensures { result ≡ change_by marks.now (packet_in packet.now) }
+/// The modes that the packet of a line with these marks may change: of all outputs if it isn't clear, so that nobody knows which
+/// it names.
+pub fn change_in(marks: &Marks, line: &PacketLine<'_>) -> ModeChange
+    ensures { result ≡ change_by marks.now line.now.other (judged_in line.now.shown.now) (packet_in line.now.packet) }
 {
     if marks.is_turned {
-        ModeChange::OfAll
-    } else {
-        mode_change(packet.write, packet.is_read(), marks.page)
+        return ModeChange::OfRestart;
     }
+    match mode_change(line.packet.write, marks.page) {
+        ModeChange::OfOutput(_) if !is_clear(line) => ModeChange::OfAll,
+        change => change,
+    }
+}
+
+// Whether a packet is shown as good, or by its code and bytes, or has the right PEC.
+fn is_clear(line: &PacketLine<'_>) -> bool
+    ensures { result ≡ spec_is_clear line.now.other (judged_in line.now.shown.now) (packet_in line.now.packet) }
+{
+    is_told(line) || line.packet.has_pec()
 }
 
 /// Whether a packet is shown as the command table has it, with its PEC: it is good, or no other is shown otherwise.

@@ -12,12 +12,13 @@ use Rattle.pm_packets.specs.Answers.{Answers, answers_by, none_heard, ones_of}
 use Rattle.pm_packets.specs.Otherwise.{content_of, is_accepted, is_doubtful}
 use Rattle.pm_packets.specs.declared.answers.Ones.{Ones}
 use Rattle.pm_packets.specs.declared.answers.Ones.TheVariants.{Answer}
-use Rattle.pm_values.specs.Taught.{Taught, changed_by, paged_at, paged_by, taught_by, untaught}
+use Rattle.pm_values.specs.Taught.{Taught, changed_by, paged_at, paged_by, taught_by, taught_lost, untaught}
+use Rattle.pm_values.specs.declared.mode_changes.ModeChange.TheVariants.{OfAll}
 use Rattle.pm_decode.specs.Hints.{beyond_by, lacking_by}
 use Rattle.pm_capture.specs.PageSteps.{change_by, judged_address, marks_in, pages_noted, pages_read}
 use Rattle.pm_capture.specs.Readings.{Entry, Said, Told, Noted, is_without_pec, judged_as, judged_by, other_address, is_checked, is_told}
 use Rattle.pm_capture.specs.declared.comment.Remark.{Remark}
-use Rattle.pm_capture.specs.declared.comment.Remark.TheVariants.{Elsewhere, Unacknowledged, Failed, LossAt, Loss}
+use Rattle.pm_capture.specs.declared.comment.Remark.TheVariants.{Elsewhere, Unacknowledged, Failed, Rewritten, Loss}
 use Rattle.pm_decode.specs.declared.hints.Hint.{Hint}
 use Rattle.pm_decode.specs.declared.hints.Hint.TheVariants.{Beyond, NoTimes, NoGoodPacket, NoPec}
 use Rattle.pm_capture.specs.declared.page_steps.Marks.{Marks}
@@ -50,14 +51,15 @@ ones_in options known (Err fault) = Answer
 abbrev pub taught_over : TellOptions → ℕ → Marks → TraceLine → Taught → Taught
 taught_over options number marks parts taught = if options.values
     then paged_by (judged_address (judged_by options.all marks.ones parts)) parts.write
-    (changed_by number (judged_address (judged_by options.all marks.ones parts)) (change_by marks parts) taught) else taught
+    (changed_by number (judged_address (judged_by options.all marks.ones parts))
+    (change_by marks (other_address options.all marks.ones parts) (judged_by options.all marks.ones parts) parts) taught) else taught
 
--- an answer that may be nobody's teaches nothing
+-- an answer that may be nobody's teaches nothing, nor does a packet that is marked; behind a line that can't be read no mode is known
 abbrev pub taught_read : TellOptions → ℕ → Marks → Result TraceLine LineFault → Taught → Taught
-taught_read options number marks (Ok parts) taught = if is_doubtful marks.ones
+taught_read options number marks (Ok parts) taught = if is_doubtful marks.ones || is_some marks.wrong
     then taught_over options number marks parts taught
     else taught_by number marks.reached (taught_over options number marks parts taught) (judged_by options.all marks.ones parts)
-taught_read options number marks (Err fault) taught = taught
+taught_read options number marks (Err fault) taught = if options.pages then taught_lost number taught else taught
 
 abbrev pub answers_told : Bool → Ones → TraceLine → Answers → Answers
 answers_told all ones parts answers =
@@ -89,17 +91,17 @@ abbrev pub known_read : TellOptions → ℕ → Option ℕ → Result TraceLine 
 known_read options number time parts known = known_with options number time (ones_in options known parts) parts known
 
 -- what is taught after a comment: one that shows a packet of PAGE says that its address has pages
-abbrev pub taught_noted : Remark → Taught → Taught
-taught_noted Elsewhere taught = taught
-taught_noted Unacknowledged taught = taught
-taught_noted (Failed addr writes) taught = paged_at addr taught
-taught_noted (LossAt addr) taught = taught
-taught_noted Loss taught = taught
+abbrev pub taught_noted : ℕ → Remark → Taught → Taught
+taught_noted number Elsewhere taught = taught
+taught_noted number Unacknowledged taught = taught
+taught_noted number (Failed addr writes) taught = paged_at addr taught
+taught_noted number (Rewritten addr) taught = changed_by number (Some addr) OfAll taught
+taught_noted number Loss taught = taught_lost number taught
 
 abbrev pub known_said : TellOptions → ℕ → Said → Known → Known
 known_said options number (Told reading) known = known_read options number reading.time reading.parts known
 known_said options number (Noted remark) known = record known {
-  taught = taught_noted remark known.taught;
+  taught = taught_noted number remark known.taught;
   pages = pages_noted number remark known.pages;
 }
 

@@ -13,7 +13,7 @@ use pm_capture::{
 };
 use pm_packets::{Answers, Ones, Packet};
 use pm_trace::{PageUse, Pages, Shown};
-use pm_values::Lessons;
+use pm_values::{Lessons, ModeChange};
 use std::alloc::{AllocError, Global};
 use std::marker::Model;
 
@@ -46,6 +46,7 @@ impl Known {
     ghost use Rattle.pm_packets.specs.declared.answers.Ones.TheVariants.{Answer};
     ghost use Rattle.pm_trace.specs.Pages.{lost_in};
     ghost use Rattle.pm_trace.specs.declared.pages.PageUse.TheVariants.{Beside};
+    ghost use Rattle.pm_values.specs.Taught.{taught_lost};
     ghost use Rattle.pm_capture.specs.PageSteps.{pages_noted, used_by};
     ghost use Rattle.pm_capture.specs.Readings.{other_address};
     ghost use Rattle.pm_capture.specs.Readings.{Told, judged_by};
@@ -65,11 +66,12 @@ impl Known {
         }
     }
 
-    /// A line couldn't be read: no page is known any more.
+    /// A line couldn't be read: no page and no mode is known any more.
     pub(crate) fn lose(&mut self, number: u64)
-        ensures { self.new ≡ record self.old { pages = lost_in number self.old.pages } }
+        ensures { self.new ≡ record self.old { taught = taught_lost number self.old.taught; pages = lost_in number self.old.pages } }
     {
         self.pages.lose(number);
+        self.lessons.lose(number);
     }
 
     /// Appends a packet's line to a text if PAGE is followed, and learns what the packet teaches, orders and says of PAGE.
@@ -198,7 +200,7 @@ impl Known {
         Ok(())
     }
 
-    // Learns what a packet teaches: an answer that may be nobody's teaches nothing.
+    // Learns what a packet teaches: an answer that may be nobody's teaches nothing, nor does a packet that is marked.
     fn learn(
         &mut self,
         options: &TellOptions,
@@ -206,17 +208,18 @@ impl Known {
         line: &PacketLine<'_>,
     ) -> Result<(), AllocError>
         requires shown { judged_in line.now.shown.now ≡ judged_by options.now.all marks.now.ones (packet_in line.now.packet) }
+        requires other { line.now.other ≡ other_address options.now.all marks.now.ones (packet_in line.now.packet) }
         ensures known { OnOk result (self.new ≡ record self.old {
           taught = taught_read options.now line.now.number marks.now (Ok (packet_in line.now.packet)) self.old.taught;
         }) }
     {
         if options.values {
             let addr = address_in(line.shown);
-            let change = change_in(marks, &line.packet);
+            let change = change_in(marks, line);
             self.lessons.forget(line.number, addr, change)?;
             self.lessons.see_pages(addr, line.packet.write)?;
         }
-        if matches!(marks.ones, Ones::Doubtful) {
+        if matches!(marks.ones, Ones::Doubtful) || marks.wrong.is_some() {
             return Ok(());
         }
         self.lessons.learn(line.number, marks.reached, line.shown)
@@ -237,7 +240,7 @@ impl Known {
     /// Hears a comment, with its number. Takes memory for an address that is new.
     pub(crate) fn note(&mut self, number: u64, remark: Remark) -> Result<(), AllocError>
         ensures { OnOk result (self.new ≡ record self.old {
-          taught = taught_noted remark self.old.taught;
+          taught = taught_noted number remark self.old.taught;
           pages = pages_noted number remark self.old.pages;
         }) }
     {
@@ -251,9 +254,11 @@ impl Known {
                 self.lessons.see_page(addr)?;
                 self.pages.fail(number, addr, writes)
             }
-            Remark::LossAt(addr) => self.pages.lose_at(addr),
+            Remark::Rewritten(addr) => {
+                self.lessons.forget(number, Some(addr), ModeChange::OfAll)
+            }
             Remark::Loss => {
-                self.pages.lose(number);
+                self.lose(number);
                 Ok(())
             }
         }

@@ -82,7 +82,7 @@ static MEANINGS: [(&str, &str); 9] = [
     ),
     (
         "B0 05 04 01 21 CD 34 4C\nB0 06 02 01 20 / B1 01 14 2C\nB0 05 04 01 21 CD 34 4C\nB0 06 02 01 20 / B1 01 40 87\nB0 05 04 01 21 CD 34 4C\nB0 30 02 21 00 / B1 05 01 00 00 00 03 6B\nB0 05 04 01 21 CD 34 4C\nB0 21 CD 34 38\n",
-        "1 58 page 1 VOUT_COMMAND write 34CD\n2 58 page 1 VOUT_MODE read 14 ULINEAR16 -12\n3 58 page 1 VOUT_COMMAND write 34CD 3.300048 V\n4 58 page 1 VOUT_MODE read 40 DIRECT\n5 58 page 1 VOUT_COMMAND write 34CD\n6 58 COEFFICIENTS of 21 side 0 read m 1 b 0 r 3\n7 58 page 1 VOUT_COMMAND write 34CD 13.517 V\n8 58 VOUT_COMMAND write 34CD 13.517 V\ncount VOUT_COMMAND 5\ncount VOUT_MODE 2\ncount COEFFICIENTS 1\nlines 8 accepted 8 faults 0 bad 0\n",
+        "1 58 page 1 VOUT_COMMAND write 34CD\n2 58 page 1 VOUT_MODE read 14 ULINEAR16 -12\n3 58 page 1 VOUT_COMMAND write 34CD 3.300048 V\n4 58 page 1 VOUT_MODE read 40 DIRECT\n5 58 page 1 VOUT_COMMAND write 34CD\n6 58 COEFFICIENTS of 21 side 0 read m 1 b 0 r 3\n7 58 page 1 VOUT_COMMAND write 34CD 13.517 V\n8 58 VOUT_COMMAND write 34CD\ncount VOUT_COMMAND 5\ncount VOUT_MODE 2\ncount COEFFICIENTS 1\nlines 8 accepted 8 faults 0 bad 0\n",
     ),
 ];
 
@@ -175,7 +175,7 @@ static PAGES: [(&str, &str); 3] = [
     ),
     (
         "B0 00 03 E3\n# another device: A0 00\n\nB0 03 46\n# another devic\nB0 03 46\nB0 00 03 E3\nB2 03 46\nB0 03 46\nB0 9\nB0 03 46\n# byte 2 wasn't acknowledged\nB0 00 03 E3\nB0 03 46",
-        "1 58 PAGE write 03\n4 58 page 3? CLEAR_FAULTS send\n6 58 CLEAR_FAULTS send\n7 58 PAGE write 03\n8 59 write F5 WrongPec 2 bytes B2 03 46\n9 58 page 3? CLEAR_FAULTS send\n10 X2 BadHex\n11 58 CLEAR_FAULTS send\n13 58 PAGE write 03\n14 58 CLEAR_FAULTS send WRONG PAGE? lines 13 and 14\ncount PAGE 3\ncount CLEAR_FAULTS 5\nlines 10 accepted 8 faults 1 bad 1\n",
+        "1 58 PAGE write 03\n4 58 page 3? CLEAR_FAULTS send\n6 58 page 3? CLEAR_FAULTS send\n7 58 PAGE write 03\n8 59 write F5 WrongPec 2 bytes B2 03 46\n9 58 page 3? CLEAR_FAULTS send\n10 X2 BadHex\n11 58 CLEAR_FAULTS send\n13 58 PAGE write 03\n14 58 CLEAR_FAULTS send WRONG PAGE? lines 13 and 14\ncount PAGE 3\ncount CLEAR_FAULTS 5\nlines 10 accepted 8 faults 1 bad 1\n",
     ),
     (
         "# bytes were lost\nB0 00 03 E3\nB0 03 46\n",

@@ -165,12 +165,6 @@ lost_in line pages = record pages { lost = line }
 abbrev pub place_of : Pages → ℕ → Place
 place_of pages addr = unwrap_or (lookup (nat_eq addr) pages.places) nowhere
 
--- something was lost at an address
-abbrev pub lost_at : ℕ → Pages → Pages
-lost_at addr pages = record pages {
-  places = insert_entry nat_eq pages.places addr (record nowhere { time = (place_of pages addr).time });
-}
-
 -- a packet of PAGE at an address failed in this line, and may have written it, or not
 abbrev pub failed_at : ℕ → ℕ → Bool → Pages → Pages
 failed_at line addr writes pages = record pages {

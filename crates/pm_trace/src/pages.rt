@@ -142,7 +142,7 @@ impl Model for Pages {
 
 impl Pages {
     ghost use Rattle.std.specs.Prelude.{OnOk};
-    ghost use Rattle.pm_trace.specs.Pages.{doubting, failed_at, lost_at, lost_in, no_pages, pages_by, place_in, place_of};
+    ghost use Rattle.pm_trace.specs.Pages.{doubting, failed_at, lost_in, no_pages, pages_by, place_in, place_of};
 
     /// Nothing is known yet. Takes no memory.
     pub fn new(alloc: Global) -> Pages
@@ -161,15 +161,6 @@ impl Pages {
         ensures { self.new ≡ lost_in line self.old }
     {
         self.lost = line;
-    }
-
-    /// Something was lost at an address: nothing is known of it any more. Takes memory for an address that is new.
-    pub fn lose_at(&mut self, addr: u8) -> Result<(), AllocError>
-        ensures { OnOk result (self.new ≡ lost_at addr self.old) }
-    {
-        let time = self.kept(addr).time;
-        self.places.insert(addr, Place { time, ..NOWHERE })?;
-        Ok(())
     }
 
     /// A packet of PAGE at an address failed in this line; `writes` is whether it may have written PAGE. Takes memory for an

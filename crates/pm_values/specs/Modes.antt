@@ -1,24 +1,26 @@
 -- What a capture says of the VOUT_MODE of each output (PMBus 1.3 Part II), until it may have changed: of each address and page, and
--- of each address that never had a packet of PAGE or PAGE_PLUS. That these decide is this project's own choice.
-use Rattle.std.specs.Prelude.{ℕ, ◌+◌, ◌*◌, ◌/◌, Bool, ◌&&◌, ◌||◌, ◌==◌, nat_eq, nat_le, nat_lt, if◌then◌else◌, List, [], ◌∷◌, length, slice_index, option_map, Option, Some, None}
-use Rattle.std.specs.List.{fold}
+-- of each address that never had a packet of PAGE or PAGE_PLUS, which is one output. That these decide is this project's own choice.
+use Rattle.std.specs.Prelude.{ℕ, ◌+◌, ◌*◌, ◌/◌, Bool, true, false, ◌&&◌, ◌||◌, ◌==◌, nat_eq, nat_le, nat_lt, if◌then◌else◌, List, [], ◌∷◌, is_some, length, slice_index, Option, Some, None}
+use Rattle.std.specs.List.{list_any}
 use Rattle.std.specs.Map.{lookup}
-use Rattle.std.specs.Option.{option_or}
 use Rattle.indexmap.specs.IndexMap.{insert_entry}
 use Rattle.pm_table.specs.Codes as command
 use Rattle.pm_values.specs.declared.mode_changes.ModeChange.{ModeChange}
-use Rattle.pm_values.specs.declared.mode_changes.ModeChange.TheVariants.{OfNone, OfOutput, OfAll}
+use Rattle.pm_values.specs.declared.mode_changes.ModeChange.TheVariants.{OfNone, OfOutput, OfAll, OfRestart}
 use Rattle.pm_values.specs.declared.modes.ModeLine.{ModeLine}
 
 -- what a line said of the mode of each output, and of the plain mode of each address, which is None for one that had a packet of
--- PAGE or PAGE_PLUS; and for each address the last line by which all its modes may have changed
+-- PAGE or PAGE_PLUS; for each address the last line by which all its modes may have changed; the addresses with a mode that a
+-- packet may have changed; and the last line in which something was lost, of nobody knows which address, or 0
 pub record Modes : Type 0 where
   pub said : List (ℕ × ModeLine)
   pub plain : List (ℕ × Option ModeLine)
   pub changed : List (ℕ × ℕ)
+  pub written : List (ℕ × Bool)
+  pub lost : ℕ
 
 abbrev pub no_modes : Modes
-no_modes = record { said = []; plain = []; changed = [] }
+no_modes = record { said = []; plain = []; changed = []; written = []; lost = 0 }
 
 -- the output of a page at an address, and the code of an address
 abbrev pub key_of : ℕ → ℕ → ℕ
@@ -40,17 +42,13 @@ abbrev pub code_change : Option ℕ → ℕ → Bool → ModeChange
 code_change page code has_data = if is_restore code then OfAll
     else (if code == command.vout_mode && has_data then mode_change page else OfNone)
 
--- What a write part changes, by nothing but its bytes, whatever fault it has: the code that PAGE_PLUS_WRITE carries, or its own.
--- `page` is the one that plain packets reach, if that is sure.
-abbrev pub written_change : Option ℕ → List ℕ → ModeChange
-written_change page (addr ∷ code ∷ rest) = if code == command.page_plus_write
+-- What a write part changes, by nothing but its bytes, whatever fault it has, and whether a read part follows or not: the code
+-- that PAGE_PLUS_WRITE carries, or its own. `page` is the one that plain packets reach, if that is sure.
+abbrev pub change_of : Option ℕ → List ℕ → ModeChange
+change_of page (addr ∷ code ∷ rest) = if code == command.page_plus_write
     then code_change (Some (slice_index rest 1)) (slice_index rest 2) (nat_lt 3 (length rest))
     else code_change page code (nat_lt 0 (length rest))
-written_change page _ = OfNone
-
--- the modes that a packet may change: none if it has a read part
-abbrev pub change_of : List ℕ → Bool → Option ℕ → ModeChange
-change_of write is_read page = if is_read then OfNone else written_change page write
+change_of page _ = OfNone
 
 -- a packet of PAGE, PAGE_PLUS_WRITE or PAGE_PLUS_READ, whatever fault it has
 abbrev pub is_paging : List ℕ → Bool
@@ -83,11 +81,18 @@ plain_said line addr byte modes = record modes {
 abbrev pub all_changed : ℕ → ℕ → Modes → Modes
 all_changed line addr modes = record modes { changed = insert_entry nat_eq modes.changed addr line }
 
+-- a mode of an address may have been written
+abbrev pub mode_written : ℕ → Modes → Modes
+mode_written addr modes = record modes { written = insert_entry nat_eq modes.written addr true }
+
+-- a restart changes modes of an address only if one was written before
 abbrev pub modes_changed : ℕ → Option ℕ → ModeChange → Modes → Modes
 modes_changed line None change modes = modes
 modes_changed line (Some addr) OfNone modes = modes
-modes_changed line (Some addr) (OfOutput page) modes = output_said line addr page None modes
-modes_changed line (Some addr) OfAll modes = all_changed line addr modes
+modes_changed line (Some addr) (OfOutput page) modes = mode_written addr (output_said line addr page None modes)
+modes_changed line (Some addr) OfAll modes = mode_written addr (all_changed line addr modes)
+modes_changed line (Some addr) OfRestart modes =
+    if is_some (lookup (nat_eq addr) modes.written) then all_changed line addr modes else modes
 
 -- an address has a packet of PAGE or PAGE_PLUS: its plain modes say nothing any more
 abbrev pub paged_over : Option (Option ModeLine) → ℕ → Modes → Modes
@@ -100,52 +105,55 @@ paged addr modes = paged_over (lookup (nat_eq addr) modes.plain) addr modes
 
 -- ---- what is known
 
--- the byte of a mode that a line said, unless all modes of its address may have changed since then
-abbrev pub mode_since : Option ℕ → ModeLine → Option ℕ
-mode_since None said = said.byte
-mode_since (Some line) said = if nat_lt line said.line then said.byte else None
+-- something was lost in this line
+abbrev pub modes_lost : ℕ → Modes → Modes
+modes_lost line modes = record modes { lost = line }
+
+-- the byte of a mode that a line said, unless all modes of its address may have changed since then, or something was lost
+abbrev pub mode_unless : Option ℕ → ModeLine → Option ℕ
+mode_unless None said = said.byte
+mode_unless (Some line) said = if nat_lt line said.line then said.byte else None
+
+abbrev pub mode_since : ℕ → Option ℕ → ModeLine → Option ℕ
+mode_since lost changed said = if nat_lt lost said.line then mode_unless changed said else None
 
 abbrev pub changed_at : Modes → ℕ → Option ℕ
 changed_at modes addr = lookup (nat_eq addr) modes.changed
 
--- what is known of an output's mode: nothing was said of it, or the byte if that is still known
-abbrev pub mode_known : Modes → ℕ → ℕ → Option (Option ℕ)
-mode_known modes addr page = option_map (mode_since (changed_at modes addr)) (lookup (nat_eq (key_of addr page)) modes.said)
+-- an entry is one of an address
+abbrev pub is_entry_of : ℕ → ℕ × ModeLine → Bool
+is_entry_of addr entry = entry.0 / 256 == addr
 
--- two modes are known, and the same
-abbrev pub same_mode : Option ℕ → Option ℕ → Option ℕ
-same_mode None other = None
-same_mode (Some byte) None = None
-same_mode (Some byte) (Some other) = if byte == other then Some byte else None
+-- a plain mode of an address was said, and it has no pages
+abbrev pub is_plain_said : Option (Option ModeLine) → Bool
+is_plain_said (Some (Some said)) = true
+is_plain_said (Some None) = false
+is_plain_said None = false
 
--- what outputs agree on, with one more
-abbrev pub agreed_with : Option (Option ℕ) → Option ℕ → Option (Option ℕ)
-agreed_with None mode = Some mode
-agreed_with (Some agreed) mode = Some (same_mode agreed mode)
+-- a mode of an address was said, or something may have changed all of them
+abbrev pub is_spoken_of : Modes → ℕ → Bool
+is_spoken_of modes addr = is_some (changed_at modes addr) || (is_plain_said (lookup (nat_eq addr) modes.plain)
+    || list_any (is_entry_of addr) modes.said)
 
--- what outputs of an address agree on, with one entry more, which may be of another; all its modes may have changed in a line
-abbrev pub entry_agreed : ℕ → Option ℕ → Option (Option ℕ) → ℕ × ModeLine → Option (Option ℕ)
-entry_agreed addr changed agreed entry = if entry.0 / 256 == addr then agreed_with agreed (mode_since changed entry.1) else agreed
+-- what is known where no mode of a packet was said: it isn't known any more if the capture spoke of it, and otherwise nothing was said
+abbrev pub unsaid : Bool → Option (Option ℕ)
+unsaid is_spoken = if is_spoken then Some None else None
 
--- what all outputs of an address agree on of which a mode was said: nothing was said, or the byte if it is that of each
-abbrev pub agreed_from : ℕ → Option ℕ → Option (Option ℕ) → List (ℕ × ModeLine) → Option (Option ℕ)
-agreed_from addr changed agreed entries = fold (entry_agreed addr changed) agreed entries
+-- what is known of an output's mode: the byte if that is still known
+abbrev pub output_mode : ℕ → Option ℕ → Option ModeLine → Option (Option ℕ)
+output_mode lost changed None = unsaid (is_some changed)
+output_mode lost changed (Some said) = Some (mode_since lost changed said)
 
-abbrev pub agreed_mode : Modes → ℕ → Option (Option ℕ)
-agreed_mode modes addr = agreed_from addr (changed_at modes addr) None modes.said
+-- what is known of a plain packet's mode whose output isn't known: that of the last plain read, if the address has no pages
+abbrev pub plain_mode : ℕ → Option ℕ → Option (Option ModeLine) → Bool → Option (Option ℕ)
+plain_mode lost changed (Some (Some said)) is_spoken = Some (mode_since lost changed said)
+plain_mode lost changed (Some None) is_spoken = unsaid is_spoken
+plain_mode lost changed None is_spoken = unsaid is_spoken
 
--- what is known of a plain packet's mode whose output isn't known: that of the last plain read, if the address has no pages, or
--- what its outputs agree on
-abbrev pub plain_or : Option (Option ModeLine) → Option ℕ → Option (Option ℕ) → Option (Option ℕ)
-plain_or (Some (Some said)) changed agreed = Some (mode_since changed said)
-plain_or (Some None) changed agreed = agreed
-plain_or None changed agreed = agreed
-
-abbrev pub unpaged_mode : Modes → ℕ → Option (Option ℕ)
-unpaged_mode modes addr = plain_or (lookup (nat_eq addr) modes.plain) (changed_at modes addr) (agreed_mode modes addr)
-
--- what is known of the mode of a packet that reaches this page, if anything is; FFh is all of them
+-- What is known of the mode of a packet that reaches this page, if anything is. A format is its output's alone: FFh, which is all
+-- pages, has none.
 abbrev pub page_mode : Modes → ℕ → Option ℕ → Option (Option ℕ)
-page_mode modes addr None = unpaged_mode modes addr
-page_mode modes addr (Some page) =
-    if page == 0xFF then option_or (mode_known modes addr page) (unpaged_mode modes addr) else mode_known modes addr page
+page_mode modes addr None =
+    plain_mode modes.lost (changed_at modes addr) (lookup (nat_eq addr) modes.plain) (is_spoken_of modes addr)
+page_mode modes addr (Some page) = if page == 0xFF then unsaid (is_spoken_of modes addr)
+    else output_mode modes.lost (changed_at modes addr) (lookup (nat_eq (key_of addr page)) modes.said)

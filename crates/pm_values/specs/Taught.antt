@@ -20,7 +20,7 @@ use Rattle.pm_table.specs.declared.vout_mode.VoutMode.TheVariants.{Linear, Direc
 use Rattle.pm_frame.specs.declared.message.Message.{Message}
 use Rattle.pm_frame.specs.declared.message.Message.TheVariants.{SendByte, WriteByte, WriteWord, PagePlusWrite, ReadCommand, PagePlusRead, ReadCoefficients}
 use Rattle.pm_trace.specs.Trace.{Judged, Accepted, Faulty, BadSyntax, BadHex}
-use Rattle.pm_values.specs.Modes.{Modes, key_of, is_paging, modes_changed, no_modes, output_said, page_mode, paged, plain_said}
+use Rattle.pm_values.specs.Modes.{Modes, key_of, is_paging, modes_changed, modes_lost, no_modes, output_said, page_mode, paged, plain_said}
 use Rattle.pm_values.specs.declared.formats.GivenFormats.{GivenFormats}
 use Rattle.pm_values.specs.declared.formats.GivenFormat.{GivenFormat}
 use Rattle.pm_values.specs.declared.lessons.Asked.{Asked}
@@ -95,6 +95,10 @@ taught_by line reached taught BadHex = taught
 abbrev pub changed_by : ℕ → Option ℕ → ModeChange → Taught → Taught
 changed_by line addr change taught = record taught { modes = modes_changed line addr change taught.modes }
 
+-- something was lost in this line: no mode that was taught is known any more
+abbrev pub taught_lost : ℕ → Taught → Taught
+taught_lost line taught = record taught { modes = modes_lost line taught.modes }
+
 -- a packet of PAGE or PAGE_PLUS at an address: its plain modes say nothing any more
 abbrev pub paged_at : ℕ → Taught → Taught
 paged_at addr taught = record taught { modes = paged addr taught.modes }
@@ -135,16 +139,14 @@ abbrev pub is_never_relative : ℕ → Bool
 is_never_relative code = code == command.vout_command || (code == command.vout_max || (code == command.vout_min
     || code == command.read_vout))
 
--- the format that was given wins
-abbrev pub relative_shape : Option Shape → ℕ → ℕ → Option Shape
-relative_shape given code byte =
-    if is_never_relative code then option_or given (Some (InUlinear16 (exponent_of byte))) else None
+abbrev pub relative_shape : ℕ → ℕ → Option Shape
+relative_shape code byte = if is_never_relative code then Some (InUlinear16 (exponent_of byte)) else None
 
 abbrev pub shape_of_byte : Option Shape → ℕ → ℕ → Option Coefficients → Option Shape
 shape_of_byte given code byte coefficients =
-    if is_relative byte then relative_shape given code byte else shape_by given (mode_of byte) coefficients
+    if is_relative byte then relative_shape code byte else shape_by given (mode_of byte) coefficients
 
--- the format that was given holds if the trace taught no mode; no format holds if the mode may have changed
+-- the format that was given holds if the trace taught no mode and ended none; no format holds if the mode may have changed
 abbrev pub shape_of_mode : Option Shape → ℕ → Option (Option ℕ) → Option Coefficients → Option Shape
 shape_of_mode given code None coefficients = given
 shape_of_mode given code (Some None) coefficients = None

@@ -55,7 +55,7 @@ impl Lessons {
     ghost use Rattle.std.specs.Map.{lookup};
     ghost use Rattle.pm_table.specs.VoutMode.{IsMode};
     ghost use Rattle.pm_trace.specs.ShownLines.{judged_in};
-    ghost use Rattle.pm_values.specs.Taught.{answer_taught, changed_by, coefficients_known, coefficients_taught, linear_taught, mode_taught, packet_shape, paged_at, paged_by, reading_shape, shape_known, shape_of_byte, side_taught, taught_by, untaught, voltage_shape};
+    ghost use Rattle.pm_values.specs.Taught.{answer_taught, changed_by, coefficients_known, coefficients_taught, linear_taught, mode_taught, packet_shape, paged_at, paged_by, reading_shape, shape_known, shape_of_byte, side_taught, taught_by, taught_lost, untaught, voltage_shape};
 
     /// Nothing yet. Takes no memory.
     pub fn new(alloc: Global) -> Lessons
@@ -80,6 +80,13 @@ impl Lessons {
         ensures { OnOk result (self.new ≡ changed_by line addr change self.old) }
     {
         self.modes.change(line, addr, change)
+    }
+
+    /// Forgets the modes of all addresses, since something was lost in this line.
+    pub fn lose(&mut self, line: u64)
+        ensures { self.new ≡ taught_lost line self.old }
+    {
+        self.modes.lose(line);
     }
 
     /// Learns that an address has pages, when a packet of PAGE or PAGE_PLUS comes: its plain modes say nothing any more.
@@ -257,8 +264,7 @@ impl Lessons {
             (coefficients_known self.now asked.is_read (spec_key_of asked.addr asked.code)) }
     {
         if byte / 32 == 4 {
-            let vout = format_given(&given.vout, asked.addr, asked.code);
-            return relative_format(vout, asked.code, byte);
+            return relative_format(asked.code, byte);
         }
         match VoutMode::read(byte) {
             Ok(mode) => self.mode_format(given, mode, asked),
@@ -317,16 +323,14 @@ impl Lessons {
     }
 }
 
-// The format of a voltage by a relative mode: the one that is given, otherwise ULINEAR16 for all that is never relative.
-fn relative_format(given: Option<AnyFormat>, code: u8, byte: u8) -> Option<AnyFormat>
-    ensures { option_map shape_of result ≡ relative_shape (option_map shape_of given) code byte }
+// The format of a voltage by a relative mode: ULINEAR16 for all that is never relative.
+fn relative_format(code: u8, byte: u8) -> Option<AnyFormat>
+    ensures { option_map shape_of result ≡ relative_shape code byte }
 {
-    if !is_never_relative(code) {
-        return None;
-    }
-    match given {
-        Some(format) => Some(format),
-        None => linear_format(exponent_in(byte)),
+    if is_never_relative(code) {
+        linear_format(exponent_in(byte))
+    } else {
+        None
     }
 }
 

@@ -13,15 +13,17 @@ pub enum ModeChange {
     OfOutput(u8),
     /// All of them.
     OfAll,
+    /// All of them, if one was written before: the part restarted.
+    OfRestart,
 }
 
-/// The modes that a packet may change by its write part, whatever fault it has: a write of VOUT_MODE, or RESTORE. `page` is
-/// the one that plain packets reach, if that is sure.
-pub fn mode_change(write: &[u8], is_read: bool, page: Option<u8>) -> ModeChange
-    ensures { result ≡ change_of write.now is_read page }
+/// The modes that a packet may change by its write part, whatever fault it has, and whether a read part follows or not: a
+/// write of VOUT_MODE, or RESTORE. `page` is the one that plain packets reach, if that is sure.
+pub fn mode_change(write: &[u8], page: Option<u8>) -> ModeChange
+    ensures { result ≡ change_of page write.now }
 {
     match write {
-        [_, code, rest @ ..] if !is_read => {
+        [_, code, rest @ ..] => {
             if Code(*code) == Code::PAGE_PLUS_WRITE {
                 let named = rest.get(1).copied().unwrap_or(0);
                 let carried = rest.get(2).copied().unwrap_or(0);
@@ -50,8 +52,8 @@ fn code_change(page: Option<u8>, code: u8, has_data: bool) -> ModeChange
     }
 }
 
-// Whether a code restores registers: RESTORE_USER_ALL, RESTORE_DEFAULT_ALL, RESTORE_DEFAULT_CODE and RESTORE_USER_CODE.
-fn is_restore(code: u8) -> bool
+/// Whether a code restores registers: RESTORE_USER_ALL, RESTORE_DEFAULT_ALL, RESTORE_DEFAULT_CODE and RESTORE_USER_CODE.
+pub fn is_restore(code: u8) -> bool
     ensures { result ≡ spec_is_restore code }
 {
     Code(code) == Code::RESTORE_USER_ALL || code == 0x12 || code == 0x14 || code == 0x18

@@ -1,6 +1,6 @@
 //! What a capture says of the VOUT_MODE of each output.
-ghost use Rattle.std.specs.Prelude.{◌≡◌, ◌≤◌};
-ghost use Rattle.pm_values.specs.Modes.{agreed_with, entry_agreed as spec_entry_agreed, key_of as spec_key_of, mode_since as spec_mode_since, plain_over as spec_plain_over, same_mode as spec_same_mode};
+ghost use Rattle.std.specs.Prelude.{◌≡◌};
+ghost use Rattle.pm_values.specs.Modes.{key_of as spec_key_of, mode_since as spec_mode_since, plain_over as spec_plain_over, unsaid as spec_unsaid};
 
 use crate::mode_changes::ModeChange;
 use indexmap::IndexMap;
@@ -24,6 +24,10 @@ pub(crate) struct Modes {
     plain: IndexMap<u8, Option<ModeLine>>,
     // The last line by which all modes of an address may have changed.
     changed: IndexMap<u8, u64>,
+    // The addresses with a mode that a packet may have changed.
+    written: IndexMap<u8, bool>,
+    // The last line in which something was lost, of nobody knows which address, or 0.
+    lost: u64,
 }
 
 impl Model for Modes {
@@ -31,13 +35,14 @@ impl Model for Modes {
 
     ghost Value = { Modes };
 
-    ghost view = { λ m. record { said = m.said.entries; plain = m.plain.entries; changed = m.changed.entries } };
+    ghost view = { λ m. record { said = m.said.entries; plain = m.plain.entries; changed = m.changed.entries; written = m.written.entries; lost = m.lost } };
 }
 
 impl Modes {
     ghost use Rattle.std.specs.Map.{lookup};
     ghost use Rattle.std.specs.Prelude.{OnOk, Some, None, nat_eq, true};
-    ghost use Rattle.pm_values.specs.Modes.{agreed_mode, all_changed, changed_at, mode_known, modes_changed, no_modes, output_said, page_mode, paged, plain_said, unpaged_mode};
+    ghost use Rattle.std.specs.List.{list_any};
+    ghost use Rattle.pm_values.specs.Modes.{all_changed, changed_at, is_entry_of, is_spoken_of, mode_written, modes_changed, modes_lost, no_modes, output_mode, output_said, page_mode, paged, plain_said};
 
     /// Nothing yet. Takes no memory.
     pub(crate) fn new(alloc: Global) -> Modes
@@ -47,6 +52,8 @@ impl Modes {
             said: IndexMap::new(alloc),
             plain: IndexMap::new(alloc),
             changed: IndexMap::new(alloc),
+            written: IndexMap::new(alloc),
+            lost: 0,
         }
     }
 
@@ -65,12 +72,36 @@ impl Modes {
         };
         match change {
             ModeChange::OfNone => Ok(()),
-            ModeChange::OfOutput(page) => self.say(line, addr, page, None),
+            ModeChange::OfOutput(page) => {
+                self.say(line, addr, page, None)?;
+                self.write(addr)
+            }
             ModeChange::OfAll => {
                 self.changed.insert(addr, line)?;
+                self.write(addr)
+            }
+            ModeChange::OfRestart => {
+                if self.written.get(&addr).is_some() {
+                    self.changed.insert(addr, line)?;
+                }
                 Ok(())
             }
         }
+    }
+
+    /// Takes that something was lost in this line, of nobody knows which address: no mode that was said is known any more.
+    pub(crate) fn lose(&mut self, line: u64)
+        ensures { self.new ≡ modes_lost line self.old }
+    {
+        self.lost = line;
+    }
+
+    // Takes that a mode of an address may have been written.
+    fn write(&mut self, addr: u8) -> Result<(), AllocError>
+        ensures { OnOk result (self.new ≡ mode_written addr self.old) }
+    {
+        self.written.insert(addr, true)?;
+        Ok(())
     }
 
     /// Takes the mode of an output, or that it isn't known any more. Takes memory for an output that is new.
@@ -121,54 +152,62 @@ impl Modes {
         }
     }
 
-    /// What is known of the mode of a packet that reaches this page, if anything is: nothing was said of it, or the byte
-    /// if that is still known. FFh is all pages.
+    /// What is known of the mode of a packet that reaches this page: None if no mode was said and nothing may have changed
+    /// it, or the byte if that is still known. FFh, which is all pages, has none.
     pub(crate) fn of_page(&self, addr: u8, page: Option<u8>) -> Option<Option<u8>>
         ensures { result ≡ page_mode self.now addr page }
     {
-        let Some(page) = page else {
-            return self.unpaged(addr);
-        };
-        match self.of_output(addr, page) {
-            None if page == 0xFF => self.unpaged(addr),
-            mode => mode,
+        match page {
+            None => self.of_plain(addr),
+            Some(0xFF) => unsaid(self.is_spoken_of(addr)),
+            Some(page) => self.of_output(addr, page),
         }
     }
 
     // What is known of an output's mode. If nothing was said of any, it needs no look-up.
     #[tactic(auto, using(crate::proofs::ModeLemmas::none_said))]
     fn of_output(&self, addr: u8, page: u8) -> Option<Option<u8>>
-        ensures { result ≡ mode_known self.now addr page }
+        ensures { result ≡ output_mode self.now.lost (changed_at self.now addr) (lookup (nat_eq (spec_key_of addr page)) self.now.said) }
     {
+        let changed = self.changed_at(addr);
         if self.said.is_empty() {
-            return None;
+            return unsaid(changed.is_some());
         }
         match self.said.get(&key_of(addr, page)).copied() {
-            Some(said) => Some(mode_since(self.changed_at(addr), said)),
-            None => None,
+            Some(said) => Some(mode_since(self.lost, changed, said)),
+            None => unsaid(changed.is_some()),
         }
     }
 
     // What is known of a plain packet's mode whose output isn't known.
-    fn unpaged(&self, addr: u8) -> Option<Option<u8>>
-        ensures { result ≡ unpaged_mode self.now addr }
+    fn of_plain(&self, addr: u8) -> Option<Option<u8>>
+        ensures { result ≡ page_mode self.now addr None }
     {
         match self.plain.get(&addr).copied() {
-            Some(Some(said)) => Some(mode_since(self.changed_at(addr), said)),
-            _ => self.agreed(addr),
+            Some(Some(said)) => Some(mode_since(self.lost, self.changed_at(addr), said)),
+            _ => unsaid(self.is_spoken_of(addr)),
         }
     }
 
-    // What all outputs of an address agree on of which a mode was said.
-    fn agreed(&self, addr: u8) -> Option<Option<u8>>
-        ensures { result ≡ agreed_mode self.now addr }
+    // Whether a mode of an address was said, or something may have changed all of them.
+    fn is_spoken_of(&self, addr: u8) -> bool
+        ensures { result ≡ is_spoken_of self.now addr }
     {
-        let changed = self.changed_at(addr);
-        let mut agreed = None;
-        for (key, said) in self.said.iter() {
-            agreed = entry_agreed(addr, changed, agreed, *key, *said);
+        self.changed_at(addr).is_some()
+            || matches!(self.plain.get(&addr).copied(), Some(Some(_)))
+            || self.has_output(addr)
+    }
+
+    // Whether a mode of an output of an address was said.
+    fn has_output(&self, addr: u8) -> bool
+        ensures { result ≡ list_any (is_entry_of addr) self.now.said }
+    {
+        for (key, _) in self.said.iter() {
+            if *key / 256 == u16::from(addr) {
+                return true;
+            }
         }
-        agreed
+        false
     }
 
     // The last line by which all modes of an address may have changed.
@@ -179,10 +218,13 @@ impl Modes {
     }
 }
 
-// The byte of a mode that a line said, unless all modes of its address may have changed since then.
-fn mode_since(changed: Option<u64>, said: ModeLine) -> Option<u8>
-    ensures { result ≡ spec_mode_since changed said }
+// The byte of a mode that a line said, unless all modes of its address may have changed since then, or something was lost.
+fn mode_since(lost: u64, changed: Option<u64>, said: ModeLine) -> Option<u8>
+    ensures { result ≡ spec_mode_since lost changed said }
 {
+    if lost >= said.line {
+        return None;
+    }
     match changed {
         Some(line) if line >= said.line => None,
         _ => said.byte,
@@ -199,40 +241,11 @@ fn plain_over(before: Option<Option<ModeLine>>, said: ModeLine) -> Option<ModeLi
     }
 }
 
-// What outputs agree on, with this one, if it is of the address.
-fn entry_agreed(
-    addr: u8,
-    changed: Option<u64>,
-    agreed: Option<Option<u8>>,
-    key: u16,
-    said: ModeLine,
-) -> Option<Option<u8>>
-    ensures { result ≡ spec_entry_agreed addr changed agreed (key, said) }
+// What is known if no mode of a packet was said: the capture spoke of it, or not.
+fn unsaid(is_spoken: bool) -> Option<Option<u8>>
+    ensures { result ≡ spec_unsaid is_spoken }
 {
-    if key / 256 != u16::from(addr) {
-        return agreed;
-    }
-    agree(agreed, mode_since(changed, said))
-}
-
-// What outputs agree on, with one more.
-fn agree(agreed: Option<Option<u8>>, mode: Option<u8>) -> Option<Option<u8>>
-    ensures { result ≡ agreed_with agreed mode }
-{
-    match agreed {
-        None => Some(mode),
-        Some(agreed) => Some(same_mode(agreed, mode)),
-    }
-}
-
-// Two modes, if they are known and the same.
-fn same_mode(one: Option<u8>, other: Option<u8>) -> Option<u8>
-    ensures { result ≡ spec_same_mode one other }
-{
-    match (one, other) {
-        (Some(one), Some(other)) if one == other => Some(one),
-        _ => None,
-    }
+    if is_spoken { Some(None) } else { None }
 }
 
 /// The output of a page at an address, or the code of an address.

@@ -62,6 +62,8 @@ ADDRESSED = [
     ("sigrok", "i2c-1: Start\ni2c-1: Stop\n", ["# a part with no byte: "]),
     ("saleae", SALEAE + "address,true,0x58,false,\nerror,,,,\ndata,true,,,0x03\nstop,,,,\n", ["B0 03"]),
 ]
+# A packet on an adapter, to an address.
+SENT = "i2c_write: i2c-{0} #0 a={1} f=0000 l=1 [03]\ni2c_result: i2c-{0} n=1 ret=1\n"
 # Texts that are no captures, and why.
 REFUSED = [
     ("sigrok", "", "no packet: the text is empty"), ("sigrok", "any\nwords\n", "no packet"),
@@ -86,6 +88,9 @@ REFUSED = [
      "line 3: rows of I2C and of I2C [1]: export the table of one analyser"),
     ("linux", "smbus_write: i2c-1 a=058 f=0000 c=21 WORD_DATA l=2 [cd-34]\n",
      "no packet: the events smbus_ show no packet error code; capture those of i2c_"),
+    ("linux", f"{SENT.format(0, '058')}{SENT.format(1, '059')}{SENT.format(1, '058')}",
+     "address 58 is on i2c-0 and on i2c-1: give --bus=0 or --bus=1"),
+    ("sigrok", "i2c-1: Start\ni2c-2: Start\n", "line 2 is of i2c-2, and the lines before are of i2c-1: keep the lines of one"),
 ]
 EVENT = "2210.{}: i2c_write: i2c-1 #0 a=058 f=0000 l=1 [03]\n2210.{}: i2c_result: i2c-1 n=1 ret=1\n"
 TIMED = "type,start_time,ack,address,read,data\n"

@@ -6,7 +6,7 @@ from .following import Pages, is_good_page
 from .lines import MOST_BYTES, TextFault, decimal, is_skipped, lines_of
 from .numbers import coefficients_fault
 from .packets import VOUT_CODES, name_of
-from .telling import ANSWER, DOUBTFUL, Answers, fields_of, object_text, of_all, text_of
+from .telling import ANSWER, DOUBTFUL, Answers, fields_of, is_closed, object_text, of_all, text_of
 from .trace import judged, parts_of
 from .values import READINGS, Formats, value_fields, words_of_value
 
@@ -117,9 +117,7 @@ class Telling:
     def line(self, number, line):
         if is_skipped(line):
             if self.pages and line.startswith(b"#"):
-                failed = self.pages.comment(number, line)
-                if failed is not None:
-                    self.formats.has_pages(failed)
+                self.formats.note(self.pages.comment(number, line))
             return
         time = None
         if "--times" in self.options:
@@ -148,8 +146,9 @@ class Telling:
         if self.beyond is None and self.is_beyond(packet):
             self.beyond = number
         is_turned = wrong is not None and is_good_page(packet)
-        self.formats.forget(packet, frame, read, self.pages.sure_page(packet) if self.pages else None, is_turned)
-        if packet.get("taken") != DOUBTFUL:
+        is_clear = packet["kind"] != "fault" or len(frame) > 1 and is_closed(frame, read)
+        self.formats.forget(packet, frame, is_clear, self.pages.sure_page(packet) if self.pages else None, is_turned)
+        if packet.get("taken") != DOUBTFUL and not wrong:
             self.formats.learn(packet)
         if self.pages:
             self.pages.learn(number, packet, frame, read)
@@ -168,6 +167,7 @@ class Telling:
         self.bad += 1
         if self.pages:
             self.pages.lose()
+            self.formats.lose(None)
         self.said.append(object_text({"line": number, "fault": words}) if "--json" in self.options else f"{number} {words}")
 
     def count(self, packet, parts):

@@ -33,6 +33,11 @@ COMMENTS = [b"#", b"# no stop: B0 05 04", b"# another device: A0 00 01", b"# ano
             b"# failed (-5): B0 00 / B1", b" # x", b"# failed (-121): B0 00 01 ED", b"# failed (1 of 2): B1 00", b"# failed (-6): B0",
             b"# failed (-6): B0 21 00 30 20", b"# failed (-6): B", b"# failed (-6)", b"# failed", b"# a read alone: 19 B0",
             b"# a read alone: b1 00", b"# no stop: 10 05 04", b"# no stop: EE", b"# no stop", b"# 3 parts: B0 00 / B1 / B1",
+            b"# no stop: B0 00 01", b"# no result: B0 00 / B1", b"# no result: B0 20 17", b"# failed (-110): B0 16", b"# no stop: B0 20",
+            b"# no stop: ", b"# a part with no byte: B0 00 01 / ", b"# another device: B2 00 01 / B0 00 01", b"# a read alone: 19 B0 / B2 00",
+            b"# another device: B2 00 / B3 01 / B0 00", b"# another device: 6E 20 17", b"# another device: 00 03", b"# no result: 6E 00 01",
+            b"# another device: A0 00 / A1 00", b"# the kernel dropped events", b"# the second part is no read of the device: B2 / B0",
+            b"# 12 parts: B0 00", b"# no stop: B0 05 03 00 20 17", b"# no stop: B0 05 / B1", b"# the kernel shows 1 of 2 bytes: B0 21",
             b"# failed (-5" + b" " * 45 + b"): B0 00", b"# failed (-5" + b" " * 44 + b"): B0 00", b"# failed (-5)" + b" " * 60 + b": B0 00"]
 
 

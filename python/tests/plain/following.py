@@ -8,12 +8,49 @@ PAGE = CODES["PAGE"]
 # Codes that PAGE selects no output for: PAGE and those of PAGE_PLUS, WRITE_PROTECT to QUERY, COEFFICIENTS, PMBUS_REVISION to
 # MFR_SERIAL, IC_DEVICE_ID and IC_DEVICE_REV.
 OF_DEVICE = {0x00, 0x05, 0x06, *range(0x10, 0x1B), 0x30, *range(0x98, 0x9F), 0xAD, 0xAE}
-# Comments of `pmhost capture`: those that say nothing of the devices whose packets are lines, and one above a packet of which
-# a byte wasn't acknowledged.
-ELSEWHERE, UNACKNOWLEDGED = (b"# another device", b"# no device acknowledged the address"), b"# byte "
-# Those that show a packet behind a colon: one that failed, and one of which nobody knows what it did.
-FAILED, CUT = b"# failed (", (b"# no stop: ", b"# a read alone: ")
-SHOWN = re.compile(rb"([0-9A-Fa-f]{2})(.*)", re.DOTALL)
+# Comments of `pmhost capture`: one above a packet of which a byte wasn't acknowledged; those that packets are missing, or that a
+# transfer had parts of several devices; and those that show a transfer behind a colon, which failed, was cut or is no packet.
+UNACKNOWLEDGED, ANOTHER = b"# byte ", b"# another device: "
+MISSING = re.compile(rb"# the (kernel dropped events|kernel shows |capture shows |second part is no read)|.{3,4} parts: ", re.DOTALL)
+SHOWING = b"# failed", b"# no stop: ", b"# no result: ", b"# a read alone: ", b"# a part "
+BYTE, SLASH = re.compile(rb"[0-9A-Fa-f]{2}"), b" / "
+# The addresses of a general call, and of a write to a zone.
+OF_ALL = (0x00, 0x37)
+# What changes VOUT_MODE: RESTORE, and with data PAGE_PLUS_WRITE, which may carry it, and VOUT_MODE.
+RESTORES, REWRITING = (0x12, 0x14, 0x16, 0x18), (0x05, 0x20)
+# What a comment says: nothing was told of some address, PAGE or modes of one may have changed.
+ALL, OF_PAGE, OF_MODES = "all", "page", "modes"
+
+
+def byte_at(text, place):
+    """The byte whose digits stand at a place of a text, or None."""
+    found = BYTE.match(text, place)
+    return int(found[0], 16) if found else None
+
+
+def spaced_at(text, place):
+    """The same behind a space."""
+    return byte_at(text, place + 1) if text[place:place + 1] == b" " else None
+
+
+def transfer_shown(text, is_elsewhere):
+    """What a comment says with the bytes of a transfer, by their text, as a kind and an address; or None."""
+    first, code = byte_at(text, 0), spaced_at(text, 2)
+    if first is None:
+        return None
+    others = [byte_at(part, 0) for part in text.split(SLASH)[1:]]
+    if others and others[0] is not None and (others[0] != first | 1 or others[1:2] not in ([], [None])):
+        return ALL, None
+    kind = None
+    if code == PAGE:
+        kind = OF_PAGE
+    elif code in RESTORES or code in REWRITING and spaced_at(text, 5) is not None:
+        kind = OF_MODES
+    if kind is None or first & 1:
+        return None
+    if first >> 1 in OF_ALL:
+        return ALL, None
+    return None if is_elsewhere else (kind, first >> 1)
 
 
 class Place:
@@ -53,23 +90,20 @@ class Pages:
             place.lose()
 
     def comment(self, number, line):
-        """A comment, of which the first 63 bytes count. Answers the address of a packet of PAGE that it shows, or None."""
-        line = line[:63]
-        shown = SHOWN.fullmatch(line.partition(b": ")[2])
-        address = int(shown[1], 16) >> 1 if shown else None
+        """A comment, of which the first 63 bytes count. Answers what it says: a kind and an address, or None."""
+        line, said = line[:63], None
+        text = line.partition(b": ")[2]
         if line.startswith(UNACKNOWLEDGED):
             self.is_unacknowledged = True
-        elif line.startswith(ELSEWHERE):
-            pass
-        elif line.startswith(FAILED) and shown:
-            if shown[2].startswith(b" 00"):
-                self.place(address).fail(number, not shown[2][3:].startswith(b" /"))
-                return address
-        elif line.startswith(CUT) and shown:
-            self.place(address).lose()
-        else:
+        elif MISSING.match(line):
+            said = ALL, None
+        elif line.startswith((ANOTHER, *SHOWING)):
+            said = transfer_shown(text, line.startswith(ANOTHER))
+        if said and said[0] == ALL:
             self.lose()
-        return None
+        elif said and said[0] == OF_PAGE:
+            self.place(said[1]).fail(number, text[5:7] != b" /")
+        return said
 
     def come(self, packet, time):
         """A packet comes at a time, or at None."""

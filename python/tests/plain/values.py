@@ -119,7 +119,7 @@ def words_of_value(fields):
 
 
 def pages_changed(frame, page):
-    """The pages whose mode a write may have changed, None for all, by its bytes alone."""
+    """The pages whose mode a packet may have changed, None for all, by its write part alone."""
     code, data = frame[1:2], frame[2:]
     if code == [CODES["PAGE_PLUS_WRITE"]]:
         page, code, data = (data + [0, 0])[1], data[2:3], data[3:]
@@ -130,12 +130,13 @@ def pages_changed(frame, page):
 
 class Formats:
     """What a trace taught of formats: the last mode of each address and page, or OVER where it may have changed since then; the last
-    plain mode of each address without pages; the addresses that have pages; those that showed ULINEAR16; the last coefficients of
-    each address, code and side. `vout` are the formats of other voltages, `readings` those of readings: for an address or None and
+    plain mode of each address without pages; the addresses that have pages; those of which all modes may have changed; those with a
+    mode that a packet may have written; those that showed ULINEAR16; the last coefficients of each address, code and side. `vout` are the formats of other voltages, `readings` those of readings: for an address or None and
     a code or None a format, the first that fits."""
 
     def __init__(self, vout, readings):
-        self.modes, self.plain, self.paged, self.linear, self.coefficients = {}, {}, set(), set(), {}
+        self.modes, self.plain, self.coefficients = {}, {}, {}
+        self.paged, self.changed, self.over, self.linear = set(), set(), set(), set()
         self.vout, self.readings = vout, readings
 
     def learn(self, packet):
@@ -151,21 +152,36 @@ class Formats:
             if byte < 0x20:
                 self.linear.add(address)
 
-    def forget(self, packet, frame, read, page, is_turned):
-        """What a packet may have changed: `page` is that of plain packets, where it is sure; `is_turned` is whether the packet
-        reads another page than the one that was written last."""
+    def forget(self, packet, frame, is_clear, page, is_turned):
+        """What a packet may have changed: one that isn't clear names no output; `page` is that of plain packets, where it is sure;
+        `is_turned` is whether the packet reads another page than the one that was written last."""
         address = packet["address"]
         if address is None:
             return
-        changed = [None] if is_turned else pages_changed(frame, page) if read is None else []
+        changed = [None] * (address in self.over) if is_turned else pages_changed(frame, page)
+        self.over.update([address] * bool(changed))
         for each in changed:
-            if each in (None, 0xFF):
-                self.modes.update({of: OVER for of in self.modes if of[0] == address})
-                self.plain.update({of: OVER for of in self.plain if of == address})
+            if each in (None, 0xFF) or not is_clear:
+                self.lose(address)
             else:
                 self.modes[address, each] = OVER
         if frame[1:2] and frame[1] in PAGING:
             self.has_pages(address)
+
+    def lose(self, address):
+        """All modes of an address may have changed; None ends all that was taught, of whatever address."""
+        if address is not None:
+            self.changed.add(address)
+            self.over.add(address)
+        self.modes.update({of: OVER for of in self.modes if address in (None, of[0])})
+        self.plain.update({of: OVER for of in self.plain if address in (None, of)})
+
+    def note(self, said):
+        """What a comment says: a kind and an address, or None."""
+        if said and said[0] == "page":
+            self.has_pages(said[1])
+        elif said:
+            self.lose(said[1])
 
     def has_pages(self, address):
         """A packet of PAGE or PAGE_PLUS was seen: plain modes say nothing any more."""
@@ -190,7 +206,7 @@ class Formats:
         if mode == OVER:
             return None
         if is_relative(mode):
-            return (vout or format_of(mode - 0x80, ())) if name_of(code) in NEVER_RELATIVE else None
+            return format_of(mode - 0x80, ()) if name_of(code) in NEVER_RELATIVE else None
         if mode_fault(mode) or mode != DIRECT:
             return None if mode_fault(mode) else format_of(mode, ())
         own = int(packet["kind"] == "read")
@@ -201,12 +217,12 @@ class Formats:
 
     def mode(self, address, page):
         """The mode that a packet of this page meets, OVER, or None where nothing was said of it."""
-        if page is not None and (page != 0xFF or (address, page) in self.modes):
-            return self.modes.get((address, page))
-        if address in self.plain:
+        changed = OVER if address in self.changed else None
+        if page not in (None, 0xFF):
+            return self.modes.get((address, page), changed)
+        if page is None and address in self.plain:
             return self.plain[address]
-        said = {mode for (where, _), mode in self.modes.items() if where == address}
-        return said.pop() if len(said) == 1 else OVER if said else None
+        return OVER if address in self.plain or any(where == address for where, _ in self.modes) else changed
 
 
 def given(entries, address, code):

@@ -125,7 +125,9 @@ class Reader:
     """Tells packets one after another, and keeps what they teach of formats."""
 
     def __init__(self, vout="", readings=""):
-        self.modes, self.plain, self.paged, self.linear, self.coefficients = {}, {}, set(), set(), {}
+        self.modes, self.plain, self.coefficients = {}, {}, {}
+        # The addresses that have pages, those of which all modes may have changed, and those that showed ULINEAR16.
+        self.paged, self.changed, self.linear = set(), set(), set()
         # The addresses that sent a right PEC, and what was written last to each code.
         self.checked, self.written = set(), {}
         self.vout, self.readings = vouts_of(vout), readings_of(readings)
@@ -157,23 +159,37 @@ class Reader:
             return Told(FAULT, "-- no address of a device", "?")
         told = self.told(write, read)
         self.hear(told, write, read)
-        self.forget(write, read)
+        self.forget(write, told.kind != FAULT or len(write) > 1 and is_last_right(write, read))
         return told
 
-    def forget(self, write, read):
-        """What a packet may have changed: its modes, and whether its address has pages."""
+    def forget(self, write, is_clear):
+        """What a packet may have changed: its modes, and whether its address has pages. One that isn't clear names no output."""
         address, code, data, page = write[0], write[1:2], write[2:], None
         if code == [CARRIER]:
             page, code, data = (data + [0, 0])[1], data[2:3], data[3:]
-        if read is None and code and (code[0] in RESTORES or code == [MODE] and data):
-            if code == [MODE] and page not in (None, 0xFF):
+        if code and (code[0] in RESTORES or code == [MODE] and data):
+            if code == [MODE] and page not in (None, 0xFF) and is_clear:
                 self.modes[address, page] = OVER
             else:
-                self.modes.update({of: OVER for of in self.modes if of[0] == address})
-                self.plain.update({of: OVER for of in self.plain if of == address})
+                self.lose(address)
         if write[1:2] and write[1] in (CODES["PAGE"], CARRIER, REQUESTER):
             self.paged.add(address)
             self.plain.pop(address, None)
+
+    def lose(self, address):
+        """All modes of an address may have changed; None ends all that was read, of whatever address."""
+        if address is not None:
+            self.changed.add(address)
+        self.modes.update({of: OVER for of in self.modes if address in (None, of[0])})
+        self.plain.update({of: OVER for of in self.plain if address in (None, of)})
+
+    def no_packet(self, changed):
+        """What bytes that are no packet may have changed, by `changed_by` of pages.py: a kind and an address."""
+        if changed and changed[0] == "page":
+            self.paged.add(2 * changed[1])
+            self.plain.pop(2 * changed[1], None)
+        elif changed:
+            self.lose(None if changed[1] is None else 2 * changed[1])
 
     def told(self, write, read):
         """The same of a packet with an address."""
@@ -254,7 +270,7 @@ class Reader:
         if mode == OVER:
             return None
         if 0x80 <= mode < 0xA0:
-            return (given or format_of(form_text(mode - 0x80))) if NAMES[code] in NEVER_RELATIVE else None
+            return format_of(form_text(mode - 0x80)) if NAMES[code] in NEVER_RELATIVE else None
         if mode_words(mode) != "DIRECT":
             return format_of(form_text(mode))
         for each in (side, 1 - side):
@@ -264,12 +280,12 @@ class Reader:
 
     def mode(self, address, page):
         """The mode that a packet of this page meets, OVER, or None where nothing was said of it."""
-        if page is not None and (page != 0xFF or (address, page) in self.modes):
-            return self.modes.get((address, page))
-        if address in self.plain:
+        changed = OVER if address in self.changed else None
+        if page not in (None, 0xFF):
+            return self.modes.get((address, page), changed)
+        if page is None and address in self.plain:
             return self.plain[address]
-        said = {mode for (where, _), mode in self.modes.items() if where == address}
-        return said.pop() if len(said) == 1 else OVER if said else None
+        return OVER if address in self.plain or any(where == address for where, _ in self.modes) else changed
 
     def other(self, where, write, read, taken):
         """A packet by its code and bytes."""

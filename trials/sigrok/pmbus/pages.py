@@ -5,6 +5,31 @@ from .tables import NAMES
 PAGE = next(code for code, name in NAMES.items() if name == "PAGE")
 # Codes that PAGE selects no output for.
 OF_DEVICE = {PAGE, 0x05, 0x06, *range(0x10, 0x1B), 0x30, *range(0x98, 0x9F), 0xAD, 0xAE}
+# The addresses of a general call, and of a write to a zone.
+OF_ALL = (0x00, 0x37)
+# What changes VOUT_MODE: RESTORE, and with data PAGE_PLUS_WRITE, which may carry it, and VOUT_MODE.
+RESTORES, REWRITING = (0x12, 0x14, 0x16, 0x18), (0x05, 0x20)
+# What bytes that are no packet may have changed: anything, or of one address PAGE or modes.
+ALL, OF_PAGE, OF_MODES = "all", "page", "modes"
+
+
+def changed_by(parts, is_elsewhere):
+    """What bytes may have changed that are no packet, or one of another device, as a kind and an address; or None."""
+    if not parts[0]:
+        return None
+    first, code, data = parts[0][0], parts[0][1:2], parts[0][2:]
+    if len(parts) > 2 or len(parts) == 2 and parts[1] and parts[1][0] != first | 1:
+        return ALL, None
+    kind = None
+    if code == [PAGE]:
+        kind = OF_PAGE
+    elif code and (code[0] in RESTORES or code[0] in REWRITING and data):
+        kind = OF_MODES
+    if kind is None or first & 1:
+        return None
+    if first >> 1 in OF_ALL:
+        return ALL, None
+    return None if is_elsewhere else (kind, first >> 1)
 
 
 class Place:
@@ -24,14 +49,17 @@ class Pages:
     def place(self, address):
         return self.places.setdefault(address, Place())
 
-    def no_packet(self, address, is_unheard, is_whole):
-        """Bytes that are no packet. `is_unheard`: nobody acknowledged the address, which says nothing. `is_whole`: it is known of which
-        address they were; otherwise nothing is known of any."""
-        self.count += 1
-        if is_unheard:
-            return
-        for place in [self.place(address)] if is_whole else self.places.values():
-            place.written = place.broken = None
+    def no_packet(self, changed, parts):
+        """What bytes that are no packet may have changed, by `changed_by`."""
+        kind, address = changed or (None, None)
+        if kind == ALL:
+            for place in self.places.values():
+                place.written = None
+        elif kind == OF_PAGE:
+            place = self.place(address)
+            place.broken = self.count
+            if len(parts) == 1 or len(parts[0]) > 2:
+                place.written = None
 
     def packet(self, told, write, is_acknowledged):
         """The two packets that contradict each other, of which the second is this one; or None."""

@@ -4,13 +4,11 @@ import re
 import sigrokdecode as srd
 
 from .packets import FAULT, KNOWN, OTHER, Reader, labels, pec, readings_of, spaced, vouts_of
-from .pages import Pages
+from .pages import Pages, changed_by
 
 # Annotations by their places below.
 PACKET, OTHERS, FAULTY, NONE, BYTE, PEC_RIGHT, PEC_WRONG, WRONG_PAGE = range(8)
 UNHEARD, CUT, ALONE = "no device acknowledged the address", "no stop", "a read alone"
-# Bytes that are no packet, and say of no other address anything.
-OF_ONE = CUT, ALONE
 CLASSES = {KNOWN: PACKET, OTHER: OTHERS, FAULT: FAULTY}
 
 
@@ -86,13 +84,18 @@ class Decoder(srd.Decoder):
     def told(self, last, ending):
         """Puts what a packet says, from its start to its end."""
         parts = [[it[0] for it in part] for part in self.parts]
-        if self.address is not None and parts[0] and parts[0][0] >> 1 != self.address:
-            return
+        is_elsewhere = bool(self.address is not None and parts[0] and parts[0][0] >> 1 != self.address)
         refusal = self.refusal(parts, ending)
+        if is_elsewhere or refusal:
+            self.pages.count += not is_elsewhere
+            changed = None if refusal == UNHEARD else changed_by(parts, is_elsewhere)
+            self.pages.no_packet(changed, parts)
+            self.reader.no_packet(changed)
+        if is_elsewhere:
+            return
         if refusal:
             shown = " / ".join(spaced(part) for part in parts)
             self.put(self.first, last, self.out_ann, [NONE, ["%s: %s" % (refusal, shown), refusal]])
-            self.pages.no_packet(parts[0][0] >> 1 if parts[0] else None, refusal == UNHEARD, refusal in OF_ONE)
             return
         told = self.reader.tell(*parts)
         wrong = self.pages.packet(told, parts[0], self.is_acknowledged())

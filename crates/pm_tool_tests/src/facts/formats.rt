@@ -1,5 +1,5 @@
-//! Which format a voltage has: that of the last plain VOUT_MODE, a relative one, one of a list by address, what outputs agree
-//! on, and DIRECT by its side.
+//! Which format a voltage has: that of the last plain VOUT_MODE, a relative one, one of a list by address, none where the
+//! output isn't known, and DIRECT by its side.
 
 use super::Row;
 
@@ -78,7 +78,7 @@ lines 15 accepted 15 faults 0 bad 0
         0,
         "
 B0 06 02 00 20 / B1 01 97 CE -> 58 page 0 VOUT_MODE read 97 ULINEAR16 -9 relative
-B0 05 04 00 21 00 10 A2 -> 58 page 0 VOUT_COMMAND write 1000 1 V
+B0 05 04 00 21 00 10 A2 -> 58 page 0 VOUT_COMMAND write 1000 8 V
 B0 05 04 00 25 00 10 09 -> 58 page 0 VOUT_MARGIN_HIGH write 1000
 count VOUT_MODE 1
 count VOUT_COMMAND 1
@@ -118,23 +118,23 @@ lines 2 accepted 2 faults 0 bad 0
         0,
         "
 B0 06 02 00 20 / B1 01 13 5B -> 58 page 0 VOUT_MODE read 13 ULINEAR16 -13
-B0 21 00 20 50 -> 58 VOUT_COMMAND write 2000 1 V
-B0 05 04 FF 21 00 20 E3 -> 58 page 255 VOUT_COMMAND write 2000 1 V
+B0 21 00 20 50 -> 58 VOUT_COMMAND write 2000
+B0 05 04 FF 21 00 20 E3 -> 58 page 255 VOUT_COMMAND write 2000
 B0 06 02 01 20 / B1 01 13 39 -> 58 page 1 VOUT_MODE read 13 ULINEAR16 -13
-B0 21 00 20 50 -> 58 VOUT_COMMAND write 2000 1 V
+B0 21 00 20 50 -> 58 VOUT_COMMAND write 2000
 B0 05 04 02 21 00 20 1E -> 58 page 2 VOUT_COMMAND write 2000 16 V
 B2 21 00 20 7C -> 59 VOUT_COMMAND write 2000 16 V
 B0 06 02 01 20 / B1 01 14 2C -> 58 page 1 VOUT_MODE read 14 ULINEAR16 -12
 B0 21 00 20 50 -> 58 VOUT_COMMAND write 2000
 B0 05 04 FF 21 00 20 E3 -> 58 page 255 VOUT_COMMAND write 2000
 B0 06 02 00 20 / B1 01 14 4E -> 58 page 0 VOUT_MODE read 14 ULINEAR16 -12
-B0 21 00 20 50 -> 58 VOUT_COMMAND write 2000 2 V
+B0 21 00 20 50 -> 58 VOUT_COMMAND write 2000
 B0 05 03 01 20 17 3E -> 58 write F7 WrongDirection 4 bytes B0 05 03 01 20 17 3E
 B0 21 00 20 50 -> 58 VOUT_COMMAND write 2000
 B0 06 02 01 20 / B1 01 14 2C -> 58 page 1 VOUT_MODE read 14 ULINEAR16 -12
-B0 21 00 20 50 -> 58 VOUT_COMMAND write 2000 2 V
+B0 21 00 20 50 -> 58 VOUT_COMMAND write 2000
 B0 06 02 FF 20 / B1 01 17 7E -> 58 page 255 VOUT_MODE read 17 ULINEAR16 -9
-B0 05 04 FF 21 00 20 E3 -> 58 page 255 VOUT_COMMAND write 2000 16 V
+B0 05 04 FF 21 00 20 E3 -> 58 page 255 VOUT_COMMAND write 2000
 B0 21 00 20 50 -> 58 VOUT_COMMAND write 2000
 count VOUT_MODE 6
 count VOUT_COMMAND 12

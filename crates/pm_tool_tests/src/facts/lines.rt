@@ -217,7 +217,7 @@ B2 88 / B3 00 D3 -> 59 READ_VIN read D300, no PEC
 B0 79 / B1 02 20 -> 58 STATUS_WORD read 2002 INPUT, CML, no PEC
 B0 06 02 01 20 / B1 01 14 -> 58 page 1 VOUT_MODE read 14 ULINEAR16 -12, no PEC
 B0 06 02 01 8B / B1 02 CD 34 -> 58 page 1 READ_VOUT read 34CD 3.300048 V, no PEC
-B0 8B / B1 CD 34 -> 58 READ_VOUT read 34CD 3.300048 V, no PEC
+B0 8B / B1 CD 34 -> 58 READ_VOUT read 34CD, no PEC
 B0 79 00 08 -> 58 code 79 STATUS_WORD write 00 08, no PEC
 B0 88 / B1 FF FF -> 58 READ_VIN read FFFF -0.5 V, all ones: nobody answered?
 B0 03 47 -> 58 write F5 WrongPec 2 bytes B0 03 47
@@ -349,7 +349,7 @@ B0 79 / B1 00 00 D4 -> {"line":10,"address":"58","code":"79","name":"STATUS_WORD
 B0 7E / B1 04 95 -> {"line":11,"address":"58","code":"7E","name":"STATUS_CML","direction":"read","payload":"04","flags":["bit 2"]}
 B0 05 04 01 21 CD 34 5A -> {"line":12,"address":"58","code":"05","direction":"write","packet":"B0 05 04 01 21 CD 34 5A","fault":"F5 WrongPec","place":7}
 B0 06 02 00 21 / B1 02 CD -> {"line":13,"address":"58","code":"06","direction":"read","packet":"B0 06 02 00 21 / B1 02 CD","fault":"F2 Short","place":3}
-B0 21 CD 34 38 -> {"line":14,"address":"58","code":"21","name":"VOUT_COMMAND","direction":"write","payload":"CD 34","numerator":13517,"denominator":4096,"volts":3.300048}
+B0 21 CD 34 38 -> {"line":14,"address":"58","code":"21","name":"VOUT_COMMAND","direction":"write","payload":"CD 34"}
 B0 -> {"line":15,"address":"58","direction":"write","packet":"B0","fault":"F2 Short","place":1}
 B0 / B1 -> {"line":16,"address":"58","direction":"write","packet":"B0 / B1","fault":"F2 Short","place":1}
 B0 20 / -> {"line":17,"address":"58","code":"20","direction":"read","packet":"B0 20 /","fault":"F1 NotOurs"}

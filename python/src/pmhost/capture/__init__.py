@@ -48,11 +48,11 @@ def trace(form: str, lines: Iterable[str], address: int | None = None, bus: int 
           clock: Clock | None = None) -> Iterator[str]:
     """The lines of the trace, one after another as the capture's lines come: of the transfers with the device at an address
     if one is given, and of the kernel's events of one bus if one is given. With a clock transfers have their times.
-    NoCapture if the text is none of this format, or has no transfer."""
+    NoCapture if the text is none of this format, has no transfer, or has an address on two adapters without `bus`."""
     is_empty, first = True, list[str]()
     lines = beginning_kept(lines, first)
     try:
-        found = FORMATS[form][0](lines, clock) if bus is None else kernel.transfers(lines, clock, bus)
+        found = kernel.transfers(lines, clock, bus, address) if form == "linux" else FORMATS[form][0](lines, clock)
         for transfer in found:
             is_empty = False
             yield from transfer.lines(address)

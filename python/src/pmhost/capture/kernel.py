@@ -15,6 +15,8 @@ SMBUS = re.compile(r"smbus_(?:write|read|reply|result):\s")
 # What the kernel puts where it dropped events of a processor.
 LOST = re.compile(r"CPU:\d+ \[LOST (?:\d+ )?EVENTS\]")
 TEN_BITS, READS = 0x10, 0x01
+# What parts of no adapter alone answer: the addresses that SMBus keeps below 08, and the alert response.
+RESERVED = (*range(0x08), 0x0C)
 
 
 class Messages:
@@ -24,6 +26,10 @@ class Messages:
         self.sent: dict[int, list[int]] = {}
         self.fault: str | None = None
         self.time = time
+        self.inside: set[tuple[str, int]] = set()  # the buses of the transfers that ended meanwhile, each with an address of it
+
+    def addresses(self) -> set[int]:
+        return {sent[0] >> 1 for sent in self.sent.values()}
 
     def take(self, kind: str, number: int, rest: str) -> None:
         found = MESSAGE.fullmatch(rest.strip())
@@ -52,6 +58,28 @@ class Messages:
         return transfer
 
 
+class Adapters:
+    """The adapters that had transfers with each address. Those of a mux stand in the capture twice: within each transfer of its
+    adapter is one of its parent."""
+
+    def __init__(self) -> None:
+        self.of: dict[int, set[str]] = {}
+        self.parents: set[tuple[str, str]] = set()
+
+    def ended(self, bus: str, messages: Messages, still_open: dict[str, Messages], only: int | None) -> None:
+        """A transfer ended. NoCapture if another adapter had one with its address, and neither is the other's parent."""
+        for address in messages.addresses().difference(RESERVED):
+            above = {each for each, other in still_open.items() if address in other.addresses()}
+            self.parents |= {(bus, each) for each in above}
+            for each in above:
+                still_open[each].inside.add((bus, address))
+            for each in sorted(self.of.setdefault(address, set()) - {bus} - above, key=int):
+                if (each, address) not in messages.inside and (bus, each) not in self.parents and only in (None, address):
+                    one, other = sorted((each, bus), key=int)
+                    raise NoCapture(f"address {address:02X} is on i2c-{one} and on i2c-{other}: give --bus={one} or --bus={other}")
+            self.of[address].add(bus)
+
+
 def cut(buses: dict[str, Messages], ending: str) -> list[Transfer]:
     """The transfers that are open, none of which has a result; they are open no more."""
     left = [messages.transfer(len(messages.sent), len(messages.sent)) for messages in buses.values()]
@@ -61,9 +89,11 @@ def cut(buses: dict[str, Messages], ending: str) -> list[Transfer]:
     return left
 
 
-def transfers(lines: Iterable[str], clock: Clock | None = None, wanted: int | None = None) -> Iterator[Transfer]:
-    """Each transfer as the kernel shows its result, of all buses or of the one that is wanted."""
+def transfers(lines: Iterable[str], clock: Clock | None = None, wanted: int | None = None, only: int | None = None) -> Iterator[Transfer]:
+    """Each transfer as the kernel shows its result, of all buses or of the one that is wanted; `only` is the one address that
+    matters, if there is one. NoCapture if an address is on two adapters, so that nobody knows which part is meant."""
     buses: dict[str, Messages] = {}
+    adapters = Adapters()
     smbus = is_told = False
     for number, line in enumerate(lines, 1):
         found = EVENT.search(line)
@@ -85,7 +115,9 @@ def transfers(lines: Iterable[str], clock: Clock | None = None, wanted: int | No
             raise NoCapture(f"line {number}: no result of the kernel")
         if bus in buses:
             is_told = True
-            yield buses.pop(bus).transfer(int(ended[1]), int(ended[2]))
+            messages = buses.pop(bus)
+            adapters.ended(bus, messages, buses, only)
+            yield messages.transfer(int(ended[1]), int(ended[2]))
     left = cut(buses, "no result")
     is_told |= bool(left)
     yield from left

@@ -1,15 +1,14 @@
 #!/usr/bin/env python3
-"""Lives of a part with four outputs and a host that keeps its page, under faults of each kind, as a capture of the wire and one of
-the kernel show them; `pmb decode --all --values --pages` tells each capture, and what it tells is compared with what happened.
+"""What `pmb decode --all --values --pages` tells of captures with faults, beside what happened: lives of a part with four outputs,
+each with a format of its own, and a host that keeps its page, as a capture of the wire and one of the kernel show them.
 
-    trials/programs/told_lives.py [SEED [LIVES]]
+    trials/programs/told_truth.py [SEED [LIVES]]
 
-A row of the table is a kind of capture, a kind of fault, and whether the host reads PAGE back: LIVES lives (120) of 40 jobs, each
+A row of the table is a kind of capture, a kind of fault, and whether the host reads PAGE back: LIVES lives (60) of 40 jobs, each
 packet hit by the fault with four in a hundred. Half of the hosts go on after a failed select. Some jobs write VOUT_MODE or send
-RESTORE_USER_ALL. 'Wrong' packets reached another output than was meant; 'other codes' are those that the command table doesn't
-have. It passes where in each row every wrong packet after a failed packet of PAGE that the capture shows is marked, no `page N?` is
-false where the bus shows why, and no voltage is told by a format that the output no longer had where the capture shows that it
-changed.
+RESTORE_USER_ALL. Each life begins with a select that no fault hits, since a capture says nothing of PAGE before one. A `wrong` packet reached another output than was meant: it is unmarked if it has neither a mark nor the page that
+it reached. It passes where no row of a fault that a capture shows has a false page, an unmarked false value or an unmarked wrong
+packet; where an answer is lost because the part restarted, at most three false pages come on a hundred packets.
 """
 import os
 import random
@@ -29,11 +28,13 @@ ADDRESS, OUTPUTS, JOBS, HIT = 0x58, 4, 40, 0.04
 PAGE, VOUT_MODE, RESTORE = 0x00, 0x20, 0x16
 # Codes of an output that the host writes: the table's, and others.
 TABLE, OTHERS = (0x01, 0x21, 0x24), (0x22, 0x40, 0x42, 0x46)
-SHOWN = ("byte not acked", "answer lost", "address not acked")
-FAULTS = ("none", *SHOWN, "acked and dropped", "restart", "other master")
-COLUMNS = ("packets", "wrong", "marked", "right page", "false page", "right, marked", "no page", "other codes wrong", "of these marked",
-           "values", "false values")
-HEAD = "{:7}{:18}{:6}" + "{:>18}" * len(COLUMNS)
+# VOUT_MODE of each output after a restart, and the volts of the word 1000 by each mode.
+MODES, VOLTS = (0x14, 0x15, 0x16, 0x17), {0x14: "1", 0x15: "2", 0x16: "4", 0x17: "8"}
+SHOWN, LOST = ("byte not acked", "address not acked", "cut", "answer lost"), "lost by a restart"
+FAULTS = ("none", *SHOWN, LOST, "acked and dropped", "restart", "other master")
+COLUMNS = ("packets", "wrong", "unmarked", "false page", "false unmarked", "right, marked", "true page", "voltages", "true value",
+           "false value", "of these unmarked")
+HEAD = "{:7}{:18}{:5}" + "{:>18}" * len(COLUMNS)
 
 
 def spaced(frame):
@@ -45,95 +46,98 @@ class Life:
 
     def __init__(self, dice, capture, fault, reads_back):
         self.dice, self.capture, self.fault, self.reads_back = dice, capture, fault, reads_back
-        self.page, self.modes = 0, [0x14] * OUTPUTS
+        self.page, self.modes = 0, [*MODES]
         self.kept, self.goes_on = None, dice.random() < 0.5
-        self.lines, self.facts = [], []
-        self.has_failed = False  # the capture shows a failed packet of PAGE, and no good one since then
-        self.is_hidden = False  # what the bus doesn't show happened: a write that was dropped, or a restart
-        self.shown_page = None  # the page that the capture shows
-        self.unread = set()  # the outputs whose mode changed as the capture shows it, until it is read
+        self.lines, self.facts, self.begun = [], [], False
+        self.select(0)
+        self.begun = True
 
     def line(self, text, fact=None):
         self.lines.append(text)
         self.facts.append(fact)
 
     def is_hit(self):
-        return self.fault != "none" and self.dice.random() < HIT
+        return self.begun and self.fault != "none" and self.dice.random() < HIT
 
     def write(self, code, data, meant=None):
         """A write of the host: whether it knows of no failure."""
         frame = [2 * ADDRESS, code, *data]
         frame.append(pec(frame))
         hit = self.is_hit()
+        if hit and self.fault == "cut":
+            return self.cut_write(frame, code, data)
         if hit and self.fault in ("byte not acked", "address not acked"):
-            return self.failed_write(frame, code)
+            return self.failed_write(frame)
         if hit and self.fault == "restart":
-            self.page, self.is_hidden = 0, self.is_hidden or self.page != 0
+            self.restart()
         if hit and self.fault == "other master":
-            page = self.dice.randrange(OUTPUTS)
-            other = [2 * ADDRESS, PAGE, page]
+            other = [2 * ADDRESS, PAGE, self.dice.randrange(OUTPUTS)]
             self.line(spaced([*other, pec(other)]))
-            self.page, self.shown_page, self.has_failed, self.is_hidden = page, page, False, False
-        is_dropped = hit and self.fault == "acked and dropped"
+            self.page = other[2]
         self.note(spaced(frame), code, meant)
-        if code == PAGE:
-            self.has_failed, self.is_hidden, self.shown_page = False, is_dropped and self.page != data[0], data[0]
-            self.page = self.page if is_dropped else data[0]
-        elif code == VOUT_MODE and not is_dropped:
-            self.modes[self.page] = data[0]
-        elif code == RESTORE and not is_dropped:
-            self.modes = [0x14] * OUTPUTS
-        if code == VOUT_MODE:
-            self.unread |= {*range(OUTPUTS)} if self.has_failed or self.shown_page is None else {self.shown_page}
-        elif code == RESTORE:
-            self.unread |= {*range(OUTPUTS)}
+        if not (hit and self.fault == "acked and dropped"):
+            self.take(code, data)
         return True
 
-    def failed_write(self, frame, code):
+    def restart(self):
+        self.page, self.modes = 0, [*MODES]
+
+    def take(self, code, data):
+        if code == PAGE:
+            self.page = data[0]
+        elif code == VOUT_MODE:
+            self.modes[self.page] = data[0]
+        elif code == RESTORE:
+            self.modes = [*MODES]
+
+    def cut_write(self, frame, code, data):
+        """The stop never came: the part may have taken what came of the packet."""
+        length = self.dice.randrange(2, len(frame) + 1)
+        shown = spaced(frame[:length] if self.capture == "wire" else frame)
+        self.line(f"# no stop: {shown}" if self.capture == "wire" else self.dice.choice(["# failed (-110): ", "# no result: "]) + shown)
+        if length >= 2 + len(data) and self.dice.random() < 0.5:
+            self.take(code, data)
+        return False
+
+    def failed_write(self, frame):
         if self.capture == "kernel":
             self.line(f"# failed ({-6 if self.fault == 'address not acked' else -121}): {spaced(frame)}")
         elif self.fault == "address not acked":
             self.line(f"# no device acknowledged the address: {2 * ADDRESS:02X}")
-            return False
         else:
             place = self.dice.randrange(1, len(frame))
             self.line(f"# byte {place} wasn't acknowledged")
             self.line(spaced(frame[:place + 1]))
-        if code == PAGE:
-            self.has_failed, self.shown_page = True, None
         return False
 
     def read(self, code, answer, meant=None):
         """A read of the host: what it got, or None."""
         frame, hit = [2 * ADDRESS, code], self.is_hit()
-        if hit and self.fault in ("answer lost", "address not acked"):
+        request = f"{spaced(frame)} / {2 * ADDRESS + 1:02X}"
+        if hit and self.fault == "cut":
+            self.line(f"# no stop: {spaced(frame)}" if self.capture == "wire" else f"# no result: {request}")
+            return None
+        if hit and self.fault in ("answer lost", LOST, "address not acked"):
+            if self.fault == LOST:
+                self.restart()
             if self.capture == "kernel":
-                self.line(f"# failed (-6): {spaced(frame)} / {2 * ADDRESS + 1:02X}")
-                self.has_failed |= code == PAGE
-            elif self.fault == "answer lost":
-                self.line(f"{spaced(frame)} / {2 * ADDRESS + 1:02X}")
-                self.has_failed |= code == PAGE
-            else:
+                self.line(f"# failed (-6): {request}")
+            elif self.fault == "address not acked":
                 self.line(f"# no device acknowledged the address: {2 * ADDRESS:02X}")
+            else:
+                self.line(request)
             return None
         if hit and self.fault == "restart":
-            self.page, self.is_hidden = 0, self.is_hidden or self.page != 0
+            self.restart()
         got = answer()
         whole = [2 * ADDRESS + 1, *got]
         self.note(f"{spaced(frame)} / {spaced([*whole, pec([*frame, *whole])])}", code, meant)
-        if code == PAGE:
-            if self.shown_page not in (None, self.page):
-                self.unread |= {*range(OUTPUTS)}
-            self.has_failed, self.is_hidden, self.shown_page = False, False, self.page
-        elif code == VOUT_MODE:
-            self.unread.discard(self.shown_page)
         return got
 
     def note(self, text, code, meant):
         fact = None
         if code not in (PAGE, RESTORE):
-            fact = {"code": code, "reached": self.page, "meant": meant, "mode": self.modes[self.page], "shown": self.has_failed,
-                    "hidden": self.is_hidden, "unread": self.page in self.unread}
+            fact = {"code": code, "reached": self.page, "meant": meant, "mode": self.modes[self.page]}
         self.line(text, fact)
 
     def select(self, output):
@@ -154,7 +158,7 @@ class Life:
         if kind < 0.1:
             self.read(VOUT_MODE, lambda: [self.modes[self.page]], output)
         elif kind < 0.14:
-            self.write(VOUT_MODE, [self.dice.choice([0x14, 0x17])], output)
+            self.write(VOUT_MODE, [self.dice.choice(MODES)], output)
         elif kind < 0.16:
             self.write(RESTORE, [], output)
         elif kind < 0.4:
@@ -176,42 +180,37 @@ def told(lines):
 
 
 def count_life(counts, life):
-    """Counts the packets of a life; returns what may not be."""
-    wrong = []
-    found = told(life.lines)
+    """Counts the packets of a life; returns those of which something false is told without a mark."""
+    wrong, found = [], told(life.lines)
     for number, fact in enumerate(life.facts, 1):
         if fact is None:
             continue
         words = found[number]
         page, is_marked = re.search(r" page (\d+)\?", words), "WRONG PAGE?" in words
-        is_wrong, is_other = fact["reached"] != fact["meant"], fact["code"] in (*OTHERS, VOUT_MODE)
         volts = re.search(r"(0\.\d+|\d+(?:\.\d+)?) V\b", words)
+        is_true = page is not None and int(page[1]) == fact["reached"]
+        is_wrong, is_false = fact["reached"] != fact["meant"], page is not None and not is_true
+        is_false_value = volts is not None and volts[1] != VOLTS[fact["mode"]]
         counts["packets"] += 1
-        counts["other codes wrong" if is_other else "wrong"] += is_wrong
-        counts["of these marked" if is_other else "marked"] += is_wrong and is_marked
+        counts["wrong"] += is_wrong
+        counts["unmarked"] += is_wrong and not is_marked and not is_true
+        counts["false page"] += is_false
+        counts["false unmarked"] += is_false and not is_marked
         counts["right, marked"] += not is_wrong and is_marked
-        counts["no page"] += page is None
-        if page is not None:
-            is_false = int(page[1]) != fact["reached"]
-            counts["right page"] += is_wrong and not is_false
-            counts["false page"] += is_false
-            if is_false and not fact["hidden"]:
-                wrong.append(f"a false page that the bus shows: {words}")
-        if volts:
-            is_false = volts[1] != {0x14: "1", 0x17: "8"}[fact["mode"]]
-            counts["values"] += 1
-            counts["false values"] += is_false
-            if is_false and fact["unread"] and not fact["hidden"]:
-                wrong.append(f"a value by a format that was written over: {words}")
-        if is_wrong and fact["shown"] and not is_marked:
-            wrong.append(f"no mark: {words}")
+        counts["true page"] += is_true
+        counts["voltages"] += fact["code"] in (0x21, 0x24, 0x8B)
+        counts["true value"] += volts is not None and not is_false_value
+        counts["false value"] += is_false_value
+        counts["of these unmarked"] += is_false_value and not is_marked
+        if is_false or is_false_value and not is_marked or is_wrong and not is_marked and not is_true:
+            wrong.append(words)
     return wrong
 
 
 def main():
     words = program.Words(__doc__, "[SEED [LIVES]]")
     words.add_argument("seed", type=program.number, nargs="?", default=1)
-    words.add_argument("lives", type=program.count, nargs="?", default=120)
+    words.add_argument("lives", type=program.count, nargs="?", default=60)
     given = words.read()
     program.needed()
     tally = Tally()
@@ -226,8 +225,11 @@ def main():
                     for _ in range(JOBS):
                         life.job()
                     wrong += count_life(counts, life)
-                print(HEAD.format(capture, fault, "yes" if reads_back else "no", *counts.values()))
-                tally.tell(f"{capture}, {fault}", wrong)
+                print(HEAD.format(capture, fault, "yes" if reads_back else "no", *counts.values()), flush=True)
+                if fault == LOST:
+                    tally.tell(f"{capture}, {fault}", wrong if 100 * counts["false page"] > 3 * counts["packets"] else [])
+                elif fault in ("none", *SHOWN):
+                    tally.tell(f"{capture}, {fault}", wrong)
     return tally.end()
 
 
