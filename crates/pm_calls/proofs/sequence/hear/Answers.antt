@@ -1,17 +1,14 @@
-use Rattle.std.proofs.Common.{◌≡◌, ◌∙◌, ℕ, Bool, true, false, Some, None, Ok, ap, subst, sym, refl}
+use Rattle.std.proofs.Common.{◌≡◌, ◌∙◌, ℕ, true, false, Option, Some, None, ap, subst, sym, refl}
+use Rattle.std.specs.Prelude.{is_none}
 use Rattle.pm_host.specs.declared.fault.Untold.TheVariants.{NothingSent, WrongKind}
 use Rattle.pm_host.specs.declared.host.Step.{Step}
 use Rattle.pm_host.specs.Summary.{Summary, stage_message, step_of}
 use Rattle.pm_host.specs.Told.{entry_told, is_awaited}
 use Rattle.pm_course.specs.declared.frame_course.FrameCourse.{FrameCourse}
 use Rattle.pm_course.specs.Frames as frames
-use Rattle.pm_course.specs.Frames.{Hears as CourseHears}
 use Rattle.pm_course.specs.Lemmas.Awaited.{comes-awaited}
-use Rattle.pm_course.specs.Surprise.{surprises}
-use Rattle.pm_stairs.specs.declared.sequence.Sequence.{Sequence as List}
-use Rattle.pm_stairs.specs.Sequence.{heard_with}
-use Rattle.pm_sequence.specs.Frames.{heard, nothing, Hears}
-use Rattle.pm_sequence.specs.Sequence.{with_list}
+use Rattle.pm_sequence.specs.Frames.{nothing}
+use Rattle.pm_stairs.specs.Frames.{course_open}
 use Rattle.pm_memory.specs.declared.sequence_image.SequenceImage.{SequenceImage}
 use Rattle.pm_memory.specs.Guard.{guard_of}
 use Rattle.pm_memory.specs.Hosted.{guard_in}
@@ -19,9 +16,13 @@ use Rattle.pm_calls.specs.declared.host_step.HostStep.{HostStep}
 use Rattle.pm_calls.specs.Course.{heard_step}
 use Rattle.pm_calls.specs.Host.{host_step, told_fault}
 use Rattle.pm_calls.specs.Sequence.{hears_it, unasked, HearsIn}
-use Rattle.pm_calls.proofs.Heard.{fault-at, hears-by}
-use Rattle.pm_calls.proofs.Sequences.{restart-at, unheard}
+use Rattle.pm_calls.proofs.Heard.{fault-at}
+use Rattle.pm_calls.proofs.Sequences.{told-at, unheard}
 use Rattle.pm_calls.proofs.sequence.hear.Goals as goal
+
+none-is : (o : Option FrameCourse) → is_none o ≡ true → o ≡ None
+none-is None is = refl
+none-is (Some course) is = cc
 
 pub returns-in_default : goal.returns-in_default
 returns-in_default c =
@@ -43,14 +44,15 @@ returns-then-not-awaits c =
     subst (λ (s : HostStep). HearsIn c.args.host.now c.args.sequence.now entry s c.args.host.now c.args.sequence.now)
     (sym c.no_step-then-not-awaits.ensures) (unasked g c.args.was.now w.is w.fault c.requires.both w.hears)
 
-pub returns-in_default-course : goal.returns-in_default-course
-returns-in_default-course c =
+pub returns-then-is_none : goal.returns-then-is_none
+returns-then-is_none c =
     let entry = entry_told c.args.told in
     let g = guard_in c.args.host.now in
     let q = c.args.was.now in
+    let shut = sym (ap (λ (o : Option FrameCourse). is_none o) c.course_open.ensures) ∙ sym c.is_none.ensures ∙ c.if-is_none.true in
     subst (λ (s : HostStep). HearsIn c.args.host.now c.args.sequence.now entry s c.args.host.now c.args.sequence.now)
-    (sym c.no_step-in_default-course.ensures)
-    (unasked g q q NothingSent c.requires.both (nothing (sym c.course_open.ensures ∙ c.in_default-course.is)))
+    (sym c.no_step-then-is_none.ensures)
+    (unasked g q q NothingSent c.requires.both (nothing (none-is (course_open q.list.stairs) shut)))
 
 pub returns : goal.returns
 returns c =
@@ -62,25 +64,19 @@ returns c =
     let next = guard_in new in
     let found : guard_of new ≡ Some next = rw (c.hear_by-heard.ensures.there.there) refl in
     let q = c.args.was.now in
-    let course = c.in-Some-course.course in
-    let after = c.hear_by-heard.new.self in
+    let is = c.hear_by-heard.new.self in
     let at = c.in-Some.at in
-    let tells = c.hear_by-heard.ensures.told in
     let opened : g.host.stage ≡ Some at = sym c.requires.stage ∙ c.in-Some.is in
     let waits : is_awaited at c.args.told ≡ true = sym c.awaits.ensures ∙ c.if-not-awaits.false in
-    let hear : CourseHears g course entry (Ok tt) next after = hears-by g next course after at c.args.told c.hear_by-heard.result opened waits tells in
+    let some : is_none (course_open q.list.stairs) ≡ false =
+    sym (ap (λ (o : Option FrameCourse). is_none o) c.course_open.ensures) ∙ sym c.is_none.ensures ∙ c.if-is_none.false in
+    let did = told-at g next q is at c.args.told c.hear_by-heard.result opened waits some c.hear_by-heard.ensures.hears in
     let host-is : host.host.state.address ≡ g.host.setup.addr = ap (λ (s : Summary). s.setup.addr) c.requires.there.whole in
     let answered : c.step_after.result ≡ heard_step g entry =
     c.step_after.ensures
     ∙ ap (λ (a : ℕ). host_step (told_fault a (stage_message at) entry) c.hear_by-heard.result.step) host-is
-    ∙ ap (λ (step : Step). host_step (told_fault g.host.setup.addr (stage_message at) entry) step) tells.step
+    ∙ ap (λ (step : Step). host_step (told_fault g.host.setup.addr (stage_message at) entry) step) did.step-is
     ∙ ap (λ (f : ℕ). host_step f (step_of g.host entry)) (fault-at g.host at entry opened) in
-    let surprised = c.surprises-surprised.ensures ∙ restart-at g at c.args.told opened in
-    let list = c.with_course.ensures ∙ ap (λ (b : Bool). heard_with q.list after b) surprised in
-    let both : Hears g q entry (Ok tt) next (with_list q c.with_course.result) =
-    subst (λ (l : List). Hears g q entry (Ok tt) next (with_list q l)) (sym list)
-    (heard course after (Ok tt) next (sym c.course_open.ensures ∙ c.in-Some-course.is) hear) in
     subst (λ (s : HostStep). HearsIn host image entry s new c.of.result) (sym answered)
     (subst (λ (i : SequenceImage). HearsIn host image entry (heard_step g entry) new i) (sym c.of.ensures)
-    (hears_it g next q (with_list q c.with_course.result) new c.requires.both both
-    (record { guard = found; written = c.hear_by-heard.ensures.written })))
+    (hears_it g next q is new c.requires.both did.hears (record { guard = found; written = c.hear_by-heard.ensures.written })))
