@@ -301,9 +301,9 @@ fn hear(
     if !at.awaits(&told) {
         return no_step(OTHER_FRAME);
     }
-    if was.list.course_open().is_none() {
+    let Some(_course) = was.list.course_open() else {
         return no_step(OTHER_FRAME);
-    }
+    };
     let address = host.host.state.address;
     let mut is = *was;
     let heard = is.hear_by(host, at, told);

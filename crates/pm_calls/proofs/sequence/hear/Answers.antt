@@ -1,7 +1,10 @@
-use Rattle.std.proofs.Common.{◌≡◌, ◌∙◌, ℕ, true, false, Option, Some, None, ap, subst, sym, refl}
+use Rattle.std.proofs.Common.{◌≡◌, ◌∙◌, ℕ, true, false, Option, Some, None, ap, subst, sym, refl, rules}
 use Rattle.std.specs.Prelude.{is_none}
 use Rattle.pm_host.specs.declared.fault.Untold.TheVariants.{NothingSent, WrongKind}
 use Rattle.pm_host.specs.declared.host.Step.{Step}
+use Rattle.pm_host.specs.declared.stage.Stage.{Stage}
+use Rattle.pm_host.specs.declared.stage.Stage.TheVariants.{Writes, Reads, Asks, Sends}
+use Rattle.pm_host.specs.Sound.{HasWord, IsSound}
 use Rattle.pm_host.specs.Summary.{Summary, stage_message, step_of}
 use Rattle.pm_host.specs.Told.{entry_told, is_awaited}
 use Rattle.pm_course.specs.declared.frame_course.FrameCourse.{FrameCourse}
@@ -19,10 +22,6 @@ use Rattle.pm_calls.specs.Sequence.{hears_it, unasked, HearsIn}
 use Rattle.pm_calls.proofs.Heard.{fault-at}
 use Rattle.pm_calls.proofs.Sequences.{told-at, unheard}
 use Rattle.pm_calls.proofs.sequence.hear.Goals as goal
-
-none-is : (o : Option FrameCourse) → is_none o ≡ true → o ≡ None
-none-is None is = refl
-none-is (Some course) is = cc
 
 pub returns-in_default : goal.returns-in_default
 returns-in_default c =
@@ -44,15 +43,24 @@ returns-then-not-awaits c =
     subst (λ (s : HostStep). HearsIn c.args.host.now c.args.sequence.now entry s c.args.host.now c.args.sequence.now)
     (sym c.no_step-then-not-awaits.ensures) (unasked g c.args.was.now w.is w.fault c.requires.both w.hears)
 
-pub returns-then-is_none : goal.returns-then-is_none
-returns-then-is_none c =
+pub returns-in_default-course_open : goal.returns-in_default-course_open
+returns-in_default-course_open c =
     let entry = entry_told c.args.told in
     let g = guard_in c.args.host.now in
     let q = c.args.was.now in
-    let shut = sym (ap (λ (o : Option FrameCourse). is_none o) c.course_open.ensures) ∙ sym c.is_none.ensures ∙ c.if-is_none.true in
     subst (λ (s : HostStep). HearsIn c.args.host.now c.args.sequence.now entry s c.args.host.now c.args.sequence.now)
-    (sym c.no_step-then-is_none.ensures)
-    (unasked g q q NothingSent c.requires.both (nothing (none-is (course_open q.list.stairs) shut)))
+    (sym c.no_step-in_default-course_open.ensures)
+    (unasked g q q NothingSent c.requires.both (nothing (sym c.course_open.ensures ∙ c.in_default-course_open.is)))
+
+word-at : (s : Summary) (at : Stage) → IsSound s → s.stage ≡ Some at → HasWord at
+word-at s (Writes cell word pass) sound opened = search rules
+word-at s (Reads cell word pass) sound opened = tt
+word-at s (Asks question tries) sound opened = tt
+word-at s (Sends command tries) sound opened = tt
+
+pub step_after-requires-clause-word : goal.step_after-requires-clause-word
+step_after-requires-clause-word c =
+    word-at (guard_in c.args.host.now).host c.in-Some.at c.requires.there.sound (sym c.requires.stage ∙ c.in-Some.is)
 
 pub returns : goal.returns
 returns c =
@@ -69,7 +77,7 @@ returns c =
     let opened : g.host.stage ≡ Some at = sym c.requires.stage ∙ c.in-Some.is in
     let waits : is_awaited at c.args.told ≡ true = sym c.awaits.ensures ∙ c.if-not-awaits.false in
     let some : is_none (course_open q.list.stairs) ≡ false =
-    sym (ap (λ (o : Option FrameCourse). is_none o) c.course_open.ensures) ∙ sym c.is_none.ensures ∙ c.if-is_none.false in
+    ap (λ (o : Option FrameCourse). is_none o) (sym c.course_open.ensures ∙ c.in-Some-course_open.is) in
     let did = told-at g next q is at c.args.told c.hear_by-heard.result opened waits some c.hear_by-heard.ensures.hears in
     let host-is : host.host.state.address ≡ g.host.setup.addr = ap (λ (s : Summary). s.setup.addr) c.requires.there.whole in
     let answered : c.step_after.result ≡ heard_step g entry =
