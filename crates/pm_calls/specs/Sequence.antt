@@ -82,13 +82,15 @@ lacks_room q steps room = q.list.keeps_back && nat_lt room steps
 abbrev pub list_fault : Sequence → ℕ → ℕ → Option ℕ
 list_fault q steps room = if nat_lt 65535 steps then Some no_step else (if lacks_room q steps room then Some no_room else None)
 
+abbrev pub steps_fault : List SequenceStepImage → ℕ → Option ℕ
+steps_fault steps begun = option_or (result_err (step_under steps begun)) (result_err (step_at steps begun))
+
 -- Why a call is refused: the memory holds no host, or no sequence; the list has too many steps, or there is less room; or the newest step
 -- that has begun, or the first one that hasn't, is wrong.
 abbrev pub asked_fault : Option Guarded → Option Sequence → List SequenceStepImage → ℕ → Option ℕ
 asked_fault None q steps room = Some no_host
 asked_fault (Some g) None steps room = Some no_sequence
-asked_fault (Some g) (Some q) steps room = option_or (list_fault q (length steps) room)
-    (option_or (result_err (step_under steps q.list.begun)) (result_err (step_at steps q.list.begun)))
+asked_fault (Some g) (Some q) steps room = option_or (list_fault q (length steps) room) (steps_fault steps q.list.begun)
 
 -- otherwise these are asked
 pub record AreAsked (host : GuardImage) (image : SequenceImage) (steps : List SequenceStepImage) (room : ℕ) (g : Guarded) (q : Sequence)

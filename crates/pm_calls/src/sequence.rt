@@ -1,9 +1,9 @@
 //! A sequence over hosts in a caller's memory: a list of steps is carried out, and what its rails do is looked at.
 
-ghost use Rattle.std.specs.Prelude.{◌≡◌, IfOk, IfSome, OnOk};
+ghost use Rattle.std.specs.Prelude.{◌≡◌, IfOk, IfSome, Ok, OnOk};
 ghost use Rattle.std.specs.Result.{result_err};
 ghost use Rattle.pm_host.specs.Told.{entry_told};
-ghost use Rattle.pm_calls.specs.Sequence.{asked_fault, back_said as spec_back_said, backs_after, both_fault, is_look as spec_is_look, is_look_said as spec_is_look_said, lacks_room as spec_lacks_room, looks_after, number_next as spec_number_next, records_after, rules_said, sequence_begun, step_at as spec_step_at, step_under as spec_step_under, whole_answer as spec_whole_answer, with_back, with_look, AreAsked, AreBoth, HearsIn, IsPutNext, NextIn, ReadIn};
+ghost use Rattle.pm_calls.specs.Sequence.{asked_fault, back_said as spec_back_said, backs_after, both_fault, is_look as spec_is_look, is_look_said as spec_is_look_said, lacks_room as spec_lacks_room, list_fault as spec_list_fault, looks_after, number_next as spec_number_next, records_after, rules_said, sequence_begun, step_at as spec_step_at, step_under as spec_step_under, steps_fault, whole_answer as spec_whole_answer, with_back, with_look, AreAsked, AreBoth, HearsIn, IsPutNext, NextIn, ReadIn};
 ghost use Rattle.pm_memory.specs.Guard.{guard_of};
 ghost use Rattle.pm_memory.specs.Hosted.{IsThere, guard_in};
 ghost use Rattle.pm_memory.specs.SequenceImage.{sequence_in};
@@ -80,6 +80,34 @@ fn lacks_room(was: &Sequence, steps: usize, room: usize) -> bool
     was.list.keeps_back && room < steps
 }
 
+// Why a list of so many steps is refused.
+fn list_fault(was: &Sequence, steps: usize, room: usize) -> Option<u8>
+    ensures { result ≡ spec_list_fault was.now steps room }
+{
+    if MOST_STEPS < steps {
+        return Some(NO_STEP);
+    }
+    if lacks_room(was, steps, room) {
+        return Some(NO_ROOM);
+    }
+    None
+}
+
+// The newest of so many steps that have begun and the first one ahead; or the number of what is wrong with one.
+fn steps_at(steps: &[SequenceStepImage], begun: u16) -> Result<(Option<Step>, Option<Step>), u8>
+    ensures fault { result_err result ≡ steps_fault steps.now begun }
+    ensures under { IfOk result (λ both. spec_step_under steps.now begun ≡ Ok both.0) }
+    ensures ahead { IfOk result (λ both. spec_step_at steps.now begun ≡ Ok both.1) }
+{
+    match step_under(steps, begun) {
+        Ok(under) => match step_at(steps, begun) {
+            Ok(ahead) => Ok((under, ahead)),
+            Err(number) => Err(number),
+        },
+        Err(number) => Err(number),
+    }
+}
+
 // What is asked; or the number of why the memories, the list or the room are refused.
 fn read(
     sequence: &SequenceImage,
@@ -98,20 +126,18 @@ fn read(
     let Some(was) = sequence.sequence() else {
         return Err(NO_SEQUENCE);
     };
-    if MOST_STEPS < steps.len() {
-        return Err(NO_STEP);
+    if let Some(number) = list_fault(&was, steps.len(), room) {
+        return Err(number);
     }
-    if lacks_room(&was, steps.len(), room) {
-        return Err(NO_ROOM);
+    match steps_at(steps, was.list.begun) {
+        Ok((under, ahead)) => Ok(Asked {
+            was,
+            stage,
+            under,
+            ahead,
+        }),
+        Err(number) => Err(number),
     }
-    let under = step_under(steps, was.list.begun)?;
-    let ahead = step_at(steps, was.list.begun)?;
-    Ok(Asked {
-        was,
-        stage,
-        under,
-        ahead,
-    })
 }
 
 // How many bytes a whole answer has to what is asked beside the host's jobs, the read address first.
