@@ -1,6 +1,6 @@
 -- What the calls of a sequence answer and write, by the relations of pm_sequence: `HandsOut`, `Hears` and `heard_in`. This project's own choice.
 use Rattle.std.specs.Prelude.{◌≡◌, ℕ, Bool, true, false, ◌+◌, ◌-◌, ◌/◌, ◌%◌, ◌&&◌, not, nat_lt, ◌==◌, if◌then◌else◌, List, length}
-use Rattle.std.specs.Prelude.{slice_get, slice_index_or, slice_set, Option, Some, None, is_some, Result, Ok, Err}
+use Rattle.std.specs.Prelude.{slice_get, slice_set, take, Option, Some, None, is_some, Result, Ok, Err}
 use Rattle.std.specs.Option.{option_map_or, option_or}
 use Rattle.std.specs.Result.{result_err}
 use Rattle.pm_host.specs.declared.fault.Untold.{Untold}
@@ -10,7 +10,7 @@ use Rattle.pm_limits.specs.Guard.{Guarded}
 use Rattle.pm_course.specs.declared.frames.Sending.{Sending}
 use Rattle.pm_course.specs.Hosted.{IsSentAt}
 use Rattle.pm_delivery.specs.declared.delivery.Delivery.{Delivery}
-use Rattle.pm_delivery.specs.Questions.{question_code, question_size}
+use Rattle.pm_delivery.specs.Questions.{question_size}
 use Rattle.pm_stairs.specs.declared.step.WordStep.{WordStep}
 use Rattle.pm_stairs.specs.declared.stairs.Stairs.{Stairs}
 use Rattle.pm_stairs.specs.Frames.{is_job_at}
@@ -23,7 +23,7 @@ use Rattle.pm_sequence.specs.declared.sequence.Phase.TheVariants as phase
 use Rattle.pm_sequence.specs.declared.sequence.Rules.{Rules}
 use Rattle.pm_sequence.specs.declared.sequence.Sequence.{Sequence}
 use Rattle.pm_sequence.specs.declared.step.Step.{Step}
-use Rattle.pm_sequence.specs.Frames.{heard_in, HandsOut, Hears}
+use Rattle.pm_sequence.specs.Frames.{heard_in, request_of, HandsOut, Hears}
 use Rattle.pm_sequence.specs.Sequence.{new_sequence}
 use Rattle.pm_memory.specs.declared.delivery_image.DeliveryImage.{DeliveryImage}
 use Rattle.pm_memory.specs.declared.guard_image.GuardImage.{GuardImage}
@@ -32,7 +32,7 @@ use Rattle.pm_memory.specs.declared.sequence_image.SaidImage.{SaidImage}
 use Rattle.pm_memory.specs.declared.sequence_image.SequenceImage.{SequenceImage}
 use Rattle.pm_memory.specs.DeliveryImage.{delivery_image}
 use Rattle.pm_memory.specs.Guard.{guard_of}
-use Rattle.pm_memory.specs.Sending.{IsNothing}
+use Rattle.pm_memory.specs.Sending.{request_kind, IsNothing}
 use Rattle.pm_memory.specs.SequenceImage.{sequence_image, sequence_in}
 use Rattle.pm_calls.specs.declared.host_step.HostStep.{HostStep}
 use Rattle.pm_calls.specs.declared.sequence_step.SequenceRecordImage.{SequenceRecordImage}
@@ -82,13 +82,15 @@ lacks_room q steps room = q.list.keeps_back && nat_lt room steps
 abbrev pub list_fault : Sequence → ℕ → ℕ → Option ℕ
 list_fault q steps room = if nat_lt 65535 steps then Some no_step else (if lacks_room q steps room then Some no_room else None)
 
+abbrev pub steps_fault : List SequenceStepImage → ℕ → Option ℕ
+steps_fault steps begun = option_or (result_err (step_under steps begun)) (result_err (step_at steps begun))
+
 -- Why a call is refused: the memory holds no host, or no sequence; the list has too many steps, or there is less room; or the newest step
 -- that has begun, or the first one that hasn't, is wrong.
 abbrev pub asked_fault : Option Guarded → Option Sequence → List SequenceStepImage → ℕ → Option ℕ
 asked_fault None q steps room = Some no_host
 asked_fault (Some g) None steps room = Some no_sequence
-asked_fault (Some g) (Some q) steps room = option_or (list_fault q (length steps) room)
-    (option_or (result_err (step_under steps q.list.begun)) (result_err (step_at steps q.list.begun)))
+asked_fault (Some g) (Some q) steps room = option_or (list_fault q (length steps) room) (steps_fault steps q.list.begun)
 
 -- otherwise these are asked
 pub record AreAsked (host : GuardImage) (image : SequenceImage) (steps : List SequenceStepImage) (room : ℕ) (g : Guarded) (q : Sequence)
@@ -99,36 +101,23 @@ pub record AreAsked (host : GuardImage) (image : SequenceImage) (steps : List Se
   pub under_at : step_under steps q.list.begun ≡ Ok under
   pub ahead_at : step_at steps q.list.begun ≡ Ok ahead
 
--- a sequence hands out the frame of this stage
-abbrev pub HandsOutAt : Guarded → Option Step → Option Step → Sequence → Option Stage → Act → Guarded → Sequence → Type 0
-HandsOutAt old under ahead was at said new is = (sent : Option Sending) → IsSentAt new at sent → HandsOut old under ahead was sent said new is
-
 -- ---- What is handed out ----
 
--- the register that is to be read beside the host's jobs, and how many bytes it has: OPERATION where it is asked whether the part is there
-abbrev pub read_named : Act → Option (ℕ × ℕ)
-read_named (act.Job job) = None
-read_named (act.Begins job back) = None
-read_named (act.Passes back) = None
-read_named (act.Order job) = None
-read_named (act.Ask question) = Some (question_code question, question_size question)
-read_named act.Probe = Some (0x01, 1)
-read_named act.Pause = None
-read_named (act.Wait milliseconds) = None
-read_named act.Again = None
-read_named (act.NoWayBack fault) = None
-read_named (act.Does found) = None
-read_named (act.Leaves why) = None
-read_named (act.Ended why) = None
+-- how many bytes a whole answer has to what is asked beside the host's jobs, the read address first
+abbrev pub whole_answer : Act → ℕ
+whole_answer (act.Ask question) = question_size question + 3
+whole_answer act.Probe = 4
+whole_answer said = 0
 
-abbrev pub IsReadOf : ℕ → ℕ → Option (ℕ × ℕ) → SendingImage → Type 0
-IsReadOf address output None i = IsNothing i
-IsReadOf address output (Some read) i = IsPagedSending address output read.0 (read.1 + 3) i
+-- a request is to be sent, to which a whole answer has so many bytes; or nothing
+abbrev pub IsRequest : Option (List ℕ) → ℕ → SendingImage → Type 0
+IsRequest None whole i = IsNothing i
+IsRequest (Some bytes) whole i = (i.kind ≡ request_kind) × (i.answer ≡ whole) × (take i.length i.bytes ≡ bytes)
 
--- the frame of a job, or the request of what is read beside the jobs, or nothing
+-- the frame of a job, or the request of what is asked beside the jobs, or nothing
 abbrev pub IsFrameNext : Guarded → Sequence → Option Sending → Act → SendingImage → Type 0
 IsFrameNext g q (Some sent) said i = IsFrameIn (Some sent) i
-IsFrameNext g q None said i = IsReadOf g.host.setup.addr q.look.delivery.output (read_named said) i
+IsFrameNext g q None said i = IsRequest (request_of g.host.setup.addr q.look.delivery.output said) (whole_answer said) i
 
 pub record IsPutNext (g : Guarded) (q : Sequence) (at : Option Stage) (said : Act) (i : SendingImage) : Type 0 where
   pub sent : Option Sending

@@ -171,11 +171,16 @@ abbrev pub said_with : SaidImage → ℕ → Option ℤ → SaidImage
 said_with numbers word None = record numbers { word = word }
 said_with numbers word (Some x) = record numbers { word = word; has_microvolts = 1; microvolts = x }
 
-abbrev pub said_by_rail : SaidImage → Delivery → Option Verdict → Option ℤ → SaidImage
-said_by_rail numbers d None reading = numbers
-said_by_rail numbers d (Some found) reading = said_with numbers (word_of d (said_by found)) reading
-
-pub record IsSaid (host : GuardImage) (q : Sequence) (said : Act) (was new : SaidImage) : Type 0 where
+-- numbers that are with what its register held, and with a reading
+pub record IsSaidOf (host : GuardImage) (d : Delivery) (numbers : SaidImage) (found : Verdict) (new : SaidImage) : Type 0 where
   pub reading : Option ℤ
-  pub written : new ≡ said_by_rail (numbers_said q said was) q.look.delivery (rail_said said) reading
-  pub is_reading : IsReading host q.look.delivery reading
+  pub written : new ≡ said_with numbers (word_of d (said_by found)) reading
+  pub is_reading : IsReading host d reading
+
+abbrev pub IsSaidBy : GuardImage → Delivery → SaidImage → Option Verdict → SaidImage → Type 0
+IsSaidBy host d numbers None new = new ≡ numbers
+IsSaidBy host d numbers (Some found) new = IsSaidOf host d numbers found new
+
+-- what was said last, once a sequence has said this
+abbrev pub IsSaid : GuardImage → Sequence → Act → SaidImage → SaidImage → Type 0
+IsSaid host q said was new = IsSaidBy host q.look.delivery (numbers_said q said was) (rail_said said) new

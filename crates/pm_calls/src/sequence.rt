@@ -1,27 +1,21 @@
 //! A sequence over hosts in a caller's memory: a list of steps is carried out, and what its rails do is looked at.
 
-ghost use Rattle.std.specs.Prelude.{◌≡◌, ◌≤◌, true, IfOk, IfSome, OnOk};
-ghost use Rattle.pm_frame.specs.Layout.{is_carried};
+ghost use Rattle.std.specs.Prelude.{◌≡◌, IfOk, IfSome, Ok, OnOk};
 ghost use Rattle.std.specs.Result.{result_err};
 ghost use Rattle.pm_host.specs.Told.{entry_told};
-ghost use Rattle.pm_calls.specs.Sequence.{asked_fault, back_said as spec_back_said, backs_after, both_fault, is_look as spec_is_look, is_look_said as spec_is_look_said, lacks_room as spec_lacks_room, looks_after, number_next as spec_number_next, read_named as spec_read_named, records_after, rules_said, sequence_begun, step_at as spec_step_at, step_under as spec_step_under, with_back, with_look, AreAsked, AreBoth, HandsOutAt, HearsIn, IsPutNext, NextIn, ReadIn};
+ghost use Rattle.pm_calls.specs.Sequence.{asked_fault, back_said as spec_back_said, backs_after, both_fault, is_look as spec_is_look, is_look_said as spec_is_look_said, lacks_room as spec_lacks_room, list_fault as spec_list_fault, looks_after, number_next as spec_number_next, records_after, rules_said, sequence_begun, step_at as spec_step_at, step_under as spec_step_under, steps_fault, whole_answer as spec_whole_answer, with_back, with_look, AreAsked, AreBoth, HearsIn, IsPutNext, NextIn, ReadIn};
 ghost use Rattle.pm_memory.specs.Guard.{guard_of};
 ghost use Rattle.pm_memory.specs.Hosted.{IsThere, guard_in};
-ghost use Rattle.pm_memory.specs.Memory.{IsMemory};
 ghost use Rattle.pm_memory.specs.SequenceImage.{sequence_in};
 
 use crate::host_step::{HostStep, no_step, step_after};
 use crate::numbers::{ACCEPTED, NO_HOST, NO_ROOM, NO_SEQUENCE, NO_STEP, OTHER_FRAME};
-use crate::seen::Seen;
 use crate::sequence_said::{number_said, rail_said, said_after, step_said};
 use crate::sequence_step::{SequenceRecordImage, SequenceStepImage};
-use pm_course::surprises;
-use pm_frame::paged_request;
 use pm_host::{Stage, Told};
 use pm_memory::{DeliveryImage, GuardImage, SaidImage, SendingImage, SequenceImage};
 use pm_sequence::{Act, End, Phase, Rules, Sequence, Step};
 use pm_stairs::WordStep;
-use pm_table::Code;
 
 // How many steps a list has at most.
 const MOST_STEPS: usize = 65535;
@@ -86,6 +80,34 @@ fn lacks_room(was: &Sequence, steps: usize, room: usize) -> bool
     was.list.keeps_back && room < steps
 }
 
+// Why a list of so many steps is refused.
+fn list_fault(was: &Sequence, steps: usize, room: usize) -> Option<u8>
+    ensures { result ≡ spec_list_fault was.now steps room }
+{
+    if MOST_STEPS < steps {
+        return Some(NO_STEP);
+    }
+    if lacks_room(was, steps, room) {
+        return Some(NO_ROOM);
+    }
+    None
+}
+
+// The newest of so many steps that have begun and the first one ahead; or the number of what is wrong with one.
+fn steps_at(steps: &[SequenceStepImage], begun: u16) -> Result<(Option<Step>, Option<Step>), u8>
+    ensures fault { result_err result ≡ steps_fault steps.now begun }
+    ensures under { IfOk result (λ both. spec_step_under steps.now begun ≡ Ok both.0) }
+    ensures ahead { IfOk result (λ both. spec_step_at steps.now begun ≡ Ok both.1) }
+{
+    match step_under(steps, begun) {
+        Ok(under) => match step_at(steps, begun) {
+            Ok(ahead) => Ok((under, ahead)),
+            Err(number) => Err(number),
+        },
+        Err(number) => Err(number),
+    }
+}
+
 // What is asked; or the number of why the memories, the list or the room are refused.
 fn read(
     sequence: &SequenceImage,
@@ -104,69 +126,28 @@ fn read(
     let Some(was) = sequence.sequence() else {
         return Err(NO_SEQUENCE);
     };
-    if MOST_STEPS < steps.len() {
-        return Err(NO_STEP);
+    if let Some(number) = list_fault(&was, steps.len(), room) {
+        return Err(number);
     }
-    if lacks_room(&was, steps.len(), room) {
-        return Err(NO_ROOM);
-    }
-    let under = step_under(steps, was.list.begun)?;
-    let ahead = step_at(steps, was.list.begun)?;
-    Ok(Asked {
-        was,
-        stage,
-        under,
-        ahead,
-    })
-}
-
-// Hands out what is next: the stage whose frame is to be sent, and what is said.
-fn hand_out(
-    sequence: &mut Sequence,
-    host: &mut GuardImage,
-    stage: Option<Stage>,
-    under: Option<Step>,
-    ahead: Option<Step>,
-) -> (Option<Stage>, Act)
-    requires there { IsThere host.old }
-    requires stage { stage ≡ (guard_in host.old).host.stage }
-    ensures there { IsThere host.new }
-    ensures hands { HandsOutAt (guard_in host.old) under ahead sequence.old result.0 result.1 (guard_in host.new) sequence.new }
-    ensures open { IfSome result.0 (λ at. (guard_in host.new).host.stage ≡ Some at) }
-    ensures written { IsMemory host.old → IsMemory host.new }
-{
-    if let Some(at) = stage {
-        if sequence.list.is_job_at(at) {
-            return (stage, Act::Again);
-        }
-    }
-    let mut asked = *sequence;
-    let act = asked.next(&Seen::of(host, stage), under, ahead);
-    match act.job() {
-        None => {
-            *sequence = asked;
-            (None, act)
-        }
-        Some(job) => match host.begin_job(stage, job) {
-            Ok(at) => {
-                *sequence = asked;
-                (at, act)
-            }
-            Err(fault) => (None, sequence.refused(&asked, act, fault, job)),
-        },
+    match steps_at(steps, was.list.begun) {
+        Ok((under, ahead)) => Ok(Asked {
+            was,
+            stage,
+            under,
+            ahead,
+        }),
+        Err(number) => Err(number),
     }
 }
 
-// The register that is to be read beside the host's jobs: its command code, and how many bytes it has.
-fn read_named(act: Act) -> Option<(u8, u8)>
-    ensures read { result ≡ spec_read_named act }
-    ensures carried { IfSome result (λ read. is_carried read.0 ≡ true) }
-    ensures size { IfSome result (λ read. read.1 ≤ 2) }
+// How many bytes a whole answer has to what is asked beside the host's jobs, the read address first.
+fn whole_answer(act: Act) -> u8
+    ensures { result ≡ spec_whole_answer act }
 {
     match act {
-        Act::Ask(question) => Some((question.code().0, question.size() as u8)),
-        Act::Probe => Some((Code::OPERATION.0, 1)),
-        _ => None,
+        Act::Ask(question) => question.size() as u8 + 3,
+        Act::Probe => 4,
+        _ => 0,
     }
 }
 
@@ -180,14 +161,8 @@ fn put(host: &GuardImage, is: &Sequence, at: Option<Stage>, act: Act, sending: &
         sending.put(host.host.state.address, &stage.message());
         return;
     }
-    match read_named(act) {
-        Some((code, size)) => {
-            let address = host.host.state.address;
-            sending.put_paged(
-                &paged_request(address, is.look.delivery.output, code),
-                size + 3,
-            );
-        }
+    match is.request(host, act) {
+        Some(request) => sending.put_paged(&request, whole_answer(act)),
         None => sending.clear(),
     }
 }
@@ -288,7 +263,7 @@ pub fn next(
         }
     };
     let mut is = asked.was;
-    let (at, act) = hand_out(&mut is, host, asked.stage, asked.under, asked.ahead);
+    let (at, act) = is.hand_out(host, asked.stage, asked.under, asked.ahead);
     put(host, &is, at, act, sending);
     keep(records, &asked.was, &is, act);
     let said = said_after(host, &is, act, sequence.said);
@@ -352,15 +327,12 @@ fn hear(
     if !at.awaits(&told) {
         return no_step(OTHER_FRAME);
     }
-    let Some(course) = was.list.course_open() else {
+    let Some(_course) = was.list.course_open() else {
         return no_step(OTHER_FRAME);
     };
-    let surprised = surprises(&host.host.state, at, told);
     let address = host.host.state.address;
-    let mut heard_course = course;
-    let heard = heard_course.hear_by(host, at, told);
     let mut is = *was;
-    is.list = was.list.with_course(heard_course, surprised);
+    let heard = is.hear_by(host, at, told);
     *sequence = SequenceImage::of(&is, sequence.said);
     step_after(heard.step, address, at, told)
 }
@@ -390,7 +362,7 @@ pub fn read_ended(sequence: &mut SequenceImage, host: &mut GuardImage, bytes: &[
         return hear(sequence, host, &was, stage, Told::Got(bytes));
     }
     let mut is = was;
-    is.answered(&Seen::of(host, stage), bytes);
+    is.answered(host, bytes);
     *sequence = SequenceImage::of(&is, sequence.said);
     no_step(ACCEPTED)
 }

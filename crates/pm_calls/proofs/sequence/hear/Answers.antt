@@ -1,17 +1,17 @@
-use Rattle.std.proofs.Common.{◌≡◌, ◌∙◌, ℕ, Bool, true, false, Some, None, Ok, ap, subst, sym, refl}
+use Rattle.std.proofs.Common.{◌≡◌, ◌∙◌, ℕ, true, false, Option, Some, None, ap, subst, sym, refl, rules}
+use Rattle.std.specs.Prelude.{is_none}
 use Rattle.pm_host.specs.declared.fault.Untold.TheVariants.{NothingSent, WrongKind}
 use Rattle.pm_host.specs.declared.host.Step.{Step}
+use Rattle.pm_host.specs.declared.stage.Stage.{Stage}
+use Rattle.pm_host.specs.declared.stage.Stage.TheVariants.{Writes, Reads, Asks, Sends}
+use Rattle.pm_host.specs.Sound.{HasWord, IsSound}
 use Rattle.pm_host.specs.Summary.{Summary, stage_message, step_of}
 use Rattle.pm_host.specs.Told.{entry_told, is_awaited}
 use Rattle.pm_course.specs.declared.frame_course.FrameCourse.{FrameCourse}
 use Rattle.pm_course.specs.Frames as frames
-use Rattle.pm_course.specs.Frames.{Hears as CourseHears}
 use Rattle.pm_course.specs.Lemmas.Awaited.{comes-awaited}
-use Rattle.pm_course.specs.Surprise.{surprises}
-use Rattle.pm_stairs.specs.declared.sequence.Sequence.{Sequence as List}
-use Rattle.pm_stairs.specs.Sequence.{heard_with}
-use Rattle.pm_sequence.specs.Frames.{heard, nothing, Hears}
-use Rattle.pm_sequence.specs.Sequence.{with_list}
+use Rattle.pm_sequence.specs.Frames.{nothing}
+use Rattle.pm_stairs.specs.Frames.{course_open}
 use Rattle.pm_memory.specs.declared.sequence_image.SequenceImage.{SequenceImage}
 use Rattle.pm_memory.specs.Guard.{guard_of}
 use Rattle.pm_memory.specs.Hosted.{guard_in}
@@ -19,8 +19,8 @@ use Rattle.pm_calls.specs.declared.host_step.HostStep.{HostStep}
 use Rattle.pm_calls.specs.Course.{heard_step}
 use Rattle.pm_calls.specs.Host.{host_step, told_fault}
 use Rattle.pm_calls.specs.Sequence.{hears_it, unasked, HearsIn}
-use Rattle.pm_calls.proofs.Heard.{fault-at, hears-by}
-use Rattle.pm_calls.proofs.Sequences.{restart-at, unheard}
+use Rattle.pm_calls.proofs.Heard.{fault-at}
+use Rattle.pm_calls.proofs.Sequences.{told-at, unheard}
 use Rattle.pm_calls.proofs.sequence.hear.Goals as goal
 
 pub returns-in_default : goal.returns-in_default
@@ -43,14 +43,24 @@ returns-then-not-awaits c =
     subst (λ (s : HostStep). HearsIn c.args.host.now c.args.sequence.now entry s c.args.host.now c.args.sequence.now)
     (sym c.no_step-then-not-awaits.ensures) (unasked g c.args.was.now w.is w.fault c.requires.both w.hears)
 
-pub returns-in_default-course : goal.returns-in_default-course
-returns-in_default-course c =
+pub returns-in_default-course_open : goal.returns-in_default-course_open
+returns-in_default-course_open c =
     let entry = entry_told c.args.told in
     let g = guard_in c.args.host.now in
     let q = c.args.was.now in
     subst (λ (s : HostStep). HearsIn c.args.host.now c.args.sequence.now entry s c.args.host.now c.args.sequence.now)
-    (sym c.no_step-in_default-course.ensures)
-    (unasked g q q NothingSent c.requires.both (nothing (sym c.course_open.ensures ∙ c.in_default-course.is)))
+    (sym c.no_step-in_default-course_open.ensures)
+    (unasked g q q NothingSent c.requires.both (nothing (sym c.course_open.ensures ∙ c.in_default-course_open.is)))
+
+word-at : (s : Summary) (at : Stage) → IsSound s → s.stage ≡ Some at → HasWord at
+word-at s (Writes cell word pass) sound opened = search rules
+word-at s (Reads cell word pass) sound opened = tt
+word-at s (Asks question tries) sound opened = tt
+word-at s (Sends command tries) sound opened = tt
+
+pub step_after-requires-clause-word : goal.step_after-requires-clause-word
+step_after-requires-clause-word c =
+    word-at (guard_in c.args.host.now).host c.in-Some.at c.requires.there.sound (sym c.requires.stage ∙ c.in-Some.is)
 
 pub returns : goal.returns
 returns c =
@@ -62,25 +72,19 @@ returns c =
     let next = guard_in new in
     let found : guard_of new ≡ Some next = rw (c.hear_by-heard.ensures.there.there) refl in
     let q = c.args.was.now in
-    let course = c.in-Some-course.course in
-    let after = c.hear_by-heard.new.self in
+    let is = c.hear_by-heard.new.self in
     let at = c.in-Some.at in
-    let tells = c.hear_by-heard.ensures.told in
     let opened : g.host.stage ≡ Some at = sym c.requires.stage ∙ c.in-Some.is in
     let waits : is_awaited at c.args.told ≡ true = sym c.awaits.ensures ∙ c.if-not-awaits.false in
-    let hear : CourseHears g course entry (Ok tt) next after = hears-by g next course after at c.args.told c.hear_by-heard.result opened waits tells in
+    let some : is_none (course_open q.list.stairs) ≡ false =
+    ap (λ (o : Option FrameCourse). is_none o) (sym c.course_open.ensures ∙ c.in-Some-course_open.is) in
+    let did = told-at g next q is at c.args.told c.hear_by-heard.result opened waits some c.hear_by-heard.ensures.hears in
     let host-is : host.host.state.address ≡ g.host.setup.addr = ap (λ (s : Summary). s.setup.addr) c.requires.there.whole in
     let answered : c.step_after.result ≡ heard_step g entry =
     c.step_after.ensures
     ∙ ap (λ (a : ℕ). host_step (told_fault a (stage_message at) entry) c.hear_by-heard.result.step) host-is
-    ∙ ap (λ (step : Step). host_step (told_fault g.host.setup.addr (stage_message at) entry) step) tells.step
+    ∙ ap (λ (step : Step). host_step (told_fault g.host.setup.addr (stage_message at) entry) step) did.step-is
     ∙ ap (λ (f : ℕ). host_step f (step_of g.host entry)) (fault-at g.host at entry opened) in
-    let surprised = c.surprises-surprised.ensures ∙ restart-at g at c.args.told opened in
-    let list = c.with_course.ensures ∙ ap (λ (b : Bool). heard_with q.list after b) surprised in
-    let both : Hears g q entry (Ok tt) next (with_list q c.with_course.result) =
-    subst (λ (l : List). Hears g q entry (Ok tt) next (with_list q l)) (sym list)
-    (heard course after (Ok tt) next (sym c.course_open.ensures ∙ c.in-Some-course.is) hear) in
     subst (λ (s : HostStep). HearsIn host image entry s new c.of.result) (sym answered)
     (subst (λ (i : SequenceImage). HearsIn host image entry (heard_step g entry) new i) (sym c.of.ensures)
-    (hears_it g next q (with_list q c.with_course.result) new c.requires.both both
-    (record { guard = found; written = c.hear_by-heard.ensures.written })))
+    (hears_it g next q is new c.requires.both did.hears (record { guard = found; written = c.hear_by-heard.ensures.written })))

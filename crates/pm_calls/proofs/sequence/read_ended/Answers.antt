@@ -1,7 +1,6 @@
 use Rattle.std.proofs.Common.{◌≡◌, ◌∙◌, true, false, Option, ap, subst, sym}
 use Rattle.pm_host.specs.declared.stage.Stage.{Stage}
 use Rattle.pm_host.specs.Transcript.{Got}
-use Rattle.pm_limits.specs.Guard.{Guarded}
 use Rattle.pm_sequence.specs.declared.sequence.Sequence.{Sequence}
 use Rattle.pm_sequence.specs.Frames.{heard_in}
 use Rattle.pm_memory.specs.declared.sequence_image.SequenceImage.{SequenceImage}
@@ -11,7 +10,6 @@ use Rattle.pm_calls.specs.declared.host_step.HostStep.{HostStep}
 use Rattle.pm_calls.specs.Host.{refused_step}
 use Rattle.pm_calls.specs.Numbers.{accepted}
 use Rattle.pm_calls.specs.Sequence.{is_look, of_a_job, of_a_look, refused_read, ReadIn}
-use Rattle.pm_calls.proofs.Sequences.{seen}
 use Rattle.pm_calls.proofs.sequence.read_ended.Goals as goal
 
 pub returns-in-Err : goal.returns-in-Err
@@ -37,8 +35,8 @@ returns c =
     let look : is_look q g.host.stage ≡ true =
     ap (λ (at : Option Stage). is_look q at) (sym c.in-Ok.ensures.stage) ∙ sym c.is_look.ensures ∙ c.if-not-is_look.false in
     let is : c.answered.new.self ≡ heard_in g q bytes =
-    c.answered.ensures ∙ ap (λ (x : Guarded). heard_in x q bytes) (seen host c.in-Ok.both.1 c.in-Ok.ensures.there c.in-Ok.ensures.stage) in
-    let written = c.of-2.ensures ∙ ap (λ (x : Sequence). sequence_image x image.said) is in
-    subst (λ (s : HostStep). ReadIn host image bytes s host c.of-2.result) (sym c.no_step-2.ensures)
+    c.answered.ensures in
+    let written = c.of.ensures ∙ ap (λ (x : Sequence). sequence_image x image.said) is in
+    subst (λ (s : HostStep). ReadIn host image bytes s host c.of.result) (sym c.no_step-2.ensures)
     (subst (λ (i : SequenceImage). ReadIn host image bytes (refused_step accepted) host i) (sym written)
     (of_a_look g q c.in-Ok.ensures.both look))
