@@ -243,7 +243,8 @@ class RailTest:
             return f"{said}: {why or SAYINGS.get(fault.letter, fault.name)}: {fault.letter} {fault.name}"
         if end.word is not None:
             return f"{said}: {end.register} is {in_hexadecimal(end.register, end.word)}"
-        return f"{said}: {WHY.get(end.kind, '').replace('the part', self.rail.part or 'the part') or self.part.transfers.why() or end.fault or 'no good answer'}"
+        why = WHY.get(end.kind, "").replace("the part", self.rail.part or "the part")
+        return f"{said}: {why or self.part.transfers.why() or end.fault or 'no good answer'}"
 
     def stopped(self, why: str) -> Stopped:
         return Stopped(f"{self.rail.name}: {why}")
@@ -304,5 +305,6 @@ def tell(arguments: argparse.Namespace, begun: list[RailTest], rows: list[Row], 
         call.say_lines(["  ".join([*(line[at].ljust(wide[at]) for at in range(4)), line[4]]).rstrip() for line in lines])
         call.say_lines([f"{each.rail.name}: back, {OPERATION} {ON:02X} confirmed" for each in begun if each.is_back])
     backs = [{"rail": each.rail.name, "point": "back", "confirmed": each.is_back} for each in begun]
-    return call.say(Answer(said(arguments), "restarted" if status == RESTARTED else "stopped" if why else "done", "", status, why, rows=[*(row.by_names() for row in rows), *backs],
+    end = "restarted" if status == RESTARTED else "stopped" if why else "done"
+    return call.say(Answer(said(arguments), end, "", status, why, rows=[*(row.by_names() for row in rows), *backs],
                            restart_seen=any(place.pmbus().restart_seen for place in call.places().values())))
