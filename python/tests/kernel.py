@@ -1,6 +1,6 @@
-"""Stands in for the kernel's /dev/i2c-7 below pmhost.bus.linux, over messages as those of the bench of `pmhost torture`, with a part behind it:
-a model converter, or one of its kin that lacks something. Where the plain model of python/tests/plain takes the setup, the proved converter hears each frame beside
-it, and an answer that differs fails the test. What the kernel answers is what Linux answers: errors by their numbers, and of a
+"""Stands in for the kernel's /dev/i2c-7 below pmhost.bus.linux, over messages as those of the bench of `pmhost torture`, with a part behind
+it: a model converter, or one of its kin that lacks something. Where the plain model of python/tests/plain takes the setup, the proved converter
+hears each frame beside it, and an answer that differs fails the test. What the kernel answers is what Linux answers: errors by their numbers, and of a
 transfer how many messages went, which some adapters answer as 0 or 1 in place of an error.
 
 A mishap befalls one transfer, in their order:

@@ -198,16 +198,19 @@ class Rows(unittest.TestCase):
         self.assertGreater(ends.count(3), 3 * ends.count(0))
 
     def test_a_restart_of_another_part_is_told(self):
-        """Its stored voltage is 1 % away from the file's, so that no look finds it."""
-        other = Part((ON,))
-        other.bus = ModelPartBus(ModelPart(0x59, [Output(command=0x1029)]))
-        self.assertEqual(other.hear(Packet("PAGE_PLUS_WRITE", 0x21, count=2, word=0x1000).frame(0x59), "stop"), [])
+        """Its stored voltage is 1 % away from the file's, so that no look finds it; and its rail is off after it, which a look finds."""
         board = "\n".join([BOARD, table_of("u2", 7, 0x59, 1), rail_of("aux", 0).replace("u1", "u2")])
-        self.assertEqual(self.run_test("core", board=board, more={0x59: other})[:2], (0, CORE))
-        status, orders, out, err = self.run_test("core", kind=RestartsAnother, board=board, more={0x59: other}, other=other)
-        self.assertEqual((status, orders), (3, CORE))
-        self.assertIn("u2 restarted meanwhile: nothing that was read before holds: run this again", err)
-        self.assertIn("core: back, OPERATION 80 confirmed", out)
+        for stored in (Output(command=0x1029), Output(operation=0)):
+            other = Part((ON,))
+            other.bus = ModelPartBus(ModelPart(0x59, [stored]))
+            for code, size, word in ((0x21, 2, 0x1000), (0x01, 1, ON)):
+                self.assertEqual(other.hear(Packet("PAGE_PLUS_WRITE", code, count=size, word=word).frame(0x59), "stop"), [])
+            self.assertEqual(self.run_test("core", board=board, more={0x59: other})[:2], (0, CORE))
+            status, orders, out, err = self.run_test("core", kind=RestartsAnother, board=board, more={0x59: other}, other=other)
+            with self.subTest(stored=stored):
+                self.assertEqual((status, orders), (3, CORE))
+                self.assertIn("u2 restarted meanwhile: nothing that was read before holds: run this again", err)
+                self.assertIn("core: back, OPERATION 80 confirmed" if stored.operation else "core is back: OPERATION 80 confirmed", out + err)
 
     def test_a_margin_that_is_not_taken(self):
         status, orders, _, err = self.run_test(kind=Deaf)

@@ -136,9 +136,10 @@ class HostLife:
         self.case.assertEqual((own.least.microvolts, own.most.microvolts) if own else None, self.limits[output])
         self.case.assertEqual(self.host.limits_state(output), STATES[plain_limits.within(self.limits[output], found)])
         if found is None or max(map(abs, found)) > FAR:
-            return self.case.assertRaises(Refused, self.host.band, output)
-        band, (least, greatest) = self.host.band(output), (it * 10**6 for it in found)
-        self.case.assertEqual((band.least.microvolts, band.greatest.microvolts), (floor(least), ceil(greatest)))
+            self.case.assertRaises(Refused, self.host.band, output)
+        else:
+            band, (least, greatest) = self.host.band(output), (it * 10**6 for it in found)
+            self.case.assertEqual((band.least.microvolts, band.greatest.microvolts), (floor(least), ceil(greatest)))
 
     def live(self, events):
         for _ in range(events):

@@ -1,8 +1,9 @@
 """pmhost with jobs of every kind under drawn faults: drawn BUS [SEED [LISTS]].
 
 Learns, a voltage, words of all registers, WRITE_PROTECT, clear, store, restore and reads, under each kind of fault at one drawn
-transfer and under LISTS (60) lists of two to five, and answers of ones and of zeros also at 48 and 4A, where they are good ones to WRITE_PROTECT; then what is known of each register is compared with what the part holds, and
-every word that a register ever held with those that were ordered for it. SEED (7) draws the places.
+transfer and under LISTS (60) lists of two to five, and answers of ones and of zeros also at 48 and 4A, where they are good ones to
+WRITE_PROTECT; then what is known of each register is compared with what the part holds, and every word that a register ever held with those
+that were ordered for it. SEED (7) draws the places.
 """
 import collections
 import random
@@ -21,7 +22,8 @@ JOBS = [*(f"word {output} {register} {word}" for output, register, word in ORDER
 JOBS = ["learn 0", "set 0 1.3V", *JOBS[:6], "clear 0", "store", *JOBS[6:], "restore --outputs-may-go-off", "read 0", "read 1", "known"]
 # Of the bytes of a write some are left out: `half` is the last.
 FALSE_ANSWERS = {"ones": "answered by ones", "zeros": "answered by zeros"}
-MORE = {**FALSE_ANSWERS, "twice": "heard twice", "power": "power lost", "arb": "lost to another master", **{f"nack{byte}": f"byte {byte} refused" for byte in (1, 2, 4, 5)}}
+MORE = {**FALSE_ANSWERS, "twice": "heard twice", "power": "power lost", "arb": "lost to another master",
+        **{f"nack{byte}": f"byte {byte} refused" for byte in (1, 2, 4, 5)}}
 KNOWN = re.compile(r"([-01]) (\w+) (?:([0-9A-F]{2}|[0-9A-F]{4}) (?:[-\d.]+V )?confirmed|possible (.*)|any)")
 WORD = re.compile(r"\b([0-9A-F]{4}|[0-9A-F]{2})\b")
 SEEN = re.compile(r"restart seen: (yes|no)")

@@ -2,8 +2,9 @@
 
 The nine kinds: the part restarts; it doesn't take the frame; it takes the frame and the transfer fails, in two ways; an
 acknowledgement is false; an answer is damaged, or cut; a write is cut, or a bit of it is flipped. Each strikes each
-transfer of the orders once (over the slow bus 5 some of them), with 1 and with 3 passes. On the wire two come to them: an answer to the second address
-that the kernel sends by itself, and a clock that is held low for less and for more than the adapter's patience of 50 ms. After each run the host is asked for both outputs and whether it saw a restart, and that
+transfer of the orders once (over the slow bus 5 some of them), with 1 and with 3 passes. On the wire two come to them: an answer to
+the second address that the kernel sends by itself, and a clock that is held low for less and for more than the adapter's patience of 50 ms.
+After each run the host is asked for both outputs and whether it saw a restart, and that
 is compared with what the part holds: a word ordered for one output must never stand at the other, and nothing that was
 said may be false. Both are counted; what isn't promised is counted too, and no fault: a word that was confirmed and went
 with a restart. SEED (7) draws LISTS (60) lists.

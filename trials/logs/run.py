@@ -282,25 +282,6 @@ def try_long_ones(asked_bytes: int, tally: Tally) -> None:
         tally.tell(f"a long {name}", [] if said.startswith(start) and said.count("\n") == 1 and 0 < most <= MOST_KB else [words])
 
 
-def try_small_ones(tally: Tally) -> None:
-    """Logs that aren't accepted: one line each, in at most 2 MB of memory, which are looked at before the log ends."""
-    for name, text, line in (
-            ("an empty log", b"", "line 1: no #log line stands before it\n"),
-            ("a log of another address", b"#log 59 2 2\nB0 03 46\n", "line 2: no host sends this packet: F1 NotOurs\n"),
-            ("a claim of an output that isn't there", b"#log 58 2 2\n#holds 2 VOUT_COMMAND 34CD\n",
-             "line 2: 2 VOUT_COMMAND isn't known to hold 34CD: possible any\n")):
-        with subprocess.Popen([PMB, "check"], stdin=subprocess.PIPE, stdout=subprocess.PIPE, stderr=subprocess.STDOUT) as child:
-            assert child.stdin and child.stdout
-            child.stdin.write(text)
-            child.stdin.flush()
-            time.sleep(0.2)
-            most = high_water(child.pid)
-            child.stdin.close()
-            found = child.stdout.read().decode()
-        print(f"{name}: {found.strip()}; {most} kB of memory")
-        tally.tell(name, [] if (child.returncode, found) == (1, line) and most <= MOST_KB else [f"{found} {most} kB"])
-
-
 def try_halves(folder: str, truth: Truth, tally: Tally) -> None:
     """Calls of which nothing more comes through after so many transfers: each log is accepted, with claims that are so."""
     ended, claims = set(), 0
@@ -355,7 +336,6 @@ def main() -> int:
         print(f"{kind}: {refused + taken} changed logs, {refused} refused, {taken} accepted, each claim of which was so")
     tally.tell("changed logs", false)
     try_long_ones(given.bytes, tally)
-    try_small_ones(tally)
     return tally.end()
 
 

@@ -50,12 +50,13 @@ def main():
         return Tally().end()
     import qtest
     from pmhost import cli
+    from tests.kernel import Calls
     tally = Tally()
     with qtest.Machine({f"0x{address}": name for name, (address, *_) in PARTS.items()}) as machine:
         for name, words, status, text in rows():
             said = io.StringIO()
             with contextlib.redirect_stdout(said), contextlib.redirect_stderr(said):
-                found = cli.main(["-b", "0", *words], qtest.Kernel(machine))
+                found = cli.main(["-b", "0", *words], Calls({0: machine}))
             tally.tell(name, [] if (found, said.getvalue()) == (status, text) else [f"status {found}\n{said.getvalue()}"])
     return tally.end()
 

@@ -1,22 +1,18 @@
-"""A machine of QEMU without a processor, whose I2C bus is driven line by line over qtest: what stands for the kernel below `pmhost`.
+"""A machine of QEMU without a processor, whose I2C bus is driven line by line over qtest.
 
 The machine is versatilepb, whose controller at 10002000h sets and clears SCL and SDA and says how SDA is. Each part is a device of
 QEMU, unchanged.
 """
 import errno
-import ctypes
 import os
 import socket
 import subprocess
 import tempfile
 
-from pmhost.bus.linux import I2C_FUNC_I2C, I2C_FUNCS, I2C_M_RD, I2C_RDWR, I2C_SLAVE
-
 QEMU = "qemu-system-arm"
 # What this register reads is the lines; a write sets these bits, and one to the next register clears them.
 LINES, CLEAR = 0x10002000, 0x10002004
 SCL, SDA = 1, 2
-FILE = 5
 
 
 class Machine:
@@ -88,48 +84,19 @@ class Machine:
         self.bit(is_last)
         return found
 
-    def message(self, address, is_read, length, buffer):
+    def message(self, message, came):
         """One message, behind a start. The error where a byte wasn't acknowledged."""
         self.start()
-        if not self.send(address << 1 | is_read):
+        if not self.send(message.address << 1 | message.is_read):
             return errno.ENXIO
-        for at in range(length):
-            if is_read:
-                buffer[at] = self.receive(at == length - 1)
-            elif not self.send(buffer[at]):
-                return errno.EREMOTEIO
-        return 0
+        if message.is_read:
+            came.append(bytes(self.receive(at == message.length - 1) for at in range(message.length)))
+        return 0 if all(map(self.send, message.data)) else errno.EREMOTEIO
 
-
-class Kernel:
-    """The kernel's calls of one bus, /dev/i2c-0, over the machine."""
-
-    def __init__(self, machine):
-        self.machine = machine
-
-    def open(self, path):
-        if path != "/dev/i2c-0":
-            raise OSError(errno.ENOENT, os.strerror(errno.ENOENT))
-        return FILE
-
-    def ioctl(self, file, request, argument):
-        if request == I2C_FUNCS:
-            argument.value = I2C_FUNC_I2C
-        if request != I2C_RDWR:
-            assert request in (I2C_FUNCS, I2C_SLAVE), request
-            return 0
-        number = 0
-        for at in range(argument.nmsgs):
-            it = argument.msgs[at]
-            buffer = (ctypes.c_uint8 * it.len).from_address(it.buf)
-            number = number or self.machine.message(it.addr, bool(it.flags & I2C_M_RD), it.len, buffer)
-        self.machine.stop()
-        if number:
-            raise OSError(number, os.strerror(number))
-        return argument.nmsgs
-
-    def lock(self, file, place):
-        pass
-
-    def close(self, file):
-        pass
+    def transfer(self, messages):
+        """How many messages went, or minus the error, and what the reads have: as the server of `pmhost torture`."""
+        error, came = 0, []
+        for message in messages:
+            error = error or self.message(message, came)
+        self.stop()
+        return (-error, []) if error else (len(messages), came)

@@ -18,7 +18,7 @@ from ..look import Delivered, Look, Looks, register_words
 from ..operation import MARGINS, ON, margin_byte, selected_by
 from ..parts import BadRails
 from ..rail_course import Due, Restarted, Stopped
-from ..rails import ONLY, Rail
+from ..rails import Rail
 from ..rehearsal import first_not_reached
 from ..stairs import WHY, StairsStep
 from ..step_run import StepCourse, StepRun
@@ -181,8 +181,11 @@ class RailTest:
         with self.stopping():
             carry_out(self.part, course, before, lambda *_: None, call.places()[self.rail.part].ask_operation)
         end = course.ended or CourseEnd("")
+        why = f"{self.rail.name}: at {point}: {self.why_ended(byte, end)}"
+        if end.kind == "restarted":
+            raise Restarted(why)
         if end.kind != "reached":
-            raise self.stopped(f"at {point}: {self.why_ended(byte, end)}")
+            raise Stopped(why)
 
     def measure(self, point: str, byte: int) -> None:
         """Looks at the rail and at all others, which stay as they are. Restarted, or Stopped if one doesn't do what it is to."""
@@ -195,7 +198,9 @@ class RailTest:
             raise self.stopped(f"at {point}: {found.why_told}")
         for rail, other in others:
             if other.is_bad:
-                raise Stopped(f"{self.rail.name}: at {point}: {rail.name}: {other.why_told}", rail.part)
+                # (its part may have restarted: that is said then)
+                self.board.look_at(rail)
+                raise Stopped(f"{self.rail.name}: at {point}: {rail.name}: {other.why_told}")
         if silent:
             raise self.stopped(f"at {point}: {silent}")
         if state.limits_state != "within" or state.value is None or not state.is_value(state.value):
@@ -211,7 +216,7 @@ class RailTest:
             if self.board.has_restarted(self.rail):
                 word = only_word(self.part, self.rail.output, register)
                 is_held = "isn't known" if word is None else f"is {in_hexadecimal(register, word)}"
-                raise Restarted(f"{self.rail.name}: at {point}: {self.rail.part or 'the part'} restarted: {register} {is_held} now: call again", self.rail.part)
+                raise Restarted(f"{self.rail.name}: at {point}: {self.rail.part or 'the part'} restarted: {register} {is_held} now: call again")
         held = only_word(self.part, self.rail.output, OPERATION)
         return "" if held == byte else f"{OPERATION} isn't {byte:02X} any more"
 
@@ -238,10 +243,11 @@ class RailTest:
             return f"{said}: {why or SAYINGS.get(fault.letter, fault.name)}: {fault.letter} {fault.name}"
         if end.word is not None:
             return f"{said}: {end.register} is {in_hexadecimal(end.register, end.word)}"
-        return f"{said}: {WHY.get(end.kind, '').replace('the part', self.rail.part or 'the part') or self.part.transfers.why() or end.fault or 'no good answer'}"
+        why = WHY.get(end.kind, "").replace("the part", self.rail.part or "the part")
+        return f"{said}: {why or self.part.transfers.why() or end.fault or 'no good answer'}"
 
     def stopped(self, why: str) -> Stopped:
-        return Stopped(f"{self.rail.name}: {why}", self.rail.part)
+        return Stopped(f"{self.rail.name}: {why}")
 
 
 def judge_board(board: Board) -> None:
@@ -282,18 +288,11 @@ def margin_test(arguments: argparse.Namespace) -> int:
         for rail in file.rails:
             board.look_at(rail)
     except Stopped as stopped:
-        why, status = str(stopped) if begun else f"{stopped}: nothing was ordered", status_of(board, stopped)
+        why, status = str(stopped) if begun else f"{stopped}: nothing was ordered", RESTARTED if isinstance(stopped, Restarted) else 1
     for held, fault in call.back.go():
         begun[-1].is_back, status = not fault, 1 if fault else status
         why += f"; {words_of(held, fault)}"
     return tell(arguments, begun, rows, why, status)
-
-
-def status_of(board: Board, stopped: Stopped) -> int:
-    """RESTARTED if the part that it is about restarted meanwhile."""
-    part = board.parts.get(stopped.part or ONLY)
-    is_restart = part is not None and part.restart_seen and (stopped.part or ONLY) not in board.had_restarted
-    return RESTARTED if isinstance(stopped, Restarted) or stopped.part is not None and is_restart else 1
 
 
 def tell(arguments: argparse.Namespace, begun: list[RailTest], rows: list[Row], why: str, status: int) -> int:
@@ -306,5 +305,6 @@ def tell(arguments: argparse.Namespace, begun: list[RailTest], rows: list[Row], 
         call.say_lines(["  ".join([*(line[at].ljust(wide[at]) for at in range(4)), line[4]]).rstrip() for line in lines])
         call.say_lines([f"{each.rail.name}: back, {OPERATION} {ON:02X} confirmed" for each in begun if each.is_back])
     backs = [{"rail": each.rail.name, "point": "back", "confirmed": each.is_back} for each in begun]
-    return call.say(Answer(said(arguments), "restarted" if status == RESTARTED else "stopped" if why else "done", "", status, why, rows=[*(row.by_names() for row in rows), *backs],
+    end = "restarted" if status == RESTARTED else "stopped" if why else "done"
+    return call.say(Answer(said(arguments), end, "", status, why, rows=[*(row.by_names() for row in rows), *backs],
                            restart_seen=any(place.pmbus().restart_seen for place in call.places().values())))

@@ -25,8 +25,9 @@ class Cause:
     @property
     def line(self) -> str:
         """How many runs there are, what they are, and the cause."""
-        kinds = {"WRONG": [it.wrong for it in self.runs], "FALSE": [it.lost for it in self.runs], "STRANGE": [it.strange for it in self.runs],
-                 "NOT ENDED": [not it.run.is_ended for it in self.runs]}
+        kinds: dict[str, list[object]] = {
+            "WRONG": [it.wrong for it in self.runs], "FALSE": [it.lost for it in self.runs], "STRANGE": [it.strange for it in self.runs],
+            "NOT ENDED": [not it.run.is_ended for it in self.runs]}
         counts = [f"{sum(map(bool, found))} {kind}" for kind, found in kinds.items() if any(found)]
         return f"{len(self.runs)} run{'s' * (len(self.runs) != 1)}, {', '.join(counts)}: {self.words}"
 

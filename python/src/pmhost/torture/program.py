@@ -134,7 +134,7 @@ class Program:
                 if said and not run.is_success and said.look():
                     run.is_success = True
                     judged()
-                    bus.tell = lambda struck: None
+                    bus.tell = lambda _: None
                 return run.is_success
             with way.opened(Server(part, bus, look)) as (serving, around):
                 run.status = self._ran(serving, os.environ | around, output.fileno(), look)

@@ -6,7 +6,7 @@ from ..faults.bus import SILENT, UNHEARD, Struck
 from ..packets import pec
 from .watched import PAGE_PLUS_READ, PAGE_PLUS_WRITE
 
-NAMES = {each.code: name for table in (codes.CODES, readings.KINDS) for name, each in table.items()} | values.NAMES | {
+NAMES = values.NAMES | {it.code: name for name, it in codes.CODES.items()} | {it.code: name for name, it in readings.KINDS.items()} | {
     0x03: "CLEAR_FAULTS", 0x11: "STORE_DEFAULT_ALL", 0x12: "RESTORE_DEFAULT_ALL", 0x15: "STORE_USER_ALL", 0x16: "RESTORE_USER_ALL"}
 
 REFUSED = "refused"
