@@ -273,7 +273,8 @@ static inline void delivered_words(char *text, size_t room, const pm_sequence_sa
         int is_beyond = 0;
         delivered_put(&line, "P8 BeyondFaultLimit: ");
         for (int at = 0; at < 3 && !is_beyond; at++)
-            is_beyond = delivered_put_goal(&line, host, step, delivered_goals[at], 0x40, &look->ov_fault_limit, 0x44, &look->uv_fault_limit, ", which is");
+            is_beyond = delivered_put_goal(&line, host, step, delivered_goals[at], 0x40, &look->ov_fault_limit, 0x44, &look->uv_fault_limit,
+                                           ", which is");
         delivered_put(&line, ": move the limit first");
         return;
     }

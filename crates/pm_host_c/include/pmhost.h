@@ -724,9 +724,9 @@ uint8_t pm_read_paged(uint8_t address, uint8_t page, uint8_t code, uint8_t size,
 
 /* Steps of several outputs of at most eight hosts, one after another; one output is a list of one step. The fault limits are read and judged
  * before each order that leaves an output on, and the rail is asked once its step is over. A step begins only if the one before is over by
- * what its host knows then. Over one host each output then commands what it did before its step or what that step brings it to, in the
- * list's order, whatever is lost, cut or repeated, while the part doesn't restart and nobody else orders. Begin no job and no restore of
- * these outputs meanwhile. pm_run_sequence, at the end of this header, is the loop.
+ * what its host knows then, or was left. Over one host each output then commands what it did before its step or what that step brings it to,
+ * in the list's order, whatever is lost, cut or repeated, while the part doesn't restart and nobody else orders. Begin no job and no restore
+ * of these outputs meanwhile. pm_run_sequence, at the end of this header, is the loop.
  * An end PM_REACHED says that each step is over, that none was left, and that each rail with PM_LOOK_MUST delivered, or went off, after its
  * step's last order. */
 
