@@ -1,15 +1,16 @@
-/* The three rails of an FPGA on two parts: brought up in order, cut in the middle and brought back, and shut down in reverse while one part is
- * gone. Each step is printed with what the rails are at then. */
+/* The three rails of an FPGA on two parts: cut as they are brought up, and brought back; brought up, each looked at before the next begins; one
+ * of them lost, and all shut down in reverse while the second part is gone. Each list is printed with what was said, and what the rails are. */
 #include "pmhost.h"
 #include "pmpart.h"
 #include <stdio.h>
 #include <stdlib.h>
 #include <string.h>
 
-/* A part on a bus, which goes away after so many transfers, where this isn't 0. */
+/* A part on a bus, which goes away after so many transfers, where this isn't 0, and whose output `tripped` is at 0 V. */
 typedef struct {
     pm_part part;
     unsigned left;
+    int tripped;
 } bus;
 
 static int is_gone(bus *on) {
@@ -18,12 +19,25 @@ static int is_gone(bus *on) {
     return on->left == 1;
 }
 
+/* Each rail is at what its output commands, or at 0 V. */
+static void settle(bus *on) {
+    uint8_t output, is_on = 0;
+    for (output = 0; pm_part_on_state(&on->part, output, &is_on) == PM_PART_OK; output++) {
+        uint16_t word = 0;
+        pm_part_word(&on->part, output, PM_VOUT_COMMAND, &word);
+        pm_part_set_reading(&on->part, output, 0x8B, (uint16_t)(is_on && output != on->tripped ? word : 0));
+    }
+}
+
 static uint8_t put(void *context, const uint8_t *bytes, uint64_t count) {
     bus *on = (bus *)context;
     pm_part_reply reply;
+    uint8_t heard;
     if (is_gone(on))
         return PM_UNHEARD;
-    return pm_part_hear(&on->part, bytes, count, 0, &reply) == PM_HEARD_TAKEN ? PM_ACKED : PM_NOT_ACKED;
+    heard = pm_part_hear(&on->part, bytes, count, 0, &reply);
+    settle(on);
+    return heard == PM_HEARD_TAKEN ? PM_ACKED : PM_NOT_ACKED;
 }
 
 static uint64_t ask(void *context, const uint8_t *request, uint64_t count, uint8_t *answer, uint64_t room) {
@@ -70,6 +84,7 @@ static void begin(void) {
                 config.outputs++;
             }
         buses[at].left = 0;
+        buses[at].tripped = -1;
         if (pm_part_new(&buses[at].part, &config) != PM_PART_OK || pm_host_new(&hosts[at], config.address, config.outputs, 3) != PM_OK)
             exit(1);
     }
@@ -93,86 +108,99 @@ static void tell_rails(void) {
     }
 }
 
-static void tell(const char *what, uint8_t number, const pm_stairs *stairs) {
-    static const char *const ends[] = {"?", "reached", "refused", "differs", "spent", "format", "source", "changed", "restarted", "way back"};
-    printf("%s: %s, %u steps begun\n", what, number == PM_ENDED ? ends[stairs->end.kind] : "stopped", stairs->begun);
-    tell_rails();
+/* The machine, and what it keeps of each step. */
+static pm_sequence sequence;
+static pm_sequence_step steps[2 * RAILS];
+static pm_sequence_record records[2 * RAILS];
+
+static void wait_for(void *context, uint32_t milliseconds) {
+    (void)context;
+    (void)milliseconds; /* a board waits here */
 }
 
-/* Two steps a rail: its voltage while it is off, then on. */
-static uint64_t up(pm_stairs_step *steps) {
+static const char *name_of(uint16_t step) {
     unsigned at;
-    memset(steps, 0, 2 * RAILS * sizeof *steps);
-    for (at = 0; at < RAILS; at++) {
-        pm_stairs_step *step = &steps[2 * at];
-        step[0].host = step[1].host = rails[at].part;
-        step[0].output = step[1].output = rails[at].output;
-        step[0].kind = PM_SETS;
-        step[0].command.kind = PM_MICROVOLTS;
-        step[0].command.microvolts = rails[at].volts;
-        step[1].kind = PM_TURNS;
-        step[1].byte = 0x80;
-    }
-    return 2 * RAILS;
+    for (at = 0; at < RAILS; at++)
+        if (rails[at].part == steps[step].host && rails[at].output == steps[step].output)
+            return rails[at].name;
+    return "?";
 }
 
-/* The steps that undo those that have begun, the newest first, as a list of their own. */
-static void go_back(const pm_stairs *stopped, const pm_stairs_step *backs) {
-    pm_stairs_step steps[2 * RAILS];
-    pm_stairs way;
-    unsigned at;
-    for (at = 0; at < stopped->begun; at++)
-        steps[at] = backs[stopped->begun - 1 - at];
-    pm_stairs_new(&way, TRIES, 1);
-    tell("back", pm_run_stairs(&way, at_hosts, at_buses, PARTS, steps, stopped->begun, NULL, 0, put, ask), &way);
+static int told(void *context, const pm_sequence *is, uint8_t answer) {
+    (void)context;
+    if (answer == PM_TOLD && is->said.kind == PM_RAIL_DOES && is->said.has_microvolts)
+        printf("  %s delivers %ld uV\n", name_of(is->said.step), (long)is->said.microvolts);
+    else if (answer == PM_TOLD && is->said.kind != PM_RAIL_DOES)
+        printf("  %s is left\n", name_of(is->said.step));
+    return 1;
 }
 
-/* Turns the rails off, the last one first. A rail that isn't known to be off is left, and counted: the end of the stairs doesn't say so. */
-static void shut_down(void) {
-    pm_stairs_step steps[RAILS];
-    pm_stairs way;
-    uint8_t number;
-    unsigned at, left[RAILS], lefts = 0;
-    memset(steps, 0, sizeof steps);
-    for (at = 0; at < RAILS; at++) {
-        steps[at].host = rails[RAILS - 1 - at].part;
-        steps[at].output = rails[RAILS - 1 - at].output;
-        steps[at].kind = PM_TURNS; /* byte 00h: off */
-    }
-    pm_stairs_new(&way, 4, 1);
-    while ((number = pm_run_stairs(&way, at_hosts, at_buses, PARTS, steps, RAILS, NULL, 0, put, ask)) == PM_ENDED && way.end.kind != PM_REACHED) {
-        left[lefts++] = RAILS - 1 - way.end.step;
-        if (pm_stairs_skip(&way) != PM_OK)
-            exit(1);
-    }
-    if (number != PM_ENDED || lefts == 0) {
-        tell("down", number, &way);
-        return;
-    }
-    printf("down: %u step%s left", lefts, lefts == 1 ? "" : "s");
-    for (at = 0; at < lefts; at++)
-        printf(", %s is %s", rails[left[at]].name, on_or_off(left[at]));
+/* Carries the first `count` steps out. */
+static void run(const char *what, uint64_t count, uint8_t rules) {
+    const pm_sequence_said *said = &sequence.said;
+    printf("%s:\n", what);
+    pm_sequence_new(&sequence, TRIES, rules);
+    if (pm_run_sequence(&sequence, at_hosts, at_buses, PARTS, steps, count, records, 2 * RAILS, put, ask, wait_for, told) != PM_ENDED)
+        exit(1);
+    if (said->kind == PM_REACHED)
+        printf("%s: reached", what);
+    else if (said->kind == PM_STEPS_LEFT)
+        printf("%s: %u of %u steps left", what, said->word, said->step);
+    else
+        printf("%s: %s %s", what, name_of(said->step), said->kind == PM_RAIL_FAILS ? "fails" : said->kind == PM_SPENT ? "is spent" : "stops");
     printf("\n");
     tell_rails();
 }
 
+/* Two steps a rail: its voltage while it is off, then on, and it has to deliver before the next rail begins. */
+static void bring_up(void) {
+    unsigned at;
+    for (at = 0; at < RAILS; at++) {
+        steps[2 * at] = pm_sets(rails[at].part, rails[at].output, rails[at].volts);
+        steps[2 * at + 1] = pm_turns(rails[at].part, rails[at].output, 0x80);
+        steps[2 * at + 1].looks = PM_LOOK_MUST;
+    }
+    run("up", 2 * RAILS, PM_KEEPS_BACK | PM_ENDS_AT_RESTART);
+}
+
+/* The steps that undo those that have begun, the newest first, as a list of their own. */
+static void go_back(void) {
+    uint16_t begun = sequence.begun, at;
+    for (at = 0; at < begun; at++)
+        steps[at] = records[begun - 1 - at].back;
+    run("back", begun, 0);
+}
+
+/* Surveys each rail, and looks at it. */
+static void look(void) {
+    unsigned at;
+    for (at = 0; at < RAILS; at++) {
+        steps[at] = pm_turns(rails[at].part, rails[at].output, 0);
+        steps[at].kind = PM_STEP_SURVEYS;
+        steps[at].looks = PM_LOOK_MUST;
+    }
+    run("look", RAILS, 0);
+}
+
+/* Turns the rails off, the last one first. One that isn't known to be off is left. */
+static void shut_down(void) {
+    unsigned at;
+    for (at = 0; at < RAILS; at++)
+        steps[at] = pm_turns(rails[RAILS - 1 - at].part, rails[RAILS - 1 - at].output, 0x00);
+    run("down", RAILS, PM_LEAVES);
+}
+
 int main(void) {
-    pm_stairs_step steps[2 * RAILS], backs[2 * RAILS];
-    pm_stairs stairs;
-    uint64_t count = up(steps);
-    uint8_t number;
     begin();
-    pm_stairs_new(&stairs, TRIES, 0);
-    number = pm_run_stairs(&stairs, at_hosts, at_buses, PARTS, steps, count, backs, count, put, ask);
-    tell("up", number, &stairs);
+    buses[1].left = 22; /* the second part goes away once the voltage of VCCO was written */
+    bring_up();
+    buses[1].left = 0; /* and comes back */
+    go_back();
+    bring_up();
+    buses[0].tripped = 1; /* VCCAUX trips */
+    settle(&buses[0]);
+    look();
     buses[1].left = 1; /* the second part is gone */
     shut_down();
-    begin();
-    buses[1].left = 12; /* it goes away as VCCO is set */
-    pm_stairs_new(&stairs, TRIES, 0);
-    number = pm_run_stairs(&stairs, at_hosts, at_buses, PARTS, steps, count, backs, count, put, ask);
-    tell("up", number, &stairs);
-    buses[1].left = 0; /* and comes back */
-    go_back(&stairs, backs);
     return 0;
 }

@@ -1,4 +1,4 @@
-/* The bus as the firmware sees it: two functions, which a driver for a board's I2C controller has. Frames have the
+/* The bus as the firmware sees it: three functions, which a driver for a board's I2C controller has. Frames have the
  * address byte first, as the bus carries them; the PEC is data. */
 #ifndef BUS_H
 #define BUS_H
@@ -13,5 +13,8 @@ uint8_t bus_write(const uint8_t *frame, unsigned count);
 /* Writes a request of `count` bytes, then after a repeated start and the read address reads what the part sends,
  * `wanted` bytes. How many are there in the end, 0 where the part didn't answer. */
 unsigned bus_read(const uint8_t *request, unsigned count, uint8_t *answer, unsigned wanted);
+
+/* Waits for so many milliseconds, as HAL_Delay() or k_msleep() does. */
+void bus_wait(uint32_t milliseconds);
 
 #endif

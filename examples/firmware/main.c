@@ -1,5 +1,5 @@
-/* Firmware that sets two supply rails and looks after them. A course brings each to its voltage, and then they are checked
- * round by round: a rail that no longer holds its word is set again, and after a restart of the part all of them. Nothing
+/* Firmware that sets two supply rails and looks after them. A list of steps brings both to their voltages, each looked at, and then they are
+ * checked round by round: a rail that no longer holds its word is set again, and after a restart of the part all of them. Nothing
  * here takes memory or knows the board: bus.h and console.h are what a board has to have. */
 #include "bus.h"
 #include "console.h"
@@ -62,6 +62,11 @@ static void say_held(const pm_host *host, const rail *of) {
 
 /* ---- The driver's loop ---- */
 
+static pm_host host;
+static pm_sequence sequence;
+static pm_sequence_step steps[RAILS];
+static pm_sequence_record records[RAILS];
+
 static uint8_t put(void *context, const uint8_t *bytes, uint64_t count) {
     (void)context;
     return bus_write(bytes, (unsigned)count);
@@ -72,31 +77,44 @@ static uint64_t ask(void *context, const uint8_t *request, uint64_t count, uint8
     return bus_read(request, (unsigned)count, answer, (unsigned)room);
 }
 
+static void rest(void *context, uint32_t milliseconds) {
+    (void)context;
+    bus_wait(milliseconds);
+}
+
 /* ---- The rails ---- */
 
-/* Brings the rail to its voltage: 1 where its word is held, by what was read after the order. */
-static int set_rail(pm_host *host, const rail *of) {
-    pm_course course;
-    pm_course_end end;
-    if (pm_course_microvolts(&course, of->output, PM_VOUT_COMMAND, of->microvolts, TRIES) != PM_OK)
-        return 0;
-    end = pm_host_run_course(host, &course, put, ask, NULL);
-    if (end.kind != PM_REACHED) {
-        say(of, end.kind == PM_REFUSED ? ": the order is refused\n" : ": the order didn't end well\n");
-        return 0;
+/* A rail does what it is to. */
+static int told(void *context, const pm_sequence *is, uint8_t answer) {
+    const rail *of = &rails[steps[is->said.step].output];
+    (void)context;
+    if (answer == PM_TOLD && is->said.kind == PM_RAIL_DOES) {
+        say(of, ": set to ");
+        say_held(&host, of);
     }
-    say(of, ": set to ");
-    say_held(host, of);
     return 1;
 }
 
+/* Brings so many rails to their voltages, one after another: 1 where each does what it is to, by what was read after its order. */
+static int set_rails(const rail *first, unsigned count) {
+    pm_host *const hosts[1] = {&host};
+    void *const buses[1] = {NULL};
+    const pm_sequence_said *said = &sequence.said;
+    for (unsigned at = 0; at < count; at++)
+        steps[at] = pm_sets(0, first[at].output, first[at].microvolts);
+    pm_sequence_new(&sequence, TRIES, PM_ENDS_AT_RESTART);
+    if (pm_run_sequence(&sequence, hosts, buses, 1, steps, count, records, RAILS, put, ask, rest, told) != PM_ENDED)
+        return 0;
+    if (said->kind != PM_REACHED)
+        say(&first[said->step], said->kind == PM_REFUSED ? ": the order is refused\n"
+                                : said->kind == PM_RAIL_FAILS ? ": it doesn't deliver\n" : ": the order didn't end well\n");
+    return said->kind == PM_REACHED;
+}
+
 /* Sets all rails, from nothing known. */
-static int set_all(pm_host *host) {
-    int are_set = 1;
-    pm_host_restart(host);
-    for (int i = 0; i < RAILS; i++)
-        are_set &= set_rail(host, &rails[i]);
-    return are_set;
+static int set_all(void) {
+    pm_host_restart(&host);
+    return set_rails(rails, RAILS);
 }
 
 /* ---- The supervisor ---- */
@@ -104,26 +122,26 @@ static int set_all(pm_host *host) {
 typedef enum { HOLDS, UNREAD, OTHER, RESTARTED } finding;
 
 /* Reads the rail back, and compares it with the word that its voltage is. */
-static finding check_rail(pm_host *host, const rail *of) {
+static finding check_rail(const rail *of) {
     pm_standing standing;
     pm_format format;
     uint16_t wanted;
-    if (pm_host_check(host, of->output, PM_VOUT_COMMAND) != PM_OK || pm_host_run(host, put, ask, NULL).kind != PM_DONE)
+    if (pm_host_check(&host, of->output, PM_VOUT_COMMAND) != PM_OK || pm_host_run(&host, put, ask, NULL).kind != PM_DONE)
         return UNREAD;
-    if (pm_host_restart_seen(host) == 1)
+    if (pm_host_restart_seen(&host) == 1)
         return RESTARTED;
-    if (pm_host_confirmed_word(host, of->output, PM_VOUT_COMMAND, &standing) != PM_OK ||
-        pm_host_format(host, of->output, &format) != PM_OK ||
+    if (pm_host_confirmed_word(&host, of->output, PM_VOUT_COMMAND, &standing) != PM_OK ||
+        pm_host_format(&host, of->output, &format) != PM_OK ||
         pm_nearest_word(&format, of->microvolts, &wanted) != PM_OK)
         return UNREAD;
     return standing.is_confirmed == 1 && standing.word == wanted ? HOLDS : OTHER;
 }
 
 /* One round over the rails: 1 where in the end each holds its word, as far as could be read. */
-static int supervise(pm_host *host, int round) {
+static int supervise(int round) {
     int is_well = 1;
     for (int i = 0; i < RAILS; i++) {
-        finding found = check_rail(host, &rails[i]);
+        finding found = check_rail(&rails[i]);
         if (found == HOLDS)
             continue;
         console_put("round ");
@@ -131,19 +149,19 @@ static int supervise(pm_host *host, int round) {
         console_put(", ");
         if (found == RESTARTED) {
             say(&rails[i], ": the part restarted, it holds ");
-            say_held(host, &rails[i]);
-            return set_all(host);
+            say_held(&host, &rails[i]);
+            return set_all();
         }
         say(&rails[i], found == UNREAD ? ": no good answer\n" : ": it holds another word\n");
-        is_well &= found == OTHER && set_rail(host, &rails[i]);
+        is_well &= found == OTHER && set_rails(&rails[i], 1);
     }
     return is_well;
 }
 
 int main(void) {
-    static pm_host host;
     int is_well = 0;
-    if (pm_host_size() != sizeof host || pm_host_version() != PM_HOST_VERSION) {
+    if (pm_host_size() != sizeof host || pm_host_version() != PM_HOST_VERSION || pm_sequence_size() != sizeof sequence ||
+        pm_sequence_version() != PM_SEQUENCE_VERSION) {
         console_put("the library is another than the header\n");
         return 1;
     }
@@ -152,9 +170,9 @@ int main(void) {
     for (int i = 0; i < RAILS; i++)
         if (pm_host_set_limits(&host, rails[i].output, rails[i].least, rails[i].most) != PM_OK)
             return 1;
-    is_well = set_all(&host);
+    is_well = set_all();
     for (int round = 1; round <= ROUNDS; round++)
-        is_well = supervise(&host, round);
+        is_well = supervise(round);
     for (int i = 0; i < RAILS; i++) {
         say(&rails[i], ": holds ");
         say_held(&host, &rails[i]);

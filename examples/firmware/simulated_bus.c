@@ -6,7 +6,7 @@
 #include "pmpart.h"
 #include <string.h>
 
-enum { RESTARTS_EACH = 73 };
+enum { RESTARTS_EACH = 109 };
 
 typedef enum { NONE, FRAME_LOST, FRAME_CUT, FRAME_DAMAGED, ANSWER_LOST, ANSWER_DAMAGED, FALSE_ACKNOWLEDGEMENT } fault;
 
@@ -49,6 +49,15 @@ static void damage(uint8_t *bytes, unsigned count) {
     bytes[place] ^= (uint8_t)(1 + draw(255));
 }
 
+/* Each rail is at what it commands. */
+static void settle(void) {
+    for (uint8_t output = 0; output < 2; output++) {
+        uint16_t word = 0;
+        pm_part_word(&part, output, 0x21, &word);
+        pm_part_set_reading(&part, output, 0x8B, word);
+    }
+}
+
 /* The part hears what is left of a frame. */
 static uint8_t hear(const uint8_t *frame, unsigned count, fault wrong, uint8_t is_request, pm_part_reply *reply) {
     uint8_t left[16];
@@ -60,7 +69,9 @@ static uint8_t hear(const uint8_t *frame, unsigned count, fault wrong, uint8_t i
         count = draw(count);
     if (wrong == FRAME_DAMAGED)
         damage(left, count);
-    return pm_part_hear(&part, left, count, is_request, reply);
+    uint8_t heard = pm_part_hear(&part, left, count, is_request, reply);
+    settle();
+    return heard;
 }
 
 uint8_t bus_write(const uint8_t *frame, unsigned count) {
@@ -83,4 +94,8 @@ unsigned bus_read(const uint8_t *request, unsigned count, uint8_t *answer, unsig
         damage(reply.bytes + 1, reply.length - 1u);
     memcpy(answer, reply.bytes + 1, reply.length - 1u);
     return reply.length - 1u;
+}
+
+void bus_wait(uint32_t milliseconds) {
+    (void)milliseconds;
 }

@@ -58,8 +58,8 @@ told() {
     fi
 }
 
-# bound OBJECT: the stack that it says it needs is at most what the header promises; of a host's that is what stairs need, and the others'
-# is judged by the frames
+# bound OBJECT: the stack that it says it needs is at most what the header promises; of a host's that is what sequences need, and the
+# others' is judged by the frames
 bound() {
     local says
     says=$(readelf -p .comment "$1" | grep -o 'stack-bytes=[0-9]*' | cut -d= -f2)
@@ -288,7 +288,6 @@ pm_course_accept(&course, &host, 3000)
 pm_course_frame(&course, &host, &sending)
 pm_course_goal(&course, &host, PM_VOUT_COMMAND, &delivered.word)
 pm_host_run_course(&host, &course, 0, 0, 0).kind
-pm_host_deliver(&host, &course, &delivery, 0, 0, 0, 0, &delivered).kind
 pm_delivery_new(&delivery, 0, PM_FAULT_LIMITS_REFUSE, 1, 50, 8)
 pm_delivery_before(&delivery)
 pm_delivery_after(&delivery, 0)
@@ -296,17 +295,13 @@ pm_delivery_frame(&delivery, &host, &sending)
 pm_delivery_read_ended(&delivery, &host, sending.bytes, 0)
 pm_delivery_verdict(&delivery, &host, &delivered)
 pm_delivery_judge(&delivery, &host, 0x1000, &judgement)
-pm_delivery_ask(&delivery, &host, 0, 0, 0)
-pm_delivery_judge_course(&delivery, &course, &host, &judgement)
-pm_is_delivered(&delivery, &delivered)
 pm_paged_request(0x58, 0, 0x40, 2, &sending)
 pm_read_paged(0x58, 0, 0x40, 2, sending.bytes, 5, &block)
 pm_stairs_ask(&stairs, &host, steps, 1, steps, 1, &sending)
 pm_stairs_skip(&stairs)
 pm_stairs_check(&host, steps, &stopped)
-pm_stairs_frame(&stairs, hosts, 1, steps, 1, steps, 1, &sending)
-pm_stairs_check_all(asked, 1, steps, 1, &stopped)
-pm_run_stairs(&stairs, hosts, 0, 1, steps, 1, steps, 1, 0, 0)
+pm_sequence_next(&sequence, &host, &step, 1, &record, 1, &sending)
+pm_run_sequence(&sequence, hosts, 0, 1, &step, 1, &record, 1, 0, 0, 0, 0)
 END
 }
 
@@ -324,10 +319,12 @@ static pm_block block;
 static pm_stairs stairs;
 static pm_stairs_step steps[1];
 static pm_stairs_end stopped;
+static pm_sequence sequence;
+static pm_sequence_step step;
+static pm_sequence_record record;
 static pm_host *const hosts[1] = {&host};
-static const pm_host *const asked[1] = {&host};
 int main(void) { (void)host; (void)wanted; (void)course; (void)sending; (void)delivery; (void)delivered; (void)judgement; (void)block;
-(void)stairs; (void)steps; (void)stopped; (void)hosts; (void)asked;' row=0
+(void)stairs; (void)steps; (void)stopped; (void)sequence; (void)step; (void)record; (void)hosts;' row=0
     while read -r call; do
         row=$((row + 1))
         echo "$before return $call; }" > "$folder/asks.c"
@@ -347,6 +344,9 @@ int main(void) { (void)host; (void)wanted; (void)course; (void)sending; (void)de
 snippets() {
     {
         printf '#include "pmhost_patient.h"\n#include <stddef.h>\nextern pm_host host;\nvoid log_line(const char *line);\n'
+        printf 'enum { STEPS = 3 };\nextern pm_course course;\nextern pm_sequence sequence;\nextern pm_sequence_step steps[STEPS];\n'
+        printf 'extern pm_sequence_record records[STEPS];\nvoid begin_transfer(const pm_sending *frame);\nvoid begin_timer(uint32_t milliseconds);\n'
+        printf 'void list_ended(uint8_t number, const pm_sequence_said *said);\nstruct heard { uint8_t acked; uint8_t bytes[8]; uint64_t count; };\nextern struct heard transfer;\n'
         printf 'uint32_t milliseconds(void *context);\nvoid wait_for(void *context, uint32_t milliseconds);\n'
         printf 'uint8_t write_to_bus(void *context, const uint8_t *bytes, uint64_t count);\n'
         printf 'uint64_t read_from_bus(void *context, const uint8_t *request, uint64_t count, uint8_t *answer, uint64_t room);\n'
@@ -355,7 +355,7 @@ snippets() {
             within {print}' docs/c.md
     } > "$folder/snippets.c"
     : > "$folder/wanted"; : > "$folder/out"
-    grep -q pm_host_run "$folder/snippets.c" &&
+    grep -q pm_run_sequence "$folder/snippets.c" &&
         $2 $headers -Wall -Wextra -Wconversion -Wpedantic -Werror -c "$folder/snippets.c" \
         -o "$folder/object" > "$folder/log" 2>&1
     told "$1 docs/c.md" $?
@@ -405,7 +405,6 @@ for each in $compilers; do
         program "$name pm_host_run" trials/c/rows/run_rows.expected "$compiler $strict" trials/c/rows/run_rows.c $rest --
         program "$name courses" trials/course/rows.expected "$compiler $strict" trials/course/rows.c $rest -- trials/course/rows.txt trials/course/accept.txt
         program "$name deliveries" trials/delivery/rows.expected "$compiler $strict" trials/delivery/rows.c $rest --
-        program "$name stairs" trials/stairs/rows.expected "$compiler $strict" trials/stairs/rows.c $rest --
         program "$name sequences" trials/sequences_c/rows.expected "$compiler $strict" trials/sequences_c/rows.c $rest --
         program "$name pm_patient_run" trials/c/rows/patient_rows.expected "$compiler $strict" trials/c/rows/patient_rows.c $rest --
         program "$name both ends" examples/c/faults.expected "$compiler $strict" examples/c/faults.c $rest --

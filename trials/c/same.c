@@ -42,7 +42,7 @@ uint32_t wide_word(const pm_format *format, int64_t microvolts, uint16_t *word) 
 #define wide_word pm_nearest_word
 #endif
 
-enum { HOSTS = 4, HALVES = PM_HOST_SIZE / 2, GUARD = 4, ROOM = 320, EXPORTS = 86, STEPS_OF_STAIRS = 4 };
+enum { HOSTS = 4, HALVES = PM_HOST_SIZE / 2, GUARD = 4, ROOM = 320, EXPORTS = 92, STEPS_OF_LISTS = 4 };
 
 /* Hosts at addresses that eight divides, with guards around them: the last is damaged. */
 static uint64_t memory[HOSTS][(GUARD + HALVES + GUARD) / 4];
@@ -66,8 +66,13 @@ static struct { uint16_t before[3]; pm_delivery delivery; uint16_t after[3]; } l
 
 /* Stairs, their steps and the steps back, with guards around them. */
 static struct {
-    uint16_t before[4]; pm_stairs stairs; pm_stairs_step steps[STEPS_OF_STAIRS], backs[STEPS_OF_STAIRS]; pm_stairs_end end; uint16_t after[4];
+    uint16_t before[4]; pm_stairs stairs; pm_stairs_step steps[STEPS_OF_LISTS], backs[STEPS_OF_LISTS]; pm_stairs_end end; uint16_t after[4];
 } stood;
+
+/* A sequence, its steps and its records, with guards around them. */
+static struct {
+    uint16_t before[4]; pm_sequence sequence; pm_sequence_step steps[STEPS_OF_LISTS]; pm_sequence_record records[STEPS_OF_LISTS]; uint16_t after[4];
+} listed;
 
 /* What is known of all cells, which is large: with guards of its own. */
 static struct { uint16_t before[3]; pm_known known; uint16_t after[3]; } cells;
@@ -254,22 +259,24 @@ static void told(unsigned which, pm_step step) {
     ends += step.kind > PM_NEXT && step.kind <= PM_LEARNED;
 }
 
-/* How many steps of stairs there are, or have room. */
+/* How many steps of a list there are, or have room. */
 static unsigned draw_count(void) {
-    return draw(8) ? STEPS_OF_STAIRS : draw(STEPS_OF_STAIRS);
+    return draw(8) ? (unsigned)STEPS_OF_LISTS : draw(STEPS_OF_LISTS);
 }
 
 /* Who hands out a frame and hears what became of it. */
-enum { BY_HOST, BY_COURSE, BY_STAIRS };
+enum { BY_HOST, BY_COURSE, BY_STAIRS, BY_SEQUENCE };
 
-/* What is to be sent goes to the converter, and what comes of it to the host, or to the course or the stairs. */
+/* What is to be sent goes to the converter, and what comes of it to the host, or to the course, the stairs or the sequence. */
 static void exchange(pm_host *host, int by) {
-    unsigned fate = draw(10), steps = by == BY_STAIRS ? draw_count() : 0, backs = by == BY_STAIRS ? draw_count() : 0;
+    unsigned fate = draw(10), steps = by >= BY_STAIRS ? draw_count() : 0, backs = by >= BY_STAIRS ? draw_count() : 0;
     memset(&out.sending, (int)draw(256), sizeof out.sending);
     if (by == BY_COURSE)
         heard(61, pm_course_frame(&asked.course, host, &out.sending), 255);
     else if (by == BY_STAIRS)
         heard(79, pm_stairs_ask(&stood.stairs, host, stood.steps, steps, stood.backs, backs, &out.sending), 255);
+    else if (by == BY_SEQUENCE)
+        heard(89, pm_sequence_next(&listed.sequence, host, listed.steps, steps, listed.records, backs, &out.sending), 255);
     else
         heard(9, pm_host_frame(host, &out.sending), 255);
     wrote(&out.sending, sizeof out.sending);
@@ -286,6 +293,8 @@ static void exchange(pm_host *host, int by) {
             told(62, pm_course_write_ended(&asked.course, host, acked));
         else if (by == BY_STAIRS)
             told(80, pm_stairs_write_ended(&stood.stairs, host, acked));
+        else if (by == BY_SEQUENCE)
+            told(90, pm_sequence_write_ended(&listed.sequence, host, acked));
         else
             told(10, pm_host_write_ended(host, acked));
         return;
@@ -304,6 +313,8 @@ static void exchange(pm_host *host, int by) {
         told(63, pm_course_read_ended(&asked.course, host, at, fate == 5 ? 0 : count));
     else if (by == BY_STAIRS)
         told(81, pm_stairs_read_ended(&stood.stairs, host, at, fate == 5 ? 0 : count));
+    else if (by == BY_SEQUENCE)
+        told(91, pm_sequence_read_ended(&listed.sequence, host, at, fate == 5 ? 0 : count));
     else
         told(11, pm_host_read_ended(host, at, fate == 5 ? 0 : count));
 }
@@ -465,9 +476,9 @@ static void deliveries(const pm_host *host) {
     add_halves((const uint16_t *)&looked, sizeof looked / 2);
 }
 
-/* A wish and a step of stairs, most times such as there are. */
-static pm_stairs_wish draw_wish(void) {
-    pm_stairs_wish wish;
+/* A wish and a step, most times such as there are. */
+static pm_sequence_wish draw_wish(void) {
+    pm_sequence_wish wish;
     memset(&wish, 0, sizeof wish);
     wish.kind = (uint16_t)(draw(16) ? draw(3) : draw(65536));
     wish.word = draw_word();
@@ -475,8 +486,8 @@ static pm_stairs_wish draw_wish(void) {
     return wish;
 }
 
-static pm_stairs_step draw_step(void) {
-    pm_stairs_step step;
+static pm_sequence_step draw_step(void) {
+    pm_sequence_step step;
     memset(&step, 0, sizeof step);
     step.host = (uint8_t)(draw(8) ? draw(HOSTS) : draw(256));
     step.output = draw_output();
@@ -487,6 +498,15 @@ static pm_stairs_step draw_step(void) {
     step.margin_high = draw_wish();
     step.margin_low = draw_wish();
     step.min = draw_wish();
+    step.looks = (uint8_t)(draw(16) ? draw(3) : draw(256));
+    step.fault_limits = (uint8_t)(draw(16) ? draw(3) : draw(256));
+    step.lacks = (uint8_t)(draw(4) ? 0 : draw(5));
+    step.tells_power_good = (uint8_t)draw(2);
+    step.within = (uint16_t)(draw(8) ? draw(100) : draw(65536));
+    step.rounds = (uint16_t)(draw(8) ? draw(4) : draw(65536));
+    step.wait = draw(2) ? 0 : draw(20);
+    step.before.asked = (uint8_t)draw(2);
+    step.before.word = draw_word();
     return step;
 }
 
@@ -498,12 +518,14 @@ static void stairs(pm_host *host) {
     switch (draw(10)) {
     case 0: pm_stairs_new(&stood.stairs, tries, is_down); heard(78, 0, 255); break;
     case 1: heard(82, pm_stairs_skip(&stood.stairs), 255); break;
-    case 2: heard(83, pm_stairs_check(host, &stood.steps[draw(STEPS_OF_STAIRS)], &stood.end), 255); break;
+    case 2: heard(83, pm_stairs_check(host, &stood.steps[draw(STEPS_OF_LISTS)], &stood.end), 255); break;
     case 3: heard(76, (uint32_t)pm_stairs_size() ^ (uint32_t)(pm_stairs_size() >> 32), UINT32_MAX);
         heard(77, pm_stairs_version(), 65535); break;
     case 4:
-        for (unsigned i = 0; i < STEPS_OF_STAIRS; i++)
-            stood.steps[i] = draw_step();
+        for (unsigned i = 0; i < STEPS_OF_LISTS; i++) {
+            pm_sequence_step step = draw_step();
+            memcpy(&stood.steps[i], &step, sizeof stood.steps[i]);
+        }
         break;
     case 5:
         if (draw(8) == 0)
@@ -515,6 +537,30 @@ static void stairs(pm_host *host) {
         break;
     }
     add_halves((const uint16_t *)&stood, sizeof stood / 2);
+}
+
+/* A sequence over the hosts. */
+static void sequences(pm_host *host) {
+    uint16_t tries = (uint16_t)(draw(8) ? 4 + draw(40) : draw(65536));
+    uint8_t rules = (uint8_t)(draw(8) ? draw(16) : draw(256));
+    switch (draw(10)) {
+    case 0: pm_sequence_new(&listed.sequence, tries, rules); heard(88, 0, 255); break;
+    case 1: heard(86, (uint32_t)pm_sequence_size() ^ (uint32_t)(pm_sequence_size() >> 32), UINT32_MAX);
+        heard(87, pm_sequence_version(), 65535); break;
+    case 2:
+        for (unsigned i = 0; i < STEPS_OF_LISTS; i++)
+            listed.steps[i] = draw_step();
+        break;
+    case 3:
+        if (draw(8) == 0)
+            damage((uint8_t *)&listed.sequence, sizeof listed.sequence);
+        break;
+    default: /* frame after frame, by the host that it names */
+        for (unsigned frames = draw(40); frames; frames--)
+            exchange(draw(16) ? host_at(listed.sequence.host % HOSTS) : host, BY_SEQUENCE);
+        break;
+    }
+    add_halves((const uint16_t *)&listed, sizeof listed / 2);
 }
 
 static void numbers(void) {
@@ -626,8 +672,10 @@ static void step(void) {
         exchange(host, BY_HOST);
     else if (kind < 60)
         rails(host);
-    else if (kind < 61)
+    else if (kind < 61 && draw(2))
         stairs(host);
+    else if (kind < 61)
+        sequences(host);
     else if (kind < 64)
         deliveries(host);
     else if (kind < 70)
@@ -659,6 +707,7 @@ static int life(unsigned number, uint32_t steps) {
     memset(&kept, 0, sizeof kept);
     memset(&looked, 0, sizeof looked);
     memset(&stood, 0, sizeof stood);
+    memset(&listed, 0, sizeof listed);
     memset(&out, 0, sizeof out);
     new_part();
     for (uint32_t i = 0; i < steps; i++)

@@ -1,4 +1,4 @@
-/* pm_host_deliver beside rows of its own, over a small part that trips: what a course ends as, what the output does then, and how many
+/* pm_run_sequence with one step whose rail is looked at, over a small part that trips: how the list ends, what the rail does then, and how many
  * transfers that took. It prints each row that differs, and a count. Volts are of ULINEAR16 with the exponent -12. */
 #include "pmhost.h"
 #include <stdio.h>
@@ -18,17 +18,15 @@
 typedef struct {
     const char *name;
     char call;           /* s set to 1.1 V, S to 1.3 V, U to 0.7 V, n on, o off, m margin high (1.15 V), y survey, O survey of an output
-                          * that is off, p off whose frame was handed out before, b set to 0.7 V with a margin of 1.3 V, B set to 1.3 V
-                          * with one of 1.15 V */
+                          * that is off, b set to 0.7 V with a margin of 1.3 V, B set to 1.3 V with one of 1.15 V */
     const char *wrong;
     uint8_t fault_limits, lacks;
     uint16_t rounds;
-    uint8_t end, number; /* of the course */
-    uint8_t kind, code, bit, fault;
+    uint8_t end, number; /* 1 reached, 11 beyond a fault limit, 14 the rail fails */
+    uint8_t verdict, code, bit, fault;
     uint16_t word;
     int64_t microvolts;  /* -1 where none is told */
     int reads, writes, pauses;
-    int is_unasked;      /* pm_is_delivered all the same, since the caller said what the part lacks */
     int away[4];         /* nobody answers from the first of these transfers to the second, nor from the third to the fourth, from 1 */
 } row;
 
@@ -37,60 +35,59 @@ enum { REFUSE, TELL, SKIP };
 
 /* The numbers are those that firmware compiles in: they stand here by hand. */
 static const row rows[] = {
-    {"a set that goes well", 's', "", REFUSE, 0, 5, 1, 0, 1, 0, 0, 0, 0, 1100097, 20, 1, 0, 0, {0}},
-    {"the same without fault limits", 's', "", SKIP, 0, 5, 1, 0, 1, 0, 0, 0, 0, 1100097, 16, 1, 0, 0, {0}},
-    {"a goal at VOUT_OV_FAULT_LIMIT", 'S', "t", REFUSE, 0, 5, 2, 0x68, 13, 0x40, 0, 0, 0x14CD, NONE, 11, 0, 0, 0, {0}},
-    {"the same, told alone", 'S', "t", TELL, 0, 5, 1, 0, 4, 0x79, 0, 0, 0x8860, NONE, 20, 1, 0, 0, {0}},
-    {"the same, not read", 'S', "t", SKIP, 0, 5, 1, 0, 4, 0x79, 0, 0, 0x8860, NONE, 16, 1, 0, 0, {0}},
-    {"fault limits that give no answer", 'S', "tf", REFUSE, 0, 5, 1, 0, 4, 0x79, 0, 0, 0x8860, NONE, 22, 1, 0, 0, {0}},
-    {"a margin below the fault limits", 'm', "t", REFUSE, 0, 5, 1, 0, 1, 0, 0, 0, 0, 1149902, 20, 1, 0, 0, {0}},
-    {"a margin at VOUT_OV_FAULT_LIMIT", 'm', "tH", REFUSE, 0, 5, 2, 0x68, 13, 0x40, 0, 0, 0x14CD, NONE, 12, 0, 0, 0, {0}},
-    {"two goals at fault limits", 'b', "", REFUSE, 0, 5, 2, 0x68, 13, 0x44, 0, 0, 0x0B33, NONE, 12, 0, 0, 0, {0}},
-    {"a goal at a fault limit, and one that isn't", 'B', "t", REFUSE, 0, 5, 2, 0x68, 13, 0x40, 0, 0, 0x14CD, NONE, 12, 0, 0, 0, {0}},
-    {"a goal at VOUT_UV_FAULT_LIMIT", 'U', "", REFUSE, 0, 5, 2, 0x68, 13, 0x44, 0, 0, 0x0B33, NONE, 11, 0, 0, 0, {0}},
-    {"a RUN pin that is low", 's', "r", REFUSE, 0, 5, 1, 0, 4, 0x79, 0, 0, 0x0840, NONE, 23, 1, 4, 0, {0}},
-    {"power good that begins above", 's', "g", REFUSE, 0, 3, 1, 0, 8, 0x79, 0, 0, 0x0800, 1100097, 26, 1, 2, 0, {0}},
-    {"power good of a part without READ_VOUT", 's', "g", REFUSE, 2, 3, 1, 0, 9, 0x79, 0, 0, 0x0800, NONE, 21, 1, 2, 0, {0}},
-    {"a part without READ_VOUT", 's', "v", REFUSE, 2, 3, 1, 0, 1, 0, 0, 0, 0, NONE, 19, 1, 0, 0, {0}},
-    {"a fault that was latched before", 's', "o", REFUSE, 0, 5, 1, 0, 1, 0, 0, 0, 0, 1100097, 20, 1, 0, 0, {0}},
-    {"a new warning", 's', "w", REFUSE, 0, 5, 1, 0, 1, 0, 0, 0, 0, 1100097, 21, 1, 0, 0, {0}},
-    {"a new fault", 's', "u", REFUSE, 0, 5, 1, 0, 5, 0x7A, 4, 0, 0x10, NONE, 20, 1, 0, 0, {0}},
-    {"a new fault of a register that gives no answer", 's', "i", REFUSE, 0, 2, 1, 0, 10, 0x7B, 0, 1, 0, 1100097, 26, 1, 1, 0, {0}},
-    {"BUSY and CML", 's', "c", REFUSE, 0, 5, 1, 0, 1, 0, 0, 0, 0, 1100097, 20, 1, 0, 0, {0}},
-    {"READ_VOUT at 90 %", 's', "l", REFUSE, 0, 3, 1, 0, 7, 0x8B, 0, 0, 0x0FD7, 989990, 24, 1, 2, 0, {0}},
-    {"READ_VOUT at 104 %", 's', "h", REFUSE, 0, 3, 1, 0, 1, 0, 0, 0, 0, 1144042, 20, 1, 0, 0, {0}},
-    {"a ramp", 's', "m", REFUSE, 0, 5, 1, 0, 1, 0, 0, 0, 0, 1100097, 26, 1, 3, 0, {0}},
-    {"a ramp that is longer than the rounds", 's', "m", REFUSE, 0, 2, 1, 0, 6, 0x8B, 0, 0, 0x0119, 68603, 22, 1, 1, 0, {0}},
-    {"STATUS_WORD that gives no answer", 's', "s", REFUSE, 0, 2, 1, 0, 14, 0, 0, 0, 0, 1100097, 24, 1, 1, 0, {0}},
-    {"a part without STATUS_WORD that trips", 'S', "st", TELL, 0, 3, 1, 0, 6, 0x8B, 0, 0, 0, 0, 25, 1, 2, 0, {0}},
-    {"the same, as its caller says", 'S', "st", TELL, 1, 3, 1, 0, 6, 0x8B, 0, 0, 0, 0, 20, 1, 2, 0, {0}},
-    {"a part without STATUS_WORD whose READ_VOUT is 90 %", 's', "sl", REFUSE, 1, 2, 1, 0, 7, 0x8B, 0, 0, 0x0FD7, 989990, 19, 1, 1, 0, {0}},
-    {"a part without STATUS_WORD, as its caller says", 's', "s", REFUSE, 1, 2, 1, 0, 14, 0, 0, 0, 0, 1100097, 18, 1, 0, 0, {0}},
-    {"a part without both", 's', "sv", REFUSE, 0, 2, 1, 0, 10, 0x8B, 0, 1, 0, NONE, 26, 1, 1, 0, {0}},
-    {"a part without both, in more rounds", 's', "sv", REFUSE, 0, 5, 1, 0, 10, 0x79, 0, 0, 0, NONE, 29, 1, 3, 0, {0}},
-    {"a part without both, as its caller says of one", 's', "sv", REFUSE, 1, 2, 1, 0, 10, 0x79, 0, 0, 0, NONE, 23, 1, 1, 0, {0}},
-    {"a part without both, as its caller says", 's', "sv", REFUSE, 3, 2, 1, 0, 10, 0x79, 0, 0, 0, NONE, 17, 1, 0, 1, {0}},
-    {"off, of a part without STATUS_WORD", 'o', "s", REFUSE, 0, 3, 1, 0, 10, 0x79, 0, 0, 0, NONE, 7, 1, 2, 0, {0}},
-    {"off, of a part without STATUS_WORD, as its caller says", 'o', "s", REFUSE, 1, 3, 1, 0, 10, 0x79, 0, 0, 0, NONE, 1, 1, 0, 1, {0}},
-    {"off, and the bus goes away", 'o', "", REFUSE, 0, 3, 1, 0, 10, 0x79, 0, 1, 0, NONE, 13, 1, 2, 0, {3, 999}},
-    {"a survey, and the bus goes away", 'y', "", REFUSE, 0, 3, 1, 0, 10, 0x79, 0, 1, 0, NONE, 17, 0, 2, 0, {6, 999}},
-    {"the bus is away at the look before, and STATUS_WORD is silent in one round", 's', "s", REFUSE, 0, 1, 1, 0, 10, 0x79, 0, 1, 0, NONE, 28, 1, 0, 0, {7, 18}},
-    {"the bus is away at the look before, and from the end", 's', "", REFUSE, 0, 3, 1, 0, 10, 0x79, 0, 1, 0, NONE, 37, 1, 2, 0, {7, 18, 27, 999}},
-    {"READ_VOUT that gives no answer in two rounds", 's', "v", REFUSE, 0, 2, 1, 0, 1, 0, 0, 0, 0, NONE, 26, 1, 1, 0, {0}},
-    {"READ_VOUT that gives no answer, and power good is missing", 's', "vg", REFUSE, 0, 2, 1, 0, 9, 0x79, 0, 0, 0x0800, NONE, 26, 1, 1, 0, {0}},
-    {"READ_VOUT that gives no answer in one round", 's', "v", REFUSE, 0, 1, 1, 0, 10, 0x8B, 0, 1, 0, NONE, 22, 1, 0, 0, {0}},
-    {"READ_VOUT with another PEC, and then no answer", 's', "d", REFUSE, 0, 3, 1, 0, 10, 0x8B, 0, 1, 0, NONE, 27, 1, 2, 0, {0}},
-    {"READ_VOUT with another PEC", 's', "p", REFUSE, 0, 1, 1, 0, 10, 0x8B, 0, 0x35, 0, NONE, 21, 1, 0, 0, {0}},
-    {"an older fault, and no answer before the order", 's', "bo", REFUSE, 0, 5, 1, 0, 5, 0x79, 5, 0, 0x8020, NONE, 22, 1, 0, 0, {0}},
-    {"on", 'n', "", REFUSE, 0, 5, 1, 0, 1, 0, 0, 0, 0, 1000000, 19, 1, 0, 0, {0}},
-    {"on, with a RUN pin that is low", 'n', "r", REFUSE, 0, 2, 1, 0, 4, 0x79, 0, 0, 0x0840, NONE, 19, 1, 1, 0, {0}},
-    {"off", 'o', "", REFUSE, 0, 5, 1, 0, 11, 0, 0, 0, 0, NONE, 2, 1, 0, 0, {0}},
-    {"off, whose frame was handed out before", 'p', "", REFUSE, 0, 5, 1, 0, 11, 0, 0, 0, 0, NONE, 2, 1, 0, 0, {0}},
-    {"off, and it stays on", 'o', "n", REFUSE, 0, 3, 1, 0, 12, 0x79, 0, 0, 0, NONE, 4, 1, 2, 0, {0}},
-    {"off, and STATUS_WORD gives no answer", 'o', "s", REFUSE, 0, 1, 1, 0, 10, 0x79, 0, 1, 0, NONE, 4, 1, 0, 0, {0}},
-    {"a survey", 'y', "", REFUSE, 0, 5, 1, 0, 1, 0, 0, 0, 0, 1000000, 7, 0, 0, 0, {0}},
-    {"a survey with a RUN pin that is low", 'y', "r", REFUSE, 0, 1, 1, 0, 4, 0x79, 0, 0, 0x0840, NONE, 6, 0, 0, 0, {0}},
-    {"a survey of an output that is off", 'O', "", REFUSE, 0, 5, 1, 0, 2, 0, 0, 0, 0, NONE, 5, 0, 0, 0, {0}},
+    {"a set that goes well", 's', "", REFUSE, 0, 5, 1, 0, 1, 0, 0, 0, 0, 1100097, 20, 1, 0, {0}},
+    {"the same without fault limits", 's', "", SKIP, 0, 5, 1, 0, 1, 0, 0, 0, 0, 1100097, 16, 1, 0, {0}},
+    {"a goal at VOUT_OV_FAULT_LIMIT", 'S', "t", REFUSE, 0, 5, 11, 0x68, 0, 0x40, 0, 0, 0x14CD, NONE, 11, 0, 0, {0}},
+    {"the same, told alone", 'S', "t", TELL, 0, 5, 14, 0, 4, 0x79, 0, 0, 0x8860, NONE, 20, 1, 0, {0}},
+    {"the same, not read", 'S', "t", SKIP, 0, 5, 14, 0, 4, 0x79, 0, 0, 0x8860, NONE, 16, 1, 0, {0}},
+    {"fault limits that give no answer", 'S', "tf", REFUSE, 0, 5, 14, 0, 4, 0x79, 0, 0, 0x8860, NONE, 22, 1, 0, {0}},
+    {"a margin below the fault limits", 'm', "t", REFUSE, 0, 5, 1, 0, 1, 0, 0, 0, 0, 1149902, 20, 1, 0, {0}},
+    {"a margin at VOUT_OV_FAULT_LIMIT", 'm', "tH", REFUSE, 0, 5, 11, 0x68, 0, 0x40, 0, 0, 0x14CD, NONE, 12, 0, 0, {0}},
+    {"two goals at fault limits", 'b', "", REFUSE, 0, 5, 11, 0x68, 0, 0x44, 0, 0, 0x0B33, NONE, 12, 0, 0, {0}},
+    {"a goal at a fault limit, and one that isn't", 'B', "t", REFUSE, 0, 5, 11, 0x68, 0, 0x40, 0, 0, 0x14CD, NONE, 12, 0, 0, {0}},
+    {"a goal at VOUT_UV_FAULT_LIMIT", 'U', "", REFUSE, 0, 5, 11, 0x68, 0, 0x44, 0, 0, 0x0B33, NONE, 11, 0, 0, {0}},
+    {"a RUN pin that is low", 's', "r", REFUSE, 0, 5, 14, 0, 4, 0x79, 0, 0, 0x0840, NONE, 23, 1, 4, {0}},
+    {"power good that begins above", 's', "g", REFUSE, 0, 3, 14, 0, 8, 0x79, 0, 0, 0x0800, 1100097, 26, 1, 2, {0}},
+    {"power good of a part without READ_VOUT", 's', "g", REFUSE, 2, 3, 14, 0, 9, 0x79, 0, 0, 0x0800, NONE, 21, 1, 2, {0}},
+    {"a part without READ_VOUT", 's', "v", REFUSE, 2, 3, 1, 0, 1, 0, 0, 0, 0, NONE, 19, 1, 0, {0}},
+    {"a fault that was latched before", 's', "o", REFUSE, 0, 5, 1, 0, 1, 0, 0, 0, 0, 1100097, 20, 1, 0, {0}},
+    {"a new warning", 's', "w", REFUSE, 0, 5, 1, 0, 1, 0, 0, 0, 0, 1100097, 21, 1, 0, {0}},
+    {"a new fault", 's', "u", REFUSE, 0, 5, 14, 0, 5, 0x7A, 4, 0, 0x10, NONE, 20, 1, 0, {0}},
+    {"a new fault of a register that gives no answer", 's', "i", REFUSE, 0, 2, 14, 0, 10, 0x7B, 0, 1, 0, 1100097, 26, 1, 1, {0}},
+    {"BUSY and CML", 's', "c", REFUSE, 0, 5, 1, 0, 1, 0, 0, 0, 0, 1100097, 20, 1, 0, {0}},
+    {"READ_VOUT at 90 %", 's', "l", REFUSE, 0, 3, 14, 0, 7, 0x8B, 0, 0, 0x0FD7, 989990, 24, 1, 2, {0}},
+    {"READ_VOUT at 104 %", 's', "h", REFUSE, 0, 3, 1, 0, 1, 0, 0, 0, 0, 1144042, 20, 1, 0, {0}},
+    {"a ramp", 's', "m", REFUSE, 0, 5, 1, 0, 1, 0, 0, 0, 0, 1100097, 26, 1, 3, {0}},
+    {"a ramp that is longer than the rounds", 's', "m", REFUSE, 0, 2, 14, 0, 6, 0x8B, 0, 0, 0x0119, 68603, 22, 1, 1, {0}},
+    {"STATUS_WORD that gives no answer", 's', "s", REFUSE, 0, 2, 1, 0, 14, 0, 0, 0, 0, 1100097, 24, 1, 0, {0}},
+    {"a part without STATUS_WORD that trips", 'S', "st", TELL, 0, 3, 14, 0, 6, 0x8B, 0, 0, 0, 0, 26, 1, 2, {0}},
+    {"the same, as its caller says", 'S', "st", TELL, 1, 3, 14, 0, 6, 0x8B, 0, 0, 0, 0, 20, 1, 2, {0}},
+    {"a part without STATUS_WORD whose READ_VOUT is 90 %", 's', "sl", REFUSE, 1, 2, 14, 0, 7, 0x8B, 0, 0, 0x0FD7, 989990, 19, 1, 1, {0}},
+    {"a part without STATUS_WORD, as its caller says", 's', "s", REFUSE, 1, 2, 1, 0, 14, 0, 0, 0, 0, 1100097, 18, 1, 0, {0}},
+    {"a part without both", 's', "sv", REFUSE, 0, 2, 14, 0, 10, 0x8B, 0, 1, 0, NONE, 28, 1, 1, {0}},
+    {"a part without both, in more rounds", 's', "sv", REFUSE, 0, 5, 14, 0, 10, 0x79, 0, 0, 0, NONE, 31, 1, 2, {0}},
+    {"a part without both, as its caller says of one", 's', "sv", REFUSE, 1, 2, 14, 0, 10, 0x79, 0, 0, 0, NONE, 23, 1, 1, {0}},
+    {"a part without both, as its caller says", 's', "sv", REFUSE, 3, 2, 1, 0, 10, 0x79, 0, 0, 0, NONE, 17, 1, 0, {0}},
+    {"off, of a part without STATUS_WORD", 'o', "s", REFUSE, 0, 3, 14, 0, 10, 0x79, 0, 1, 0, NONE, 7, 1, 1, {0}},
+    {"off, of a part without STATUS_WORD, as its caller says", 'o', "s", REFUSE, 1, 3, 1, 0, 10, 0x79, 0, 0, 0, NONE, 1, 1, 0, {0}},
+    {"off, and the bus goes away", 'o', "", REFUSE, 0, 3, 14, 0, 10, 0x79, 0, 1, 0, NONE, 13, 1, 2, {3, 999}},
+    {"a survey, and the bus goes away", 'y', "", REFUSE, 0, 3, 14, 0, 10, 0x79, 0, 1, 0, NONE, 17, 0, 2, {6, 999}},
+    {"the bus is away at the look before, and STATUS_WORD is silent in one round", 's', "s", REFUSE, 0, 1, 14, 0, 10, 0x79, 0, 1, 0, NONE, 28, 1, 0, {7, 18}},
+    {"the bus is away at the look before, and from the end", 's', "", REFUSE, 0, 3, 14, 0, 10, 0x79, 0, 1, 0, NONE, 37, 1, 2, {7, 18, 27, 999}},
+    {"READ_VOUT that gives no answer in two rounds", 's', "v", REFUSE, 0, 2, 1, 0, 1, 0, 0, 0, 0, NONE, 26, 1, 1, {0}},
+    {"READ_VOUT that gives no answer, and power good is missing", 's', "vg", REFUSE, 0, 2, 14, 0, 9, 0x79, 0, 0, 0x0800, NONE, 26, 1, 1, {0}},
+    {"READ_VOUT that gives no answer in one round", 's', "v", REFUSE, 0, 1, 14, 0, 10, 0x8B, 0, 1, 0, NONE, 22, 1, 0, {0}},
+    {"READ_VOUT with another PEC, and then no answer", 's', "d", REFUSE, 0, 3, 14, 0, 10, 0x8B, 0, 1, 0, NONE, 27, 1, 2, {0}},
+    {"READ_VOUT with another PEC", 's', "p", REFUSE, 0, 1, 14, 0, 10, 0x8B, 0, 0x35, 0, NONE, 21, 1, 0, {0}},
+    {"an older fault, and no answer before the order", 's', "bo", REFUSE, 0, 5, 14, 0, 5, 0x79, 5, 0, 0x8020, NONE, 22, 1, 0, {0}},
+    {"on", 'n', "", REFUSE, 0, 5, 1, 0, 1, 0, 0, 0, 0, 1000000, 19, 1, 0, {0}},
+    {"on, with a RUN pin that is low", 'n', "r", REFUSE, 0, 2, 14, 0, 4, 0x79, 0, 0, 0x0840, NONE, 19, 1, 1, {0}},
+    {"off", 'o', "", REFUSE, 0, 5, 1, 0, 11, 0, 0, 0, 0, NONE, 2, 1, 0, {0}},
+    {"off, and it stays on", 'o', "n", REFUSE, 0, 3, 14, 0, 12, 0x79, 0, 0, 0, NONE, 4, 1, 2, {0}},
+    {"off, and STATUS_WORD gives no answer", 'o', "s", REFUSE, 0, 1, 14, 0, 10, 0x79, 0, 1, 0, NONE, 4, 1, 0, {0}},
+    {"a survey", 'y', "", REFUSE, 0, 5, 1, 0, 1, 0, 0, 0, 0, 1000000, 7, 0, 0, {0}},
+    {"a survey with a RUN pin that is low", 'y', "r", REFUSE, 0, 1, 14, 0, 4, 0x79, 0, 0, 0x0840, NONE, 6, 0, 0, {0}},
+    {"a survey of an output that is off", 'O', "", REFUSE, 0, 5, 1, 0, 2, 0, 0, 0, 0, NONE, 5, 0, 0, {0}},
 };
 
 static const row *now;
@@ -204,124 +201,94 @@ static uint64_t ask(void *context, const uint8_t *request, uint64_t count, uint8
     return at + 1;
 }
 
-static void rest(void *context) {
+static void rest(void *context, uint32_t milliseconds) {
     (void)context;
+    (void)milliseconds;
     pauses++;
 }
 
-/* A course to a voltage, and to one of VOUT_MARGIN_HIGH. */
-static int begin_both(pm_course *course, int64_t microvolts, int64_t margin) {
-    return pm_course_microvolts(course, 0, PM_VOUT_COMMAND, microvolts, 40) != 0 || pm_course_want(course, PM_VOUT_MARGIN_HIGH, margin) != 0;
+static pm_sequence_said found;
+
+static int told(void *context, const pm_sequence *sequence, uint8_t answer) {
+    (void)context;
+    if (answer == PM_TOLD)
+        found = sequence->said;
+    return 1;
 }
 
-/* A course that turns the output off, and has handed out its frame. */
-static int begin_off(pm_course *course, pm_host *host) {
-    pm_sending sending;
-    return pm_course_power(course, 0, 0x00, 40) != 0 || pm_course_frame(course, host, &sending) != 0;
+static pm_sequence_step sets_both(int64_t microvolts, int64_t margin) {
+    pm_sequence_step step = pm_sets(0, 0, microvolts);
+    step.margin_high.kind = PM_MICROVOLTS;
+    step.margin_high.microvolts = margin;
+    return step;
 }
 
-static int begin(pm_course *course, pm_host *host) {
-    switch (now->call) {
-    case 's': return pm_course_microvolts(course, 0, PM_VOUT_COMMAND, 1100000, 40);
-    case 'S': return pm_course_microvolts(course, 0, PM_VOUT_COMMAND, 1300000, 40);
-    case 'U': return pm_course_microvolts(course, 0, PM_VOUT_COMMAND, 700000, 40);
-    case 'n': return pm_course_power(course, 0, 0x80, 40);
-    case 'o': return pm_course_power(course, 0, 0x00, 40);
-    case 'p': return begin_off(course, host);
-    case 'b': return begin_both(course, 700000, 1300000);
-    case 'B': return begin_both(course, 1300000, 1150000);
-    case 'm': return pm_course_power(course, 0, 0xA8, 40);
-    default: return pm_course_survey(course, 0, 40);
+static pm_sequence_step step_of(char call) {
+    pm_sequence_step step = pm_turns(0, 0, 0);
+    switch (call) {
+    case 's': return pm_sets(0, 0, 1100000);
+    case 'S': return pm_sets(0, 0, 1300000);
+    case 'U': return pm_sets(0, 0, 700000);
+    case 'n': return pm_turns(0, 0, 0x80);
+    case 'o': return step;
+    case 'b': return sets_both(700000, 1300000);
+    case 'B': return sets_both(1300000, 1150000);
+    case 'm': return pm_turns(0, 0, 0xA8);
+    default: step.kind = PM_STEP_SURVEYS; return step;
     }
 }
 
-static int differs(const pm_course_end *end, const pm_delivered *said) {
-    return end->kind != now->end || end->number != now->number || said->kind != now->kind || said->code != now->code
+/* Carries a step out: what was said of its rail, with the end of the list. */
+static pm_sequence_said carry_out(pm_host *host, const pm_sequence_step *step, pm_sequence_record *record) {
+    pm_host *const hosts[1] = {host};
+    void *const contexts[1] = {NULL};
+    pm_sequence sequence;
+    pm_sequence_said said;
+    reads = writes = pauses = status_words = has_ordered = 0;
+    pm_sequence_new(&sequence, 40, 0);
+    memset(&found, 0, sizeof found);
+    if (pm_run_sequence(&sequence, hosts, contexts, 1, step, 1, record, 1, put, ask, rest, told) != 0x95)
+        sequence.said.kind = 0;
+    said = sequence.said.kind == 1 ? found : sequence.said;
+    said.kind = sequence.said.kind;
+    return said;
+}
+
+static int differs(const pm_sequence_said *said) {
+    return said->kind != now->end || said->number != now->number || said->verdict != now->verdict || said->code != now->code
         || said->bit != now->bit || said->fault != now->fault || said->word != now->word
         || (said->has_microvolts ? said->microvolts : NONE) != now->microvolts || reads != now->reads || writes != now->writes
         || pauses != now->pauses;
 }
 
-/* Whether the kind of an end alone says that it is good. */
-static int is_good_kind(uint8_t kind) { return kind == 1 || kind == 2 || kind == 3 || kind == 11 || kind == 14; }
-
-/* One call says what is wrong with it, and the number of those. */
-static int is_wrong(const char *name, int found, int wanted) {
-    if (found != wanted)
-        printf("%s: %02X and not %02X\n", name, (unsigned)found, (unsigned)wanted);
-    return found != wanted;
-}
-
-/* Which ends are good, by their kinds, and of a part without STATUS_WORD; and what calls beside pm_host_deliver answer. */
-static int calls(void) {
-    static const uint8_t good[15] = {0, 1, 1, 1, 0, 0, 0, 0, 0, 0, 0, 1, 0, 0, 1};
-    pm_host host;
-    pm_course course;
-    pm_delivery delivery;
-    pm_delivered said = {0, 0, 0, 0, 0, 0, 0, 0};
-    pm_judgement judgement = {0, 0, 0, 0};
-    int failed = 0;
-    now = rows;
-    if (pm_host_new(&host, 0x58, 1, 2) != 0 || pm_host_set_limits(&host, 0, 500000, 2000000) != 0
-        || pm_delivery_new(&delivery, 0, REFUSE, 0, 50, 5) != 0)
-        return 1;
-    for (said.kind = 0; said.kind < sizeof good; said.kind++)
-        failed += is_wrong("a kind of end", pm_is_delivered(&delivery, &said), good[said.kind]);
-    said.kind = 10, said.code = 0x79;
-    failed += is_wrong("STATUS_WORD that gave no answer", pm_is_delivered(&delivery, &said), 0);
-    delivery.lacks = PM_FOUND_NO_STATUS_WORD | PM_FOUND_NO_READ_VOUT;
-    failed += is_wrong("a part that was found to lack both", pm_is_delivered(&delivery, &said), 0);
-    delivery.lacks = PM_LACKS_STATUS_WORD | PM_LACKS_READ_VOUT;
-    failed += is_wrong("a part that lacks both, as its caller says", pm_is_delivered(&delivery, &said), 1);
-    said.code = 0x8B;
-    failed += is_wrong("READ_VOUT that gave no answer", pm_is_delivered(&delivery, &said), 0);
-    delivery.lacks = 0;
-
-    operation = 0x80, command = 0x1000, high = 0x1266, reads = has_ordered = 0;
-    if (begin_both(&course, 1100000, 1150000) != 0 || pm_host_deliver(&host, &course, &delivery, put, ask, rest, NULL, &said).kind != 1)
-        return failed + 1;
-    reads = 0;
-    if (pm_course_microvolts(&course, 0, PM_VOUT_COMMAND, 1050000, 40) != 0)
-        return failed + 1;
-    failed += is_wrong("the second call of a chain", pm_host_deliver(&host, &course, &delivery, put, ask, rest, NULL, &said).kind, 1);
-    failed += is_wrong("reads of the second call of a chain", reads, 15);
-    if (begin_both(&course, 700000, 1300000) != 0)
-        return failed + 1;
-    failed += is_wrong("a judgement", pm_delivery_judge_course(&delivery, &course, &host, &judgement), 0x68);
-    failed += is_wrong("its fault limit", judgement.fault << 16 | judgement.fault_word, 0x44 << 16 | 0x0B33);
-    failed += is_wrong("its warning", judgement.warning << 16 | judgement.warning_word, 0x43 << 16 | 0x0CCD);
-
-    if (pm_delivery_new(&delivery, 1, REFUSE, 0, 50, 5) != 0 || pm_delivery_before(&delivery) != 0)
-        return failed + 1;
-    failed += is_wrong("an output that isn't there", pm_delivery_ask(&delivery, &host, ask, rest, NULL), PM_H4_UNKNOWN_OUTPUT);
-    return failed;
+static int begin(pm_host *host, uint16_t byte) {
+    operation = byte;
+    command = 0x1000;
+    high = is('H') ? 0x14CD : 0x1266;
+    return pm_host_new(host, 0x58, 1, 2) == 0 && pm_host_set_limits(host, 0, 500000, 2000000) == 0;
 }
 
 int main(void) {
     int failed = 0, at, count = (int)(sizeof rows / sizeof *rows);
     for (at = 0; at < count; at++) {
         pm_host host;
-        pm_course course;
-        pm_delivery delivery;
-        pm_delivered said;
-        pm_course_end end = {0, 0, 0, 0, 0, 0};
+        pm_sequence_record record;
+        pm_sequence_step step = step_of(rows[at].call);
+        pm_sequence_said said;
         now = rows + at;
-        reads = writes = pauses = status_words = has_ordered = 0;
-        operation = now->call == 'n' || now->call == 'O' ? 0x00 : 0x80;
-        command = 0x1000;
-        high = is('H') ? 0x14CD : 0x1266;
-        if (pm_host_new(&host, 0x58, 1, 2) != 0 || pm_host_set_limits(&host, 0, 500000, 2000000) != 0 || begin(&course, &host) != 0
-            || pm_delivery_new(&delivery, 0, now->fault_limits, now->lacks, 50, now->rounds) != 0)
+        step.fault_limits = now->fault_limits;
+        step.lacks = now->lacks;
+        step.rounds = now->rounds;
+        if (!begin(&host, now->call == 'n' || now->call == 'O' ? 0x00 : 0x80))
             return 1;
-        end = pm_host_deliver(&host, &course, &delivery, put, ask, rest, NULL, &said);
-        if (differs(&end, &said) || pm_is_delivered(&delivery, &said) != (is_good_kind(said.kind) || now->is_unasked)) {
+        said = carry_out(&host, &step, &record);
+        if (differs(&said)) {
             failed++;
-            printf("%s: end %d %02X, kind %d %02X bit %d fault %02X word %04X, %lld, reads %d writes %d pauses %d\n", now->name, end.kind,
-                   end.number, said.kind, said.code, said.bit, said.fault, said.word,
+            printf("%s: end %d %02X, verdict %d %02X bit %d fault %02X word %04X, %lld, reads %d writes %d pauses %d\n", now->name, said.kind,
+                   said.number, said.verdict, said.code, said.bit, said.fault, said.word,
                    (long long)(said.has_microvolts ? said.microvolts : NONE), reads, writes, pauses);
         }
     }
     printf("deliveries: %d rows passed, %d failed\n", count - failed, failed);
-    failed += calls();
     return failed != 0;
 }

@@ -12,7 +12,7 @@
 #include "field.h"
 
 enum { ADDRESS = 0x58, TRIES = 40, PASSES = 3, LINES = 24, CALLS = 4, ROOM = 400 };
-/* By pm_delivered's kind. */
+/* By their verdict; P8 of a goal at a fault limit. */
 static const char *const KINDS[] = {"not-yet", "delivers", "commanded-off", "not-known-on", "off", "fault", "outside", "beyond",
                                     "power-good-alone", "no-power-good", "not-known", "went-off", "still-on", "P8", "delivers-by-READ_VOUT"};
 
@@ -26,16 +26,19 @@ typedef struct { uint8_t output, code; uint16_t word; } ordered;
 typedef struct {
     field_part part;
     pm_host host;
-    pm_delivery deliveries[2];
+    pm_sequence_step like;  /* how each step is looked at */
+    pm_heard before[2];     /* what stood of each output before the first order of the chain */
+    pm_sequence_said found; /* of a rail that does what it is to */
     delivered_told told;
     ordered all[CALLS];
-    int count, waits;
+    int count;
 } chain;
 
-/* Each wait is twice as long as the one before. */
-static void pause_for_ramp(void *context) {
-    chain *it = context;
-    it->part.now += (uint64_t)10000 << it->waits++;
+static void wait_for_ramp(void *context, uint32_t milliseconds) { ((chain *)context)->part.now += (uint64_t)milliseconds * 1000; }
+
+static int keep_found(void *context, const pm_sequence *sequence, uint8_t answer) {
+    if (answer == PM_TOLD) ((chain *)context)->found = sequence->said;
+    return 1;
 }
 
 static uint8_t put(void *context, const uint8_t *bytes, uint64_t count) { return field_write(&((chain *)context)->part, bytes, count); }
@@ -97,30 +100,38 @@ static int set_up_part(chain *it, const row *from) {
 
 static int set_up(chain *it, const row *from) {
     const char *limits = said(from, "limits", "refuse"), *lacks = said(from, "lacks", "");
+    pm_sequence_step *like = &it->like;
     uint8_t kind = !strcmp(limits, "tell") ? PM_FAULT_LIMITS_TELL : !strcmp(limits, "skip") ? PM_FAULT_LIMITS_SKIP : PM_FAULT_LIMITS_REFUSE;
-    uint16_t within = (uint16_t)atoi(said(from, "within", "50")), rounds = (uint16_t)atoi(said(from, "rounds", "7"));
     pm_registers has = {1, 1, 1, !strstr(lacks, "2B")};
     uint8_t missing = (uint8_t)((strstr(lacks, "79") ? PM_LACKS_STATUS_WORD : 0) | (strstr(lacks, "8B") ? PM_LACKS_READ_VOUT : 0));
     int64_t least = 0, most = 0;
     memset(it, 0, sizeof *it);
+    *like = pm_sets(0, 0, 0);
+    like->fault_limits = kind;
+    like->lacks = missing;
+    like->tells_power_good = !strcmp(said(from, "power-good", "judge"), "tell");
+    like->within = (uint16_t)atoi(said(from, "within", "50"));
+    like->rounds = (uint16_t)atoi(said(from, "rounds", "7"));
     if (sscanf(said(from, "band", "800000 1300000"), "%" SCNd64 " %" SCNd64, &least, &most) != 2) return 0;
     return set_up_part(it, from) && !pm_host_new_with(&it->host, ADDRESS, 2, PASSES, &has) && !pm_host_set_limits(&it->host, 0, least, most)
-        && !pm_host_set_limits(&it->host, 1, 800000, 1300000) && !pm_delivery_new(&it->deliveries[0], 0, kind, missing, within, rounds)
-        && !pm_delivery_new(&it->deliveries[1], 1, kind, missing, within, rounds);
+        && !pm_host_set_limits(&it->host, 1, 800000, 1300000);
 }
 
-/* The course of a call, and its register; 0 of a survey. */
-static int make_course(pm_course *course, const char *call, uint8_t *output, uint8_t *code) {
+/* The step of a call, and its register; 0 of a survey. */
+static pm_sequence_step make_step(const chain *it, const char *call, uint8_t *code) {
+    pm_sequence_step step = it->like;
+    pm_sequence_wish *wish;
     char kind[16] = "", first[16] = "", second[16] = "";
-    unsigned number = 0;
-    sscanf(call, "%15s %u %15s %15s", kind, &number, first, second);
-    *output = (uint8_t)number, *code = 0;
-    if (!strcmp(kind, "survey")) return pm_course_survey(course, *output, TRIES);
-    if (!strcmp(kind, "power")) return *code = PM_OPERATION, pm_course_power(course, *output, (uint8_t)strtoul(first, NULL, 16), TRIES);
+    unsigned output = 0;
+    sscanf(call, "%15s %u %15s %15s", kind, &output, first, second);
+    step.output = (uint8_t)output, step.before = it->before[output], step.command.kind = PM_STAY, *code = 0;
+    if (!strcmp(kind, "survey")) return step.kind = PM_STEP_SURVEYS, step;
+    if (!strcmp(kind, "power")) return *code = PM_OPERATION, step.kind = PM_TURNS, step.byte = (uint8_t)strtoul(first, NULL, 16), step;
     *code = (uint8_t)strtoul(!strcmp(kind, "word") ? first : second[0] ? second : "21", NULL, 16);
-    if (!strcmp(kind, "set")) return pm_course_microvolts(course, *output, *code, strtoll(first, NULL, 10), TRIES);
-    pm_wanted wanted = {{1, (uint16_t)strtoul(second, NULL, 16)}, {0, 0}, {0, 0}, {0, 0}, {0, 0}};
-    return pm_course_words(course, *output, &wanted, TRIES);
+    wish = *code == PM_VOUT_MAX ? &step.max : *code == PM_VOUT_MARGIN_HIGH ? &step.margin_high : *code == PM_VOUT_MARGIN_LOW ? &step.margin_low
+         : *code == PM_VOUT_MIN ? &step.min : &step.command;
+    if (!strcmp(kind, "set")) return wish->kind = PM_MICROVOLTS, wish->microvolts = strtoll(first, NULL, 10), step;
+    return wish->kind = PM_WORD, wish->word = (uint16_t)strtoul(second, NULL, 16), step;
 }
 
 static const char *cell_name(uint8_t code) {
@@ -136,17 +147,19 @@ static const char *refusal(uint8_t number, pm_name *name) {
     return number == PM_NO_ANSWER ? "no answer" : pm_refusal_name(number, name) == PM_OK ? name->text : "?";
 }
 
-/* A course's end that isn't reached, as a row has it. */
-static void tell_end(char *text, const pm_course_end *end) {
+/* The end of a list, as a row has it. */
+static void tell_end(char *text, const pm_sequence_said *end) {
     pm_name name;
-    if (end->kind == PM_REACHED)
+    if (end->kind == PM_REACHED || end->kind == PM_RAIL_FAILS || end->kind == PM_GOAL_BEYOND)
         snprintf(text, ROOM, "reached");
     else if (end->kind == PM_REFUSED)
         snprintf(text, ROOM, "refused %.2s %s", refusal(end->number, &name), cell_name(end->code));
     else if (end->kind == PM_STILL_DIFFERS)
         snprintf(text, ROOM, "differs %s %0*X", cell_name(end->code), end->code == PM_OPERATION ? 2 : 4, (unsigned)end->word);
-    else
+    else if (end->kind == PM_SPENT)
         snprintf(text, ROOM, "spent %s %s", cell_name(end->code), refusal((uint8_t)end->fault, &name));
+    else
+        snprintf(text, ROOM, "kind %d", end->kind);
 }
 
 /* The register that a call orders is to be read once more. */
@@ -166,28 +179,36 @@ static int differs(const char *name, const char *what, const char *found, const 
     return 1;
 }
 
+/* One step, carried out: what was said of it last, and its record. */
+static pm_sequence_said carry_out(chain *it, const pm_sequence_step *step, pm_sequence_record *record) {
+    pm_host *const hosts[1] = {&it->host};
+    void *const buses[1] = {it};
+    pm_sequence sequence;
+    memset(record, 0, sizeof *record);
+    memset(&it->found, 0, sizeof it->found);
+    pm_sequence_new(&sequence, TRIES, 0);
+    if (pm_run_sequence(&sequence, hosts, buses, 1, step, 1, record, 1, put, ask, wait_for_ramp, keep_found) != PM_ENDED) sequence.said.kind = 0;
+    it->before[step->output] = record->look.before;
+    return sequence.said;
+}
+
 /* One call: whether it is as its row says. */
 static int is_call_right(chain *it, const row *from, const call_row *wanted) {
-    pm_course course;
-    pm_delivered delivered = {0, 0, 0, 0, 0, 0, 0, 0};
     char is[ROOM], ended[ROOM], says[ROOM];
-    uint8_t output, code;
+    uint8_t code;
     int64_t microvolts = 0;
-    if (make_course(&course, wanted->call, &output, &code)) return 0;
-    pm_delivery *delivery = &it->deliveries[output];
+    pm_sequence_record record;
+    pm_sequence_step step = make_step(it, wanted->call, &code);
     uint32_t writes = it->part.writes;
-    it->waits = 0;
-    pm_course_end end = pm_host_deliver(&it->host, &course, delivery, put, ask, pause_for_ramp, it, &delivered);
-    int is_p8 = delivered.kind == PM_BEYOND_FAULT_LIMIT, is_reached = end.kind == PM_REACHED || is_p8;
-    int is_alone = delivered.kind == PM_POWER_GOOD_ALONE && !strcmp(said(from, "power-good", "judge"), "tell");
-    int is_well = end.kind == PM_REACHED && (pm_is_delivered(delivery, &delivered) || is_alone);
-    (void)field_get(&it->part, output, "microvolts", &microvolts);
-    snprintf(is, sizeof is, "%s %" PRId64, !is_reached ? "ended" : KINDS[delivered.kind], microvolts);
-    if (is_p8) snprintf(ended, sizeof ended, "reached");
-    else tell_end(ended, &end);
+    pm_sequence_said end = carry_out(it, &step, &record);
+    int is_p8 = end.kind == PM_GOAL_BEYOND, is_well = end.kind == PM_REACHED, is_reached = is_well || is_p8 || end.kind == PM_RAIL_FAILS;
+    const pm_sequence_said *of = is_well ? &it->found : &end;
+    (void)field_get(&it->part, step.output, "microvolts", &microvolts);
+    snprintf(is, sizeof is, "%s %" PRId64, !is_reached ? "ended" : is_p8 ? "P8" : KINDS[of->verdict], microvolts);
+    tell_end(ended, &end);
     ended[strlen(wanted->end[0] ? wanted->end : "reached")] = 0;
-    delivered_words(says, sizeof says, delivery, &it->host, &course, &delivered, it->part.writes != writes, &it->told);
-    note(it, output, code);
+    delivered_words(says, sizeof says, of, &step, &record.look, &it->host, it->part.writes != writes, &it->told);
+    note(it, step.output, code);
     return !(differs(from->name, "is", is, wanted->is) | differs(from->name, "end", ended, wanted->end[0] ? wanted->end : "reached")
              | differs(from->name, "status", is_well ? "0" : "1", wanted->status) | (is_reached && differs(from->name, "says", says, wanted->says)));
 }
@@ -221,51 +242,64 @@ static int is_right(const row *from) {
 
 /* ---- Words of what the part in the field doesn't do ---- */
 
-typedef struct { const char *name; uint16_t status_word; uint8_t code, byte; pm_delivered said; const char *words; } spoken;
+typedef struct {
+    const char *name;
+    uint16_t status_word;
+    uint8_t code, byte, verdict, of, bit, fault, has_microvolts;
+    int64_t microvolts;
+    const char *words;
+} spoken;
 
 static const spoken SPOKEN[] = {
-    {"a new fault of the current", 0x4010, 0x7B, 0x80, {5, 0x7B, 7, 0, 0, 0, 0x80, 0},
+    {"a new fault of the current", 0x4010, 0x7B, 0x80, 5, 0x7B, 7, 0, 0, 0,
      "STATUS_WORD 4010 IOUT_POUT, IOUT_OC_FAULT and STATUS_IOUT 80 IOUT_OC_FAULT: IOUT_OC_FAULT came with this call"},
-    {"a new fault of the input", 0x2008, 0x7C, 0x10, {5, 0x7C, 4, 0, 0, 0, 0x10, 0},
+    {"a new fault of the input", 0x2008, 0x7C, 0x10, 5, 0x7C, 4, 0, 0, 0,
      "STATUS_WORD 2008 INPUT, VIN_UV_FAULT and STATUS_INPUT 10 VIN_UV_FAULT: VIN_UV_FAULT came with this call"},
-    {"a new fault of the temperature", 0x0004, 0x7D, 0x81, {5, 0x7D, 7, 0, 0, 0, 0x81, 0},
+    {"a new fault of the temperature", 0x0004, 0x7D, 0x81, 5, 0x7D, 7, 0, 0, 0,
      "STATUS_WORD 0004 TEMPERATURE and STATUS_TEMPERATURE 81 OT_FAULT, bit 0: OT_FAULT came with this call"},
-    {"READ_VOUT with another PEC", 0, 0x7A, 0, {10, 0x8B, 0, PM_F5_WRONG_PEC, 0, 0, 0, 0},
+    {"READ_VOUT with another PEC", 0, 0x7A, 0, 10, 0x8B, 0, PM_F5_WRONG_PEC, 0, 0,
      "delivery not known: READ_VOUT gave no good answer: F5 WrongPec"},
-    {"READ_VOUT of a rail of which nothing is known", 0, 0x7A, 0, {10, 0x8B, 0, 0, 0, 0, 0, 0},
+    {"READ_VOUT of a rail of which nothing is known", 0, 0x7A, 0, 10, 0x8B, 0, 0, 0, 0,
      "delivery not known: what the output commands isn't known"},
-    {"a rail below 0 V", 0, 0x7A, 0, {1, 0, 0, 0, 1, 0, 0, -1500050}, "delivers -1.50005V"},
+    {"a rail below 0 V", 0, 0x7A, 0, 1, 0, 0, 0, 1, -1500050, "delivers -1.50005V"},
 };
 
 /* Whether an end is said in these words. */
 static int is_said(const spoken *it) {
     pm_host host;
-    pm_course course;
-    pm_delivery delivery;
+    pm_delivery look;
+    pm_sequence_step step = pm_sets(0, 0, 0);
+    pm_sequence_said said;
     delivered_told told = {0};
     char text[ROOM];
-    if (pm_host_new(&host, ADDRESS, 1, PASSES) || pm_course_survey(&course, 0, TRIES) || pm_delivery_new(&delivery, 0, 2, 0, 50, 1)) return 0;
-    pm_heard *const bytes[4] = {&delivery.status_vout, &delivery.status_iout, &delivery.status_input, &delivery.status_temperature};
-    delivery.status_word = (pm_heard){1, 0, it->status_word};
+    memset(&look, 0, sizeof look);
+    memset(&said, 0, sizeof said);
+    if (pm_host_new(&host, ADDRESS, 1, PASSES)) return 0;
+    pm_heard *const bytes[4] = {&look.status_vout, &look.status_iout, &look.status_input, &look.status_temperature};
+    look.status_word = (pm_heard){1, 0, it->status_word};
     *bytes[it->code - 0x7A] = (pm_heard){it->byte != 0, 0, it->byte};
-    delivered_words(text, sizeof text, &delivery, &host, &course, &it->said, 0, &told);
+    said.kind = PM_RAIL_FAILS, said.verdict = it->verdict, said.code = it->of, said.bit = it->bit, said.fault = it->fault;
+    said.has_microvolts = it->has_microvolts, said.microvolts = it->microvolts;
+    delivered_words(text, sizeof text, &said, &step, &look, &host, 0, &told);
     return strcmp(text, it->words) == 0 || (printf("%s: %s\n", it->name, text), 0);
 }
 
-/* Whether a limit that was read is said of a course that had an order to give, and of no other. */
+/* Whether a limit that was read is said of a step that had an order to give, and of no other. */
 static int is_said_after_an_order(void) {
     static chain it;
     static row from;
-    pm_course course;
-    pm_delivered said;
+    pm_sequence_record record;
+    pm_sequence_step step;
+    uint8_t code;
     delivered_told told = {0};
     char with[ROOM], without[ROOM];
     take_line(&from, "name: a limit is said after an order alone");
     take_line(&from, "part: VOUT_OV_WARN_LIMIT 1080");
-    if (!set_up(&it, &from) || pm_course_microvolts(&course, 0, PM_VOUT_COMMAND, 1050000, TRIES)
-        || pm_host_deliver(&it.host, &course, it.deliveries, put, ask, pause_for_ramp, &it, &said).kind != PM_REACHED) return 0;
-    delivered_words(with, sizeof with, it.deliveries, &it.host, &course, &said, 1, &told);
-    delivered_words(without, sizeof without, it.deliveries, &it.host, &course, &said, 0, &told);
+    if (!set_up(&it, &from)) return 0;
+    step = make_step(&it, "set 0 1050000", &code);
+    if (carry_out(&it, &step, &record).kind != PM_REACHED) return 0;
+    delivered_words(with, sizeof with, &it.found, &step, &record.look, &it.host, 1, &told);
+    delivered_words(without, sizeof without, &it.found, &step, &record.look, &it.host, 0, &told);
     return (strstr(with, "is at or beyond") && !strstr(without, "is at or beyond")) || (printf("%s: %s\n", from.name, without), 0);
 }
 

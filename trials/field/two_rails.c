@@ -8,7 +8,7 @@
 int bring_up(void);
 uint8_t write_to_bus(void *context, const uint8_t *bytes, uint64_t count);
 uint64_t read_from_bus(void *context, const uint8_t *request, uint64_t count, uint8_t *answer, uint64_t room);
-void wait_for(void *context);
+void wait_for(void *context, uint32_t milliseconds);
 
 static field_part part;
 
@@ -22,9 +22,9 @@ uint64_t read_from_bus(void *context, const uint8_t *request, uint64_t count, ui
     return field_read(&part, request, count, answer, room);
 }
 
-void wait_for(void *context) {
+void wait_for(void *context, uint32_t milliseconds) {
     (void)context;
-    part.now += 25000;
+    part.now += 1000 * (int64_t)milliseconds;
 }
 
 /* The rails begin off, at 1 V. A row sets one thing more of the second one, or of the part. */

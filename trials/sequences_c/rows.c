@@ -396,6 +396,27 @@ static void stands(void) {
     row("a fault that is new", "verdict", sequence.said.verdict, 5);
 }
 
+/* A way back that would be refused is said once, before the step begins; a step that turned its output off is undone by its byte. */
+static void ways_back(void) {
+    begin(&good, &good, 3);
+    if (pm_host_set_limits(&hosts[0], 0, 1020000, 1300000))
+        exit(1);
+    steps[0] = sets(0, 0, 1200000, 2);
+    stops_at = 0x97;
+    row("no way back", "answer", run(steps, 1), 0x97);
+    row("no way back", "end", sequence.said.kind << 16 | sequence.said.number << 8 | sequence.said.code, 0x092321);
+    row("no way back", "step", sequence.said.step << 8 | sequence.begun, 0);
+    row("no way back", "writes", parts[0].writes, 0);
+    stops_at = 0;
+    row("and on", "answer", run(steps, 1), 0x95);
+    row("and on", "end", sequence.said.kind, 1);
+    row("and on", "writes", parts[0].writes, 1);
+    begin(&good, &good, 3);
+    steps[0] = off(1, 0, 2);
+    row("off", "answer", run(steps, 1), 0x95);
+    row("off", "back", records[0].back.host << 16 | records[0].back.kind << 8 | records[0].back.byte, 0x10280);
+}
+
 /* Each refusal, which changes nothing but the frame. */
 static void refuses(const char *name, uint64_t count, uint64_t room, uint8_t wanted) {
     pm_sequence was = sequence;
@@ -487,6 +508,7 @@ int main(void) {
     asks();
     surveys();
     stands();
+    ways_back();
     refusals();
     any_bytes();
     printf("%d passed, %d failed\n", passed, failed);

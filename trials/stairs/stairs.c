@@ -37,7 +37,7 @@ typedef struct { stand outputs[PARTS][OUTPUTS]; } all_stands;
 typedef struct {
     int parts, count;
     pm_part_config configs[PARTS];
-    pm_stairs_step steps[STEPS];
+    pm_sequence_step steps[STEPS];
 } drawn_list;
 
 typedef struct {
@@ -73,7 +73,7 @@ static int are_same(const run *r, const all_stands *a, const all_stands *b) {
 typedef struct { uint16_t operation, command, max, high, low, min; } plain_output;
 typedef struct { plain_output outputs[PARTS][OUTPUTS]; } plain;
 
-static uint16_t plain_word(const pm_stairs_wish *wish, uint16_t was, int rounds) {
+static uint16_t plain_word(const pm_sequence_wish *wish, uint16_t was, int rounds) {
     int64_t step = 1000000, scaled;
     if (wish->kind == PM_STAY)
         return was;
@@ -86,7 +86,7 @@ static uint16_t plain_word(const pm_stairs_wish *wish, uint16_t was, int rounds)
     return (uint16_t)(rounds < 0 ? scaled / step : (scaled + step - 1) / step);
 }
 
-static void plain_take(plain *p, const pm_stairs_step *step) {
+static void plain_take(plain *p, const pm_sequence_step *step) {
     plain_output *o = &p->outputs[step->host][step->output];
     if (step->kind == PM_TURNS) {
         o->operation = step->byte;
@@ -154,7 +154,7 @@ static plain plain_of_parts(const run *r) {
 }
 
 /* Draws: outputs between 0.6 V and 2 V, most within their limits, some steps that a plan refuses. */
-static void draw_wish(pm_stairs_wish *wish, uint16_t from, uint16_t to) {
+static void draw_wish(pm_sequence_wish *wish, uint16_t from, uint16_t to) {
     unsigned kind = draw(3);
     memset(wish, 0, sizeof *wish);
     wish->kind = (uint16_t)kind;
@@ -164,7 +164,7 @@ static void draw_wish(pm_stairs_wish *wish, uint16_t from, uint16_t to) {
         wish->microvolts = ((int64_t)from + draw((unsigned)(to - from))) * 1000000 / 4096 + draw(200);
 }
 
-static void draw_step(pm_stairs_step *step, int parts) {
+static void draw_step(pm_sequence_step *step, int parts) {
     static const uint8_t bytes[] = {0x80, 0x00, 0x40, 0x98, 0xA8, 0x80, 0x94, 0xA4};
     memset(step, 0, sizeof *step);
     step->host = (uint8_t)draw((unsigned)parts);
@@ -225,8 +225,8 @@ static void starts(run *r, const drawn_list *l) {
 }
 
 /* One transfer. */
-static void transfer(run *r, pm_stairs *stairs, const pm_sending *frame, enum fate fate) {
-    int p = stairs->host;
+static void transfer(run *r, pm_sequence *sequence, const pm_sending *frame, enum fate fate) {
+    int p = sequence->host;
     pm_host *host = &r->hosts[p];
     pm_part_reply reply = {0, 0, {0}};
     uint8_t answer[17] = {0};
@@ -245,7 +245,7 @@ static void transfer(run *r, pm_stairs *stairs, const pm_sending *frame, enum fa
         r->restarted[p] = 1;
     }
     if (frame->kind == PM_WRITE) {
-        pm_step s = pm_stairs_write_ended(stairs, host, fate == FALSE_ACK ? 1 : fate == NO_ANSWER ? 0 : (uint8_t)acked);
+        pm_step s = pm_sequence_write_ended(sequence, host, fate == FALSE_ACK ? 1 : fate == NO_ANSWER ? 0 : (uint8_t)acked);
         if (s.kind > PM_LEARNED)
             r->wrong = "write_ended";
     } else {
@@ -255,7 +255,7 @@ static void transfer(run *r, pm_stairs *stairs, const pm_sending *frame, enum fa
             if (fate == DAMAGED)
                 answer[draw(reply.length)] ^= (uint8_t)(1u << draw(8));
         }
-        pm_step s = pm_stairs_read_ended(stairs, host, answer, came);
+        pm_step s = pm_sequence_read_ended(sequence, host, answer, came);
         if (s.kind > PM_LEARNED)
             r->wrong = "read_ended";
     }
@@ -276,29 +276,31 @@ static void compare(run *r) {
     r->wrong = "the outputs stand on no stair";
 }
 
-typedef struct { uint8_t number; pm_stairs_end end; int warned; } outcome;
+typedef struct { uint8_t number; pm_sequence_said end; int warned; } outcome;
 
 /* Carries steps out; at the transfer `fault_at` the fate is `fate`. The plain model has the steps as they begin. */
-static outcome carry(run *r, const pm_stairs_step *steps, int count, pm_stairs_step *backs, int room, long fault_at, enum fate fate, plain *model,
-                     int is_down) {
-    pm_stairs stairs;
-    pm_host *hosts[PARTS] = {&r->hosts[0], &r->hosts[1]};
+static outcome carry(run *r, const pm_sequence_step *steps, int count, pm_sequence_record *records, long fault_at, enum fate fate, plain *model) {
+    pm_sequence sequence;
     pm_sending frame;
-    outcome out = {0, {0, 0, 0, 0, 0, 0, 0, {0}}, 0};
+    outcome out;
+    memset(&out, 0, sizeof out);
     r->begun = r->at = 0;
     plain_all(r->of, model, &r->stairs[0]);
-    pm_stairs_new(&stairs, TRIES, (uint8_t)is_down);
+    pm_sequence_new(&sequence, TRIES, PM_KEEPS_BACK | PM_ENDS_AT_RESTART);
     for (;;) {
-        uint8_t number = pm_stairs_frame(&stairs, hosts, (uint64_t)r->of->parts, steps, (uint64_t)count, backs, (uint64_t)room, &frame);
+        uint8_t number;
+        do
+            number = pm_sequence_next(&sequence, &r->hosts[sequence.host], steps, (uint64_t)count, records, STEPS, &frame);
+        while (number == PM_AGAIN);
         if (number == PM_NO_WAY_BACK) {
             out.warned++;
             continue;
         }
-        while (r->begun < stairs.begun) {
+        while (r->begun < sequence.begun) {
             plain_take(model, &steps[r->begun]);
             r->begun++;
             plain_all(r->of, model, &r->stairs[r->begun]);
-            if (r->begun < stairs.begun)
+            if (r->begun < sequence.begun)
                 r->at = r->begun; /* a step that was over as it began */
         }
         compare(r);
@@ -307,8 +309,8 @@ static outcome carry(run *r, const pm_stairs_step *steps, int count, pm_stairs_s
             break;
         }
         enum fate now = r->transfers == fault_at ? fate : GOES;
-        int p = stairs.host;
-        transfer(r, &stairs, &frame, now);
+        int p = sequence.host;
+        transfer(r, &sequence, &frame, now);
         compare(r);
         if (now == HOST_RESTARTS) {
             host_starts(r, p);
@@ -316,8 +318,8 @@ static outcome carry(run *r, const pm_stairs_step *steps, int count, pm_stairs_s
             break;
         }
     }
-    out.end = stairs.end;
-    if (out.number == PM_ENDED && out.end.kind == PM_REACHED && out.end.step == count && !is_down) {
+    out.end = sequence.said;
+    if (out.number == PM_ENDED && out.end.kind == PM_REACHED && out.end.step == count) {
         all_stands seen;
         look(r, &seen);
         if (!are_same(r, &seen, &r->stairs[count]))
@@ -326,19 +328,20 @@ static outcome carry(run *r, const pm_stairs_step *steps, int count, pm_stairs_s
     return out;
 }
 
-static pm_stairs_end last_end;
+static pm_sequence_said last_end;
 
 /* A whole run: the way up with a fault, and then the way back. */
 static const char *one(const drawn_list *l, long fault_at, enum fate fate, long *transfers, int *reached, int *backed, int *warned) {
     static run r;
-    pm_stairs_step backs[STEPS], ways[STEPS], none[STEPS];
+    static pm_sequence_record records[STEPS], none[STEPS];
+    pm_sequence_step ways[STEPS];
     all_stands first, seen;
     plain model = plain_start(l);
     outcome up, down;
     int begun, i, any = 0;
     starts(&r, l);
     look(&r, &first);
-    up = carry(&r, l->steps, l->count, backs, STEPS, fault_at, fate, &model, 0);
+    up = carry(&r, l->steps, l->count, records, fault_at, fate, &model);
     *transfers = r.transfers;
     last_end = up.end;
     *reached += up.number == PM_ENDED && up.end.kind == PM_REACHED;
@@ -351,11 +354,11 @@ static const char *one(const drawn_list *l, long fault_at, enum fate fate, long 
         return NULL;
     begun = r.begun;
     for (i = 0; i < begun; i++)
-        ways[i] = backs[begun - 1 - i];
+        ways[i] = records[begun - 1 - i].back;
     /* what the way back begins with is what the parts hold */
     r.transfers = 0;
     model = plain_of_parts(&r);
-    down = carry(&r, ways, begun, none, STEPS, -1, GOES, &model, 0);
+    down = carry(&r, ways, begun, none, -1, GOES, &model);
     if (r.wrong)
         return r.wrong;
     look(&r, &seen);
@@ -365,8 +368,8 @@ static const char *one(const drawn_list *l, long fault_at, enum fate fate, long 
             return "the way back didn't come back";
     } else if (down.number != PM_ENDED || (!up.warned && down.end.kind != PM_REFUSED)) {
         if (getenv("SHOW"))
-            printf("back: %02X kind %d number %02X code %02X begun %d step %d of %d fault %d word %X\n", down.number, down.end.kind, down.end.number, down.end.code,
-                   down.end.has_begun, down.end.step, begun, down.end.fault, down.end.word);
+            printf("back: %02X kind %d number %02X code %02X step %d of %d fault %d word %X\n", down.number, down.end.kind, down.end.number, down.end.code,
+                   down.end.step, begun, down.end.fault, down.end.word);
         return "the way back has no end";
     }
     return NULL;
@@ -385,8 +388,8 @@ int main(int argc, char **argv) {
         draw_list(&l);
         wrong = one(&l, -1, GOES, &count, &reached, &backed, &warned);
         if (getenv("SHOW"))
-            printf("%ld: %d steps, kind %d number %02X code %02X begun %d word %04X fault %d step %d; %ld transfers\n", i, l.count, last_end.kind,
-                   last_end.number, last_end.code, last_end.has_begun, last_end.word, last_end.fault, last_end.step, count);
+            printf("%ld: %d steps, kind %d number %02X code %02X word %04X fault %d step %d; %ld transfers\n", i, l.count, last_end.kind,
+                   last_end.number, last_end.code, last_end.word, last_end.fault, last_end.step, count);
         all += count;
         wrong ? failed++ : passed++;
         if (wrong)

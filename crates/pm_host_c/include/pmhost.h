@@ -10,10 +10,10 @@
  *     0 the pointer to bytes may be any that isn't null;
  *   - what a call writes overlaps nothing else that it is given;
  *   - counts are in elements, uint64_t on every processor, and tell the truth;
- *   - one call at a time works on a host, a course or a delivery: no call waits for another one or refuses it, so threads that share
- *     a host hold a lock of yours over each whole job or course;
- *   - each call has PM_STACK bytes of stack, pm_refusal_name PM_NAME_STACK, and pm_stairs_ask, pm_stairs_write_ended,
- *     pm_stairs_read_ended, pm_sequence_next, pm_sequence_write_ended and pm_sequence_read_ended PM_STAIRS_STACK.
+ *   - one call at a time works on a host, a course or a sequence: no call waits for another one or refuses it, so threads that share
+ *     a host hold a lock of yours over each whole job or course, and over all hosts of a list from its begin to its end;
+ *   - each call has PM_STACK bytes of stack, pm_refusal_name PM_NAME_STACK, and pm_sequence_next, pm_sequence_write_ended,
+ *     pm_sequence_read_ended, pm_stairs_ask, pm_stairs_write_ended and pm_stairs_read_ended PM_STAIRS_STACK.
  *
  * The library takes no memory, keeps nothing between calls, calls nothing and never blocks.
  *
@@ -52,8 +52,8 @@ extern "C" {
 /* The version of the library, the greater part in the upper byte; pm_version answers that of the one that was linked. */
 #define PM_VERSION 0x0001
 
-/* The versions of the layouts of a host, a course and a delivery, and their sizes in bytes. A call takes at most PM_STACK bytes of
- * stack, and those of stairs and sequences that are named above PM_STAIRS_STACK. pm_refusal_name takes PM_NAME_STACK, since a loader may bind
+/* The versions of the layouts of a host, a course, what is heard of a rail, and a sequence, and their sizes in bytes. A call takes at most
+ * PM_STACK bytes of stack, and those that are named above PM_STAIRS_STACK. pm_refusal_name takes PM_NAME_STACK, since a loader may bind
  * memmove in it.
  * docs/c.md has what calls take on each processor. An archive says its own bound as stack-bytes in its section .comment. */
 #define PM_HOST_VERSION 6
@@ -62,9 +62,6 @@ extern "C" {
 #define PM_COURSE_SIZE 104
 #define PM_DELIVERY_VERSION 2
 #define PM_DELIVERY_SIZE 66
-#define PM_STAIRS_VERSION 1
-#define PM_STAIRS_SIZE 272
-#define PM_STAIRS_STEP_SIZE 88
 #define PM_SEQUENCE_VERSION 1
 #define PM_SEQUENCE_SIZE 400
 #define PM_SEQUENCE_STEP_SIZE 104
@@ -74,10 +71,9 @@ extern "C" {
 #define PM_NAME_STACK 4096
 
 /* What a call answers: 0, or why it is refused. A refused call changes nothing, but for these. pm_host_frame, pm_course_frame,
- * pm_course_after_write, pm_course_after_read and pm_delivery_frame then write PM_NOTHING. pm_delivery_judge that answers P8 says
- * of which limit. pm_pec, pm_host_restart_seen and pm_host_limits_state answer something else: each says what. Of these numbers the
- * last answers PM_NO_LIMITS only. PM_ENDED refuses nothing, and is none of them. pm_refusal_name gives the name of each, and of those
- * of pmpart.h. */
+ * pm_course_after_write, pm_course_after_read, pm_sequence_next and pm_delivery_frame then write PM_NOTHING. pm_pec, pm_host_restart_seen and
+ * pm_host_limits_state answer something else: each says what. Of these numbers the last answers PM_NO_LIMITS only. PM_ENDED refuses
+ * nothing, and is none of them. pm_refusal_name gives the name of each, and of those of pmpart.h. */
 enum {
     PM_OK = 0,
     PM_H1_OUTPUT_COUNT = 0x01,    /* a number of outputs other than 1 to 8 */
@@ -105,7 +101,7 @@ enum {
     PM_P5_BELOW_MIN = 0x65,       /* a word will be below VOUT_MIN as that will be */
     PM_P6_ABOVE_MAX = 0x66,       /* a word will be above VOUT_MAX as that will be */
     PM_P7_PROTECTED = 0x67,       /* WRITE_PROTECT doesn't allow each order that is still to come */
-    PM_P8_BEYOND_FAULT_LIMIT = 0x68, /* a word is at or beyond VOUT_OV_FAULT_LIMIT or VOUT_UV_FAULT_LIMIT: pm_delivery_judge */
+    PM_P8_BEYOND_FAULT_LIMIT = 0x68, /* a word is at or beyond VOUT_OV_FAULT_LIMIT or VOUT_UV_FAULT_LIMIT */
     PM_P9_NOT_NEAR = 0x69,        /* the word that a register holds isn't near enough to what is wanted: pm_course_accept */
     PM_NO_HOST = 0xE0,            /* the memory holds no host of this version */
     PM_NO_CELL = 0xE1,            /* the command code is no cell's */
@@ -133,9 +129,8 @@ enum {
     PM_F8_NESTED = 0x38
 };
 
-/* What pm_course_frame and pm_course_next answer if the course has ended, pm_delivery_frame if nothing is left to ask, and pm_stairs_ask,
- * pm_stairs_check and pm_sequence_next if stairs or a sequence have ended. The others are answers of these three, the last three of
- * pm_sequence_next only. */
+/* What pm_course_frame and pm_course_next answer if the course has ended, and pm_sequence_next if the sequence has. The others are answers of
+ * pm_sequence_next, which says of each what it means. */
 enum { PM_ENDED = 0x95, PM_AGAIN = 0x96, PM_NO_WAY_BACK = 0x97, PM_WAIT = 0x98, PM_ASKED = 0x99, PM_TOLD = 0x9A };
 
 /* The cells: an output and one of these command codes; with WRITE_PROTECT, which is the device's, the
@@ -270,29 +265,21 @@ typedef struct {
     uint16_t word; /* the word that is ordered; otherwise 0 */
 } pm_course_job;
 
-/* What came of one question of a delivery. Zeros if it wasn't asked; a good answer if `asked` isn't 0 and `fault` is. */
+/* What came of one question about a rail. Zeros if it wasn't asked; a good answer if `asked` isn't 0 and `fault` is. */
 typedef struct {
     uint8_t asked; /* how often it was asked */
     uint8_t fault; /* what was wrong with the last answer: PM_NO_ANSWER, PM_F1_NOT_OURS to PM_F5_WRONG_PEC, 0 if it was good */
     uint16_t word; /* the word or byte of a good answer, otherwise 0 */
 } pm_heard;
 
-/* What a delivery does about fault limits: a word at or beyond one is refused (P8); it is only noted; they aren't read. */
+/* What is done about fault limits: a goal at or beyond one is refused (P8); it is only noted; they aren't read. */
 enum { PM_FAULT_LIMITS_REFUSE = 0, PM_FAULT_LIMITS_TELL = 1, PM_FAULT_LIMITS_SKIP = 2 };
 
-/* What a part lacks, in `lacks` of a delivery: what its data sheet says that it lacks, which the caller says, and what it was found to lack. Only
- * what the caller says makes an end without it good. */
-enum {
-    PM_LACKS_STATUS_WORD = 1,
-    PM_LACKS_READ_VOUT = 2,
-    PM_FOUND_NO_STATUS_WORD = 4,
-    PM_FOUND_NO_READ_VOUT = 8,
-    PM_SILENT_STATUS_WORD = 16 /* it gave no answer before the first order, after which the part answered: pm_delivery_ask's own note */
-};
+/* What a part lacks: what its data sheet says that it lacks, which the caller says, and what it was found to lack. Only what the caller says
+ * makes an end without it good. */
+enum { PM_LACKS_STATUS_WORD = 1, PM_LACKS_READ_VOUT = 2, PM_FOUND_NO_STATUS_WORD = 4, PM_FOUND_NO_READ_VOUT = 8 };
 
-/* What an output does, and not what its registers hold: a delivery, in memory of yours. Its fields are there to be read, so that what
- * was heard can be shown; only the calls write them. A call asks first for its mark and version, and answers PM_NO_DELIVERY if one
- * lacks. It may be copied, and holds no host and no pointer. */
+/* What was heard of a rail: pm_sequence_next writes it to the record of its step. */
 typedef struct {
     uint16_t mark, version;
     uint8_t output;
@@ -311,7 +298,9 @@ typedef struct {
 
 typedef char pm_delivery_has_its_size[sizeof(pm_delivery) == PM_DELIVERY_SIZE ? 1 : -1];
 
-/* What an output does. Good ends are PM_DELIVERS, PM_DELIVERS_BY_READ_VOUT, and PM_WENT_OFF after an order that turned it off. */
+/* What a rail does: the `verdict` of what a sequence says. Good are PM_DELIVERS, PM_DELIVERS_BY_READ_VOUT and PM_WENT_OFF; with
+ * `tells_power_good` PM_POWER_GOOD_ALONE; and without PM_LOOK_MUST PM_COMMANDED_OFF, PM_NOT_KNOWN_ON and PM_DELIVERY_NOT_KNOWN of a part
+ * that has neither STATUS_WORD nor READ_VOUT, after an order that turns off no STATUS_WORD, as its caller says. */
 enum {
     PM_NOT_YET = 0,            /* something is left to ask, or nothing was looked at */
     PM_DELIVERS = 1,           /* OFF and POWER_GOOD# are 0, no fault is new, READ_VOUT is within the limits and near what it commands */
@@ -329,87 +318,26 @@ enum {
                                 * commands isn't known */
     PM_WENT_OFF = 11,          /* OFF is 1 after an order that turned the output off */
     PM_STILL_ON = 12,          /* OFF is 0 after such an order */
-    PM_BEYOND_FAULT_LIMIT = 13, /* only of pm_host_deliver: P8, nothing was ordered. `code` and `word` are those of the limit */
     PM_DELIVERS_BY_READ_VOUT = 14 /* of a part without STATUS_WORD: READ_VOUT is within the limits and near what it commands. Of faults
                                    * nothing is known */
 };
-typedef struct {
-    uint8_t kind;
-    uint8_t code;           /* the command code of the register that says so, or 0 */
-    uint8_t bit;            /* of PM_NEW_FAULT, from 0 */
-    uint8_t fault;          /* of PM_DELIVERY_NOT_KNOWN: PM_NO_ANSWER, PM_F1_NOT_OURS to PM_F5_WRONG_PEC */
-    uint8_t has_microvolts; /* 1 if READ_VOUT gave a good answer and stands in `microvolts` */
-    uint8_t unused;
-    uint16_t word;          /* what the register `code` held in this round, if its answer was good; otherwise 0 */
-    int64_t microvolts;     /* READ_VOUT, rounded down; 0 if it isn't known */
-} pm_delivered;
 
-/* Which limits a word is at or beyond: command codes, 0 if there is none, and the words that these registers hold. */
-typedef struct {
-    uint8_t fault;         /* VOUT_OV_FAULT_LIMIT (40h) or VOUT_UV_FAULT_LIMIT (44h) */
-    uint8_t warning;       /* VOUT_OV_WARN_LIMIT (42h) or VOUT_UV_WARN_LIMIT (43h) */
-    uint16_t fault_word, warning_word;
-} pm_judgement;
-
-/* What a step of stairs asks for of a register: nothing, a word, or a voltage, which gets its word as the step begins, as
- * pm_course_microvolts forms it. */
+/* What a step asks for of a register: nothing, a word, or a voltage, which gets its word as the step begins, as pm_course_microvolts
+ * forms it. */
 enum { PM_STAY = 0, PM_WORD = 1, PM_MICROVOLTS = 2 };
 typedef struct {
     uint16_t kind;      /* PM_STAY, PM_WORD or PM_MICROVOLTS */
     uint16_t word;      /* of PM_WORD, otherwise 0 */
     uint32_t unused;
     int64_t microvolts; /* of PM_MICROVOLTS, otherwise 0 */
-} pm_stairs_wish;
+} pm_sequence_wish;
 
-/* A step: one output of one of several parts, and what is done to it. */
-enum { PM_SETS = 1, PM_TURNS = 2, PM_STEP_SURVEYS = 3, PM_STEP_RESTS = 4 };
-typedef struct {
-    uint8_t host;   /* the place of its host among yours, 0 to 7 */
-    uint8_t output; /* 0 to 7 */
-    uint8_t kind;   /* PM_SETS: registers get words or voltages; PM_TURNS: OPERATION gets `byte`, on, off or a margin;
-                     * PM_STEP_SURVEYS: nothing is ordered, and all that decides what the output commands is read;
-                     * PM_STEP_RESTS: nothing is ordered or read, which undoes a step that ordered nothing */
-    uint8_t byte;   /* of PM_TURNS, otherwise 0 */
-    uint8_t unused[4];
-    pm_stairs_wish command, max, margin_high, margin_low, min; /* of PM_SETS */
-} pm_stairs_step;
-
-typedef char pm_stairs_step_has_its_size[sizeof(pm_stairs_step) == PM_STAIRS_STEP_SIZE ? 1 : -1];
-
-/* How stairs ended; kind 0 if they go on. PM_REACHED if each step is over, or was left by pm_stairs_skip, PM_REFUSED to PM_OTHER_SOURCE as the course of the step
- * `step` ended, or: */
 enum {
-    PM_STEP_CHANGED = 7,    /* its next order isn't due by the words with which it began: the format changed, or another orders beside it */
-    PM_PART_RESTARTED = 8,  /* an answer showed that a part restarted or was exchanged */
-    PM_WAY_BACK_REFUSED = 9 /* with PM_NO_WAY_BACK: the plan of the step's way back would be refused, as `number` and `code` say */
+    PM_SETS = 1,         /* registers get words or voltages */
+    PM_TURNS = 2,        /* OPERATION gets `byte`: on, off or a margin */
+    PM_STEP_SURVEYS = 3, /* nothing is ordered, and all that decides what the output commands is read */
+    PM_STEP_RESTS = 4    /* nothing is ordered or read, which undoes a step that ordered nothing */
 };
-typedef struct {
-    uint8_t kind;
-    uint8_t number;    /* of PM_REFUSED and PM_WAY_BACK_REFUSED; otherwise 0 */
-    uint8_t code;      /* a register's command code, VOUT_MODE (20h) of a learn, or 0 */
-    uint8_t has_begun; /* 1 if the step had begun; 0 if all outputs stand on the stair before it */
-    uint16_t word;     /* of PM_STILL_DIFFERS, PM_OTHER_FORMAT and PM_OTHER_SOURCE; otherwise 0 */
-    uint16_t fault;    /* of PM_SPENT, as of a course; otherwise 0 */
-    uint16_t step;     /* its place in the list, from 0; of PM_REACHED how many steps there are */
-    uint16_t unused[3];
-} pm_stairs_end;
-
-/* Stairs, in memory of yours: how far a list of steps has come. The fields before `held` are there to be read; only the calls write
- * them. They hold no host, no list and no pointer, and may be copied. A call asks first for the mark, the version and fields that
- * stairs have, and answers PM_NO_STAIRS if one lacks. */
-typedef struct {
-    uint16_t mark, version;
-    uint16_t tries;   /* how many jobs each step has at most */
-    uint16_t begun;   /* how many steps have begun or were left. But for those that were left, the outputs stand on this stair, that of the
-                       * newest step, or on the one before */
-    uint8_t host;     /* the place of the host that the next call takes, and on whose bus the frame goes */
-    uint8_t keeps_back, ends_at_restart; /* 1 of a way up, 0 of a way down: a way back is kept; a restart that was seen ends them */
-    uint8_t unused[5];
-    pm_stairs_end end;
-    uint64_t held[30];
-} pm_stairs;
-
-typedef char pm_stairs_has_its_size[sizeof(pm_stairs) == PM_STAIRS_SIZE ? 1 : -1];
 
 /* Whether the rail of a step is looked at. */
 enum {
@@ -418,20 +346,19 @@ enum {
     PM_LOOK_MUST = 2 /* and it has to deliver, or to have gone off, before the next step begins */
 };
 
-/* A step of a sequence: one output of one of several parts, what is done to it, and how its rail is looked at. It begins as a
- * pm_stairs_step does. */
+/* A step: one output of one of several parts, what is done to it, and how its rail is looked at. */
 typedef struct {
     uint8_t host;   /* the place of its host among yours, 0 to 7 */
     uint8_t output; /* 0 to 7 */
-    uint8_t kind;   /* PM_SETS, PM_TURNS, PM_STEP_SURVEYS or PM_STEP_RESTS, as of stairs */
+    uint8_t kind;   /* PM_SETS, PM_TURNS, PM_STEP_SURVEYS or PM_STEP_RESTS */
     uint8_t byte;   /* of PM_TURNS, otherwise 0 */
     uint8_t unused[4];
-    pm_stairs_wish command, max, margin_high, margin_low, min; /* of PM_SETS */
+    pm_sequence_wish command, max, margin_high, margin_low, min; /* of PM_SETS */
     uint8_t looks;            /* PM_LOOK_NOT, PM_LOOK or PM_LOOK_MUST */
-    uint8_t fault_limits;     /* as of a delivery: PM_FAULT_LIMITS_REFUSE, or another of these */
+    uint8_t fault_limits;     /* PM_FAULT_LIMITS_REFUSE, or another of these */
     uint8_t lacks;            /* what the part lacks by its data sheet: PM_LACKS_STATUS_WORD, PM_LACKS_READ_VOUT, or the sum */
     uint8_t tells_power_good; /* not 0: a rail against which nothing but POWER_GOOD# speaks counts as one that delivers */
-    uint16_t within, rounds;  /* as of a delivery */
+    uint16_t within, rounds;  /* as in pm_delivery */
     uint32_t wait;            /* milliseconds that pass before anything of it is sent */
     pm_heard before;          /* what an earlier list heard of STATUS_WORD before its first order of this output; zeros if there was none */
 } pm_sequence_step;
@@ -447,20 +374,24 @@ typedef struct {
 
 typedef char pm_sequence_record_has_its_size[sizeof(pm_sequence_record) == PM_SEQUENCE_RECORD_SIZE ? 1 : -1];
 
-/* What a sequence said last. `kind` is 0 of a wait, PM_REACHED to PM_WAY_BACK_REFUSED as of stairs, or: */
+/* What a sequence said last. `kind` is 0 of a wait; PM_REACHED if each step is over and none was left; PM_REFUSED to PM_OTHER_SOURCE as the
+ * course of the step `step` ended, or: */
 enum {
-    PM_STEPS_LEFT = 10,    /* each step is over but for `word` that were left */
-    PM_GOAL_BEYOND = 11,   /* P8: the goal is at or beyond the fault limit `code`, which holds `word`; the order wasn't sent */
-    PM_GOAL_UNJUDGED = 12, /* the goal can't be judged, since no format is known; the order wasn't sent */
-    PM_RAIL_DOES = 13,     /* the rail does what it is to, as `verdict` says */
-    PM_RAIL_FAILS = 14,    /* it doesn't */
-    PM_ORDER_NEXT = 16     /* with PM_ASKED: an order of `word` for the register `code` comes next */
+    PM_STEP_CHANGED = 7,     /* its next order isn't due by the words with which it began: the format changed, or another orders beside it */
+    PM_PART_RESTARTED = 8,   /* an answer showed that a part restarted or was exchanged */
+    PM_WAY_BACK_REFUSED = 9, /* with PM_NO_WAY_BACK: the plan of the step's way back would be refused, as `number` and `code` say */
+    PM_STEPS_LEFT = 10,      /* each step is over but for `word` that were left */
+    PM_GOAL_BEYOND = 11,     /* P8: the goal is at or beyond the fault limit `code`, which holds `word`; the order wasn't sent */
+    PM_GOAL_UNJUDGED = 12,   /* the goal can't be judged, since no format is known; the order wasn't sent */
+    PM_RAIL_DOES = 13,       /* the rail does what it is to, as `verdict` says */
+    PM_RAIL_FAILS = 14,      /* it doesn't */
+    PM_ORDER_NEXT = 16       /* with PM_ASKED: an order of `word` for the register `code` comes next */
 };
 typedef struct {
     uint8_t kind;
     uint8_t number;         /* of PM_REFUSED, PM_WAY_BACK_REFUSED and PM_GOAL_BEYOND; otherwise 0 */
     uint8_t code;           /* the command code of the register that it is about, or 0 */
-    uint8_t verdict;        /* of PM_RAIL_DOES and PM_RAIL_FAILS: the kind of a pm_delivered */
+    uint8_t verdict;        /* of PM_RAIL_DOES and PM_RAIL_FAILS: PM_DELIVERS, or another of these */
     uint8_t bit;            /* of PM_NEW_FAULT, from 0 */
     uint8_t has_microvolts; /* of the same two: 1 if READ_VOUT gave a good answer and stands in `microvolts` */
     uint16_t word;          /* what the register `code` held; of PM_STEPS_LEFT how many steps; otherwise 0 */
@@ -502,16 +433,12 @@ typedef struct {
 /* The version of this library: compare it at start with PM_VERSION, of which the upper byte has to be the same. */
 uint16_t pm_version(void);
 
-/* The sizes and the versions of a pm_host, a pm_course and a pm_delivery: compare them at start with PM_HOST_SIZE, PM_HOST_VERSION,
- * PM_COURSE_SIZE, PM_COURSE_VERSION, PM_DELIVERY_SIZE and PM_DELIVERY_VERSION. */
+/* The sizes and the versions of a pm_host, a pm_course and a pm_sequence: compare them at start with PM_HOST_SIZE, PM_HOST_VERSION,
+ * PM_COURSE_SIZE, PM_COURSE_VERSION, PM_SEQUENCE_SIZE and PM_SEQUENCE_VERSION. */
 uint64_t pm_host_size(void);
 uint16_t pm_host_version(void);
 uint64_t pm_course_size(void);
 uint16_t pm_course_version(void);
-uint64_t pm_delivery_size(void);
-uint16_t pm_delivery_version(void);
-uint64_t pm_stairs_size(void);
-uint16_t pm_stairs_version(void);
 uint64_t pm_sequence_size(void);
 uint16_t pm_sequence_version(void);
 
@@ -706,51 +633,6 @@ uint8_t pm_course_job_now(const pm_course *course, pm_course_job *job);
 PM_MUST_USE
 uint8_t pm_course_goal(const pm_course *course, const pm_host *host, uint8_t code, uint16_t *word);
 
-/* ---- Delivery: what an output does ---- */
-
-/* A good end of a course says that registers hold what is wanted, and not that the output delivers it: it may have tripped, or a pin
- * may hold it off. A delivery asks the part, by reads of PAGE_PLUS beside the host's jobs; it writes nothing, and no job hears of
- * it. pm_host_deliver, at the end of this header, has the loop. */
-
-/* Makes a delivery of an output, whatever stood in the memory. `lacks` is what the part lacks by its data sheet, mostly 0, `within` and
- * `rounds` are as in pm_delivery; 1000 thousandths at most count. H4 for an output above 7; then nothing is written. */
-PM_MUST_USE
-uint8_t pm_delivery_new(pm_delivery *delivery, uint8_t output, uint8_t fault_limits, uint8_t lacks, uint16_t within, uint16_t rounds);
-
-/* Begins to look at what stands before the first order of a call: STATUS_WORD, and the fault limits and warnings unless they are
- * skipped. Once a call is enough: limits and `before` stay until it is asked for again. Ask for it before no order that turns the
- * output off. PM_NO_DELIVERY. */
-PM_MUST_USE
-uint8_t pm_delivery_before(pm_delivery *delivery);
-
-/* Begins to look at what the output does, after a good end: with `off` not 0 after an order that turned it off. Without a look before,
- * as after a survey, no fault is new. PM_NO_DELIVERY. */
-PM_MUST_USE
-uint8_t pm_delivery_after(pm_delivery *delivery, uint8_t off);
-
-/* The request that is to be sent now, the same until it has heard what came back. 0; or PM_ENDED, and then PM_NOTHING, if nothing is
- * left to ask. Each question is asked at most as many times as the host has passes, until a good answer comes. If the output
- * doesn't do yet what it is to, all is asked again, at most `rounds` times: `round` has grown by one then, and the caller waits before
- * it sends that. A register that `lacks` has isn't asked. PM_NO_HOST, PM_NO_DELIVERY, H4, and then PM_NOTHING. */
-PM_MUST_USE
-uint8_t pm_delivery_frame(pm_delivery *delivery, const pm_host *host, pm_sending *sending);
-
-/* That request was sent, and these bytes came back, the read address first; 0 bytes if none came. An answer of nothing but FFh is
- * one that nobody gave: hand over 0 bytes. PM_NO_HOST, PM_NO_DELIVERY, H4, PM_OTHER_FRAME if no request is to be sent. */
-PM_MUST_USE
-uint8_t pm_delivery_read_ended(pm_delivery *delivery, const pm_host *host, const uint8_t *bytes, uint64_t count);
-
-/* What the output does: kind PM_NOT_YET until pm_delivery_frame has answered PM_ENDED. PM_NO_HOST, PM_NO_DELIVERY, H4; then nothing is
- * written. */
-PM_MUST_USE
-uint8_t pm_delivery_verdict(const pm_delivery *delivery, const pm_host *host, pm_delivered *delivered);
-
-/* Which fault limit and which limit of a warning a word of the output's voltage is at or beyond, by its value; a limit that gave no good
- * answer isn't judged. P8 if that is a fault limit, unless PM_FAULT_LIMITS_TELL: the limit is noted in each case. PM_NO_HOST,
- * PM_NO_DELIVERY, H4, H7 if the format isn't known; then nothing is written. */
-PM_MUST_USE
-uint8_t pm_delivery_judge(const pm_delivery *delivery, const pm_host *host, uint16_t word, pm_judgement *judgement);
-
 /* ---- Names ---- */
 
 /* A name: characters of ASCII, and zeros after them, so that `text` is a string of C. */
@@ -838,12 +720,160 @@ PM_MUST_USE
 uint8_t pm_read_paged(uint8_t address, uint8_t page, uint8_t code, uint8_t size, const uint8_t *bytes, uint64_t count,
                       pm_block *block);
 
-/* ---- Stairs ---- */
+/* ---- Sequences ---- */
 
-/* Steps of several outputs of at most eight hosts, one after another. On a way up a step begins only if the one before is over by what its host
- * knows then. Over one host each output then stands on a stair or on the next one, in the list's order, whatever is lost, cut or repeated,
- * while the part doesn't restart and nobody else orders: this is proved. Over several hosts it is tested. Begin no job and no restore of
- * these outputs meanwhile. */
+/* Steps of several outputs of at most eight hosts, one after another; one output is a list of one step. The fault limits are read and judged
+ * before each order that leaves an output on, and the rail is asked once its step is over. A step begins only if the one before is over by
+ * what its host knows then, or was left. Over one host each output then commands what it did before its step or what that step brings it to,
+ * in the list's order, whatever is lost, cut or repeated, while the part doesn't restart and nobody else orders. Begin no job and no restore
+ * of these outputs meanwhile. pm_run_sequence, at the end of this header, is the loop.
+ * An end PM_REACHED says that each step is over, that none was left, and that each rail with PM_LOOK_MUST delivered, or went off, after its
+ * step's last order. */
+
+/* Makes a sequence, whatever stood in the memory: no step has begun, and each has at most this many jobs. `rules` is 0 or the sum of: */
+enum {
+    PM_KEEPS_BACK = 1,      /* a way back is kept: OPERATION is read before an order that turns an output off, so that it can be undone */
+    PM_ENDS_AT_RESTART = 2, /* a restart of a part that was seen ends the list; otherwise what the part holds is learned anew */
+    PM_LEAVES = 4,          /* a step that stops is left, which PM_TOLD says, and the next one goes on; otherwise it ends the list */
+    PM_ASKS = 8             /* PM_ASKED names each order before it begins */
+};
+void pm_sequence_new(pm_sequence *sequence, uint16_t tries, uint8_t rules);
+
+/* What comes next, by the host at the place sequence->host. `steps` is the whole list, the same each time. `records` has one record for each
+ * step: their `back`, that of the newest step that has begun first, are the list of the way back. Without PM_KEEPS_BACK `room` may be less,
+ * and nothing is kept of the steps beyond. With all but PM_OK the frame is PM_NOTHING.
+ *   PM_OK           the frame goes on the bus of that host, and stays the same until pm_sequence_write_ended or pm_sequence_read_ended
+ *   PM_AGAIN        ask at once, by the host at sequence->host, which may be another
+ *   PM_WAIT         ask again once sequence->said.milliseconds have passed: the wait of a step, or the time that a rail is given
+ *   PM_ASKED        with PM_ASKS: sequence->said says which order comes next. Nothing has begun. Asked again it begins, if it is still due
+ *   PM_TOLD         sequence->said says what the rail of a step does that does what it is to, or how a step stopped that was left
+ *   PM_NO_WAY_BACK  with PM_KEEPS_BACK, before the first order of a step, once: the plan of its way back would be refused by the words that
+ *                   are known, as sequence->said says. Asked again the step begins
+ *   PM_ENDED        as sequence->said says
+ * PM_NO_HOST, PM_NO_SEQUENCE, PM_NO_ROOM; PM_NO_STEP and H4 for the newest step that has begun and the first that hasn't, PM_NO_STEP for a
+ * list of more than 65,535 steps. Then nothing changes. This call and the next two take at most PM_STAIRS_STACK bytes of stack. */
+PM_MUST_USE
+uint8_t pm_sequence_next(pm_sequence *sequence, pm_host *host, const pm_sequence_step *steps, uint64_t count, pm_sequence_record *records,
+                         uint64_t room, pm_sending *frame);
+
+/* What became of the frame, by the host at sequence->host: the step of a job; PM_NEXT of what was read of a rail. PM_NO_HOST,
+ * PM_NO_SEQUENCE, PM_OTHER_FRAME; then nothing changes. */
+pm_step pm_sequence_write_ended(pm_sequence *sequence, pm_host *host, uint8_t acked);
+pm_step pm_sequence_read_ended(pm_sequence *sequence, pm_host *host, const uint8_t *bytes, uint64_t count);
+
+/* ---- Going: what sequences take the place of ---- */
+
+/* These calls go, and no loop of this header makes them. A list of one step does what a course with a delivery did, and a list of steps what
+ * stairs did. */
+#define PM_STAIRS_VERSION 1
+#define PM_STAIRS_SIZE 272
+#define PM_STAIRS_STEP_SIZE 88
+
+/* What an output does, by pm_delivery_verdict. */
+typedef struct {
+    uint8_t kind;
+    uint8_t code;           /* the command code of the register that says so, or 0 */
+    uint8_t bit;            /* of PM_NEW_FAULT, from 0 */
+    uint8_t fault;          /* of PM_DELIVERY_NOT_KNOWN: PM_NO_ANSWER, PM_F1_NOT_OURS to PM_F5_WRONG_PEC */
+    uint8_t has_microvolts; /* 1 if READ_VOUT gave a good answer and stands in `microvolts` */
+    uint8_t unused;
+    uint16_t word;          /* what the register `code` held in this round, if its answer was good; otherwise 0 */
+    int64_t microvolts;     /* READ_VOUT, rounded down; 0 if it isn't known */
+} pm_delivered;
+
+/* Which limits a word is at or beyond: command codes, 0 if there is none, and the words that these registers hold. */
+typedef struct {
+    uint8_t fault;         /* VOUT_OV_FAULT_LIMIT (40h) or VOUT_UV_FAULT_LIMIT (44h) */
+    uint8_t warning;       /* VOUT_OV_WARN_LIMIT (42h) or VOUT_UV_WARN_LIMIT (43h) */
+    uint16_t fault_word, warning_word;
+} pm_judgement;
+
+/* A step: one output of one of several parts, and what is done to it. */
+typedef struct {
+    uint8_t host;   /* the place of its host among yours, 0 to 7 */
+    uint8_t output; /* 0 to 7 */
+    uint8_t kind;   /* PM_SETS: registers get words or voltages; PM_TURNS: OPERATION gets `byte`, on, off or a margin;
+                     * PM_STEP_SURVEYS: nothing is ordered, and all that decides what the output commands is read;
+                     * PM_STEP_RESTS: nothing is ordered or read, which undoes a step that ordered nothing */
+    uint8_t byte;   /* of PM_TURNS, otherwise 0 */
+    uint8_t unused[4];
+    pm_sequence_wish command, max, margin_high, margin_low, min; /* of PM_SETS */
+} pm_stairs_step;
+
+typedef char pm_stairs_step_has_its_size[sizeof(pm_stairs_step) == PM_STAIRS_STEP_SIZE ? 1 : -1];
+
+/* How stairs ended; kind 0 if they go on. PM_REACHED if each step is over, or was left by pm_stairs_skip; otherwise as of a sequence. */
+typedef struct {
+    uint8_t kind;
+    uint8_t number;    /* of PM_REFUSED and PM_WAY_BACK_REFUSED; otherwise 0 */
+    uint8_t code;      /* a register's command code, VOUT_MODE (20h) of a learn, or 0 */
+    uint8_t has_begun; /* 1 if the step had begun; 0 if all outputs stand on the stair before it */
+    uint16_t word;     /* of PM_STILL_DIFFERS, PM_OTHER_FORMAT and PM_OTHER_SOURCE; otherwise 0 */
+    uint16_t fault;    /* of PM_SPENT, as of a course; otherwise 0 */
+    uint16_t step;     /* its place in the list, from 0; of PM_REACHED how many steps there are */
+    uint16_t unused[3];
+} pm_stairs_end;
+
+/* Stairs, in memory of yours: how far a list of steps has come. The fields before `held` are there to be read; only the calls write
+ * them. They hold no host, no list and no pointer, and may be copied. A call asks first for the mark, the version and fields that
+ * stairs have, and answers PM_NO_STAIRS if one lacks. */
+typedef struct {
+    uint16_t mark, version;
+    uint16_t tries;   /* how many jobs each step has at most */
+    uint16_t begun;   /* how many steps have begun or were left. But for those that were left, the outputs stand on this stair, that of the
+                       * newest step, or on the one before */
+    uint8_t host;     /* the place of the host that the next call takes, and on whose bus the frame goes */
+    uint8_t keeps_back, ends_at_restart; /* 1 of a way up, 0 of a way down: a way back is kept; a restart that was seen ends them */
+    uint8_t unused[5];
+    pm_stairs_end end;
+    uint64_t held[30];
+} pm_stairs;
+
+typedef char pm_stairs_has_its_size[sizeof(pm_stairs) == PM_STAIRS_SIZE ? 1 : -1];
+
+uint64_t pm_delivery_size(void);
+uint16_t pm_delivery_version(void);
+uint64_t pm_stairs_size(void);
+uint16_t pm_stairs_version(void);
+
+/* Makes a delivery of an output, whatever stood in the memory. `lacks` is what the part lacks by its data sheet, mostly 0, `within` and
+ * `rounds` are as in pm_delivery; 1000 thousandths at most count. H4 for an output above 7; then nothing is written. */
+PM_MUST_USE
+uint8_t pm_delivery_new(pm_delivery *delivery, uint8_t output, uint8_t fault_limits, uint8_t lacks, uint16_t within, uint16_t rounds);
+
+/* Begins to look at what stands before the first order of a call: STATUS_WORD, and the fault limits and warnings unless they are
+ * skipped. Once a call is enough: limits and `before` stay until it is asked for again. Ask for it before no order that turns the
+ * output off. PM_NO_DELIVERY. */
+PM_MUST_USE
+uint8_t pm_delivery_before(pm_delivery *delivery);
+
+/* Begins to look at what the output does, after a good end: with `off` not 0 after an order that turned it off. Without a look before,
+ * as after a survey, no fault is new. PM_NO_DELIVERY. */
+PM_MUST_USE
+uint8_t pm_delivery_after(pm_delivery *delivery, uint8_t off);
+
+/* The request that is to be sent now, the same until it has heard what came back. 0; or PM_ENDED, and then PM_NOTHING, if nothing is
+ * left to ask. Each question is asked at most as many times as the host has passes, until a good answer comes. If the output
+ * doesn't do yet what it is to, all is asked again, at most `rounds` times: `round` has grown by one then, and the caller waits before
+ * it sends that. A register that `lacks` has isn't asked. PM_NO_HOST, PM_NO_DELIVERY, H4, and then PM_NOTHING. */
+PM_MUST_USE
+uint8_t pm_delivery_frame(pm_delivery *delivery, const pm_host *host, pm_sending *sending);
+
+/* That request was sent, and these bytes came back, the read address first; 0 bytes if none came. An answer of nothing but FFh is
+ * one that nobody gave: hand over 0 bytes. PM_NO_HOST, PM_NO_DELIVERY, H4, PM_OTHER_FRAME if no request is to be sent. */
+PM_MUST_USE
+uint8_t pm_delivery_read_ended(pm_delivery *delivery, const pm_host *host, const uint8_t *bytes, uint64_t count);
+
+/* What the output does: kind PM_NOT_YET until pm_delivery_frame has answered PM_ENDED. PM_NO_HOST, PM_NO_DELIVERY, H4; then nothing is
+ * written. */
+PM_MUST_USE
+uint8_t pm_delivery_verdict(const pm_delivery *delivery, const pm_host *host, pm_delivered *delivered);
+
+/* Which fault limit and which limit of a warning a word of the output's voltage is at or beyond, by its value; a limit that gave no good
+ * answer isn't judged. P8 if that is a fault limit, unless PM_FAULT_LIMITS_TELL: the limit is noted in each case. PM_NO_HOST,
+ * PM_NO_DELIVERY, H4, H7 if the format isn't known; then nothing is written. */
+PM_MUST_USE
+uint8_t pm_delivery_judge(const pm_delivery *delivery, const pm_host *host, uint16_t word, pm_judgement *judgement);
 
 /* Makes stairs, whatever stood in the memory: no step has begun, and each has at most this many jobs. If `is_down` isn't 0 it is a way
  * down. It notes no way back, and reads nothing before an order that turns an output off. It goes on after a restart of a part, and
@@ -852,7 +882,7 @@ void pm_stairs_new(pm_stairs *stairs, uint16_t tries, uint8_t is_down);
 
 /* What is to be sent now, by the host at the place stairs->host. `steps` is the whole list, the same each time. As step N begins,
  * backs[N] becomes the step that undoes it: carried out the newest first, by stairs of their own, they are the way back. Of a way
- * down nothing is written there, and `room` may be 0. pm_stairs_frame takes all hosts.
+ * down nothing is written there, and `room` may be 0.
  *   PM_OK           the frame goes on the bus of that host, and stays the same until pm_stairs_write_ended or pm_stairs_read_ended
  *   PM_AGAIN        ask at once by the host at stairs->host, which may be another; with all but PM_OK the frame is PM_NOTHING
  *   PM_NO_WAY_BACK  before the first order of a step, once: the plan of its way back would be refused by the words that are known, as
@@ -873,46 +903,10 @@ PM_MUST_USE
 uint8_t pm_stairs_skip(pm_stairs *stairs);
 
 /* Judges a step by the words that its host knows: survey the output first, and check WRITE_PROTECT and what the step changes.
- * pm_stairs_check_all judges a list. PM_OK; PM_ENDED if its plan is refused (P1, P4: learn or check first), PM_NO_WAY_BACK if that of its
+ * PM_OK; PM_ENDED if its plan is refused (P1, P4: learn or check first), PM_NO_WAY_BACK if that of its
  * way back is, as `end` says, of step 0. PM_NO_HOST, PM_NO_STEP, H4. */
 PM_MUST_USE
 uint8_t pm_stairs_check(const pm_host *host, const pm_stairs_step *step, pm_stairs_end *end);
-
-/* ---- Sequences ---- */
-
-/* Steps as of stairs, and beside them what their rails do: the fault limits are read and judged before each order that leaves an output on, and
- * the rail is asked once its step is over. One output is a list of one step. pm_run_sequence, at the end of this header, is the loop.
- * An end PM_REACHED says that each step is over, that none was left, and that each rail with PM_LOOK_MUST delivered, or went off, after its
- * step's last order. */
-
-/* Makes a sequence, whatever stood in the memory: no step has begun, and each has at most this many jobs. `rules` is 0 or the sum of: */
-enum {
-    PM_KEEPS_BACK = 1,      /* a way back is kept: OPERATION is read before an order that turns an output off, so that it can be undone */
-    PM_ENDS_AT_RESTART = 2, /* a restart of a part that was seen ends the list; otherwise what the part holds is learned anew */
-    PM_LEAVES = 4,          /* a step that stops is left and told, and the next one goes on; otherwise it ends the list */
-    PM_ASKS = 8             /* each order is told by PM_ASKED before it begins */
-};
-void pm_sequence_new(pm_sequence *sequence, uint16_t tries, uint8_t rules);
-
-/* What comes next, by the host at the place sequence->host. `steps` is the whole list, the same each time. `records` has one record for each
- * step; without PM_KEEPS_BACK `room` may be less, and nothing is kept of the steps beyond. With all but PM_OK the frame is PM_NOTHING.
- *   PM_OK           the frame goes on the bus of that host, and stays the same until pm_sequence_write_ended or pm_sequence_read_ended
- *   PM_AGAIN        ask at once, by the host at sequence->host, which may be another
- *   PM_WAIT         ask again once sequence->said.milliseconds have passed: the wait of a step, or the time that a rail is given
- *   PM_ASKED        with PM_ASKS: sequence->said says which order comes next. Nothing has begun. Asked again it begins, if it is still due
- *   PM_TOLD         sequence->said says what the rail of a step does that does what it is to, or how a step stopped that was left
- *   PM_NO_WAY_BACK  as of stairs, as sequence->said says. Asked again the step begins
- *   PM_ENDED        as sequence->said says
- * PM_NO_HOST, PM_NO_SEQUENCE, PM_NO_ROOM; PM_NO_STEP and H4 for the newest step that has begun and the first that hasn't, PM_NO_STEP for a
- * list of more than 65,535 steps. Then nothing changes. This call and the next two take at most PM_STAIRS_STACK bytes of stack. */
-PM_MUST_USE
-uint8_t pm_sequence_next(pm_sequence *sequence, pm_host *host, const pm_sequence_step *steps, uint64_t count, pm_sequence_record *records,
-                         uint64_t room, pm_sending *frame);
-
-/* What became of the frame, by the host at sequence->host: the step of a job; PM_NEXT of what was read of a rail. PM_NO_HOST,
- * PM_NO_SEQUENCE, PM_OTHER_FRAME; then nothing changes. */
-pm_step pm_sequence_write_ended(pm_sequence *sequence, pm_host *host, uint8_t acked);
-pm_step pm_sequence_read_ended(pm_sequence *sequence, pm_host *host, const uint8_t *bytes, uint64_t count);
 
 /* ---- The loop of a driver ---- */
 
@@ -932,8 +926,8 @@ enum {
 typedef uint8_t (*pm_write)(void *context, const uint8_t *bytes, uint64_t count);
 typedef uint64_t (*pm_read)(void *context, const uint8_t *request, uint64_t count, uint8_t *answer, uint64_t room);
 
-/* Waits before all is asked again of an output that doesn't do yet what it is to: a ramp takes time. */
-typedef void (*pm_pause)(void *context);
+/* Waits for so many milliseconds. */
+typedef void (*pm_wait_ms)(void *context, uint32_t milliseconds);
 
 /* Sends a write, and answers whether it was acknowledged. */
 static inline uint8_t pm_was_acked(const pm_sending *frame, pm_write write, void *context) {
@@ -951,188 +945,27 @@ static inline uint64_t pm_answer(const pm_sending *frame, uint8_t *answer, pm_re
     return came == 0 || came > room ? 0 : came + 1;
 }
 
-/* A register that is asked in each round: whether any answer ever came; if not, whether this round is silent, and how many were. */
-typedef struct {
-    int has_answered, is_silent, silent_rounds;
-} pm_silence;
-
-/* What came of it once more. */
-static inline void pm_silence_hear(pm_silence *silence, const pm_heard *heard) {
-    silence->has_answered |= heard->asked != 0 && heard->fault != PM_NO_ANSWER;
-    silence->is_silent = heard->asked != 0 && heard->fault == PM_NO_ANSWER && !silence->has_answered;
-}
-
-/* A round has ended, after which the part answered another read or not. Whether it lacks the register: that never answered, and was silent
- * in two rounds after which the part did. */
-static inline int pm_silence_lasts(pm_silence *silence, int is_there) {
-    silence->silent_rounds += silence->is_silent && is_there;
-    silence->is_silent = 0;
-    return silence->silent_rounds >= 2 && !silence->has_answered;
-}
-
-/* Whether a part gives a good answer for OPERATION: if it gives none, silence says nothing of which registers it lacks. */
-static inline int pm_is_there(uint8_t address, uint8_t output, uint8_t tries, pm_read read, void *context) {
-    pm_sending frame;
-    pm_block block;
-    uint8_t answer[8];
-    if (pm_paged_request(address, output, PM_OPERATION, 1, &frame) != PM_OK)
-        return 0;
-    for (; tries != 0; tries--)
-        if (pm_read_paged(address, output, PM_OPERATION, 1, answer, pm_answer(&frame, answer, read, context), &block) == PM_OK)
-            return 1;
-    return 0;
-}
-
-/* A round of a delivery has ended: a register that turned out to be missing is asked no more. */
-static inline void pm_round_ended(pm_delivery *delivery, pm_silence *status_word, pm_silence *read_vout, uint8_t address, uint8_t tries,
-                                  pm_read read, void *context) {
-    int is_there = (status_word->is_silent || read_vout->is_silent) && pm_is_there(address, delivery->output, tries, read, context);
-    if (pm_silence_lasts(status_word, is_there))
-        delivery->lacks |= PM_FOUND_NO_STATUS_WORD;
-    if (pm_silence_lasts(read_vout, is_there))
-        delivery->lacks |= PM_FOUND_NO_READ_VOUT;
-}
-
-/* Asks all that a delivery has to ask. `pause` may be NULL. STATUS_WORD or READ_VOUT that gives no answer at all in two rounds, after each of
- * which the part gives a good one for OPERATION, is one that it lacks, and is asked no more. The look before an order counts as a round.
- * 0, or why a call was refused. */
-PM_MUST_USE
-static inline uint8_t pm_delivery_ask(pm_delivery *delivery, const pm_host *host, pm_read read, pm_pause pause, void *context) {
-    pm_silence status_word = {0, 0, 0}, read_vout = {0, 0, 0};
-    pm_sending frame;
-    uint8_t answer[8];
-    uint8_t address = 0, tries = delivery->before.asked;
-    pm_silence_hear(&status_word, &delivery->before);
-    (void)pm_silence_lasts(&status_word, delivery->lacks & PM_SILENT_STATUS_WORD);
-    for (;;) {
-        uint8_t lacks = delivery->lacks;
-        uint16_t round = delivery->round;
-        uint8_t number = pm_delivery_frame(delivery, host, &frame);
-        if (number != PM_OK && number != PM_ENDED)
-            return number;
-        if (number == PM_ENDED || delivery->round != round) {
-            pm_round_ended(delivery, &status_word, &read_vout, address, tries, read, context);
-            if (number == PM_OK && pause)
-                pause(context);
-            if (delivery->lacks != lacks)
-                continue;
-        }
-        if (number == PM_ENDED)
-            break;
-        address = (uint8_t)(frame.bytes[0] >> 1);
-        number = pm_delivery_read_ended(delivery, host, answer, pm_answer(&frame, answer, read, context));
-        if (number != PM_OK)
-            return number;
-        pm_silence_hear(&status_word, &delivery->status_word);
-        pm_silence_hear(&read_vout, &delivery->read_vout);
-        tries = status_word.is_silent ? delivery->status_word.asked : read_vout.is_silent ? delivery->read_vout.asked : tries;
-    }
-    if (delivery->look == 1 && delivery->before.asked != 0 && delivery->before.fault == PM_NO_ANSWER &&
-        pm_is_there(address, delivery->output, delivery->before.asked, read, context))
-        delivery->lacks |= PM_SILENT_STATUS_WORD;
-    return PM_OK;
-}
-
-/* Judges what a course asks for of VOUT_COMMAND and the margins, or what the byte of one selects: the first fault limit, and the first
- * limit of a warning. 0, P8, or why a call was refused. */
-PM_MUST_USE
-static inline uint8_t pm_delivery_judge_course(const pm_delivery *delivery, const pm_course *course, const pm_host *host,
-                                               pm_judgement *judgement) {
-    static const uint8_t codes[3] = {PM_VOUT_COMMAND, PM_VOUT_MARGIN_HIGH, PM_VOUT_MARGIN_LOW};
-    pm_judgement all = {0, 0, 0, 0}, one;
-    uint8_t refused = PM_OK, number;
-    uint16_t word;
-    int at;
-    for (at = 0; at < 3; at++) {
-        if ((number = pm_course_goal(course, host, codes[at], &word)) == PM_NO_GOAL)
-            continue;
-        if (number == PM_OK)
-            number = pm_delivery_judge(delivery, host, word, &one);
-        if (number != PM_OK && number != PM_P8_BEYOND_FAULT_LIMIT)
-            return number;
-        refused = number == PM_OK ? refused : number;
-        if (all.fault == 0 && one.fault != 0) {
-            all.fault = one.fault;
-            all.fault_word = one.fault_word;
-        }
-        if (all.warning == 0 && one.warning != 0) {
-            all.warning = one.warning;
-            all.warning_word = one.warning_word;
-        }
-    }
-    *judgement = all;
-    return refused;
-}
-
-/* Whether a job turns an output off: nothing is read before it. */
-static inline int pm_is_off_order(const pm_course_job *job) {
-    return job->kind == PM_JOB_ORDER && job->code == PM_OPERATION && (job->word & 0x80) == 0;
-}
-
-/* Whether a course turns its output off: its first job is that order. */
-static inline int pm_is_off_course(const pm_course *course, const pm_host *host) {
-    pm_course_job job;
-    return (pm_course_next(course, host, &job) == PM_OK && pm_is_off_order(&job)) ||
-           (pm_course_job_now(course, &job) == PM_OK && pm_is_off_order(&job));
-}
-
-/* Before a course's first order, which `*is_judged` remembers, unless that turns the output off: what stands before the first order of
- * the call is asked, and what is wanted is judged. 0 if the course goes on; P8, or why a call was refused. */
-PM_MUST_USE
-static inline uint8_t pm_delivery_before_order(pm_delivery *delivery, const pm_course *course, const pm_host *host, int *is_judged,
-                                               pm_read read, void *context) {
-    pm_course_job next;
-    pm_judgement judgement;
-    uint8_t number = PM_OK;
-    if (*is_judged || pm_course_next(course, host, &next) != PM_OK || next.kind != PM_JOB_ORDER)
-        return PM_OK;
-    *is_judged = 1;
-    if (pm_is_off_order(&next))
-        return PM_OK;
-    if (delivery->before.asked == 0) {
-        delivery->lacks &= (uint8_t)~PM_SILENT_STATUS_WORD;
-        number = pm_delivery_before(delivery);
-        if (number == PM_OK)
-            number = pm_delivery_ask(delivery, host, read, NULL, context);
-    }
-    return number == PM_OK ? pm_delivery_judge_course(delivery, course, host, &judgement) : number;
-}
-
 /* Carries a course out, or the host's open job if `course` is NULL, frame after frame, and answers the last step; PM_ENDED of a
- * course; or why a call was refused. With a `delivery`, which may be NULL, fault limits are read and judged before the course's first
- * order, and P8 stops it there, with nothing ordered. The loop ends since a job has at most twice as many frames as passes and a course
- * at most its tries of jobs, which is proved. The loop itself is C of this header, and isn't proved. It is tried under rows of each kind
- * of fault (trials/c/rows/run_rows.c, trials/course), and under random ones (examples/c/faults.c, examples/c/rail.c). */
-static inline pm_step pm_carry_out(pm_host *host, pm_course *course, pm_delivery *delivery, pm_write write, pm_read read,
-                                   void *context) {
+ * course; or why a call was refused. The loop ends since a job has at most twice as many frames as passes and a course at most its
+ * tries of jobs, which is proved. The loop itself is C of this header, and isn't proved. It is tried under rows of each kind of fault
+ * (trials/c/rows/run_rows.c, trials/course), and under random ones (examples/c/faults.c, examples/c/rail.c). */
+static inline pm_step pm_carry_out(pm_host *host, pm_course *course, pm_write write, pm_read read, void *context) {
     pm_step step = {PM_UNKNOWN, 0};
     pm_sending frame;
     uint8_t answer[8];
-    uint8_t number = PM_OK;
-    int is_judged = !(course && delivery);
-    frame.kind = PM_NOTHING;
-    for (;;) {
-        if (frame.kind == PM_NOTHING) {
-            number = is_judged ? (uint8_t)PM_OK : pm_delivery_before_order(delivery, course, host, &is_judged, read, context);
-            if (number == PM_OK)
-                number = course ? pm_course_frame(course, host, &frame) : pm_host_frame(host, &frame);
-            if (number != PM_OK || frame.kind == PM_NOTHING)
-                break;
-        }
+    uint8_t number = course ? pm_course_frame(course, host, &frame) : pm_host_frame(host, &frame);
+    while (number == PM_OK && frame.kind != PM_NOTHING) {
         if (frame.kind == PM_WRITE) {
             uint8_t acked = pm_was_acked(&frame, write, context);
-            step = course ? pm_course_after_write(course, host, acked, !is_judged, &frame) : pm_host_write_ended(host, acked);
+            step = course ? pm_course_after_write(course, host, acked, 0, &frame) : pm_host_write_ended(host, acked);
         } else {
             uint64_t count = pm_answer(&frame, answer, read, context);
-            step = course ? pm_course_after_read(course, host, answer, count, !is_judged, &frame)
-                          : pm_host_read_ended(host, answer, count);
+            step = course ? pm_course_after_read(course, host, answer, count, 0, &frame) : pm_host_read_ended(host, answer, count);
         }
         if (!course)
-            frame.kind = PM_NOTHING;
-        else if (is_judged && frame.kind == PM_NOTHING) {
+            number = pm_host_frame(host, &frame);
+        else if (frame.kind == PM_NOTHING)
             number = step.kind > PM_LEARNED ? (uint8_t)step.kind : (uint8_t)PM_ENDED;
-            break;
-        }
     }
     if (number != PM_OK)
         step.kind = number;
@@ -1142,13 +975,15 @@ static inline pm_step pm_carry_out(pm_host *host, pm_course *course, pm_delivery
 /* Carries the open job out, and says how it ended: PM_UNKNOWN if none was open, PM_NO_HOST if the memory holds no host. */
 PM_MUST_USE
 static inline pm_step pm_host_run(pm_host *host, pm_write write, pm_read read, void *context) {
-    return pm_carry_out(host, NULL, NULL, write, read, context);
+    return pm_carry_out(host, NULL, write, read, context);
 }
 
-/* How a course ended once it was carried out, which answered this number: PM_REFUSED also if a call was refused with it. */
+/* Carries a course out, and says how it ended: PM_REFUSED also if the memory holds no host (PM_NO_HOST) or no course
+ * (PM_NO_COURSE), and if the host has no such output (H4). What its rail does isn't asked: a list of one step does. */
 PM_MUST_USE
-static inline pm_course_end pm_course_end_of(const pm_course *course, uint16_t number) {
+static inline pm_course_end pm_host_run_course(pm_host *host, pm_course *course, pm_write write, pm_read read, void *context) {
     pm_course_end end = {0, 0, 0, 0, 0, 0};
+    uint16_t number = pm_carry_out(host, course, write, read, context).kind;
     if (number != PM_ENDED || pm_course_ended(course, &end) != PM_OK) {
         end.kind = PM_REFUSED;
         end.number = (uint8_t)number;
@@ -1156,110 +991,32 @@ static inline pm_course_end pm_course_end_of(const pm_course *course, uint16_t n
     return end;
 }
 
-/* Carries a course out, and says how it ended: PM_REFUSED also if the memory holds no host (PM_NO_HOST) or no course
- * (PM_NO_COURSE), and if the host has no such output (H4). What its output does then isn't asked: pm_host_deliver does. */
-PM_MUST_USE
-static inline pm_course_end pm_host_run_course(pm_host *host, pm_course *course, pm_write write, pm_read read, void *context) {
-    pm_step step = pm_carry_out(host, course, NULL, write, read, context);
-    return pm_course_end_of(course, step.kind);
+/* Steps whose rails are looked at: READ_VOUT may be 5 % away, and all is asked seven times at most. One sets VOUT_COMMAND, the other gives
+ * OPERATION a byte. Change their fields as you want. */
+static inline pm_sequence_step pm_sets(uint8_t host, uint8_t output, int64_t microvolts) {
+    pm_sequence_step step;
+    unsigned at;
+    for (at = 0; at < sizeof step; at++)
+        ((uint8_t *)&step)[at] = 0;
+    step.host = host;
+    step.output = output;
+    step.kind = PM_SETS;
+    step.command.kind = PM_MICROVOLTS;
+    step.command.microvolts = microvolts;
+    step.looks = PM_LOOK;
+    step.within = 50;
+    step.rounds = 7;
+    return step;
+}
+static inline pm_sequence_step pm_turns(uint8_t host, uint8_t output, uint8_t byte) {
+    pm_sequence_step step = pm_sets(host, output, 0);
+    step.kind = PM_TURNS;
+    step.byte = byte;
+    step.command.kind = PM_STAY;
+    return step;
 }
 
-/* The same with a delivery of the course's output. A course that ended well has done what is wanted if pm_is_delivered: `delivered` is
- * PM_DELIVERS, or PM_WENT_OFF of one that turned the output off; an output that is commanded off isn't asked. A part that was found to lack
- * STATUS_WORD or READ_VOUT is judged by the other; by neither it isn't known what the output does. PM_REFUSED with P8, and
- * PM_BEYOND_FAULT_LIMIT, if nothing was ordered since what is wanted is at or beyond a fault limit; the course itself goes on, once
- * that was moved and the delivery made anew. After a bad end `delivered` is PM_NOT_YET. Each call of one chain hands over the same
- * delivery of an output, so that it knows which faults stood before the chain. */
-PM_MUST_USE
-static inline pm_course_end pm_host_deliver(pm_host *host, pm_course *course, pm_delivery *delivery, pm_write write, pm_read read,
-                                            pm_pause pause, void *context, pm_delivered *delivered) {
-    pm_delivered none = {0, 0, 0, 0, 0, 0, 0, 0};
-    pm_judgement judgement = {0, 0, 0, 0};
-    uint8_t is_off = (uint8_t)pm_is_off_course(course, host);
-    pm_step step = pm_carry_out(host, course, delivery, write, read, context);
-    pm_course_end end = pm_course_end_of(course, step.kind);
-    uint8_t number = PM_OK;
-    *delivered = none;
-    if (step.kind == PM_P8_BEYOND_FAULT_LIMIT && pm_delivery_judge_course(delivery, course, host, &judgement) == step.kind) {
-        delivered->kind = PM_BEYOND_FAULT_LIMIT;
-        delivered->code = judgement.fault;
-        delivered->word = judgement.fault_word;
-    }
-    if (end.kind != PM_REACHED)
-        return end;
-    number = pm_delivery_after(delivery, is_off);
-    if (number == PM_OK)
-        number = pm_delivery_ask(delivery, host, read, pause, context);
-    if (number == PM_OK)
-        number = pm_delivery_verdict(delivery, host, delivered);
-    if (number != PM_OK) {
-        end.kind = PM_REFUSED;
-        end.number = number;
-    }
-    return end;
-}
-
-/* What stairs have to send now, by an array of hosts: as pm_stairs_ask, and never PM_AGAIN. PM_NO_STEP if a step names a host that isn't
- * there. */
-PM_MUST_USE
-static inline uint8_t pm_stairs_frame(pm_stairs *stairs, pm_host *const *hosts, uint64_t host_count, const pm_stairs_step *steps,
-                                      uint64_t count, pm_stairs_step *backs, uint64_t room, pm_sending *frame) {
-    uint8_t number = PM_AGAIN;
-    while (number == PM_AGAIN) {
-        if (stairs->host >= host_count)
-            return PM_NO_STEP;
-        number = pm_stairs_ask(stairs, hosts[stairs->host], steps, count, backs, room, frame);
-    }
-    return number;
-}
-
-/* Judges a list as pm_stairs_check does: each step that is the first one of its output, since the words before another one aren't held yet. It
- * stops at the first that is refused, which end->step names. */
-PM_MUST_USE
-static inline uint8_t pm_stairs_check_all(const pm_host *const *hosts, uint64_t host_count, const pm_stairs_step *steps, uint64_t count,
-                                          pm_stairs_end *end) {
-    uint64_t at, earlier;
-    for (at = 0; at < count; at++) {
-        uint8_t number = PM_OK;
-        if (steps[at].host >= host_count)
-            return PM_NO_STEP;
-        for (earlier = 0; earlier < at; earlier++)
-            if (steps[earlier].host == steps[at].host && steps[earlier].output == steps[at].output)
-                break;
-        if (earlier == at)
-            number = pm_stairs_check(hosts[steps[at].host], &steps[at], end);
-        if (number != PM_OK) {
-            end->step = (uint16_t)at;
-            return number;
-        }
-    }
-    return PM_OK;
-}
-
-/* Carries a list of steps out, frame after frame: the context at the place of a host is handed to `write` and `read` for its bus. It
- * answers as pm_stairs_frame does once nothing is to be sent: PM_ENDED, PM_NO_WAY_BACK (asked again it goes on), or a refusal. */
-PM_MUST_USE
-static inline uint8_t pm_run_stairs(pm_stairs *stairs, pm_host *const *hosts, void *const *contexts, uint64_t host_count,
-                                    const pm_stairs_step *steps, uint64_t count, pm_stairs_step *backs, uint64_t room, pm_write write,
-                                    pm_read read) {
-    pm_sending frame;
-    uint8_t answer[8];
-    uint8_t number;
-    while ((number = pm_stairs_frame(stairs, hosts, host_count, steps, count, backs, room, &frame)) == PM_OK) {
-        pm_host *host = hosts[stairs->host];
-        void *context = contexts[stairs->host];
-        if (frame.kind == PM_WRITE)
-            (void)pm_stairs_write_ended(stairs, host, pm_was_acked(&frame, write, context));
-        else
-            (void)pm_stairs_read_ended(stairs, host, answer, pm_answer(&frame, answer, read, context));
-    }
-    return number;
-}
-
-/* Waits for so many milliseconds. */
-typedef void (*pm_wait_ms)(void *context, uint32_t milliseconds);
-
-/* Is told what a sequence says: its answer is PM_WAIT, PM_ASKED, PM_TOLD or PM_NO_WAY_BACK, and sequence->said says the rest. 0 stops the loop
+/* Hears what a sequence says: its answer is PM_WAIT, PM_ASKED, PM_TOLD or PM_NO_WAY_BACK, and sequence->said says the rest. 0 stops the loop
  * there; any other number lets it go on. */
 typedef int (*pm_said)(void *context, const pm_sequence *sequence, uint8_t answer);
 
@@ -1286,17 +1043,6 @@ static inline uint8_t pm_run_sequence(pm_sequence *sequence, pm_host *const *hos
             pause(contexts[at], sequence->said.milliseconds);
     }
     return PM_NO_STEP;
-}
-
-/* Whether an output does what it is to by this verdict, isn't asked since it isn't commanded on, or can't be asked, since its caller said
- * that the part has neither STATUS_WORD nor READ_VOUT; after an order that turned it off, that it has no STATUS_WORD. One that was only
- * found to lack them isn't known to deliver, nor to be off. PM_POWER_GOOD_ALONE is for the caller to judge. */
-PM_MUST_USE
-static inline int pm_is_delivered(const pm_delivery *delivery, const pm_delivered *delivered) {
-    int needs = delivery->look == 3 ? PM_LACKS_STATUS_WORD : PM_LACKS_STATUS_WORD | PM_LACKS_READ_VOUT;
-    int is_unasked = delivered->kind == PM_DELIVERY_NOT_KNOWN && delivered->code == 0x79 && (delivery->lacks & needs) == needs;
-    return is_unasked || delivered->kind == PM_DELIVERS || delivered->kind == PM_DELIVERS_BY_READ_VOUT ||
-           delivered->kind == PM_WENT_OFF || delivered->kind == PM_COMMANDED_OFF || delivered->kind == PM_NOT_KNOWN_ON;
 }
 #endif
 
