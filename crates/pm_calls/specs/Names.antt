@@ -131,8 +131,7 @@ refusal_words n =
     else (if n / 16 == 4 then device_words n
     else (if n / 16 == 5 then config_words n
     else (if n / 16 == 6 then option_or (option_or (plan_words n) (delivery_words n)) (accept_words n)
-    else (if n / 16 == 14 then own_words n
-    else (if n / 16 == 15 then own_words n else None))))))))
+    else own_words n))))))
 
 -- how a job stands, in the words of its lines
 abbrev pub step_words : Step → List ℕ

@@ -64,8 +64,7 @@ pub fn refusal_words(number: u8) -> Option<&'static str>
         6 => words_of_plan(number)
             .or(words_of_delivery(number))
             .or(words_of_accept(number)),
-        14 | 15 => words_of_own(number),
-        _ => None,
+        _ => words_of_own(number),
     }
 }
 

@@ -1,4 +1,4 @@
-use Rattle.std.proofs.Common.{◌≡◌, ◌∙◌, ℕ, List, refl, sym, subst}
+use Rattle.std.proofs.Common.{◌≡◌, ◌∙◌, ℕ, List, Some, refl, sym, subst}
 use Rattle.pm_sequence.specs.Frames.{HandsOut}
 use Rattle.pm_memory.specs.declared.sequence_image.SequenceImage.{SequenceImage}
 use Rattle.pm_memory.specs.Guard.{guard_of}
