@@ -1,8 +1,14 @@
-use Rattle.std.proofs.Common.{◌+◌, ◌≤◌, subst, sym}
+use Rattle.std.proofs.Common.{◌≡◌, ◌+◌, ◌≤◌, refl, subst, sym}
 use Rattle.pm_decode.specs.Captures.{kept_in}
-use Rattle.pm_decode.specs.Capturing.{Kept}
+use Rattle.pm_decode.specs.Capturing.{Kept, heard_ended}
 use Rattle.pm_decode.proofs.BoundLemmas.{bounded_ended}
+use Rattle.pm_decode.proofs.HearingLemmas.{on_good}
 use Rattle.pm_decode.proofs.capture.Capture.end_line.Goals as goal
+
+pub returns-clause-kept : goal.returns-clause-kept
+returns-clause-kept c = on_good c.hear_line-heard.result
+    (λ (e : c.hear_line-heard.new.heard ≡ heard_ended (kept_in c.self.inside)). rw (e, c.clear.ensures, sym c.self.view_is) refl)
+    c.hear_line-heard.ensures.heard
 
 pub invariant_of-self : goal.invariant_of-self
 invariant_of-self c =
