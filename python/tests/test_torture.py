@@ -514,7 +514,7 @@ class Preloading(unittest.TestCase):
             self.assertEqual([(it.cell, it.word) for it in whole.took], [((0, "VOUT_COMMAND"), 0x14CD)])
             write = next(at for at, it in enumerate(whole.transfers, 1) if it.frame[1:2] == b"\x05")
             for fault in "lost", "mute", "false", "restart":
-                self.assertEqual(judge.judge(host.run(self.below, write, fault)).words, "good", fault)
+                self.assertEqual(judge.judge(host.run(self.below, [(write, fault)])).words, "good", fault)
 
     def test_what_a_program_hears_of_a_part_that_is_not_there(self):
         """Messages and SMBus, each with the kernel's error, and what is read then."""

@@ -169,6 +169,8 @@ refusals! {
     NoStairs = 0xEE,
     /// A step names a host that isn't there, or no step has stopped that can be left.
     NoStep = 0xEF,
+    /// The memory holds no sequence. No call of this crate answers it.
+    NoSequence = 0xF0,
 }
 
 impl fmt::Display for Refusal {

@@ -123,7 +123,10 @@ pub struct Stairs {
 
 impl fmt::Debug for Stairs {
     fn fmt(&self, to: &mut fmt::Formatter<'_>) -> fmt::Result {
-        to.debug_struct("Stairs").field("begun", &self.begun()).field("keeps_back", &self.image.keeps_back).finish_non_exhaustive()
+        to.debug_struct("Stairs")
+            .field("begun", &self.begun())
+            .field("keeps_back", &self.image.keeps_back)
+            .finish_non_exhaustive()
     }
 }
 

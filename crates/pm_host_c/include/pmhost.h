@@ -757,7 +757,7 @@ uint8_t pm_sequence_next(pm_sequence *sequence, pm_host *host, const pm_sequence
                          uint64_t room, pm_sending *frame);
 
 /* What became of the frame, by the host at sequence->host: the step of a job; PM_NEXT of what was read of a rail. PM_NO_HOST,
- * PM_NO_SEQUENCE, PM_OTHER_FRAME; then nothing changes. */
+ * PM_NO_SEQUENCE; PM_OTHER_FRAME if no such frame of a job of the list is being sent, and no rail is asked; then nothing changes. */
 pm_step pm_sequence_write_ended(pm_sequence *sequence, pm_host *host, uint8_t acked);
 pm_step pm_sequence_read_ended(pm_sequence *sequence, pm_host *host, const uint8_t *bytes, uint64_t count);
 

@@ -262,5 +262,5 @@ fn a_step_says_what_it_does() {
         assert_ne!(turns, other);
     }
     assert_eq!(format!("{turns:?}"), "StairsStep { host: 4, output: 1, act: Turns(128) }");
-    assert_eq!(format!("{:?}", Stairs::down(1).unwrap()), "Stairs { begun: 0, is_down: 1, .. }");
+    assert_eq!(format!("{:?}", Stairs::down(1).unwrap()), "Stairs { begun: 0, keeps_back: 0, .. }");
 }
