@@ -88,7 +88,7 @@ fn main() {
     let home = env::var_os("CARGO_MANIFEST_DIR");
     if target.contains("linux") && home.as_ref().is_some_and(|home| Path::new(home).join("tests").is_dir()) {
         // Tests only: tests/calls/other_library.rs answers these calls as another library's would.
-        let images = ["host", "course", "delivery", "stairs"].map(|it| format!(",--wrap=pm_{it}_version,--wrap=pm_{it}_size"));
+        let images = ["host", "course", "sequence"].map(|it| format!(",--wrap=pm_{it}_version,--wrap=pm_{it}_size"));
         println!("cargo:rustc-link-arg-tests=-Wl,--wrap=pm_version,--wrap=pm_part_size{}", images.concat());
     }
     for library in ["pm_host_c", "pm_device_c"] {

@@ -1,5 +1,8 @@
 //! What a host needs of a bus, in the shape of embedded-hal's I2C.
 
+use crate::host::Sending;
+use crate::patient::is_ones;
+
 /// One part of a transaction, as in embedded-hal.
 #[derive(Debug)]
 pub enum Operation<'a> {
@@ -94,6 +97,20 @@ pub trait Bus {
     /// and a read. The packet error code is among the bytes. An error is a frame that failed: the host tries again by
     /// itself, so this call mustn't; nor may it leave an older answer in the buffer, which is zeros before.
     fn transaction(&mut self, address: u8, operations: &mut [Operation<'_>]) -> Result<(), Self::Error>;
+
+    /// Sends a frame of a list, as [`Sequence::run`](crate::Sequence::run) asks for it: of a request, how many bytes came, which stand in
+    /// `answer`. Of nothing but FFh none came: nobody drives the bus.
+    fn send(&mut self, frame: &Sending, answer: &mut [u8]) -> Result<usize, Self::Error> {
+        match frame {
+            Sending::Nothing => Ok(0),
+            Sending::Write(bytes) => self.transaction(bytes[0] >> 1, &mut [Operation::Write(&bytes[1..])]).map(|()| 0),
+            Sending::Request { frame, .. } => {
+                let mut operations = [Operation::Write(&frame[1..]), Operation::Read(&mut *answer)];
+                self.transaction(frame[0] >> 1, &mut operations)?;
+                Ok(if is_ones(answer) { 0 } else { answer.len() })
+            }
+        }
+    }
 }
 
 impl<B: Bus + ?Sized> Bus for &mut B {

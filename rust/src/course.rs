@@ -102,6 +102,19 @@ impl<E> NotReached<E> {
     }
 }
 
+impl NotReached {
+    /// The same, with what the bus said of the last transaction that failed.
+    pub(crate) fn over<E>(self, error: Option<E>) -> NotReached<E> {
+        match self {
+            NotReached::Refused { refusal, cell } => NotReached::Refused { refusal, cell },
+            NotReached::Differs { register, word } => NotReached::Differs { register, word },
+            NotReached::NoFormat { mode } => NotReached::NoFormat { mode },
+            NotReached::OtherSource { byte } => NotReached::OtherSource { byte },
+            NotReached::Spent { cell, fault, .. } => NotReached::Spent { cell, fault, error },
+        }
+    }
+}
+
 impl<E> From<Refusal> for NotReached<E> {
     fn from(refusal: Refusal) -> NotReached<E> {
         NotReached::refused(refusal)

@@ -3,15 +3,20 @@
 use core::{error, fmt};
 
 use crate::course::{AnswerFault, NotReached};
-use crate::delivery::{Limit, FOUND_NO_STATUS_WORD, LACKS_READ_VOUT, LACKS_STATUS_WORD};
-use crate::host::{Limits, Register};
+use crate::ffi;
+use crate::host::{Host, Limits, Register};
 use crate::number::Format;
 use crate::refusal::Refusal;
+use crate::sequence::SequenceEnd;
 use crate::status::{name_of, BitName, Status, Volts};
+use crate::step::{word_of, SequenceRecord, SequenceStep};
 use crate::verdict::Verdict;
 
 /// The command code of STATUS_WORD.
 const STATUS_WORD: u8 = 0x79;
+
+/// The kind of what is said of a rail that does what it is to.
+const RAIL_DOES: u8 = 13;
 
 /// The bits of STATUS_WORD that say a fault or point to one.
 const FAULTS: u16 = 0xE03C;
@@ -19,10 +24,40 @@ const FAULTS: u16 = 0xE03C;
 /// The command codes of fault limits and of those of warnings.
 pub(crate) const LIMIT_CODES: [u8; 4] = [0x40, 0x42, 0x43, 0x44];
 
-/// The voltages that a course may want.
+/// The bits of what a part lacks, as its caller says and as was found.
+const LACKS_STATUS_WORD: u8 = 1;
+const LACKS_READ_VOUT: u8 = 2;
+const FOUND_NO_STATUS_WORD: u8 = 4;
+
+/// What is looked at: an output that was turned off.
+const LOOK_OFF: u8 = 3;
+
+/// A limit that a word is at or beyond: the command code of its register, and the word that this holds, in the output's format.
+#[derive(Clone, Copy, Debug, PartialEq, Eq)]
+pub struct Limit {
+    /// VOUT_OV_FAULT_LIMIT (40h), VOUT_OV_WARN_LIMIT (42h), VOUT_UV_WARN_LIMIT (43h) or VOUT_UV_FAULT_LIMIT (44h).
+    pub code: u8,
+    /// The word.
+    pub word: u16,
+}
+
+/// Which limits a word is at or beyond, of those that gave a good answer.
+#[derive(Clone, Copy, Debug, Default, PartialEq, Eq)]
+pub struct Judgement {
+    /// VOUT_OV_FAULT_LIMIT or VOUT_UV_FAULT_LIMIT.
+    pub fault: Option<Limit>,
+    /// VOUT_OV_WARN_LIMIT or VOUT_UV_WARN_LIMIT.
+    pub warning: Option<Limit>,
+}
+
+pub(crate) fn code_of(limit: Option<Limit>) -> u8 {
+    limit.map_or(0, |limit| limit.code)
+}
+
+/// The voltages that a step may want.
 pub(crate) const GOALS: [Register; 3] = [Register::VoutCommand, Register::VoutMarginHigh, Register::VoutMarginLow];
 
-/// A word that a course orders, and the codes of the fault limit and of the limit of a warning that it is at or beyond, or 0.
+/// A word that a step orders, and the codes of the fault limit and of the limit of a warning that it is at or beyond, or 0.
 #[derive(Clone, Copy, Debug, PartialEq, Eq)]
 pub(crate) struct Goal {
     pub(crate) word: u16,
@@ -44,24 +79,59 @@ pub struct Delivered {
     pub before: Option<u16>,
     /// POWER_GOOD_ON, asked if only POWER_GOOD# speaks against it.
     pub power_good_on: Option<u16>,
-    pub(crate) registers: [Option<u8>; 4],
-    pub(crate) format: Option<Format>,
-    pub(crate) within: u16,
-    pub(crate) goals: [Option<Goal>; 3],
-    pub(crate) limit_words: [u16; 4],
+    registers: [Option<u8>; 4],
+    format: Option<Format>,
+    within: u16,
+    goals: [Option<Goal>; 3],
+    limit_words: [u16; 4],
     pub(crate) silent: [bool; 4],
-    pub(crate) is_off: bool,
-    pub(crate) lacks: u8,
-    pub(crate) tells_power_good: bool,
+    is_off: bool,
+    lacks: u8,
+    is_good: bool,
 }
 
 impl Delivered {
+    /// What a list said of a step's rail, with all that was heard of it.
+    pub(crate) fn of(
+        said: &ffi::SaidImage,
+        step: &SequenceStep,
+        record: &SequenceRecord,
+        host: &Host,
+        has_ordered: bool,
+    ) -> Delivered {
+        let look = &record.image.look;
+        let limits = limits_of(record);
+        Delivered {
+            verdict: Verdict::of(said),
+            limits: host.limits(step.output()).ok().flatten(),
+            status: record.status(),
+            before: record.status_before(),
+            power_good_on: record.power_good_on(),
+            registers: [look.status_vout, look.status_iout, look.status_input, look.status_temperature]
+                .map(|heard| word_of(heard).map(|word| word.to_le_bytes()[0])),
+            format: host.format(step.output()).ok().flatten(),
+            within: look.within,
+            goals: if has_ordered { step.goals(host, record) } else { [None; 3] },
+            limit_words: limits.map(|heard| heard.word),
+            silent: silent_limits(record),
+            is_off: look.look == LOOK_OFF,
+            lacks: look.lacks,
+            is_good: said.kind == RAIL_DOES,
+        }
+    }
+
     /// Whether the output does what it is to, isn't asked since it isn't commanded on, or can't be asked, since its caller said that the
-    /// part has neither STATUS_WORD nor READ_VOUT; after an order that turned it off, that it has no STATUS_WORD.
+    /// part has neither STATUS_WORD nor READ_VOUT; after an order that turned it off, that it has no STATUS_WORD. Of a step that has to
+    /// deliver it is whether the output does what it is to.
     #[must_use]
     pub fn is_good(&self) -> bool {
-        let is_told_alone = self.tells_power_good && matches!(self.verdict, Verdict::PowerGoodAlone { .. });
-        self.verdict.is_good() || self.is_unasked() || is_told_alone
+        self.is_good
+    }
+
+    /// The same, without the limits that were told to have given no good answer.
+    pub(crate) fn without(mut self, told: [bool; 4]) -> Delivered {
+        self.silent.iter_mut().zip(told).for_each(|(silent, told)| *silent &= !told);
+        self
     }
 
     /// Whether nothing is known of it, since the part lacks what it would be known by, as the caller says or as was found.
@@ -206,6 +276,17 @@ impl Delivered {
     }
 }
 
+/// What was heard of the four limits, as [`LIMIT_CODES`] has them.
+fn limits_of(record: &SequenceRecord) -> [ffi::HeardImage; 4] {
+    let look = &record.image.look;
+    [look.ov_fault_limit, look.ov_warn_limit, look.uv_warn_limit, look.uv_fault_limit]
+}
+
+/// Which limits were asked for, and gave no good answer.
+pub(crate) fn silent_limits(record: &SequenceRecord) -> [bool; 4] {
+    limits_of(record).map(|heard| heard.asked != 0 && heard.fault != 0)
+}
+
 fn tell_unknown(code: u8, fault: Option<AnswerFault>, to: &mut fmt::Formatter<'_>) -> fmt::Result {
     match fault {
         Some(fault) => write!(to, "{} gave no good answer: {fault}", name_of(code)),
@@ -236,6 +317,19 @@ pub struct BeyondFaultLimit {
     pub(crate) format: Option<Format>,
 }
 
+impl BeyondFaultLimit {
+    /// The first of what a step wants that is at or beyond the fault limit that a list said.
+    pub(crate) fn of(said: &ffi::SaidImage, step: &SequenceStep, host: &Host) -> BeyondFaultLimit {
+        let format = host.format(step.output()).ok().flatten();
+        let volts = |word| format.and_then(|format| format.microvolts(word).ok());
+        let end = volts(said.word);
+        let is_beyond = |word| if said.code == LIMIT_CODES[0] { volts(word) >= end } else { volts(word) <= end };
+        let wanted = |register| step.goal(host, register).filter(|word| is_beyond(*word)).map(|word| (register, word));
+        let (register, word) = GOALS.into_iter().find_map(wanted).unwrap_or((Register::VoutCommand, said.word));
+        BeyondFaultLimit { register, word, limit: Limit { code: said.code, word: said.word }, format }
+    }
+}
+
 impl fmt::Display for BeyondFaultLimit {
     fn fmt(&self, to: &mut fmt::Formatter<'_>) -> fmt::Result {
         let volts = |word| Volts(self.format.and_then(|format| format.microvolts(word).ok()));
@@ -247,12 +341,14 @@ impl fmt::Display for BeyondFaultLimit {
 /// Why an output doesn't do what is wanted. `E` is the error of the bus.
 #[derive(Clone, Copy, PartialEq, Eq)]
 pub enum NotDelivered<E> {
-    /// The course didn't reach what is wanted.
+    /// The orders didn't reach what is wanted.
     NotReached(NotReached<E>),
     /// P8: what is wanted is at or beyond a fault limit, and nothing was ordered.
     BeyondFaultLimit(BeyondFaultLimit),
-    /// The course reached it, and the output does something else.
+    /// They did, and the output does something else.
     Does(Delivered),
+    /// The list of this one step stopped in another way.
+    Stopped(SequenceEnd),
     /// A call is refused.
     Refused(Refusal),
 }
@@ -265,6 +361,7 @@ impl<E> fmt::Display for NotDelivered<E> {
                 write!(to, "refused: {}: {beyond}: move the limit first", Refusal::P8BeyondFaultLimit)
             }
             NotDelivered::Does(delivered) => write!(to, "{delivered}"),
+            NotDelivered::Stopped(end) => write!(to, "{end}"),
             NotDelivered::Refused(refusal) => write!(to, "refused: {refusal}"),
         }
     }

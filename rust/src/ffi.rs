@@ -6,11 +6,11 @@ pub const HOST_VERSION: u16 = 6;
 pub const HOST_SIZE: usize = 2064;
 pub const COURSE_VERSION: u16 = 1;
 pub const COURSE_SIZE: usize = 104;
-pub const DELIVERY_VERSION: u16 = 2;
 pub const DELIVERY_SIZE: usize = 66;
-pub const STAIRS_VERSION: u16 = 1;
-pub const STAIRS_SIZE: usize = 272;
-pub const STAIRS_STEP_SIZE: usize = 88;
+pub const SEQUENCE_VERSION: u16 = 1;
+pub const SEQUENCE_SIZE: usize = 400;
+pub const SEQUENCE_STEP_SIZE: usize = 104;
+pub const SEQUENCE_RECORD_SIZE: usize = 176;
 pub const CELLS: usize = 49;
 pub const PART_SIZE: usize = 372;
 
@@ -153,7 +153,7 @@ pub struct CourseJobImage {
 }
 
 #[repr(C)]
-#[derive(Clone, Copy, Default)]
+#[derive(Clone, Copy, Default, PartialEq, Eq)]
 pub struct HeardImage {
     pub asked: u8,
     pub fault: u8,
@@ -189,19 +189,6 @@ pub struct DeliveryImage {
 
 #[repr(C)]
 #[derive(Clone, Copy, Default)]
-pub struct DeliveredImage {
-    pub kind: u8,
-    pub code: u8,
-    pub bit: u8,
-    pub fault: u8,
-    pub has_microvolts: u8,
-    pub unused: u8,
-    pub word: u16,
-    pub microvolts: i64,
-}
-
-#[repr(C)]
-#[derive(Clone, Copy, Default)]
 pub struct JudgementImage {
     pub fault: u8,
     pub warning: u8,
@@ -211,7 +198,7 @@ pub struct JudgementImage {
 
 #[repr(C)]
 #[derive(Clone, Copy, Default)]
-pub struct StairsWishImage {
+pub struct SequenceWishImage {
     pub kind: u16,
     pub word: u16,
     pub unused: u32,
@@ -220,45 +207,68 @@ pub struct StairsWishImage {
 
 #[repr(C)]
 #[derive(Clone, Copy, Default)]
-pub struct StairsStepImage {
+pub struct SequenceStepImage {
     pub host: u8,
     pub output: u8,
     pub kind: u8,
     pub byte: u8,
     pub unused: [u8; 4],
-    pub command: StairsWishImage,
-    pub max: StairsWishImage,
-    pub margin_high: StairsWishImage,
-    pub margin_low: StairsWishImage,
-    pub min: StairsWishImage,
+    pub command: SequenceWishImage,
+    pub max: SequenceWishImage,
+    pub margin_high: SequenceWishImage,
+    pub margin_low: SequenceWishImage,
+    pub min: SequenceWishImage,
+    pub looks: u8,
+    pub fault_limits: u8,
+    pub lacks: u8,
+    pub tells_power_good: u8,
+    pub within: u16,
+    pub rounds: u16,
+    pub wait: u32,
+    pub before: HeardImage,
 }
 
 #[repr(C)]
 #[derive(Clone, Copy, Default)]
-pub struct StairsEndImage {
+pub struct SequenceRecordImage {
+    pub back: SequenceStepImage,
+    pub look: DeliveryImage,
+    pub unused: [u8; 6],
+}
+
+#[repr(C)]
+#[derive(Clone, Copy, Default)]
+pub struct SaidImage {
     pub kind: u8,
     pub number: u8,
     pub code: u8,
-    pub has_begun: u8,
+    pub verdict: u8,
+    pub bit: u8,
+    pub has_microvolts: u8,
     pub word: u16,
     pub fault: u16,
     pub step: u16,
-    pub unused: [u16; 3],
+    pub milliseconds: u32,
+    pub microvolts: i64,
 }
 
 #[repr(C)]
 #[derive(Clone, Copy, Default)]
-pub struct StairsImage {
+pub struct SequenceImage {
     pub mark: u16,
     pub version: u16,
+    pub left: u16,
+    pub leaves: u8,
+    pub asks: u8,
+    pub said: SaidImage,
+    pub marks: [u16; 2],
     pub tries: u16,
     pub begun: u16,
     pub host: u8,
     pub keeps_back: u8,
     pub ends_at_restart: u8,
-    pub unused: [u8; 5],
-    pub end: StairsEndImage,
-    pub held: [u64; 30],
+    pub unused_too: [u8; 5],
+    pub held: [[u64; 22]; 2],
 }
 
 #[repr(C)]
@@ -337,7 +347,8 @@ pub struct ReplyImage {
 
 const _: () = assert!(size_of::<HostImage>() == HOST_SIZE && size_of::<PartImage>() == PART_SIZE);
 const _: () = assert!(size_of::<CourseImage>() == COURSE_SIZE && size_of::<DeliveryImage>() == DELIVERY_SIZE);
-const _: () = assert!(size_of::<StairsImage>() == STAIRS_SIZE && size_of::<StairsStepImage>() == STAIRS_STEP_SIZE);
+const _: () = assert!(size_of::<SequenceImage>() == SEQUENCE_SIZE && size_of::<SequenceStepImage>() == SEQUENCE_STEP_SIZE);
+const _: () = assert!(size_of::<SequenceRecordImage>() == SEQUENCE_RECORD_SIZE);
 
 extern "C" {
     pub fn pm_version() -> u16;
@@ -397,32 +408,21 @@ extern "C" {
     pub fn pm_course_next(course: &CourseImage, host: &HostImage, next: &mut CourseJobImage) -> u8;
     pub fn pm_course_job_now(course: &CourseImage, now: &mut CourseJobImage) -> u8;
     pub fn pm_course_goal(course: &CourseImage, host: &HostImage, code: u8, word: &mut u16) -> u8;
-    pub fn pm_delivery_size() -> u64;
-    pub fn pm_delivery_version() -> u16;
-    pub fn pm_delivery_new(delivery: &mut DeliveryImage, output: u8, fault_limits: u8, lacks: u8, within: u16, rounds: u16)
-        -> u8;
-    pub fn pm_delivery_before(delivery: &mut DeliveryImage) -> u8;
-    pub fn pm_delivery_after(delivery: &mut DeliveryImage, off: u8) -> u8;
-    pub fn pm_delivery_frame(delivery: &mut DeliveryImage, host: &HostImage, sending: &mut SendingImage) -> u8;
-    pub fn pm_delivery_read_ended(delivery: &mut DeliveryImage, host: &HostImage, bytes: *const u8, count: u64) -> u8;
-    pub fn pm_delivery_verdict(delivery: &DeliveryImage, host: &HostImage, delivered: &mut DeliveredImage) -> u8;
     pub fn pm_delivery_judge(delivery: &DeliveryImage, host: &HostImage, word: u16, judgement: &mut JudgementImage) -> u8;
-    pub fn pm_stairs_size() -> u64;
-    pub fn pm_stairs_version() -> u16;
-    pub fn pm_stairs_new(stairs: &mut StairsImage, tries: u16, is_down: u8);
-    pub fn pm_stairs_ask(
-        stairs: &mut StairsImage,
+    pub fn pm_sequence_size() -> u64;
+    pub fn pm_sequence_version() -> u16;
+    pub fn pm_sequence_new(sequence: &mut SequenceImage, tries: u16, rules: u8);
+    pub fn pm_sequence_next(
+        sequence: &mut SequenceImage,
         host: &mut HostImage,
-        steps: *const StairsStepImage,
+        steps: *const SequenceStepImage,
         count: u64,
-        backs: *mut StairsStepImage,
+        records: *mut SequenceRecordImage,
         room: u64,
         frame: &mut SendingImage,
     ) -> u8;
-    pub fn pm_stairs_write_ended(stairs: &mut StairsImage, host: &mut HostImage, acked: u8) -> StepImage;
-    pub fn pm_stairs_read_ended(stairs: &mut StairsImage, host: &mut HostImage, bytes: *const u8, count: u64) -> StepImage;
-    pub fn pm_stairs_skip(stairs: &mut StairsImage) -> u8;
-    pub fn pm_stairs_check(host: &HostImage, step: &StairsStepImage, end: &mut StairsEndImage) -> u8;
+    pub fn pm_sequence_write_ended(sequence: &mut SequenceImage, host: &mut HostImage, acked: u8) -> StepImage;
+    pub fn pm_sequence_read_ended(sequence: &mut SequenceImage, host: &mut HostImage, bytes: *const u8, count: u64) -> StepImage;
     pub fn pm_refusal_name(number: u8, name: &mut NameImage) -> u8;
     pub fn pm_end_name(kind: u16, name: &mut NameImage) -> u8;
     pub fn pm_microvolts(format: &FormatImage, word: u16, microvolts: &mut i64) -> u8;

@@ -5,7 +5,6 @@
 mod bus;
 mod course;
 mod delivered;
-mod delivery;
 mod done;
 mod ffi;
 mod host;
@@ -26,15 +25,14 @@ mod rail;
 mod refusal;
 #[cfg(feature = "linux")]
 mod reserved;
-mod stairs;
-mod stairs_step;
+mod sequence;
 mod status;
+mod step;
 mod verdict;
 
 pub use bus::{Bus, Operation};
 pub use course::{AnswerFault, Course, NotReached, COURSE_TRIES};
-pub use delivered::{BeyondFaultLimit, Delivered, NotDelivered};
-pub use delivery::{Delivery, DeliveryOptions, FaultLimits, Judgement, Limit, PowerGood, DELIVERS_WITHIN, DELIVERY_ROUNDS};
+pub use delivered::{BeyondFaultLimit, Delivered, Judgement, Limit, NotDelivered};
 pub use done::{Done, NotDone};
 pub use host::{Band, Cell, Host, Known, Limits, LimitsState, Possible, Register, Sending, Step};
 pub use jobs::Job;
@@ -51,6 +49,8 @@ pub use rail::{Power, Rail, Selected, Wanted};
 pub use refusal::Refusal;
 #[cfg(feature = "linux")]
 pub use reserved::Reserved;
-pub use stairs::{Stairs, StairsEnd, StairsNext, StairsStop};
-pub use stairs_step::{Act, StairsStep, Wish, Wishes};
+pub use sequence::{Rules, Sequence, SequenceEnd, SequenceNext, SequenceStop};
+pub use step::{
+    Act, FaultLimits, Looks, PowerGood, SequenceRecord, SequenceStep, Wish, Wishes, DELIVERS_WITHIN, DELIVERY_ROUNDS,
+};
 pub use verdict::Verdict;

@@ -3,7 +3,6 @@
 use crate::bus::{Bus, Operation};
 use crate::course::Course;
 use crate::host::{Host, Sending, Step};
-use crate::jobs::Job;
 use crate::packet::Packet;
 use crate::patient::STORE_USER_ALL;
 use crate::refusal::Refusal;
@@ -34,29 +33,21 @@ impl<E> Failures<E> {
 pub(crate) struct Frames<'a> {
     host: &'a mut Host,
     course: Option<&'a mut Course>,
-    /// Whether it ends before an order of the course.
-    stops: bool,
 }
 
 impl<'a> Frames<'a> {
     /// Those of the host's open job.
     pub(crate) fn of_job(host: &'a mut Host) -> Frames<'a> {
-        Frames { host, course: None, stops: false }
+        Frames { host, course: None }
     }
 
     /// Those of a course.
     pub(crate) fn of_course(host: &'a mut Host, course: &'a mut Course) -> Frames<'a> {
-        Frames { host, course: Some(course), stops: false }
-    }
-
-    /// Those of a course before its next order.
-    pub(crate) fn before_order(host: &'a mut Host, course: &'a mut Course) -> Frames<'a> {
-        Frames { host, course: Some(course), stops: true }
+        Frames { host, course: Some(course) }
     }
 
     fn first(&mut self) -> Result<Sending, Refusal> {
         match &mut self.course {
-            Some(course) if self.stops && is_order(course.next(self.host)) => Ok(Sending::Nothing),
             Some(course) => course.frame(self.host),
             None => Ok(self.host.frame()),
         }
@@ -64,14 +55,14 @@ impl<'a> Frames<'a> {
 
     fn after_write(&mut self, acked: bool) -> Result<(Step, Sending), Refusal> {
         match &mut self.course {
-            Some(course) => course.after_write(self.host, acked, self.stops),
+            Some(course) => course.after_write(self.host, acked, false),
             None => Ok((self.host.write_ended(acked)?, self.host.frame())),
         }
     }
 
     fn after_read(&mut self, bytes: &[u8]) -> Result<(Step, Sending), Refusal> {
         match &mut self.course {
-            Some(course) => course.after_read(self.host, bytes, self.stops),
+            Some(course) => course.after_read(self.host, bytes, false),
             None => Ok((self.host.read_ended(bytes)?, self.host.frame())),
         }
     }
@@ -126,9 +117,4 @@ impl<'a> Frames<'a> {
         failures.answered(frame, came);
         self.after_read(came)
     }
-}
-
-/// Whether a job is an order.
-pub(crate) fn is_order(job: Option<Job>) -> bool {
-    matches!(job, Some(Job::Order(..)))
 }

@@ -5,26 +5,26 @@ use core::fmt;
 use crate::bus::Bus;
 use crate::course::{Course, NotReached, COURSE_TRIES};
 use crate::delivered::{Delivered, NotDelivered};
-use crate::delivery::Delivery;
 use crate::host::Host;
 use crate::rail::Power;
+use crate::step::{SequenceRecord, SequenceStep};
 
 /// How many jobs a course that turns an output off may have: over a dead bus it ends soon.
 const OFF_TRIES: u16 = 4;
 
 /// A host and its bus. When it is dropped it turns off the outputs that it turned on, the last one first, so that `?` leaves none of them on.
-/// An output that was on before its first course stays on. [`OffOnDrop::keep`] leaves all as they are. What becomes of the orders of a drop
+/// An output that was on before its first step stays on. [`OffOnDrop::keep`] leaves all as they are. What becomes of the orders of a drop
 /// isn't said: [`OffOnDrop::turn_off`] says it.
 ///
 /// ```
-/// use pmhost::{Course, Delivery, DeliveryOptions, FaultLimits, Host, Limits, NotDelivered, OffOnDrop, Output, Part, Reading, COURSE_TRIES};
+/// use pmhost::{FaultLimits, Host, Limits, Looks, NotDelivered, OffOnDrop, Output, Part, Reading, SequenceRecord, SequenceStep};
 ///
 /// fn bring_up(host: &mut Host, bus: &mut Part) -> Result<(), NotDelivered<pmhost::NoAnswer>> {
-///     let options = DeliveryOptions { fault_limits: FaultLimits::Skip, rounds: 2, ..DeliveryOptions::default() };
+///     let looks = Looks { fault_limits: FaultLimits::Skip, rounds: 2, ..Looks::default() };
 ///     let mut board = OffOnDrop::new(host, bus);
 ///     for output in 0..2 {
-///         let mut course = Course::power(output, 0x80, COURSE_TRIES)?;
-///         let _ = board.deliver(&mut course, &mut Delivery::new(output, &options)?, || ())?;
+///         let step = SequenceStep::turns(0, output, 0x80).with_looks(Some(looks));
+///         let _ = board.deliver(&step, &mut SequenceRecord::default(), |_| ())?;
 ///     }
 ///     board.keep();
 ///     Ok(())
@@ -64,20 +64,20 @@ impl<'a, B: Bus> OffOnDrop<'a, B> {
         OffOnDrop { host, bus, turned_on: [0; 8], count: 0 }
     }
 
-    /// As [`Host::deliver`]. Before an output's first course it is surveyed: one that isn't on is turned off at the end, whatever becomes
-    /// of the course. If nothing is known of it nothing is ordered.
+    /// As [`Host::deliver`]. Before an output's first step it is surveyed: one that isn't on is turned off at the end, whatever becomes
+    /// of the step. If nothing is known of it nothing is ordered.
     pub fn deliver(
         &mut self,
-        course: &mut Course,
-        delivery: &mut Delivery,
-        pause: impl FnMut(),
+        step: &SequenceStep,
+        record: &mut SequenceRecord,
+        wait: impl FnMut(u32),
     ) -> Result<Delivered, NotDelivered<B::Error>> {
-        let output = course.output();
+        let output = step.output();
         if !self.turned_on[..self.count].contains(&output) && !self.is_on(output)? {
             self.turned_on[self.count] = output;
             self.count += 1;
         }
-        self.host.deliver(course, delivery, self.bus, pause)
+        self.host.deliver(step, record, self.bus, wait)
     }
 
     /// Whether an output is on.

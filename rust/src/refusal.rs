@@ -161,15 +161,15 @@ refusals! {
     NoRoom = 0xEA,
     /// OPERATION may be a byte that hands the output's voltage to AVSBus.
     NoBand = 0xEB,
-    /// The memory holds no delivery. Of one that is made: the linked library's have another layout than this crate's.
+    /// Nothing was heard of a rail.
     NoDelivery = 0xEC,
     /// The course orders no word of this register.
     NoGoal = 0xED,
-    /// The memory holds no stairs. Of stairs that are made: the linked library's have another layout than this crate's.
+    /// The memory holds no stairs. No call of this crate answers it.
     NoStairs = 0xEE,
-    /// A step names a host that isn't there, or no step has stopped that can be left.
+    /// A step has a host, a wish or a look that there isn't, or a list has more than 65,535 steps.
     NoStep = 0xEF,
-    /// The memory holds no sequence. No call of this crate answers it.
+    /// The memory holds no sequence. Of one that is made: the linked library's have another layout than this crate's.
     NoSequence = 0xF0,
 }
 
@@ -187,7 +187,7 @@ impl fmt::Display for Refusal {
 
 impl core::error::Error for Refusal {}
 
-/// What a call answers if a course or stairs have ended, which refuses nothing.
+/// What a call answers if a course or a list has ended, which refuses nothing.
 pub(crate) const ENDED: u8 = 0x95;
 
 /// What a number says.

@@ -96,10 +96,10 @@ impl Verdict {
         }
     }
 
-    pub(crate) fn of(found: &ffi::DeliveredImage) -> Verdict {
+    pub(crate) fn of(found: &ffi::SaidImage) -> Verdict {
         let (code, word) = (found.code, found.word);
         let microvolts = (found.has_microvolts == 1).then_some(found.microvolts);
-        match found.kind {
+        match found.verdict {
             1 => Verdict::Delivers { microvolts },
             2 => Verdict::CommandedOff,
             3 => Verdict::NotKnownOn,
@@ -109,7 +109,7 @@ impl Verdict {
             7 => Verdict::Beyond { microvolts },
             8 => Verdict::PowerGoodAlone { microvolts },
             9 => Verdict::NoPowerGood,
-            10 => Verdict::NotKnown { code, fault: AnswerFault::of(found.fault) },
+            10 => Verdict::NotKnown { code, fault: AnswerFault::of(found.fault.to_le_bytes()[0]) },
             11 => Verdict::WentOff,
             12 => Verdict::StillOn,
             14 => Verdict::DeliversByReadVout { microvolts },

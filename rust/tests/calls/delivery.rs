@@ -7,7 +7,7 @@ use pmhost::*;
 /// `v` READ_VOUT gives none, `f` the fault limits give none, `g` power good is missing, `u` a fault of VOUT_UV comes with an order,
 /// `o` VOUT_OV_FAULT stands from the beginning, `c` CML comes with an order, `q` STATUS_WORD gives no answer after one, `p` READ_VOUT comes
 /// with another PEC, `i` a fault of IOUT comes with an order and STATUS_IOUT gives no answer, `d` READ_VOUT comes with another PEC in the
-/// first round and gives no answer then, `x` READ_VOUT is nothing but FFh, `k` no write is acknowledged.
+/// first round and gives no answer then, `x` READ_VOUT is nothing but FFh, `k` no write is acknowledged, `z` nothing is answered.
 struct Rail {
     part: Part,
     wrong: &'static str,
@@ -71,6 +71,9 @@ impl Bus for Rail {
     type Error = NoAnswer;
 
     fn transaction(&mut self, address: u8, operations: &mut [Operation<'_>]) -> Result<(), NoAnswer> {
+        if self.is('z') {
+            return Err(NoAnswer);
+        }
         if let [Operation::Write(request), Operation::Read(answer)] = operations {
             if let [0x06, 0x02, page, code] = **request {
                 self.asked.push(code);
@@ -105,16 +108,14 @@ fn delivered(wrong: &'static str, what: &str, fault_limits: FaultLimits) -> (Str
     let mut rail = Rail::of(wrong, if what == "on" { 0x00 } else { 0x80 });
     let mut host = Host::new(0x58, 1, 2).unwrap();
     host.set_limits(0, Limits { least: 500_000, most: 2_000_000 }).unwrap();
-    let mut course = match what {
-        "on" => Course::power(0, 0x80, COURSE_TRIES),
-        "off" => Course::power(0, 0x00, COURSE_TRIES),
-        "survey" => Course::survey(0, COURSE_TRIES),
-        microvolts => Course::voltage(0, Register::VoutCommand, microvolts.parse().unwrap(), COURSE_TRIES),
-    }
-    .unwrap();
-    let options = DeliveryOptions { fault_limits, rounds: 3, ..DeliveryOptions::default() };
-    let mut delivery = Delivery::new(0, &options).unwrap();
-    let said = match host.deliver(&mut course, &mut delivery, &mut rail, || ()) {
+    let act = match what {
+        "on" => Act::Turns(0x80),
+        "off" => Act::Turns(0x00),
+        "survey" => Act::Surveys,
+        microvolts => Act::Sets(Wishes::microvolts(microvolts.parse().unwrap())),
+    };
+    let step = SequenceStep::new(0, 0, act).with_looks(Some(Looks { fault_limits, rounds: 3, ..Looks::default() }));
+    let said = match host.deliver(&step, &mut SequenceRecord::default(), &mut rail, |_| ()) {
         Ok(verdict) => format!("well: {verdict}"),
         Err(why) => why.to_string(),
     };
@@ -183,87 +184,92 @@ fn an_end_says_what_the_rail_does() {
     }
 }
 
-/// A host whose output has limits, and a delivery of it in so many rounds.
-fn host_and_delivery(rounds: u16, has_read_vout: bool) -> (Host, Delivery) {
+/// A host whose output has limits.
+fn host() -> Host {
     let mut host = Host::new(0x58, 1, 2).unwrap();
     host.set_limits(0, Limits { least: 500_000, most: 2_000_000 }).unwrap();
-    let options = DeliveryOptions { rounds, has_read_vout, ..DeliveryOptions::default() };
-    (host, Delivery::new(0, &options).unwrap())
+    host
 }
 
-/// A set of an output over a bus, and what it says.
-fn set(host: &mut Host, delivery: &mut Delivery, rail: &mut Rail, microvolts: i64) -> Result<Delivered, NotDelivered<NoAnswer>> {
-    let mut course = Course::voltage(0, Register::VoutCommand, microvolts, COURSE_TRIES).unwrap();
-    host.deliver(&mut course, delivery, rail, || ())
+/// A set of an output over a bus in so many rounds, and what it says.
+fn set(
+    host: &mut Host,
+    record: &mut SequenceRecord,
+    rail: &mut Rail,
+    microvolts: i64,
+    looks: Looks,
+) -> Result<Delivered, NotDelivered<NoAnswer>> {
+    let step = SequenceStep::sets(0, 0, Wishes::microvolts(microvolts)).with_looks(Some(looks));
+    host.deliver(&step, record, rail, |_| ())
+}
+
+/// All is asked so often.
+fn rounds(rounds: u16) -> Looks {
+    Looks { rounds, ..Looks::default() }
 }
 
 #[test]
 fn a_register_is_missing_after_two_rounds_and_no_sooner() {
-    for (wrong, rounds, said) in [
+    for (wrong, count, said) in [
         ("v", 1, "delivery not known: READ_VOUT gave no good answer: no answer"),
         ("v", 2, "delivers by STATUS_WORD"),
         // The look before an order is a round of STATUS_WORD.
         ("s", 1, "delivers 1.100097V by READ_VOUT"),
         ("q", 1, "delivery not known: STATUS_WORD gave no good answer: no answer"),
     ] {
-        let (mut host, mut delivery) = host_and_delivery(rounds, true);
-        let found = match set(&mut host, &mut delivery, &mut Rail::of(wrong, 0x80), 1_100_000) {
+        let mut record = SequenceRecord::default();
+        let found = match set(&mut host(), &mut record, &mut Rail::of(wrong, 0x80), 1_100_000, rounds(count)) {
             Ok(verdict) => verdict.to_string(),
             Err(why) => why.to_string(),
         };
-        assert_eq!(found, said, "{wrong} {rounds}");
+        assert_eq!(found, said, "{wrong} {count}");
     }
 }
 
 #[test]
-fn nothing_is_asked_twice_in_a_chain_nor_of_a_register_that_is_missing() {
-    let (mut host, mut delivery) = host_and_delivery(3, true);
-    let mut rail = Rail::of("", 0x80);
+fn each_call_reads_the_limits_and_none_asks_a_register_that_is_missing() {
     let asked = |rail: &Rail, code| rail.asked.iter().filter(|it| **it == code).count();
+    let (mut host, mut record, mut rail) = (host(), SequenceRecord::default(), Rail::of("", 0x80));
     for microvolts in [1_100_000, 1_050_000] {
-        assert!(set(&mut host, &mut delivery, &mut rail, microvolts).is_ok());
+        assert!(set(&mut host, &mut record, &mut rail, microvolts, rounds(3)).is_ok());
     }
-    // STATUS_WORD once before both and once after each, the limits once.
-    assert_eq!((asked(&rail, 0x79), asked(&rail, 0x40), asked(&rail, 0x44), asked(&rail, 0x8B)), (3, 1, 1, 2));
-    let (mut host, mut delivery) = host_and_delivery(3, false);
+    // STATUS_WORD once before both and once after each, the limits before each.
+    assert_eq!((asked(&rail, 0x79), asked(&rail, 0x40), asked(&rail, 0x44), asked(&rail, 0x8B)), (3, 2, 2, 2));
     let mut rail = Rail::of("", 0x80);
-    let found = set(&mut host, &mut delivery, &mut rail, 1_100_000).unwrap();
+    let looks = Looks { has_read_vout: false, ..rounds(3) };
+    let found = set(&mut host, &mut SequenceRecord::default(), &mut rail, 1_100_000, looks).unwrap();
     assert_eq!((found.to_string().as_str(), asked(&rail, 0x8B)), ("delivers by STATUS_WORD", 0));
 }
 
 #[test]
 fn nothing_is_asked_before_an_order_that_turns_the_output_off() {
-    for is_begun in [false, true] {
-        let (mut host, mut delivery) = host_and_delivery(3, true);
-        let mut rail = Rail::of("", 0x80);
-        let mut course = Course::power(0, 0x00, COURSE_TRIES).unwrap();
-        if is_begun {
-            assert!(matches!(course.frame(&mut host), Ok(Sending::Write(_))));
-        }
-        let found = host.deliver(&mut course, &mut delivery, &mut rail, || ()).unwrap();
-        assert_eq!(
-            (found.to_string().as_str(), &rail.asked[..]),
-            ("the part says that it is off", &[0, 0x01, 0x79][..]),
-            "{is_begun}"
-        );
-    }
+    let mut rail = Rail::of("", 0x80);
+    let found = host().deliver(&SequenceStep::turns(0, 0, 0x00), &mut SequenceRecord::default(), &mut rail, |_| ()).unwrap();
+    assert_eq!((found.to_string().as_str(), &rail.asked[..]), ("the part says that it is off", &[0, 0x01, 0x79][..]));
+}
+
+#[test]
+fn limits_without_an_answer_are_told_once_in_a_chain() {
+    let (mut host, mut record, mut rail) = (host(), SequenceRecord::default(), Rail::of("f", 0x80));
+    let first = set(&mut host, &mut record, &mut rail, 1_100_000, rounds(3)).unwrap();
+    assert!(first.to_string().ends_with("gave no good answer, and aren't judged"), "{first}");
+    assert_eq!(set(&mut host, &mut record, &mut rail, 1_050_000, rounds(3)).unwrap().to_string(), "delivers 1.050048V");
 }
 
 #[test]
 fn what_an_earlier_call_wanted_is_told_of_no_later_one() {
     use std::error::Error;
-    let (mut host, mut delivery) = host_and_delivery(3, true);
-    let mut rail = Rail::of("k", 0x80);
+    let (mut host, mut record, mut rail) = (host(), SequenceRecord::default(), Rail::of("k", 0x80));
     // 1.25 V is above VOUT_OV_WARN_LIMIT, and no write arrives.
-    let mut course = Course::voltage(0, Register::VoutMarginHigh, 1_250_000, COURSE_TRIES).unwrap();
-    let lost = host.deliver(&mut course, &mut delivery, &mut rail, || ()).unwrap_err();
+    let high = SequenceStep::sets(0, 0, Wishes { margin_high: Wish::Microvolts(1_250_000), ..Wishes::default() });
+    let lost = host.deliver(&high, &mut record, &mut rail, |_| ()).unwrap_err();
     assert!(matches!(lost, NotDelivered::NotReached(NotReached::Differs { register: Register::VoutMarginHigh, .. })), "{lost}");
     assert!(lost.source().is_none());
     rail.wrong = "";
-    assert_eq!(set(&mut host, &mut delivery, &mut rail, 1_100_000).unwrap().to_string(), "delivers 1.100097V");
-    rail.wrong = "k";
-    let mut course = Course::voltage(0, Register::VoutCommand, 1_050_000, 7).unwrap();
-    let spent = host.deliver(&mut course, &mut delivery, &mut rail, || ()).unwrap_err();
+    let found = set(&mut host, &mut record, &mut rail, 1_100_000, rounds(3)).unwrap();
+    assert_eq!(found.to_string(), "delivers 1.100097V");
+    rail.wrong = "z";
+    let spent = set(&mut host, &mut record, &mut rail, 1_050_000, rounds(3)).unwrap_err();
     assert!(matches!(spent, NotDelivered::NotReached(NotReached::Spent { .. })), "{spent}");
     assert_eq!(spent.source().unwrap().to_string(), NoAnswer.to_string());
 }

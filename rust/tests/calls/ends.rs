@@ -327,7 +327,7 @@ fn an_error_is_one_line() {
 #[test]
 fn what_was_turned_on_is_turned_off_again_the_last_one_first() {
     let (neither, fault_limits) = (false, FaultLimits::Skip);
-    let unseen = DeliveryOptions { has_status_word: neither, has_read_vout: neither, fault_limits, ..DeliveryOptions::default() };
+    let unseen = Looks { has_status_word: neither, has_read_vout: neither, fault_limits, ..Looks::default() };
     type Orders = &'static [(u8, u8)];
     const ALL: Orders = &[(0, 0x80), (1, 0x80), (2, 0x80), (2, 0), (1, 0), (0, 0)];
     // OPERATION of the outputs before, which are brought up, whether they are kept, and the orders of OPERATION.
@@ -345,8 +345,8 @@ fn what_was_turned_on_is_turned_off_again_the_last_one_first() {
         let mut host = free(0x58, 3, 3);
         let mut board = OffOnDrop::new(&mut host, &mut bus);
         for &output in outputs {
-            let mut course = Course::power(output, 0x80, COURSE_TRIES).unwrap();
-            let _ = board.deliver(&mut course, &mut Delivery::new(output, &unseen).unwrap(), || ()).unwrap();
+            let step = SequenceStep::turns(0, output, 0x80).with_looks(Some(unseen));
+            let _ = board.deliver(&step, &mut SequenceRecord::default(), |_| ()).unwrap();
         }
         if keeps {
             board.keep();
@@ -362,8 +362,7 @@ fn what_was_turned_on_is_turned_off_again_the_last_one_first() {
 fn nothing_is_ordered_of_an_output_of_which_nothing_is_known() {
     let (mut host, mut bus) = (free(0x58, 1, 1), Scripted::new(&[Fails(&[])]));
     let mut board = OffOnDrop::new(&mut host, &mut bus);
-    let mut course = Course::power(0, 0x80, COURSE_TRIES).unwrap();
-    let ended = board.deliver(&mut course, &mut Delivery::new(0, &DeliveryOptions::default()).unwrap(), || ());
+    let ended = board.deliver(&SequenceStep::turns(0, 0, 0x80), &mut SequenceRecord::default(), |_| ());
     assert!(matches!(ended, Err(NotDelivered::NotReached(NotReached::Spent { .. }))));
     drop(board);
     assert!(bus.frames.iter().all(|frame| frame[1] != 0x05), "{:?}", bus.frames);

@@ -121,7 +121,7 @@ impl Row {
         host
     }
 
-    fn options(&self) -> DeliveryOptions {
+    fn looks(&self) -> Looks {
         let fault_limits = match self.said("limits") {
             Some("tell") => FaultLimits::Tell,
             Some("skip") => FaultLimits::Skip,
@@ -129,7 +129,8 @@ impl Row {
         };
         let power_good = if self.said("power-good") == Some("tell") { PowerGood::Tell } else { PowerGood::Judge };
         let number = |key, otherwise| self.said(key).map_or(otherwise, |text| text.parse().unwrap());
-        DeliveryOptions {
+        Looks {
+            has_to_deliver: false,
             fault_limits,
             power_good,
             has_status_word: self.lacks().all(|code| code != "79"),
@@ -176,23 +177,27 @@ fn name_of(cell: Option<Cell>) -> &'static str {
     }
 }
 
-fn course_of(call: &str) -> (u8, Course) {
+fn step_of(call: &str, looks: Looks) -> SequenceStep {
     let words: Vec<&str> = call.split(' ').collect();
     let output = words[1].parse().unwrap();
-    let course = match words[0] {
-        "survey" => Course::survey(output, COURSE_TRIES),
-        "power" => Course::power(output, u8::from_str_radix(words[2], 16).unwrap(), COURSE_TRIES),
-        "word" => {
-            let wanted =
-                pmhost::Wanted { command: Some(u16::from_str_radix(words[3], 16).unwrap()), ..pmhost::Wanted::default() };
-            Course::words(output, &wanted, COURSE_TRIES)
-        }
+    let wishes = |register, wish| match register {
+        Register::VoutMax => Wishes { max: wish, ..Wishes::default() },
+        Register::VoutMarginHigh => Wishes { margin_high: wish, ..Wishes::default() },
+        Register::VoutMarginLow => Wishes { margin_low: wish, ..Wishes::default() },
+        Register::VoutMin => Wishes { min: wish, ..Wishes::default() },
+        Register::VoutCommand => Wishes { command: wish, ..Wishes::default() },
+        Register::Operation => panic!("no voltage"),
+    };
+    let act = match words[0] {
+        "survey" => Act::Surveys,
+        "power" => Act::Turns(u8::from_str_radix(words[2], 16).unwrap()),
+        "word" => Act::Sets(wishes(register_of(words[2]), Wish::Word(u16::from_str_radix(words[3], 16).unwrap()))),
         _ => {
             let register = words.get(3).map_or(Register::VoutCommand, |code| register_of(code));
-            Course::voltage(output, register, words[2].parse().unwrap(), COURSE_TRIES)
+            Act::Sets(wishes(register, Wish::Microvolts(words[2].parse().unwrap())))
         }
     };
-    (output, course.unwrap())
+    SequenceStep::new(0, output, act).with_looks(Some(looks))
 }
 
 fn kind_of(verdict: &Verdict) -> &'static str {
@@ -235,6 +240,7 @@ fn ended(found: Result<Delivered, NotDelivered<NoAnswer>>) -> (&'static str, Opt
             ("P8", None, why.to_string().trim_start_matches("refused: ").to_string(), "1")
         }
         Err(NotDelivered::NotReached(why)) => ("ended", Some(end_of(why)), String::new(), "1"),
+        Err(NotDelivered::Stopped(end)) => ("stopped", None, end.to_string(), "1"),
         Err(NotDelivered::Refused(refusal)) => ("refused", None, refusal.to_string(), "1"),
     }
 }
@@ -266,19 +272,16 @@ fn again(host: &mut Host, part: &Field, all: &[(Cell, Option<u16>)]) -> Option<S
 fn is_as_its_row_says(row: &Row) {
     let name = row.said("name").unwrap();
     let (part, mut host, mut all, mut is_well) = (row.part(), row.host(), Vec::new(), true);
-    let mut deliveries = [0, 1].map(|output| Delivery::new(output, &row.options()).unwrap());
+    let mut records = [SequenceRecord::default(); 2];
     for wanted in row.calls() {
         assert_eq!(is_well, !wanted.is.is_empty(), "{name}: {} begins where each call before it ended well", wanted.call);
         if !is_well {
             continue;
         }
-        let (output, mut course) = course_of(wanted.call);
-        let waits = std::cell::Cell::new(0);
-        let pause = || {
-            part.set(0, "now", part.get(0, "now") + (10_000 << waits.get()));
-            waits.set(waits.get() + 1);
-        };
-        let found = host.deliver(&mut course, &mut deliveries[usize::from(output)], &mut &part, pause);
+        let step = step_of(wanted.call, row.looks());
+        let output = step.output();
+        let wait = |milliseconds| part.set(0, "now", part.get(0, "now") + 1000 * i64::from(milliseconds));
+        let found = host.deliver(&step, &mut records[usize::from(output)], &mut &part, wait);
         let (kind, end, says, status) = ended(found);
         let is = format!("{kind} {}", part.get(output, "microvolts"));
         assert_eq!((is.as_str(), status), (wanted.is, wanted.status), "{name}: {}, {end:?} {says}", wanted.call);

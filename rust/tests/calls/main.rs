@@ -10,7 +10,7 @@ mod formats;
 mod other_library;
 mod patience;
 mod rails;
-mod stairs;
+mod sequences;
 
 use pmhost::*;
 

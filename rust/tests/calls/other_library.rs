@@ -8,10 +8,9 @@ use pmhost::*;
 thread_local! {
     /// What is added to each answer in this thread: the version, the host's version and size, the part's size.
     static MORE: Cell<(u16, u16, u64, u64)> = const { Cell::new((0, 0, 0, 0)) };
-    /// The course's version and size, the delivery's, and those of stairs.
+    /// The course's version and size, and the list's.
     static MORE_OF_A_COURSE: Cell<(u16, u64)> = const { Cell::new((0, 0)) };
-    static MORE_OF_A_DELIVERY: Cell<(u16, u64)> = const { Cell::new((0, 0)) };
-    static MORE_OF_STAIRS: Cell<(u16, u64)> = const { Cell::new((0, 0)) };
+    static MORE_OF_A_SEQUENCE: Cell<(u16, u64)> = const { Cell::new((0, 0)) };
 }
 
 macro_rules! wrapped {
@@ -34,10 +33,8 @@ wrapped! {
     __wrap_pm_part_size __real_pm_part_size u64: MORE.get().3;
     __wrap_pm_course_version __real_pm_course_version u16: MORE_OF_A_COURSE.get().0;
     __wrap_pm_course_size __real_pm_course_size u64: MORE_OF_A_COURSE.get().1;
-    __wrap_pm_delivery_version __real_pm_delivery_version u16: MORE_OF_A_DELIVERY.get().0;
-    __wrap_pm_delivery_size __real_pm_delivery_size u64: MORE_OF_A_DELIVERY.get().1;
-    __wrap_pm_stairs_version __real_pm_stairs_version u16: MORE_OF_STAIRS.get().0;
-    __wrap_pm_stairs_size __real_pm_stairs_size u64: MORE_OF_STAIRS.get().1;
+    __wrap_pm_sequence_version __real_pm_sequence_version u16: MORE_OF_A_SEQUENCE.get().0;
+    __wrap_pm_sequence_size __real_pm_sequence_size u64: MORE_OF_A_SEQUENCE.get().1;
 }
 
 #[test]
@@ -60,13 +57,9 @@ fn another_library_is_refused() {
         MORE_OF_A_COURSE.set(more);
         assert_eq!(Course::survey(0, 1).err(), wanted, "{more:?}");
     }
-    for (more, wanted) in [((0, 0), None), ((1, 0), Some(Refusal::NoDelivery)), ((0, 8), Some(Refusal::NoDelivery))] {
-        MORE_OF_A_DELIVERY.set(more);
-        assert_eq!(Delivery::new(0, &DeliveryOptions::default()).err(), wanted, "{more:?}");
-    }
-    for (more, wanted) in [((0, 0), None), ((1, 0), Some(Refusal::NoStairs)), ((0, 8), Some(Refusal::NoStairs))] {
-        MORE_OF_STAIRS.set(more);
-        assert_eq!((Stairs::up(1).err(), Stairs::down(1).err()), (wanted, wanted), "{more:?}");
+    for (more, wanted) in [((0, 0), None), ((1, 0), Some(Refusal::NoSequence)), ((0, 8), Some(Refusal::NoSequence))] {
+        MORE_OF_A_SEQUENCE.set(more);
+        assert_eq!(Sequence::new(1, Rules::UP).err(), wanted, "{more:?}");
     }
     for (more, wanted) in [(0, None), (2, Some(Refusal::NoPart)), (u64::MAX, Some(Refusal::NoPart))] {
         MORE.set((0, 0, 0, more));
