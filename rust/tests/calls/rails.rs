@@ -301,3 +301,19 @@ fn what_isnt_reached_is_told_in_a_line() {
         assert_eq!(end.to_string(), line);
     }
 }
+
+#[test]
+fn a_course_stops_before_its_order() {
+    let mut part = Part::new(0x58, &[Output::default()], (1, 0, 3)).unwrap();
+    let mut host = unlimited(Host::new(0x58, 1, 3).unwrap());
+    let mut course = Course::voltage(0, Register::VoutCommand, 1_100_000, COURSE_TRIES).unwrap();
+    let mut sending = course.frame(&mut host).unwrap();
+    while let Sending::Request { frame, .. } = sending {
+        let Ok(Heard::Answered(bytes)) = part.hear(&frame, true) else { panic!("no answer") };
+        sending = course.after_read(&mut host, &bytes, true).unwrap().1;
+    }
+    let word = course.goal(&host, Register::VoutCommand).unwrap();
+    assert_eq!((sending, course.end()), (Sending::Nothing, None));
+    assert_eq!(course.next(&host), Some(Job::Order(Cell::Output(0, Register::VoutCommand), word)));
+    assert!(matches!(course.frame(&mut host), Ok(Sending::Write(_))));
+}

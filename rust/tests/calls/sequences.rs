@@ -308,6 +308,13 @@ fn a_survey_orders_nothing_and_a_rest_undoes_it() {
     let steps = [must(SequenceStep::new(0, 1, Act::Surveys))];
     assert_eq!(boards.end(&mut up(), &steps, &mut records).what, SequenceStop::Reached);
     assert_eq!((records[0].back().act(), boards.parts[0].writes, records[0].status()), (Act::Rests, 0, Some(0)));
+    // One that is off is good, unless it has to deliver.
+    let off = SequenceStep::turns(0, 1, 0x00);
+    assert_eq!(boards.end(&mut up(), &[off], &mut records).what, SequenceStop::Reached);
+    let loose = [steps[0].with_looks(Some(Looks::default()))];
+    assert_eq!(boards.end(&mut up(), &loose, &mut records).what, SequenceStop::Reached);
+    let end = boards.end(&mut up(), &steps, &mut records);
+    assert!(matches!(end.what, SequenceStop::Does(found) if found.verdict == Verdict::CommandedOff && !found.is_good()), "{end}");
 }
 
 #[test]
@@ -348,6 +355,35 @@ fn a_step_has_its_tries() {
         boards.parts[0].frames
     };
     assert_eq!([1, 2, 3].map(frames), [4, 8, 12]);
+}
+
+#[test]
+fn a_way_down_tells_a_lost_order() {
+    let mut boards = Boards::new();
+    let mut down = Sequence::new(1, Rules::DOWN).unwrap();
+    let [host, _] = &mut boards.hosts;
+    let list = [SequenceStep::turns(0, 0, 0x00).with_looks(None)];
+    let part = &mut boards.parts[0];
+    let send = |_: usize, frame: &Sending, answer: &mut [u8]| match frame {
+        Sending::Write(_) => None, // the part never hears it
+        _ => part.send(frame, answer).ok(),
+    };
+    let mut told = Vec::new();
+    let ended = down.run(
+        &list,
+        &mut [],
+        &mut [host],
+        send,
+        |_| (),
+        |said| {
+            told.push(*said);
+            true
+        },
+    );
+    assert!(matches!(ended, Ok(SequenceNext::Ended(end)) if end.what == SequenceStop::Left(1)), "{ended:?}");
+    let cell = Some(Cell::Output(0, Register::Operation));
+    let why = NotReached::Spent { cell, fault: Some(AnswerFault::NotAcknowledged), error: None };
+    assert_eq!(told, [SequenceNext::Told(SequenceEnd { step: 0, what: SequenceStop::NotReached(why) })]);
 }
 
 #[test]
