@@ -128,7 +128,7 @@ impl Delivered {
         self.is_good
     }
 
-    /// The same, without the limits that were told to have given no good answer.
+    /// The same, without the limits of which an earlier call said that they gave no good answer.
     pub(crate) fn without(mut self, told: [bool; 4]) -> Delivered {
         self.silent.iter_mut().zip(told).for_each(|(silent, told)| *silent &= !told);
         self
@@ -318,7 +318,7 @@ pub struct BeyondFaultLimit {
 }
 
 impl BeyondFaultLimit {
-    /// The first of what a step wants that is at or beyond the fault limit that a list said.
+    /// The first of a step's words that is at or beyond the fault limit that a list said.
     pub(crate) fn of(said: &ffi::SaidImage, step: &SequenceStep, host: &Host) -> BeyondFaultLimit {
         let format = host.format(step.output()).ok().flatten();
         let volts = |word| format.and_then(|format| format.microvolts(word).ok());

@@ -62,7 +62,7 @@ pub enum SequenceStop {
     Does(Delivered),
 }
 
-/// How a list ended, or what is told of one of its steps.
+/// How a list ended, or what it says of one of its steps.
 #[derive(Clone, Copy, Debug, PartialEq, Eq)]
 #[must_use = "a list may have ended in another way than `Reached`"]
 pub struct SequenceEnd {
@@ -217,7 +217,7 @@ pub enum SequenceNext {
 /// # Ok::<(), Box<dyn core::error::Error>>(())
 /// ```
 ///
-/// In a handler of interrupts each transfer's end is told, and what comes next is asked once more:
+/// In a handler of interrupts each transfer's end is handed over, and what comes next is asked once more:
 ///
 /// ```
 /// use pmhost::{Host, Sending, Sequence, SequenceNext, SequenceRecord, SequenceStep};
@@ -411,7 +411,7 @@ impl Sequence {
         }
     }
 
-    /// Has a frame sent, and tells what became of it.
+    /// Has a frame sent, and hands over what became of it.
     fn sent(&mut self, host: &mut Host, frame: &Sending, send: impl FnOnce(&mut [u8]) -> Option<usize>) -> Result<Step, Refusal> {
         let Sending::Request { frame, answer } = frame else {
             let acked = send(&mut []).is_some();
@@ -431,7 +431,7 @@ impl Host {
     /// output that doesn't do yet what it is to.
     ///
     /// The record is a new one, or that of the call before of this output: which faults stood before the first of these calls is kept, and
-    /// that a limit gave no good answer isn't told once more.
+    /// that a limit gave no good answer isn't said once more.
     ///
     /// ```
     /// use pmhost::{FaultLimits, Host, Looks, NotDelivered, Output, Part, Reading, SequenceRecord, SequenceStep, Wishes};
