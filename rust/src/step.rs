@@ -206,10 +206,13 @@ impl SequenceStep {
         self
     }
 
-    /// The same step, after an earlier list of its output whose record this is: a fault that stood before that list isn't new.
+    /// The same step, after an earlier list whose record this is: which faults are new is judged by what stood before that list. A record of
+    /// another output changes nothing.
     #[must_use]
     pub fn after(mut self, record: &SequenceRecord) -> SequenceStep {
-        self.image.before = record.image.look.before;
+        if record.image.look.output == self.image.output {
+            self.image.before = record.image.look.before;
+        }
         self
     }
 

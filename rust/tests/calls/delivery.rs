@@ -249,6 +249,21 @@ fn nothing_is_asked_before_an_order_that_turns_the_output_off() {
 }
 
 #[test]
+fn a_fault_that_came_with_a_chain_stays_new_in_it() {
+    let (mut host, mut record, mut rail) = (host(), SequenceRecord::default(), Rail::of("u", 0x80));
+    let new = "STATUS_WORD 8000 VOUT and STATUS_VOUT 10 VOUT_UV_FAULT: VOUT_UV_FAULT came with this call";
+    for microvolts in [1_100_000, 1_050_000] {
+        let found = set(&mut host, &mut record, &mut rail, microvolts, rounds(3));
+        assert_eq!(found.unwrap_err().to_string(), new);
+    }
+    let found = set(&mut host, &mut SequenceRecord::default(), &mut rail, 1_100_000, rounds(3)).unwrap();
+    assert!(found.to_string().starts_with("delivers 1.100097V; STATUS_WORD 8000 VOUT (set before this call)"), "{found}");
+    // A record of another output says nothing of this one.
+    let [own, other] = [0, 1].map(|output| SequenceStep::turns(0, output, 0x80));
+    assert_eq!((own.after(&record) == own, other.after(&record) == other), (false, true));
+}
+
+#[test]
 fn limits_without_an_answer_are_told_once_in_a_chain() {
     let (mut host, mut record, mut rail) = (host(), SequenceRecord::default(), Rail::of("f", 0x80));
     let first = set(&mut host, &mut record, &mut rail, 1_100_000, rounds(3)).unwrap();
