@@ -197,7 +197,7 @@ pub struct JudgementImage {
 }
 
 #[repr(C)]
-#[derive(Clone, Copy, Default)]
+#[derive(Clone, Copy, Default, PartialEq, Eq)]
 pub struct SequenceWishImage {
     pub kind: u16,
     pub word: u16,
@@ -206,7 +206,7 @@ pub struct SequenceWishImage {
 }
 
 #[repr(C)]
-#[derive(Clone, Copy, Default)]
+#[derive(Clone, Copy, Default, PartialEq, Eq)]
 pub struct SequenceStepImage {
     pub host: u8,
     pub output: u8,

@@ -143,7 +143,7 @@ pub enum Act {
 }
 
 /// A step: an output of the host at a place, what is done to it, and how its rail is looked at.
-#[derive(Clone, Copy)]
+#[derive(Clone, Copy, PartialEq, Eq)]
 #[repr(transparent)]
 pub struct SequenceStep {
     pub(crate) image: ffi::SequenceStepImage,
@@ -316,15 +316,6 @@ impl fmt::Debug for SequenceStep {
         step.field("looks", &self.looks()).field("wait", &self.wait()).finish()
     }
 }
-
-impl PartialEq for SequenceStep {
-    fn eq(&self, other: &SequenceStep) -> bool {
-        let parts = |it: &SequenceStep| (it.host(), it.output(), it.act(), it.looks(), it.wait(), it.image.before);
-        parts(self) == parts(other)
-    }
-}
-
-impl Eq for SequenceStep {}
 
 /// What a list keeps of a step, at its place: the step that undoes it, and what was heard of its rail.
 #[derive(Clone, Copy, Default)]

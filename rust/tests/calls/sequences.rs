@@ -211,6 +211,20 @@ fn a_list_over_two_parts_goes_up_and_comes_back() {
 }
 
 #[test]
+fn each_host_has_a_bus_of_its_own_type() {
+    let (mut board, mut part) = (Board::new(0x58), Part::new(0x59, &[Output::default()], (1, 0, 3)).unwrap());
+    let (mut first, mut second) = (unlimited(Host::new(0x58, 2, 2).unwrap()), unlimited(Host::new(0x59, 1, 2).unwrap()));
+    let send = |at: usize, frame: &Sending, answer: &mut [u8]| match at {
+        0 => board.send(frame, answer).ok(),
+        _ => part.send(frame, answer).ok(),
+    };
+    let (steps, mut records) = ([sets(0, 0, 1_200_000), SequenceStep::turns(1, 0, 0)], [SequenceRecord::default(); 2]);
+    let ended = up().run(&steps, &mut records, &mut [&mut first, &mut second], send, |_| (), |_| true);
+    assert_eq!(ended, Ok(SequenceNext::Ended(SequenceEnd { step: 2, what: SequenceStop::Reached })));
+    assert_eq!((board.word(0, Register::VoutCommand), part.is_on(0)), (0x1333, Ok(false)));
+}
+
+#[test]
 fn a_rail_that_stays_off_ends_a_way_up() {
     let mut boards = Boards::new();
     boards.parts[1].is_off = true;
