@@ -388,6 +388,10 @@ fn a_main_prints_the_words_of_an_error() {
         (format!("{spent:?}"), of_spent),
         (format!("{:?}", NotDelivered::NotReached(spent)), of_spent),
         (format!("{:?}", NotDelivered::<Broken>::Refused(Refusal::H3Busy)), "refused: H3 Busy"),
+        (
+            format!("{:?}", NotDelivered::<Broken>::Stopped(SequenceEnd { step: 0, what: SequenceStop::Changed })),
+            "step 0: the format changed, or another orders beside it",
+        ),
     ] {
         assert_eq!(said, words);
     }
