@@ -359,6 +359,27 @@ fn a_part_that_restarts_ends_a_way_up() {
 }
 
 #[test]
+fn another_who_orders_beside_a_step_is_seen_as_a_restart() {
+    let mut boards = Boards::new();
+    let wishes = Wishes { margin_high: Wish::Word(0x1100), ..Wishes::microvolts(1_200_000) };
+    let (steps, mut records) = ([SequenceStep::sets(0, 0, wishes)], [SequenceRecord::default()]);
+    let ([host, _], [board, _]) = (&mut boards.hosts, &mut boards.parts);
+    let send = |_: usize, frame: &Sending, answer: &mut [u8]| {
+        let ended = board.send(frame, answer).ok();
+        if board.writes == 1 {
+            // VOUT_MARGIN_HIGH, which the step found as it is to be.
+            let mut order = framed(0x58, &[0x05, 0x04, 0x00, 0x25, 0x80, 0x11]);
+            order.push(pec(&order));
+            assert!(matches!(board.part.hear(&order, false), Ok(Heard::Taken)));
+        }
+        ended
+    };
+    let ended = up().run(&steps, &mut records, &mut [host], send, |_| (), |_| true);
+    assert_eq!(ended, Ok(SequenceNext::Ended(SequenceEnd { step: 0, what: SequenceStop::Restarted })));
+    assert_eq!(board.writes, 1);
+}
+
+#[test]
 fn a_step_has_its_tries() {
     let frames = |tries| {
         let mut boards = Boards::new();
