@@ -8,8 +8,8 @@ ghost use Rattle.pm_sequence_laws.specs.Runs.{ReachedSequencesDeliver};
 ghost use Rattle.pm_sequence_laws.specs.Turned.{SequencesTurn};
 
 use pm_sequence_laws::{
-    calls_are_runs, earlier_answers_count, finds_are_verdicts, limits_are_read, orders_are_judged, orders_are_told,
-    reached_sequences_deliver, sequences_turn,
+    calls_are_runs, earlier_answers_count, finds_are_verdicts, limits_are_read, orders_are_judged,
+    orders_are_told, reached_sequences_deliver, sequences_turn,
 };
 
 /// A caller's own loop begins no order that wasn't judged by fault limits that were asked to the end; nor one that wasn't told, in a list that asks.

@@ -1,5 +1,5 @@
 -- Each call of a sequence is a step of its run.
-use Rattle.std.proofs.Common.{◌≡◌, ℕ, List, ◌++◌, Option, Some, None, refl}
+use Rattle.std.proofs.Common.{ℕ, List, ◌++◌, Option, refl}
 use Rattle.std.specs.Prelude.{Result}
 use Rattle.pm_host.specs.declared.fault.Untold.{Untold}
 use Rattle.pm_host.specs.declared.stage.Stage.{Stage}
@@ -7,7 +7,6 @@ use Rattle.pm_host.specs.Transcript.{Entry}
 use Rattle.pm_limits.specs.Guard.{Guarded}
 use Rattle.pm_course.specs.declared.frames.Sending.{Sending}
 use Rattle.pm_course.specs.declared.hosted.Heard.{Heard}
-use Rattle.pm_sequence.specs.declared.look.Look.{Look}
 use Rattle.pm_sequence.specs.declared.look.LookAct.{LookAct}
 use Rattle.pm_sequence.specs.declared.look.LookAct.TheVariants as look
 use Rattle.pm_sequence.specs.declared.sequence.Act.{Act}
@@ -36,24 +35,24 @@ module _ (steps : Places) (tries : ℕ) (rules : Rules) (marks : List Mark) (g :
 
 -- what is heard changes what is known alone
 stays : (old : Sequence) → HearsInRun old old
-stays old = record { begun = refl; shown = refl; looked = refl; left = refl; ended = refl; }
+stays old = record { begun = refl; shown = refl; looked = refl; left = refl; ended = refl }
 
 told : (g after : Guarded) (old new : Sequence) (entry : Entry) (result : Result (Unit {0}) Untold) → Hears g old entry result after new
     → HearsInRun old new
 told g after old new entry result (does.nothing none) = stays old
 told g after old new entry result (does.heard course is result' after' opens hears) =
-    record { begun = refl; shown = refl; looked = refl; left = refl; ended = refl; }
+    record { begun = refl; shown = refl; looked = refl; left = refl; ended = refl }
 
 told-at : (g after : Guarded) (old new : Sequence) (stage : Stage) (entry : Entry) (result : Heard) → HearsAt g old stage entry result after new
     → HearsInRun old new
 told-at g after old new stage entry result (does.course named is opens tells) =
-    record { begun = refl; shown = refl; looked = refl; left = refl; ended = refl; }
+    record { begun = refl; shown = refl; looked = refl; left = refl; ended = refl }
 told-at g after old new stage entry result (does.alone none tells) = stays old
 
 module _ (g : Guarded) (old : Sequence) (bytes : List ℕ) where
   by-act : (x : LookAct) → HearsInRun old (heard_by g old bytes x)
-  by-act (look.Ask question) = record { begun = refl; shown = refl; looked = refl; left = refl; ended = refl; }
-  by-act look.Probe = record { begun = refl; shown = refl; looked = refl; left = refl; ended = refl; }
+  by-act (look.Ask question) = record { begun = refl; shown = refl; looked = refl; left = refl; ended = refl }
+  by-act look.Probe = record { begun = refl; shown = refl; looked = refl; left = refl; ended = refl }
   by-act look.Pause = stays old
   by-act look.Again = stays old
   by-act look.Over = stays old
