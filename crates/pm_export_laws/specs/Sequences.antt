@@ -77,7 +77,7 @@ pub record IsRun (steps : List SequenceStepImage) (tries rules : ℕ) (marks : L
   pub held : sequence_in image ≡ Some q
   pub runs : Runs (places_of steps) tries (rules_said rules) marks q
 
--- Where the list has come to Reached no step was left, each has begun, and each that has to deliver was found to after its last order.
+-- A list that has come to Reached left no step, each has begun, and each that has to deliver was found to after its last order.
 abbrev pub ReachedInMemory : Type 0
 ReachedInMemory = (steps : List SequenceStepImage) (tries rules : ℕ) (marks : List Mark) (image : SequenceImage) (q : Sequence) →
     RunsInMemory steps tries rules marks image → sequence_in image ≡ Some q → q.end ≡ Some end.Reached →
