@@ -1,2 +1,3 @@
 -- What the crate promises.
 pub mod Steps
+pub mod Sequences

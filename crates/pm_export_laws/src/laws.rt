@@ -1,8 +1,11 @@
-//! The law, over nothing but definitions.
+//! The laws, over nothing but definitions.
 
+ghost use Rattle.pm_export_laws.specs.Sequences.{SequenceCallsAreRuns};
 ghost use Rattle.pm_export_laws.specs.Steps.{ExportsAreSteps};
 
 use pm_course_laws::frame_courses_hold_in_lives;
+use pm_memory::sequences_are_kept;
+use pm_sequence_laws::{calls_are_runs, reached_sequences_deliver};
 use pm_world::lives_are_followed;
 
 /// While a host's memory means the host of a life, and a course's memory a course of that life, the work of `pm_course_frame` isn't refused,
@@ -14,4 +17,16 @@ pub fn exports_are_steps()
 {
     frame_courses_hold_in_lives();
     lives_are_followed();
+}
+
+/// The calls that C makes of a list of steps are a run of it (`runs`), from `pm_sequence_new` on: those of `pm_sequence_next`, and those that
+/// tell what became of a frame. A refused one changes nothing. Where the memory's sequence has come to `PM_REACHED` no step was left, each step
+/// of the list has begun, and each that has to deliver was found to after its last order (`reached`). Each call has to find the memory as the
+/// call before left it, and that has to read as the sequence that was written, which pm_memory proves of sequences that memory keeps.
+pub fn sequence_calls_are_runs()
+    ensures { SequenceCallsAreRuns }
+{
+    sequences_are_kept();
+    calls_are_runs();
+    reached_sequences_deliver();
 }

@@ -1,14 +1,15 @@
 //! What a list of steps is worth whose rails are looked at.
 
 ghost use Rattle.pm_sequence_laws.specs.Finds.{FindsAreVerdicts};
+ghost use Rattle.pm_sequence_laws.specs.Handed.{CallsAreRuns};
 ghost use Rattle.pm_sequence_laws.specs.Judged.{OrdersAreJudged, OrdersAreTold};
 ghost use Rattle.pm_sequence_laws.specs.Read.{EarlierAnswersCount, LimitsAreRead};
 ghost use Rattle.pm_sequence_laws.specs.Runs.{ReachedSequencesDeliver};
 ghost use Rattle.pm_sequence_laws.specs.Turned.{SequencesTurn};
 
 use pm_sequence_laws::{
-    earlier_answers_count, finds_are_verdicts, limits_are_read, orders_are_judged, orders_are_told,
-    reached_sequences_deliver, sequences_turn,
+    calls_are_runs, earlier_answers_count, finds_are_verdicts, limits_are_read, orders_are_judged,
+    orders_are_told, reached_sequences_deliver, sequences_turn,
 };
 
 /// A caller's own loop begins no order that wasn't judged by fault limits that were asked to the end; nor one that wasn't told, in a list that asks.
@@ -25,11 +26,13 @@ pub fn orders_of_a_sequence()
     earlier_answers_count();
 }
 
-/// A list that ends as reached has each rail that has to deliver do so, by pm_delivery's verdict.
+/// A list that ends as reached has each rail that has to deliver do so, by pm_delivery's verdict, whatever calls a caller's own loop makes of it.
 pub fn rails_of_a_sequence()
     ensures reached { ReachedSequencesDeliver }
     ensures found { FindsAreVerdicts }
+    ensures calls { CallsAreRuns }
 {
+    calls_are_runs();
     reached_sequences_deliver();
     finds_are_verdicts();
 }

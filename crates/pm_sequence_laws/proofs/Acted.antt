@@ -3,6 +3,7 @@ use Rattle.std.proofs.Common.{◌≡◌, ◌+◌, ℕ, zero, suc, Bool, true, fa
 use Rattle.std.specs.Prelude.{not, ◌&&◌, ◌||◌, ◌==◌, nat_lt}
 use Rattle.std.proofs.lemmas.Bool.{eqb-true, true≢false}
 use Rattle.pm_host.specs.declared.job.Job.{Job}
+use Rattle.pm_limits.specs.declared.fault.LimitFault.{LimitFault}
 use Rattle.pm_limits.specs.Guard.{Guarded}
 use Rattle.pm_delivery.specs.declared.verdict.Verdict.{Verdict}
 use Rattle.pm_stairs.specs.declared.sequence.Placed.{Placed}
@@ -24,6 +25,7 @@ use Rattle.pm_sequence.specs.declared.sequence.Phase.{Phase}
 use Rattle.pm_sequence.specs.declared.sequence.Phase.TheVariants as phase
 use Rattle.pm_sequence.specs.declared.sequence.Sequence.{Sequence}
 use Rattle.pm_sequence.specs.declared.step.Step.{Step}
+use Rattle.pm_sequence.specs.Frames.{job_named, refusal_end, refused_act, refused_after, refused_with}
 use Rattle.pm_sequence.specs.Gate.{is_order, is_untold}
 use Rattle.pm_sequence.specs.Look.{look_act, look_after}
 use Rattle.pm_sequence.specs.Sequence.{Acts, Steps, act_of, after_of, again_after, ahead_act, ahead_after, begun_with, done_act, done_after, due_in, end_of, found_in, gate, gated_act, gated_after, is_good, job_after, judged_in, looked_act, looked_after, look_before, may_leave, needs_look, over_act, over_after, read_after, said_act, said_after, shown, step_act, step_after, stopped_act, stopped_after, told_with, verdict_in, with_list, with_look}
@@ -253,3 +255,20 @@ module _ (steps : Places) (was : Sequence) where
   kind g said new (does.after on is) =
       said-kind on g (look_after was.look g.host.setup.passes (due_in g was.look.delivery))
       (look_act was.look g.host.setup.passes (due_in g was.look.delivery))
+
+  -- a job is named before the end alone
+  named-on : (g : Guarded) (under ahead : Option Step) (job : Job) (named : Act) (new : Sequence) → Acts g under ahead was named new
+      → job_named named ≡ Some job → was.end ≡ None
+  named-on g under ahead job _ new (does.ended why is) names = cc
+  named-on g under ahead job named new (does.steps said' new' on is says) names = on
+  named-on g under ahead job _ new (does.before on is) names = on
+  named-on g under ahead job _ new (does.after on is) names = on
+
+  -- the guard refuses the job that is named
+  pub refuse-kind : (g : Guarded) (job : Job) (named : Act) (fault : LimitFault) (is : Sequence)
+      → Acts g (under_at steps was.list.begun) (steps was.list.begun) was named is → job_named named ≡ Some job
+      → Kind steps was (refused_after was is named (refusal_end fault job))
+      (marks_of (refused_after was is named (refusal_end fault job)).list.begun (refused_act was is named (refusal_end fault job)))
+  refuse-kind g job named fault is says names =
+      stop-kind (refused_with was is named) (refusal_end fault job) (λ e. cc) refl (λ e. e) (λ e. e) refl
+      (named-on g (under_at steps was.list.begun) (steps was.list.begun) job named is says names)

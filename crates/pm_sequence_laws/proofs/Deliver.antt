@@ -12,7 +12,7 @@ use Rattle.pm_sequence.specs.declared.step.Step.{Step}
 use Rattle.pm_sequence.specs.Sequence.{is_good, new_sequence}
 use Rattle.pm_sequence_laws.specs.Runs.{Mark, Orders, Does, Leaves, Places, NoneLeft, ReachedSequencesDeliver, Runs, must, settled, under_at}
 use Rattle.pm_sequence_laws.specs.Runs as run
-use Rattle.pm_sequence_laws.proofs.Acted.{Begun, Kind, kind}
+use Rattle.pm_sequence_laws.proofs.Acted.{Begun, Kind, kind, refuse-kind}
 use Rattle.pm_sequence_laws.proofs.Acted as is
 
 abbrev Short : Places → Type 0
@@ -162,6 +162,8 @@ module _ (steps : Places) (short : Short steps) (tries : ℕ) (rules : Rules) wh
   invariant marks q run.starts = inv-new steps tries rules
   invariant marks q (run.acts g said before old new runs says) =
       kept steps short before old new (invariant before old runs) _ (kind steps old g said new says)
+  invariant marks q (run.refuses g job named fault before old after runs says names refuses) =
+      kept steps short before old _ (invariant before old runs) _ (refuse-kind steps old g job named fault after says names)
   invariant marks q (run.hears before old new runs hears) =
       kept steps short before old new (invariant before old runs) [] (is.quiet hears.begun (λ e. sym hears.shown ∙ e) (λ e. sym hears.looked ∙ e)
       hears.left (λ e. sym hears.ended ∙ e))

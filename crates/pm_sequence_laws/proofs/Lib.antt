@@ -3,6 +3,7 @@ pub mod Judged
 pub mod Counts
 pub mod Acted
 pub mod Deliver
+pub mod Handed
 pub mod Listed
 pub mod Asked
 pub mod Found

@@ -1,6 +1,8 @@
 -- What a run of a sequence comes to: this project's own choice. What happened is newest first. A step is named by how many had begun with it.
 use Rattle.std.specs.Prelude.{◌≡◌, ◌<◌, ℕ, zero, suc, Bool, true, false, ◌&&◌, ◌==◌, nat_lt, if◌then◌else◌, List, [], ◌∷◌, ◌++◌, Option, Some, None}
-use Rattle.pm_limits.specs.Guard.{Guarded}
+use Rattle.pm_host.specs.declared.job.Job.{Job}
+use Rattle.pm_limits.specs.declared.fault.LimitFault.{LimitFault}
+use Rattle.pm_limits.specs.Guard.{Guarded, guard_fault}
 use Rattle.pm_sequence.specs.declared.sequence.Act.{Act}
 use Rattle.pm_sequence.specs.declared.sequence.Act.TheVariants as act
 use Rattle.pm_sequence.specs.declared.sequence.End.{End}
@@ -9,6 +11,7 @@ use Rattle.pm_sequence.specs.declared.sequence.Rules.{Rules}
 use Rattle.pm_delivery.specs.declared.verdict.Verdict.{Verdict}
 use Rattle.pm_sequence.specs.declared.sequence.Sequence.{Sequence}
 use Rattle.pm_sequence.specs.declared.step.Step.{Step}
+use Rattle.pm_sequence.specs.Frames.{job_named, refusal_end, refused_act, refused_after}
 use Rattle.pm_sequence.specs.Gate.{is_order}
 use Rattle.pm_sequence.specs.Sequence.{Acts, is_good, new_sequence}
 
@@ -50,11 +53,16 @@ pub record Hears (old new : Sequence) : Type 0 where
   pub left : new.left ≡ old.left
   pub ended : new.end ≡ old.end
 
+-- A sequence says what comes next (`acts`), unless the guard refuses the job that it names (`refuses`); or it hears of a frame (`hears`).
 pub data Runs (steps : Places) (tries : ℕ) (rules : Rules) : List Mark → Sequence → Type 0 where
   starts : Runs steps tries rules [] (new_sequence tries rules)
   acts : (g : Guarded) (said : Act) (marks : List Mark) (old new : Sequence) → Runs steps tries rules marks old →
       Acts g (under_at steps old.list.begun) (steps old.list.begun) old said new →
       Runs steps tries rules (marks_of new.list.begun said ++ marks) new
+  refuses : (g : Guarded) (job : Job) (named : Act) (fault : LimitFault) (marks : List Mark) (old is : Sequence) → Runs steps tries rules marks old →
+      Acts g (under_at steps old.list.begun) (steps old.list.begun) old named is → job_named named ≡ Some job → guard_fault g job ≡ Some fault →
+      Runs steps tries rules (marks_of (refused_after old is named (refusal_end fault job)).list.begun
+      (refused_act old is named (refusal_end fault job)) ++ marks) (refused_after old is named (refusal_end fault job))
   hears : (marks : List Mark) (old new : Sequence) → Runs steps tries rules marks old → Hears old new → Runs steps tries rules marks new
 
 -- the rail of a step was found to do what it is to after its last order

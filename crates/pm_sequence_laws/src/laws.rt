@@ -1,6 +1,7 @@
 //! The laws.
 
 ghost use Rattle.pm_sequence_laws.specs.Finds.{FindsAreVerdicts};
+ghost use Rattle.pm_sequence_laws.specs.Handed.{CallsAreRuns};
 ghost use Rattle.pm_sequence_laws.specs.Judged.{OrdersAreJudged, OrdersAreTold};
 ghost use Rattle.pm_sequence_laws.specs.Read.{EarlierAnswersCount, LimitsAreRead};
 ghost use Rattle.pm_sequence_laws.specs.Runs.{ReachedSequencesDeliver};
@@ -25,6 +26,12 @@ pub fn orders_are_told()
 /// `Reached` says that no step was left, and that each step that has to deliver was found to, after its last order.
 pub fn reached_sequences_deliver()
     ensures { ReachedSequencesDeliver }
+{}
+
+/// Each call of a sequence is a step of the runs of which `reached_sequences_deliver` speaks: a frame that is handed out, a job that the guard
+/// refuses, and what is heard.
+pub fn calls_are_runs()
+    ensures { CallsAreRuns }
 {}
 
 /// The list of a sequence goes as pm_stairs says, whose laws are of it: no job but one that the list names, and no step begins but as it says.

@@ -8,6 +8,6 @@
 mod laws;
 
 pub use laws::{
-    earlier_answers_count, finds_are_verdicts, limits_are_read, orders_are_judged, orders_are_told,
-    reached_sequences_deliver, sequences_turn,
+    calls_are_runs, earlier_answers_count, finds_are_verdicts, limits_are_read, orders_are_judged,
+    orders_are_told, reached_sequences_deliver, sequences_turn,
 };
