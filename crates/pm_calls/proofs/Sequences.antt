@@ -1,6 +1,6 @@
 -- What a sequence in memory hands out and hears.
-use Rattle.std.proofs.Common.{◌≡◌, Bool, true, false, Option, Some, None, Ok, Err, refl, sym, subst}
-use Rattle.std.specs.Prelude.{is_none}
+use Rattle.std.proofs.Common.{◌≡◌, ℕ, List, Bool, true, false, Option, Some, None, Ok, Err, refl, sym, subst}
+use Rattle.std.specs.Prelude.{is_none, length}
 use Rattle.pm_host.specs.declared.fault.Untold.{Untold}
 use Rattle.pm_host.specs.declared.fault.Untold.TheVariants.{NothingSent}
 use Rattle.pm_host.specs.declared.host.Told.{Told as Told_}
@@ -25,15 +25,39 @@ use Rattle.pm_sequence.specs.declared.sequence.Sequence.{Sequence}
 use Rattle.pm_sequence.specs.Frames.{alone, course, heard as hears_course, nothing, Hears, HearsAt}
 use Rattle.pm_sequence.specs.Sequence.{with_list}
 use Rattle.pm_memory.specs.declared.guard_image.GuardImage.{GuardImage}
-use Rattle.pm_memory.specs.Guard.{limits_kept, registers_held}
+use Rattle.pm_memory.specs.Guard.{guard_of, limits_kept, registers_held}
 use Rattle.pm_memory.specs.Hosted.{IsThere, guard_in}
-use Rattle.pm_calls.specs.Sequence.{number_next, number_sent}
+use Rattle.pm_memory.specs.declared.sequence_image.SequenceImage.{SequenceImage}
+use Rattle.pm_memory.specs.SequenceImage.{sequence_in, sequence_meant}
+use Rattle.pm_sequence.specs.declared.step.Step.{Step as ListStep}
+use Rattle.pm_calls.specs.declared.sequence_step.SequenceStepImage.{SequenceStepImage}
+use Rattle.pm_calls.specs.Sequence.{asked_fault, both_fault, list_fault, number_next, number_sent, step_at, step_under, AreBoth}
 use Rattle.pm_calls.proofs.Heard.{hears-by}
 
 pub numbered : (g : Guarded) (at : Option Stage) (sent : Option Sending) (said : Act) → IsSentAt g at sent → number_next at said ≡ number_sent sent said
 numbered g None sent said is = rw is refl
 numbered g (Some stage) None said is = absurd is
 numbered g (Some stage) (Some sending) said is = refl
+
+-- a call is refused by what is wrong with its memories
+pub fault-both : (g : Option Guarded) (q : Option Sequence) (steps : List SequenceStepImage) (room number : ℕ) → both_fault g q ≡ Some number
+    → asked_fault g q steps room ≡ Some number
+fault-both None q steps room number is = is
+fault-both (Some g) None steps room number is = is
+fault-both (Some g) (Some q) steps room number is = cc
+
+-- a call is refused by what is wrong with the newest step that has begun, and with the first one ahead
+pub fault-under : (host : GuardImage) (image : SequenceImage) (steps : List SequenceStepImage) (room number : ℕ)
+    → AreBoth host image (guard_in host) (sequence_meant image) → list_fault (sequence_meant image) (length steps) room ≡ None
+    → step_under steps (sequence_meant image).list.begun ≡ Err number
+    → asked_fault (guard_of host) (sequence_in image) steps room ≡ Some number
+fault-under host image steps room number both list wrong = rw (both.guard, both.held, list, wrong) refl
+
+pub fault-ahead : (host : GuardImage) (image : SequenceImage) (steps : List SequenceStepImage) (room : ℕ) (under : Option ListStep) (number : ℕ)
+    → AreBoth host image (guard_in host) (sequence_meant image) → list_fault (sequence_meant image) (length steps) room ≡ None
+    → step_under steps (sequence_meant image).list.begun ≡ Ok under → step_at steps (sequence_meant image).list.begun ≡ Err number
+    → asked_fault (guard_of host) (sequence_in image) steps room ≡ Some number
+fault-ahead host image steps room under number both list right wrong = rw (both.guard, both.held, list, right, wrong) refl
 
 -- what came back shows a restart, where it does of the stage at which the open job stands
 pub restart-at : (g : Guarded) (at : Stage) (told : Told_) → g.host.stage ≡ Some at →

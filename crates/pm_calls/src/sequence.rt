@@ -1,12 +1,12 @@
 //! A sequence over hosts in a caller's memory: a list of steps is carried out, and what its rails do is looked at.
 
-ghost use Rattle.std.specs.Prelude.{◌≡◌, IfOk, IfSome, Ok, OnOk};
-ghost use Rattle.std.specs.Result.{result_err};
+ghost use Rattle.std.specs.Prelude.{◌≡◌, length, IfSome, None, Some};
+ghost use Rattle.std.specs.Result.{result_err, IfErr, IfOk, OnOk};
 ghost use Rattle.pm_host.specs.Told.{entry_told};
-ghost use Rattle.pm_calls.specs.Sequence.{asked_fault, back_said as spec_back_said, backs_after, both_fault, is_look as spec_is_look, is_look_said as spec_is_look_said, lacks_room as spec_lacks_room, list_fault as spec_list_fault, looks_after, number_next as spec_number_next, records_after, rules_said, sequence_begun, step_at as spec_step_at, step_under as spec_step_under, steps_fault, whole_answer as spec_whole_answer, with_back, with_look, AreAsked, AreBoth, HearsIn, IsPutNext, NextIn, ReadIn};
+ghost use Rattle.pm_calls.specs.Sequence.{asked_fault, back_said as spec_back_said, backs_after, both_fault, is_look as spec_is_look, is_look_said as spec_is_look_said, lacks_room as spec_lacks_room, list_fault as spec_list_fault, looks_after, number_next as spec_number_next, records_after, rules_said, sequence_begun, step_at as spec_step_at, step_under as spec_step_under, whole_answer as spec_whole_answer, with_back, with_look, AreBoth, HearsIn, IsPutNext, NextIn, ReadIn};
 ghost use Rattle.pm_memory.specs.Guard.{guard_of};
 ghost use Rattle.pm_memory.specs.Hosted.{IsThere, guard_in};
-ghost use Rattle.pm_memory.specs.SequenceImage.{sequence_in};
+ghost use Rattle.pm_memory.specs.SequenceImage.{sequence_in, sequence_meant};
 
 use crate::host_step::{HostStep, no_step, step_after};
 use crate::numbers::{ACCEPTED, NO_HOST, NO_ROOM, NO_SEQUENCE, NO_STEP, OTHER_FRAME};
@@ -19,15 +19,6 @@ use pm_stairs::WordStep;
 
 // How many steps a list has at most.
 const MOST_STEPS: usize = 65535;
-
-// A sequence that is asked: as it was, the stage of the host's open job, the newest step that has begun, and the first one ahead.
-#[derive(Clone, Copy)]
-struct Asked {
-    was: Sequence,
-    stage: Option<Stage>,
-    under: Option<Step>,
-    ahead: Option<Step>,
-}
 
 // The rules that a number says: 1 a way back is kept, 2 a restart ends the list, 4 a step that stops is left, 8 each order is told before it
 // begins, or a sum.
@@ -73,70 +64,70 @@ fn step_under(steps: &[SequenceStepImage], begun: u16) -> Result<Option<Step>, u
     }
 }
 
-// Whether there is less room than there are steps, if a way back is kept.
-fn lacks_room(was: &Sequence, steps: usize, room: usize) -> bool
-    ensures { result ≡ spec_lacks_room was.now steps room }
+// Whether a way back is kept.
+fn keeps_back(sequence: &SequenceImage) -> bool
+    ensures { result ≡ (sequence_meant sequence.now).list.keeps_back }
 {
-    was.list.keeps_back && room < steps
+    sequence.list.keeps_back == 1
+}
+
+// Whether there is less room than there are steps, if a way back is kept.
+fn lacks_room(sequence: &SequenceImage, steps: usize, room: usize) -> bool
+    ensures { result ≡ spec_lacks_room (sequence_meant sequence.now) steps room }
+{
+    keeps_back(sequence) && room < steps
 }
 
 // Why a list of so many steps is refused.
-fn list_fault(was: &Sequence, steps: usize, room: usize) -> Option<u8>
-    ensures { result ≡ spec_list_fault was.now steps room }
+fn list_fault(sequence: &SequenceImage, steps: usize, room: usize) -> Option<u8>
+    ensures { result ≡ spec_list_fault (sequence_meant sequence.now) steps room }
 {
     if MOST_STEPS < steps {
         return Some(NO_STEP);
     }
-    if lacks_room(was, steps, room) {
+    if lacks_room(sequence, steps, room) {
         return Some(NO_ROOM);
     }
     None
 }
 
-// The newest of so many steps that have begun and the first one ahead; or the number of what is wrong with one.
-fn steps_at(steps: &[SequenceStepImage], begun: u16) -> Result<(Option<Step>, Option<Step>), u8>
-    ensures fault { result_err result ≡ steps_fault steps.now begun }
-    ensures under { IfOk result (λ both. spec_step_under steps.now begun ≡ Ok both.0) }
-    ensures ahead { IfOk result (λ both. spec_step_at steps.now begun ≡ Ok both.1) }
+// The stage of the host's open job; or the number of why the memories of both are refused.
+fn read_both(sequence: &SequenceImage, host: &GuardImage) -> Result<Option<Stage>, u8>
+    ensures fault { result_err result ≡ both_fault (guard_of host.now) (sequence_in sequence.now) }
+    ensures there { OnOk result (IsThere host.now) }
+    ensures stage { IfOk result (λ stage. stage ≡ (guard_in host.now).host.stage) }
+    ensures both { OnOk result (AreBoth host.now sequence.now (guard_in host.now) (sequence_meant sequence.now)) }
 {
-    match step_under(steps, begun) {
-        Ok(under) => match step_at(steps, begun) {
-            Ok(ahead) => Ok((under, ahead)),
-            Err(number) => Err(number),
-        },
-        Err(number) => Err(number),
+    let Ok(stage) = host.open_stage() else {
+        return Err(NO_HOST);
+    };
+    if sequence.is_sequence() {
+        Ok(stage)
+    } else {
+        Err(NO_SEQUENCE)
     }
 }
 
-// What is asked; or the number of why the memories, the list or the room are refused.
+// The stage of the host's open job; or the number of why the memories, the length of the list or the room are refused.
 fn read(
     sequence: &SequenceImage,
     host: &GuardImage,
     steps: &[SequenceStepImage],
     room: usize,
-) -> Result<Asked, u8>
-    ensures fault { result_err result ≡ asked_fault (guard_of host.now) (sequence_in sequence.now) steps.now room }
+) -> Result<Option<Stage>, u8>
+    ensures fault { IfErr result (λ number. asked_fault (guard_of host.now) (sequence_in sequence.now) steps.now room ≡ Some number) }
     ensures there { OnOk result (IsThere host.now) }
-    ensures stage { IfOk result (λ asked. asked.stage ≡ (guard_in host.now).host.stage) }
-    ensures asked { IfOk result (λ asked. AreAsked host.now sequence.now steps.now room (guard_in host.now) asked.was asked.under asked.ahead) }
+    ensures stage { IfOk result (λ stage. stage ≡ (guard_in host.now).host.stage) }
+    ensures both { OnOk result (AreBoth host.now sequence.now (guard_in host.now) (sequence_meant sequence.now)) }
+    ensures list { OnOk result (spec_list_fault (sequence_meant sequence.now) (length steps.now) room ≡ None) }
 {
-    let Ok(stage) = host.open_stage() else {
-        return Err(NO_HOST);
+    let stage = match read_both(sequence, host) {
+        Ok(stage) => stage,
+        Err(number) => return Err(number),
     };
-    let Some(was) = sequence.sequence() else {
-        return Err(NO_SEQUENCE);
-    };
-    if let Some(number) = list_fault(&was, steps.len(), room) {
-        return Err(number);
-    }
-    match steps_at(steps, was.list.begun) {
-        Ok((under, ahead)) => Ok(Asked {
-            was,
-            stage,
-            under,
-            ahead,
-        }),
-        Err(number) => Err(number),
+    match list_fault(sequence, steps.len(), room) {
+        Some(number) => Err(number),
+        None => Ok(stage),
     }
 }
 
@@ -210,11 +201,11 @@ fn put_look(records: &mut [SequenceRecordImage], at: usize, look: DeliveryImage)
 }
 
 // Keeps the step that undoes the one that begins, if a way back is kept.
-fn keep_back(records: &mut [SequenceRecordImage], was: &Sequence, is: &Sequence, act: Act)
-    ensures { records.new ≡ backs_after was.now is.now (spec_back_said act) records.old }
+fn keep_back(records: &mut [SequenceRecordImage], was: &SequenceImage, is: &Sequence, act: Act)
+    ensures { records.new ≡ backs_after (sequence_meant was.now) is.now (spec_back_said act) records.old }
 {
     if let Some(back) = back_said(act) {
-        if was.list.keeps_back {
+        if keeps_back(was) {
             put_back(
                 records,
                 usize::from(was.list.begun),
@@ -238,8 +229,8 @@ fn keep_look(records: &mut [SequenceRecordImage], is: &Sequence, act: Act)
 }
 
 // Keeps what is to be kept of what is said.
-fn keep(records: &mut [SequenceRecordImage], was: &Sequence, is: &Sequence, act: Act)
-    ensures { records.new ≡ records_after was.now is.now act records.old }
+fn keep(records: &mut [SequenceRecordImage], was: &SequenceImage, is: &Sequence, act: Act)
+    ensures { records.new ≡ records_after (sequence_meant was.now) is.now act records.old }
 {
     keep_back(records, was, is, act);
     keep_look(records, is, act);
@@ -255,17 +246,31 @@ pub fn next(
 ) -> u8
     ensures { NextIn host.old sequence.old steps.now records.old result host.new sequence.new records.new sending.new }
 {
-    let asked = match read(sequence, host, steps, records.len()) {
-        Ok(asked) => asked,
+    let stage = match read(sequence, host, steps, records.len()) {
+        Ok(stage) => stage,
         Err(number) => {
             sending.clear();
             return number;
         }
     };
-    let mut is = asked.was;
-    let (at, act) = is.hand_out(host, asked.stage, asked.under, asked.ahead);
+    let under = match step_under(steps, sequence.list.begun) {
+        Ok(under) => under,
+        Err(number) => {
+            sending.clear();
+            return number;
+        }
+    };
+    let ahead = match step_at(steps, sequence.list.begun) {
+        Ok(ahead) => ahead,
+        Err(number) => {
+            sending.clear();
+            return number;
+        }
+    };
+    let mut is = sequence.held();
+    let (at, act) = is.hand_out(host, stage, under, ahead);
     put(host, &is, at, act, sending);
-    keep(records, &asked.was, &is, act);
+    keep(records, sequence, &is, act);
     let said = said_after(host, &is, act, sequence.said);
     *sequence = SequenceImage::of(&is, said);
     number_next(at, act)
@@ -281,44 +286,29 @@ fn number_next(at: Option<Stage>, act: Act) -> u8
     }
 }
 
-// A sequence and the stage of the host's open job; or the number of why their memories are refused.
-fn read_both(sequence: &SequenceImage, host: &GuardImage) -> Result<(Sequence, Option<Stage>), u8>
-    ensures fault { result_err result ≡ both_fault (guard_of host.now) (sequence_in sequence.now) }
-    ensures there { OnOk result (IsThere host.now) }
-    ensures stage { IfOk result (λ both. both.1 ≡ (guard_in host.now).host.stage) }
-    ensures both { IfOk result (λ both. AreBoth host.now sequence.now (guard_in host.now) both.0) }
-{
-    let Ok(stage) = host.open_stage() else {
-        return Err(NO_HOST);
-    };
-    match sequence.sequence() {
-        Some(was) => Ok((was, stage)),
-        None => Err(NO_SEQUENCE),
-    }
-}
-
 /// A host and the course whose job was named last hear what became of the host's frame.
 pub fn tell(sequence: &mut SequenceImage, host: &mut GuardImage, told: Told<'_>) -> HostStep
     ensures { HearsIn host.old sequence.old (entry_told told.entry) result host.new sequence.new }
 {
-    let (was, stage) = match read_both(sequence, host) {
-        Ok(both) => both,
+    let stage = match read_both(sequence, host) {
+        Ok(stage) => stage,
         Err(number) => return no_step(number),
     };
-    hear(sequence, host, &was, stage, told)
+    let mut is = sequence.held();
+    hear(sequence, host, &mut is, stage, told)
 }
 
 // They hear it, if the host's open job stands at this stage and awaits it.
 fn hear(
     sequence: &mut SequenceImage,
     host: &mut GuardImage,
-    was: &Sequence,
+    is: &mut Sequence,
     stage: Option<Stage>,
     told: Told<'_>,
 ) -> HostStep
     requires there { IsThere host.old }
     requires stage { stage ≡ (guard_in host.old).host.stage }
-    requires both { AreBoth host.old sequence.old (guard_in host.old) was.now }
+    requires both { AreBoth host.old sequence.old (guard_in host.old) is.old }
     ensures { HearsIn host.old sequence.old (entry_told told.entry) result host.new sequence.new }
 {
     let Some(at) = stage else {
@@ -327,13 +317,12 @@ fn hear(
     if !at.awaits(&told) {
         return no_step(OTHER_FRAME);
     }
-    let Some(_course) = was.list.course_open() else {
+    let Some(_course) = is.list.course_open() else {
         return no_step(OTHER_FRAME);
     };
     let address = host.host.state.address;
-    let mut is = *was;
     let heard = is.hear_by(host, at, told);
-    *sequence = SequenceImage::of(&is, sequence.said);
+    *sequence = SequenceImage::of(is, sequence.said);
     step_after(heard.step, address, at, told)
 }
 
@@ -354,14 +343,14 @@ fn is_look(was: &Sequence, stage: Option<Stage>) -> bool
 pub fn read_ended(sequence: &mut SequenceImage, host: &mut GuardImage, bytes: &[u8]) -> HostStep
     ensures { ReadIn host.old sequence.old bytes.now result host.new sequence.new }
 {
-    let (was, stage) = match read_both(sequence, host) {
-        Ok(both) => both,
+    let stage = match read_both(sequence, host) {
+        Ok(stage) => stage,
         Err(number) => return no_step(number),
     };
-    if !is_look(&was, stage) {
-        return hear(sequence, host, &was, stage, Told::Got(bytes));
+    let mut is = sequence.held();
+    if !is_look(&is, stage) {
+        return hear(sequence, host, &mut is, stage, Told::Got(bytes));
     }
-    let mut is = was;
     is.answered(host, bytes);
     *sequence = SequenceImage::of(&is, sequence.said);
     no_step(ACCEPTED)

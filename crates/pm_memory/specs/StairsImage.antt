@@ -25,7 +25,7 @@ use Rattle.pm_memory.specs.declared.stairs_end.StairsEndImage.{StairsEndImage}
 use Rattle.pm_memory.specs.declared.stairs_image.StairsImage.{StairsImage}
 use Rattle.pm_memory.specs.declared.stairs_image.UnderImage.{UnderImage}
 use Rattle.pm_memory.specs.CourseEnd.{end_numbers, kind_alone}
-use Rattle.pm_memory.specs.CourseImage.{course_image, course_in}
+use Rattle.pm_memory.specs.CourseImage.{course_held, course_image, course_in}
 use Rattle.pm_memory.specs.Flag.{flag}
 use Rattle.pm_memory.specs.Wanted.{wanted_image, wanted_meant}
 
@@ -113,6 +113,10 @@ held_with i None coming = None
 
 abbrev pub stairs_in : StairsImage → Option Sequence
 stairs_in i = if i.mark == stairs_mark && i.version == stairs_version then held_with i (course_in i.course) (course_in i.coming) else None
+
+-- what the numbers mean of memory that holds them
+abbrev pub stairs_meant : StairsImage → Sequence
+stairs_meant i = sequence_held i (course_held i.course) (course_held i.coming)
 
 -- how they are written; a course that there isn't is written as a survey of nothing
 abbrev pub course_written : Option FrameCourse → CourseImage

@@ -1,7 +1,8 @@
 //! A sequence in a caller's memory: plain numbers, and what they mean.
 
 ghost use Rattle.std.specs.Prelude.{◌≡◌};
-ghost use Rattle.pm_memory.specs.SequenceImage.{phase_number, phase_read, sequence_image, sequence_in, sequence_read, told_read, told_written};
+ghost use Rattle.pm_memory.specs.SequenceImage.{phase_number, phase_read, sequence_image, sequence_in, sequence_meant, told_read, told_written};
+ghost use Rattle.pm_table.specs.Rules.{rule};
 ghost use Rattle.pm_table.specs.Cell.{output_of as spec_output_of};
 
 use crate::course_image::flag;
@@ -11,7 +12,6 @@ use crate::stairs_end::StairsEndImage;
 use crate::stairs_image::StairsImage;
 use pm_host::Job;
 use pm_sequence::{Phase, Sequence};
-use pm_stairs::Sequence as List;
 use pm_table::{Cell, Code, cell_of};
 
 /// What was said last. It has no padding.
@@ -191,25 +191,22 @@ impl SequenceImage {
         }
     }
 
-    /// The sequence; `None` if the memory holds none.
-    pub fn sequence(&self) -> Option<Sequence>
-        ensures { result ≡ sequence_in self.now }
+    /// Whether the memory holds a sequence.
+    pub fn is_sequence(&self) -> bool
+        ensures { sequence_in self.now ≡ rule result (sequence_meant self.now) }
     {
         if self.mark != SequenceImage::MARK || self.version != SequenceImage::VERSION {
-            return None;
+            return false;
         }
-        match self.list.stairs() {
-            Some(list) => Some(self.with_list(list)),
-            None => None,
-        }
+        self.list.is_stairs()
     }
 
-    // The sequence whose list is this.
-    fn with_list(&self, list: List) -> Sequence
-        ensures { result ≡ sequence_read self.now list }
+    /// What the numbers mean of memory that holds a sequence.
+    pub fn held(&self) -> Sequence
+        ensures { result ≡ sequence_meant self.now }
     {
         Sequence {
-            list,
+            list: self.list.held(),
             look: self.look.look(),
             look_host: self.look_host,
             phase: phase_of(self.phase),

@@ -1,7 +1,8 @@
 //! Stairs in a caller's memory: plain numbers, and what they mean.
 
 ghost use Rattle.std.specs.Prelude.{◌≡◌, option_map};
-ghost use Rattle.pm_memory.specs.StairsImage.{course_written, held_with, sequence_held, stairs_image, stairs_in, under_image, under_numbers, under_words};
+ghost use Rattle.pm_table.specs.Rules.{rule};
+ghost use Rattle.pm_memory.specs.StairsImage.{course_written, stairs_image, stairs_in, stairs_meant, under_image, under_numbers, under_words};
 
 use crate::course_image::{CourseImage, flag};
 use crate::stairs_end::StairsEndImage;
@@ -106,34 +107,38 @@ impl StairsImage {
     pub fn stairs(&self) -> Option<Sequence>
         ensures { result ≡ stairs_in self.now }
     {
-        if self.mark != StairsImage::MARK || self.version != StairsImage::VERSION {
-            return None;
+        if self.is_stairs() {
+            Some(self.held())
+        } else {
+            None
         }
-        self.held(self.course.course(), self.coming.course())
     }
 
-    // The stairs with these courses.
-    fn held(&self, course: Option<FrameCourse>, coming: Option<FrameCourse>) -> Option<Sequence>
-        ensures { result ≡ held_with self.now course coming }
+    /// Whether the memory holds stairs.
+    pub fn is_stairs(&self) -> bool
+        ensures { stairs_in self.now ≡ rule result (stairs_meant self.now) }
     {
-        match (course, coming) {
-            (Some(course), Some(coming)) => Some(self.sequence(course, coming)),
-            _ => None,
+        if self.mark != StairsImage::MARK || self.version != StairsImage::VERSION {
+            return false;
         }
+        self.course.is_course() && self.coming.is_course()
     }
 
-    // The stairs with the courses that are there.
-    fn sequence(&self, course: FrameCourse, coming: FrameCourse) -> Sequence
-        ensures { result ≡ sequence_held self.now course coming }
+    /// What the numbers mean of memory that holds stairs.
+    pub fn held(&self) -> Sequence
+        ensures { result ≡ stairs_meant self.now }
     {
         Sequence {
             stairs: Stairs {
                 under: match self.under.step() {
-                    Some(step) => Some(Under { step, course }),
+                    Some(step) => Some(Under {
+                        step,
+                        course: self.course.held(),
+                    }),
                     None => None,
                 },
                 coming: if self.under.has_coming == 1 {
-                    Some(coming)
+                    Some(self.coming.held())
                 } else {
                     None
                 },

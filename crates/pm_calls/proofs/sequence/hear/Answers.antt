@@ -28,9 +28,9 @@ returns-in_default c =
     let entry = entry_told c.args.told in
     let g = guard_in c.args.host.now in
     let shut : g.host.stage ≡ None = sym c.requires.stage ∙ c.in_default.is in
-    let w = unheard g c.args.was.now entry NothingSent (λ course. frames.nothing shut) in
+    let w = unheard g c.args.is.now entry NothingSent (λ course. frames.nothing shut) in
     subst (λ (s : HostStep). HearsIn c.args.host.now c.args.sequence.now entry s c.args.host.now c.args.sequence.now)
-    (sym c.no_step.ensures) (unasked g c.args.was.now w.is w.fault c.requires.both w.hears)
+    (sym c.no_step.ensures) (unasked g c.args.is.now w.is w.fault c.requires.both w.hears)
 
 pub returns-then-not-awaits : goal.returns-then-not-awaits
 returns-then-not-awaits c =
@@ -38,16 +38,16 @@ returns-then-not-awaits c =
     let g = guard_in c.args.host.now in
     let opened : g.host.stage ≡ Some c.in-Some.at = sym c.requires.stage ∙ c.in-Some.is in
     let other : is_awaited c.in-Some.at c.args.told ≡ false = sym c.awaits.ensures ∙ c.if-not-awaits.true in
-    let w = unheard g c.args.was.now entry WrongKind
+    let w = unheard g c.args.is.now entry WrongKind
     (λ course. frames.other c.in-Some.at opened (comes-awaited g.host c.in-Some.at c.args.told opened ∙ other)) in
     subst (λ (s : HostStep). HearsIn c.args.host.now c.args.sequence.now entry s c.args.host.now c.args.sequence.now)
-    (sym c.no_step-then-not-awaits.ensures) (unasked g c.args.was.now w.is w.fault c.requires.both w.hears)
+    (sym c.no_step-then-not-awaits.ensures) (unasked g c.args.is.now w.is w.fault c.requires.both w.hears)
 
 pub returns-in_default-course_open : goal.returns-in_default-course_open
 returns-in_default-course_open c =
     let entry = entry_told c.args.told in
     let g = guard_in c.args.host.now in
-    let q = c.args.was.now in
+    let q = c.args.is.now in
     subst (λ (s : HostStep). HearsIn c.args.host.now c.args.sequence.now entry s c.args.host.now c.args.sequence.now)
     (sym c.no_step-in_default-course_open.ensures)
     (unasked g q q NothingSent c.requires.both (nothing (sym c.course_open.ensures ∙ c.in_default-course_open.is)))
@@ -71,7 +71,7 @@ returns c =
     let g = guard_in host in
     let next = guard_in new in
     let found : guard_of new ≡ Some next = rw (c.hear_by-heard.ensures.there.there) refl in
-    let q = c.args.was.now in
+    let q = c.args.is.now in
     let is = c.hear_by-heard.new.self in
     let at = c.in-Some.at in
     let opened : g.host.stage ≡ Some at = sym c.requires.stage ∙ c.in-Some.is in
