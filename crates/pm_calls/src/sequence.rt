@@ -272,7 +272,7 @@ pub fn next(
     put(host, &is, at, act, sending);
     keep(records, sequence, &is, act);
     let said = said_after(host, &is, act, sequence.said);
-    *sequence = SequenceImage::of(&is, said);
+    sequence.write(&is, said);
     number_next(at, act)
 }
 
@@ -322,7 +322,8 @@ fn hear(
     };
     let address = host.host.state.address;
     let heard = is.hear_by(host, at, told);
-    *sequence = SequenceImage::of(is, sequence.said);
+    let said = sequence.said;
+    sequence.write(is, said);
     step_after(heard.step, address, at, told)
 }
 
@@ -352,6 +353,7 @@ pub fn read_ended(sequence: &mut SequenceImage, host: &mut GuardImage, bytes: &[
         return hear(sequence, host, &mut is, stage, Told::Got(bytes));
     }
     is.answered(host, bytes);
-    *sequence = SequenceImage::of(&is, sequence.said);
+    let said = sequence.said;
+    sequence.write(&is, said);
     no_step(ACCEPTED)
 }

@@ -146,7 +146,7 @@ impl CourseImage {
     pub const VERSION: u16 = 1;
 
     /// Zeros, which are no course.
-    const BLANK: CourseImage = CourseImage {
+    pub(crate) const BLANK: CourseImage = CourseImage {
         mark: 0,
         version: 0,
         left: 0,

@@ -171,24 +171,48 @@ impl SequenceImage {
     pub fn of(sequence: &Sequence, said: SaidImage) -> SequenceImage
         ensures { result ≡ sequence_image sequence.now said }
     {
-        SequenceImage {
-            mark: SequenceImage::MARK,
-            version: SequenceImage::VERSION,
-            left: sequence.left,
-            leaves: flag(sequence.leaves),
-            asks: flag(sequence.asks),
+        let mut image = SequenceImage {
+            mark: 0,
+            version: 0,
+            left: 0,
+            leaves: 0,
+            asks: 0,
             said,
-            list: StairsImage::of(&sequence.list, StairsEndImage::none()),
+            list: StairsImage::BLANK,
             look: LookImage::of(&sequence.look),
-            look_host: sequence.look_host,
-            phase: phase_number(sequence.phase),
-            is_read: flag(sequence.is_read),
-            is_shown: flag(sequence.is_shown),
-            is_waited: flag(sequence.is_waited),
-            is_looked: flag(sequence.is_looked),
-            end: SequenceEndImage::of(sequence.end),
-            told: ToldImage::of(sequence.told),
-        }
+            look_host: 0,
+            phase: 0,
+            is_read: 0,
+            is_shown: 0,
+            is_waited: 0,
+            is_looked: 0,
+            end: SequenceEndImage::of(None),
+            told: ToldImage::of(None),
+        };
+        image.write(sequence, said);
+        image
+    }
+
+    /// The memory holds this sequence now, with what was said last, whatever stood there.
+    pub fn write(&mut self, sequence: &Sequence, said: SaidImage)
+        ensures { self.new ≡ sequence_image sequence.now said }
+    {
+        self.mark = SequenceImage::MARK;
+        self.version = SequenceImage::VERSION;
+        self.left = sequence.left;
+        self.leaves = flag(sequence.leaves);
+        self.asks = flag(sequence.asks);
+        self.said = said;
+        self.list.write(&sequence.list, StairsEndImage::none());
+        self.look = LookImage::of(&sequence.look);
+        self.look_host = sequence.look_host;
+        self.phase = phase_number(sequence.phase);
+        self.is_read = flag(sequence.is_read);
+        self.is_shown = flag(sequence.is_shown);
+        self.is_waited = flag(sequence.is_waited);
+        self.is_looked = flag(sequence.is_looked);
+        self.end = SequenceEndImage::of(sequence.end);
+        self.told = ToldImage::of(sequence.told);
     }
 
     /// Whether the memory holds a sequence.

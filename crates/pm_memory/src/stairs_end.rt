@@ -31,6 +31,18 @@ pub struct StairsEndImage {
 }
 
 impl StairsEndImage {
+    // Zeros: they go on.
+    pub(crate) const BLANK: StairsEndImage = StairsEndImage {
+        kind: 0,
+        number: 0,
+        code: 0,
+        has_begun: 0,
+        word: 0,
+        fault: 0,
+        step: 0,
+        unused: [0; 3],
+    };
+
     // The image of an end by its numbers, of a step that had begun or hadn't, at this place.
     fn of(end: EndNumbers, begun: bool, step: u16) -> StairsEndImage
         ensures { result ≡ stairs_end end begun step }

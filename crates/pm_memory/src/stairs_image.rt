@@ -83,24 +83,59 @@ impl StairsImage {
     /// The number of the layout.
     pub const VERSION: u16 = 1;
 
+    /// Zeros, which are no stairs.
+    pub(crate) const BLANK: StairsImage = StairsImage {
+        mark: 0,
+        version: 0,
+        tries: 0,
+        begun: 0,
+        host: 0,
+        keeps_back: 0,
+        ends_at_restart: 0,
+        unused: [0; 5],
+        end: StairsEndImage::BLANK,
+        under: UnderImage {
+            kind: 0,
+            host: 0,
+            output: 0,
+            is_free: 0,
+            is_warned: 0,
+            is_reading: 0,
+            is_restarted: 0,
+            has_coming: 0,
+            byte: 0,
+            unused: 0,
+            words: WantedImage::NOTHING,
+        },
+        course: CourseImage::BLANK,
+        coming: CourseImage::BLANK,
+    };
+
     /// The image of stairs, with how they ended.
     pub fn of(stairs: &Sequence, end: StairsEndImage) -> StairsImage
         ensures { result ≡ stairs_image stairs.now end }
     {
-        StairsImage {
-            mark: StairsImage::MARK,
-            version: StairsImage::VERSION,
-            tries: stairs.tries,
-            begun: stairs.begun,
-            host: stairs.host,
-            keeps_back: flag(stairs.keeps_back),
-            ends_at_restart: flag(stairs.ends_at_restart),
-            unused: [0; 5],
-            end,
-            under: UnderImage::of(stairs),
-            course: course_of(course_under(stairs)),
-            coming: course_of(stairs.stairs.coming),
-        }
+        let mut image = StairsImage::BLANK;
+        image.write(stairs, end);
+        image
+    }
+
+    /// The memory holds these stairs now, with how they ended, whatever stood there.
+    pub fn write(&mut self, stairs: &Sequence, end: StairsEndImage)
+        ensures { self.new ≡ stairs_image stairs.now end }
+    {
+        self.mark = StairsImage::MARK;
+        self.version = StairsImage::VERSION;
+        self.tries = stairs.tries;
+        self.begun = stairs.begun;
+        self.host = stairs.host;
+        self.keeps_back = flag(stairs.keeps_back);
+        self.ends_at_restart = flag(stairs.ends_at_restart);
+        self.unused = [0; 5];
+        self.end = end;
+        self.under = UnderImage::of(stairs);
+        write_under(&mut self.course, &stairs.stairs.under);
+        write_course(&mut self.coming, &stairs.stairs.coming);
     }
 
     /// The stairs; `None` if the memory holds none.
@@ -157,23 +192,23 @@ impl StairsImage {
     }
 }
 
-// The course of the step under way.
-fn course_under(stairs: &Sequence) -> Option<FrameCourse>
-    ensures { result ≡ option_map (λ under. under.course) stairs.now.stairs.under }
+// The memory holds the course of the step under way now; that of a survey of nothing if there is none.
+fn write_under(image: &mut CourseImage, under: &Option<Under>)
+    ensures { image.new ≡ course_written (option_map (λ under. under.course) under.now) }
 {
-    match stairs.stairs.under {
-        Some(under) => Some(under.course),
-        None => None,
+    match under {
+        Some(under) => image.write(&under.course),
+        None => image.write(&FrameCourse::survey(0, 0)),
     }
 }
 
-// The image of a course; that of a survey of nothing if there is none.
-fn course_of(course: Option<FrameCourse>) -> CourseImage
-    ensures { result ≡ course_written course }
+// The memory holds this course now; that of a survey of nothing if there is none.
+fn write_course(image: &mut CourseImage, course: &Option<FrameCourse>)
+    ensures { image.new ≡ course_written course.now }
 {
     match course {
-        Some(course) => CourseImage::of(&course),
-        None => CourseImage::of(&FrameCourse::survey(0, 0)),
+        Some(course) => image.write(course),
+        None => image.write(&FrameCourse::survey(0, 0)),
     }
 }
 

@@ -85,6 +85,6 @@ returns c =
     ∙ ap (λ (a : ℕ). host_step (told_fault a (stage_message at) entry) c.hear_by-heard.result.step) host-is
     ∙ ap (λ (step : Step). host_step (told_fault g.host.setup.addr (stage_message at) entry) step) did.step-is
     ∙ ap (λ (f : ℕ). host_step f (step_of g.host entry)) (fault-at g.host at entry opened) in
-    subst (λ (s : HostStep). HearsIn host image entry s new c.of.result) (sym answered)
-    (subst (λ (i : SequenceImage). HearsIn host image entry (heard_step g entry) new i) (sym c.of.ensures)
+    subst (λ (s : HostStep). HearsIn host image entry s new c.write.new.self) (sym answered)
+    (subst (λ (i : SequenceImage). HearsIn host image entry (heard_step g entry) new i) (sym c.write.ensures)
     (hears_it g next q is new c.requires.both did.hears (record { guard = found; written = c.hear_by-heard.ensures.written })))

@@ -55,9 +55,9 @@ returns c =
     subst (λ (x : Sequence). HandsOut g under ahead x put.sent act next is) c.held-is.ensures
     (c.hand_out-at.ensures.hands put.sent put.of_stage) in
     let number : c.number_next.result ≡ number_sent put.sent act = c.number_next.ensures ∙ numbered next at put.sent act put.of_stage in
-    subst (λ (n : ℕ). NextIn host image steps records n new c.of.result c.keep.new.records c.put.new.sending) (sym number)
+    subst (λ (n : ℕ). NextIn host image steps records n new c.write.new.self c.keep.new.records c.put.new.sending) (sym number)
     (subst (λ (i : SequenceImage). NextIn host image steps records (number_sent put.sent act) new i c.keep.new.records c.put.new.sending)
-    (sym c.of.ensures)
+    (sym c.write.ensures)
     (subst (λ (r : List SequenceRecordImage). NextIn host image steps records (number_sent put.sent act) new (sequence_image is told) r
     c.put.new.sending) (sym c.keep.ensures)
     (hands_next g next q is under ahead put.sent act new told c.put.new.sending asked does put.frame

@@ -40,7 +40,7 @@ returns c =
     ap (λ (at : Option Stage). is_look q at) (sym c.in-Ok.ensures.stage) ∙ sym c.is_look.ensures ∙ c.if-not-is_look.false in
     let is : c.answered.new.self ≡ heard_in g q bytes =
     c.answered.ensures in
-    let written = c.of.ensures ∙ ap (λ (x : Sequence). sequence_image x image.said) is in
-    subst (λ (s : HostStep). ReadIn host image bytes s host c.of.result) (sym c.no_step-2.ensures)
+    let written = c.write.ensures ∙ ap (λ (x : Sequence). sequence_image x image.said) is in
+    subst (λ (s : HostStep). ReadIn host image bytes s host c.write.new.self) (sym c.no_step-2.ensures)
     (subst (λ (i : SequenceImage). ReadIn host image bytes (refused_step accepted) host i) (sym written)
     (of_a_look g q both look))
