@@ -445,7 +445,9 @@ fn a_step_says_what_it_does() {
     let (sets, turns) = (SequenceStep::sets(3, 2, wishes), SequenceStep::turns(4, 1, 0x80));
     assert_eq!((sets.host(), sets.output(), sets.act(), sets.looks()), (3, 2, Act::Sets(wishes), Some(Looks::default())));
     assert_eq!((turns.host(), turns.output(), turns.act(), turns.wait()), (4, 1, Act::Turns(0x80), 0));
-    assert_eq!(SequenceStep::default().act(), Act::Rests);
+    assert_eq!(SequenceStep::default(), SequenceStep::new(0, 0, Act::Rests).with_looks(None));
+    assert_eq!((SequenceStep::default().host(), SequenceStep::default().output(), Looks::default().rounds), (0, 0, 7));
+    assert_eq!([Act::Surveys, Act::Rests].map(|act| SequenceStep::new(0, 0, act).act()), [Act::Surveys, Act::Rests]);
     let looks = Looks {
         has_to_deliver: true,
         fault_limits: FaultLimits::Skip,
