@@ -133,7 +133,8 @@ pub enum SequenceNext {
 /// Steps of several outputs of at most eight hosts, one after another. The fault limits are read and judged before each order that leaves an
 /// output on, and the rail is asked once its step is over, as each step's looks say. A step begins only if the one before is over by what its
 /// host knows then, or was left. Over one host each output then commands what it did before its step or what that step brings it to, in the
-/// list's order, whatever is lost, cut or repeated, while the part doesn't restart and nobody else orders: of the library this is proved.
+/// list's order, whatever is lost, cut or repeated, while the part doesn't restart and nobody else orders: this is tested, and proved of the
+/// way up without looks that it goes by.
 /// Begin no job and no restore of these outputs meanwhile. It holds no host and no list, and may be copied.
 ///
 /// ```
