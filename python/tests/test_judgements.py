@@ -17,7 +17,7 @@ from pmhost.parts import BadRails
 from pmhost.readings import Reading
 from pmhost.rehearsal import first_not_reached, is_reached, modelled
 from pmhost.rounded import Accepting
-from pmhost.sequence import place_of
+from pmhost.rail_order import place_of
 from pmhost.states import Step
 from pmhost.transfers import Transfers
 from pmhost.zeros import Believing, NotBelieved

@@ -9,7 +9,7 @@ from unittest import mock
 from pmhost import clock
 from pmhost.cli import streams
 from pmhost.rails import Rail
-from pmhost.sequence import in_order, milliseconds
+from pmhost.rail_order import in_order, milliseconds
 from pmhost.values import CODES
 
 from . import kernel

@@ -11,24 +11,26 @@ from . import _started
 from ._version import __version__
 from .bus import LinuxBus, ModelBus, NoBus, NoTransfer, PatientBus, Smbus2Bus
 from .course import Course, CourseEnd, Job, Wanted
+from .delivered import Delivered, NotDelivered
 from .device import Device
 from .errors import (Differs, FrameRefused, HostRefused, LimitRefused, MarginRefused, MemoryRefused, NoFormat, NotDone, NumberRefused, OtherSource,
                      PartRefused, PlanRefused, PmhostError, Refused, SetupRefused, Spent, Unknown)
 from .host import Host
+from .looks import Looks
 from .packets import Packet, code_request, pec, read_answer, read_block, read_plain, read_request, read_write
-from .look import Delivered, Looks, NotDelivered
 from .part import ModelPart, ModelPartBus, Output
-from .stairs import NoWayBack, Stairs, StairsEnd, StairsStep, run_stairs
+from .sequence import Heard, RailHeard, Rules, Said, Sequence, SequenceStep, Verdict
 from .states import Band, Bus, Known, Limits, RailState, Sending, Step
 from .transfers import Transfers
 from .values import CODES, LINEAR11, Format
 from .voltages import Voltage
 
 __all__ = [
-    "Band", "Bus", "CODES", "Course", "CourseEnd", "Delivered", "Device", "Differs", "Format", "FrameRefused", "Host",
+    "Band", "Bus", "CODES", "Course", "CourseEnd", "Delivered", "Device", "Differs", "Format", "FrameRefused", "Heard", "Host",
     "HostRefused", "Job", "Known", "LINEAR11", "LimitRefused", "Limits", "LinuxBus", "Looks", "MarginRefused", "MemoryRefused", "ModelBus",
-    "ModelPart", "ModelPartBus", "NoBus", "NoFormat", "NoTransfer", "NoWayBack", "NotDelivered", "NotDone", "NumberRefused", "OtherSource",
-    "Output", "Packet", "PartRefused", "PatientBus", "PlanRefused", "PmhostError", "RailState", "Refused", "Sending",
-    "SetupRefused", "Smbus2Bus", "Spent", "Stairs", "StairsEnd", "StairsStep", "Step", "Transfers", "Unknown", "Voltage", "Wanted", "__version__", "code_request",
-    "pec", "read_answer", "read_block", "read_plain", "read_request", "read_write", "run_stairs",
+    "ModelPart", "ModelPartBus", "NoBus", "NoFormat", "NoTransfer", "NotDelivered", "NotDone", "NumberRefused", "OtherSource",
+    "Output", "Packet", "PartRefused", "PatientBus", "PlanRefused", "PmhostError", "RailHeard", "RailState", "Refused", "Rules", "Said", "Sending", "Sequence",
+    "SequenceStep",
+    "SetupRefused", "Smbus2Bus", "Spent", "Step", "Transfers", "Unknown", "Verdict", "Voltage", "Wanted", "__version__", "code_request",
+    "pec", "read_answer", "read_block", "read_plain", "read_request", "read_write",
 ]

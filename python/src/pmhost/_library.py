@@ -17,8 +17,7 @@ HOST_VERSION = 6
 HOST_SIZE = 2064
 COURSE_VERSION = 1
 COURSE_SIZE = 104
-DELIVERY_VERSION = 2
-STAIRS_VERSION = 1
+SEQUENCE_VERSION = 1
 PART_SIZE = 372
 CELLS = 49
 
@@ -107,44 +106,41 @@ class HeardImage(c.Structure):
     _fields_ = [("asked", c.c_uint8), ("fault", c.c_uint8), ("word", c.c_uint16)]
 
 
-# What a delivery asks for, in the order of its memory.
+# What is asked of a rail, in the order of its memory.
 QUESTIONS = ("before", "ov_fault_limit", "ov_warn_limit", "uv_warn_limit", "uv_fault_limit", "status_word", "status_vout", "status_iout",
              "status_input", "status_temperature", "read_vout", "power_good_on", "power_good_off")
 
 
-class DeliveryImage(c.Structure):
-    _fields_ = [("mark", c.c_uint16), ("version", c.c_uint16), ("output", c.c_uint8), ("look", c.c_uint8), ("fault_limits", c.c_uint8),
-                ("lacks", c.c_uint8), ("within", c.c_uint16), ("rounds", c.c_uint16), ("round", c.c_uint16)] + [
-                    (name, HeardImage) for name in QUESTIONS]
+class RailHeardImage(c.Structure):
+    _fields_ = [("output", c.c_uint8), ("look", c.c_uint8), ("fault_limits", c.c_uint8), ("lacks", c.c_uint8), ("within", c.c_uint16),
+                ("rounds", c.c_uint16), ("round", c.c_uint16)] + [(name, HeardImage) for name in QUESTIONS]
 
 
-class DeliveredImage(c.Structure):
-    _fields_ = [("kind", c.c_uint8), ("code", c.c_uint8), ("bit", c.c_uint8), ("fault", c.c_uint8), ("has_microvolts", c.c_uint8),
-                ("unused", c.c_uint8), ("word", c.c_uint16), ("microvolts", c.c_int64)]
-
-
-class StairsWishImage(c.Structure):
+class SequenceWishImage(c.Structure):
     _fields_ = [("kind", c.c_uint16), ("word", c.c_uint16), ("unused", c.c_uint32), ("microvolts", c.c_int64)]
 
 
-class StairsStepImage(c.Structure):
+class SequenceStepImage(c.Structure):
     _fields_ = [("host", c.c_uint8), ("output", c.c_uint8), ("kind", c.c_uint8), ("byte", c.c_uint8), ("unused", c.c_uint8 * 4)] + [
-        (name, StairsWishImage) for name in ("command", "max", "margin_high", "margin_low", "min")]
+        (name, SequenceWishImage) for name in ("command", "max", "margin_high", "margin_low", "min")] + [
+            ("looks", c.c_uint8), ("fault_limits", c.c_uint8), ("lacks", c.c_uint8), ("tells_power_good", c.c_uint8), ("within", c.c_uint16),
+            ("rounds", c.c_uint16), ("wait", c.c_uint32), ("before", HeardImage)]
 
 
-class StairsEndImage(c.Structure):
-    _fields_ = [("kind", c.c_uint8), ("number", c.c_uint8), ("code", c.c_uint8), ("has_begun", c.c_uint8), ("word", c.c_uint16),
-                ("fault", c.c_uint16), ("step", c.c_uint16), ("unused", c.c_uint16 * 3)]
+class SequenceRecordImage(c.Structure):
+    _fields_ = [("back", SequenceStepImage), ("mark", c.c_uint16), ("version", c.c_uint16), ("look", RailHeardImage), ("unused", c.c_uint8 * 6)]
 
 
-class StairsImage(c.Structure):
-    _fields_ = [("mark", c.c_uint16), ("version", c.c_uint16), ("tries", c.c_uint16), ("begun", c.c_uint16), ("host", c.c_uint8),
-                ("keeps_back", c.c_uint8), ("ends_at_restart", c.c_uint8), ("unused", c.c_uint8 * 5), ("end", StairsEndImage),
-                ("held", c.c_uint64 * 30)]
+class SaidImage(c.Structure):
+    _fields_ = [("kind", c.c_uint8), ("number", c.c_uint8), ("code", c.c_uint8), ("verdict", c.c_uint8), ("bit", c.c_uint8),
+                ("has_microvolts", c.c_uint8), ("word", c.c_uint16), ("fault", c.c_uint16), ("step", c.c_uint16), ("milliseconds", c.c_uint32),
+                ("microvolts", c.c_int64)]
 
 
-class JudgementImage(c.Structure):
-    _fields_ = [("fault", c.c_uint8), ("warning", c.c_uint8), ("fault_word", c.c_uint16), ("warning_word", c.c_uint16)]
+class SequenceImage(c.Structure):
+    _fields_ = [("mark", c.c_uint16), ("version", c.c_uint16), ("left", c.c_uint16), ("leaves", c.c_uint8), ("asks", c.c_uint8), ("said", SaidImage),
+                ("marks", c.c_uint16 * 2), ("tries", c.c_uint16), ("begun", c.c_uint16), ("host", c.c_uint8), ("keeps_back", c.c_uint8),
+                ("ends_at_restart", c.c_uint8), ("unused", c.c_uint8 * 5), ("held", c.c_uint64 * 32), ("look", RailHeardImage), ("more", c.c_uint8 * 34)]
 
 
 class NameImage(c.Structure):
@@ -185,8 +181,7 @@ class ReplyImage(c.Structure):
 
 _u8, _u16, _u32, _u64, _i64, _at = c.c_uint8, c.c_uint16, c.c_uint32, c.c_uint64, c.c_int64, c.POINTER
 _host, _part, _bytes = _at(HostImage), _at(PartImage), c.c_char_p
-_wanted, _course, _delivery = _at(WantedImage), _at(CourseImage), _at(DeliveryImage)
-_stairs, _steps = _at(StairsImage), _at(StairsStepImage)
+_wanted, _course, _sequence = _at(WantedImage), _at(CourseImage), _at(SequenceImage)
 
 # Each call: what it answers, and what it takes.
 CALLS = {
@@ -234,23 +229,12 @@ CALLS = {
     "pm_course_after_read": (StepImage, [_course, _host, _bytes, _u64, _u8, _at(SendingImage)]),
     "pm_course_ended": (_u8, [_course, _at(CourseEndImage)]),
     "pm_course_goal": (_u8, [_course, _host, _u8, _at(_u16)]),
-    "pm_delivery_size": (_u64, []),
-    "pm_delivery_version": (_u16, []),
-    "pm_delivery_new": (_u8, [_delivery, _u8, _u8, _u8, _u16, _u16]),
-    "pm_delivery_before": (_u8, [_delivery]),
-    "pm_delivery_after": (_u8, [_delivery, _u8]),
-    "pm_delivery_frame": (_u8, [_delivery, _host, _at(SendingImage)]),
-    "pm_delivery_read_ended": (_u8, [_delivery, _host, _bytes, _u64]),
-    "pm_delivery_verdict": (_u8, [_delivery, _host, _at(DeliveredImage)]),
-    "pm_delivery_judge": (_u8, [_delivery, _host, _u16, _at(JudgementImage)]),
-    "pm_stairs_size": (_u64, []),
-    "pm_stairs_version": (_u16, []),
-    "pm_stairs_new": (None, [_stairs, _u16, _u8]),
-    "pm_stairs_ask": (_u8, [_stairs, _host, _steps, _u64, _steps, _u64, _at(SendingImage)]),
-    "pm_stairs_write_ended": (StepImage, [_stairs, _host, _u8]),
-    "pm_stairs_read_ended": (StepImage, [_stairs, _host, _bytes, _u64]),
-    "pm_stairs_skip": (_u8, [_stairs]),
-    "pm_stairs_check": (_u8, [_host, _steps, _at(StairsEndImage)]),
+    "pm_sequence_size": (_u64, []),
+    "pm_sequence_version": (_u16, []),
+    "pm_sequence_new": (None, [_sequence, _u16, _u8]),
+    "pm_sequence_next": (_u8, [_sequence, _host, _at(SequenceStepImage), _u64, _at(SequenceRecordImage), _u64, _at(SendingImage)]),
+    "pm_sequence_write_ended": (StepImage, [_sequence, _host, _u8]),
+    "pm_sequence_read_ended": (StepImage, [_sequence, _host, _bytes, _u64]),
     "pm_refusal_name": (_u8, [_u8, _at(NameImage)]),
     "pm_end_name": (_u8, [_u16, _at(NameImage)]),
     "pm_microvolts": (_u8, [_at(FormatImage), _u16, _at(_i64)]),
@@ -296,9 +280,9 @@ def _load() -> c.CDLL:
         call = getattr(loaded, name)
         call.restype, call.argtypes = answers, takes
     found = (loaded.pm_version() >> 8, loaded.pm_host_version(), loaded.pm_host_size(), loaded.pm_course_version(), loaded.pm_course_size(),
-             loaded.pm_delivery_version(), loaded.pm_delivery_size(), loaded.pm_stairs_version(), loaded.pm_stairs_size(), loaded.pm_part_size())
-    wanted = (VERSION >> 8, HOST_VERSION, c.sizeof(HostImage), COURSE_VERSION, c.sizeof(CourseImage), DELIVERY_VERSION,
-              c.sizeof(DeliveryImage), STAIRS_VERSION, c.sizeof(StairsImage), c.sizeof(PartImage))
+             loaded.pm_sequence_version(), loaded.pm_sequence_size(), loaded.pm_part_size())
+    wanted = (VERSION >> 8, HOST_VERSION, c.sizeof(HostImage), COURSE_VERSION, c.sizeof(CourseImage), SEQUENCE_VERSION,
+              c.sizeof(SequenceImage), c.sizeof(PartImage))
     if found != wanted:
         _stop(f"{PATH} is another library than this package is for: it says {found}, and not {wanted}")
     return loaded

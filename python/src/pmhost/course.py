@@ -4,11 +4,11 @@ from __future__ import annotations
 import ctypes
 import functools
 from dataclasses import dataclass
-from typing import TYPE_CHECKING, Any, Iterable, Mapping, NoReturn, Optional, Union
+from typing import TYPE_CHECKING, Any, Iterable, Mapping, Optional, Union
 
 from . import _library as at
 from ._library import library
-from .errors import Differs, NoFormat, OtherSource, Spent, accepted, name_of, refusal
+from .errors import Differs, NoFormat, OtherSource, PmhostError, Spent, accepted, name_of, refusal
 from .operation import ON, avsbus, margin_byte, selected_by
 from .values import CODES, NAMES, code_of, frame_bytes, whole
 from .voltages import GivenVoltage, given_microvolts
@@ -260,24 +260,26 @@ class Course:
         if found is None:
             raise ValueError("end: the course goes on: send its frame first")
         if found.kind != "reached":
-            self._fail(found)
+            raise end_fault(found, self.tries)
 
-    def _fail(self, found: CourseEnd) -> NoReturn:
-        register, word = found.register, found.word or 0
-        if found.kind == "refused":
-            raise refusal(found.number, register)
-        if found.kind == "differs":
-            raise Differs(f"{register}: the part holds {in_hexadecimal(register, word)}h, and not what was ordered twice: it lost, refused, "
-                          "limited or rounded it: look at STATUS_CML, VOUT_MAX and VOUT_MIN", "differs", word, None, register)
-        if found.kind == "format":
-            raise NoFormat(f"VOUT_MODE is {word:02X}h, a format that this host doesn't speak: order words and no voltages, by `order`",
-                           "format", word, None, register)
-        if found.kind == "source":
-            raise OtherSource(f"OPERATION is {word:02X}h, by which another source may decide the voltage{avsbus(word)}: order OPERATION first, "
-                              "as by `turn_on`", "source", word, None, register)
-        why = f"with the last answer this was wrong: {found.fault}: look at the bus" if found.fault else \
-            "all answers were good: give more tries, or look why the part changes"
-        raise Spent(f"{register}: none of {self.tries} tries is left, {why}", "spent", None, None, register)
+
+def end_fault(found: CourseEnd, tries: int) -> PmhostError:
+    """The exception of a course that came to another end than `reached`, after at most so many jobs."""
+    register, word = found.register, found.word or 0
+    if found.kind == "refused":
+        return refusal(found.number, register)
+    if found.kind == "differs":
+        return Differs(f"{register}: the part holds {in_hexadecimal(register, word)}h, and not what was ordered twice: it lost, refused, "
+                       "limited or rounded it: look at STATUS_CML, VOUT_MAX and VOUT_MIN", "differs", word, None, register)
+    if found.kind == "format":
+        return NoFormat(f"VOUT_MODE is {word:02X}h, a format that this host doesn't speak: order words and no voltages, by `order`",
+                        "format", word, None, register)
+    if found.kind == "source":
+        return OtherSource(f"OPERATION is {word:02X}h, by which another source may decide the voltage{avsbus(word)}: order OPERATION first, "
+                           "as by `turn_on`", "source", word, None, register)
+    why = f"with the last answer this was wrong: {found.fault}: look at the bus" if found.fault else \
+        "all answers were good: give more tries, or look why the part changes"
+    return Spent(f"{register}: none of {tries} tries is left, {why}", "spent", None, None, register)
 
 
 @functools.lru_cache(maxsize=64)

@@ -1,21 +1,27 @@
 """Supply voltages over a bus: jobs that are carried out, and voltages with their unit."""
 from __future__ import annotations
 
-import contextlib
 import functools
 import threading
+from dataclasses import replace
 from typing import Callable, Iterable, Mapping, ParamSpec, TypeVar
 
-from .course import SURVEY_TRIES, TRIES, Course, Job, Wanted
-from .errors import Differs, NotDone, Refused, Unknown
+from .course import SURVEY_TRIES, TRIES, Job, Wanted, end_fault
+from .delivered import Delivered, NotDelivered, beyond_of
+from .errors import Differs, HostRefused, NotDone, PmhostError, Refused, Unknown, refusal
 from .host import Host
-from .look import Delivered, Look, Looks, NotDelivered
-from .operation import OFF, ON
+from .looks import Looks
+from .operation import OFF, ON, margin_byte
+from .rounded import near_word
+from .sequence import WHY, Said, SequenceStep, Wishes
 from .states import Bus, Known, RailState, Step
+from .step_run import StepRun
 from .transfers import Transfers
 from .values import CODES, LOOKED_AT, NAMES, code_of
-from .voltages import GivenVoltage, Voltage
+from .voltages import GivenVoltage, Voltage, given_microvolts
 
+# H5 and H7.
+NO_VOLTAGE, FORMAT_UNKNOWN = 5, 7
 
 Words = ParamSpec("Words")
 Made = TypeVar("Made")
@@ -62,8 +68,8 @@ class Device:
         lacks = tuple(lacks)
         self.bus, self.host = bus, Host(address, outputs, passes, [it for it in lacks if it not in LOOKED_AT])
         self.transfers, self.lock = Transfers(), threading.RLock()
-        # How rails are looked at, what was seen last, and the registers beside the host's that the part turned out not to have.
-        self.looks, self.absent = looks, set[str]()
+        # How rails are looked at, and what was seen last.
+        self.looks = looks
         self.delivered: Delivered | None = None
         self.lacks = frozenset(str(it) if it in LOOKED_AT else NAMES[code_of(it)] for it in lacks)
         for output, pair in dict(limits or {}).items():
@@ -202,90 +208,87 @@ class Device:
                 if register != "WRITE_PROTECT" and register not in self.lacks:
                     self.check(output, register)
 
-    # ---- Courses ----
+    # ---- Steps ----
 
     @alone
-    def complete(self, course: Course, before_order: Callable[[Job], None] | None = None,
-                 after_order: Callable[[Job, Step], None] | None = None, job: str = "", accept: GivenVoltage | None = None) -> RailState:
-        """Carries a course out, as `Host.run_course` does, and says what the output commands then. Raises how it ended if it has not
-        reached what is wanted: a Refused, Differs, NoFormat, OtherSource or Spent, after the words of a job; and NotDelivered. If an
-        order differs and the held word is `accept` near, that is wanted instead, as by `Course.accept`."""
+    def deliver(self, step: SequenceStep, tries: int = TRIES, before_order: Callable[[Job], None] | None = None,
+                after_order: Callable[[Job, Step], None] | None = None, job: str = "", accept: GivenVoltage | None = None) -> RailState:
+        """Carries one step of an output out, as a list of its own, looks at its rail, and says what the output commands then. `looks` of the
+        device say how, where the step doesn't. `before_order` hears of each order before its first frame: if it raises, the order hasn't begun.
+        `after_order` hears how it ended.
+
+        Raises how it ended, after the words of a job, if it has not reached what is wanted: a Refused, Differs, NoFormat, OtherSource or
+        Spent; and NotDelivered. If an order differs and the held word is `accept` near, and within the limits, that is wanted instead."""
         self.transfers, self.delivered = Transfers(), None
-        look = None if self.looks is None else Look(self, course.output, self.looks)
+        step = replace(step, host=0, looks=step.looks or self.looks, lacks=self.lacks & {*LOOKED_AT})
+        run = StepRun(self, step, tries, before_order)
+        end = run.carry_out(after_order)
+        near = None if accept is None else given_microvolts(accept, "accept")
+        while near is not None and (held := self._near(run, end, near)) is not None:
+            end = run.want(held).carry_out(after_order)
+        if run.delivered is not None:
+            self.delivered = run.delivered
+        if not end.is_well:
+            raise self._fault(run, end, f"{job}: " * bool(job)) from self.transfers.error
+        return self.rail(step.output)
 
-        def before(order: Job) -> None:
-            if look is not None:
-                look.before(course, order)
-            if before_order is not None:
-                before_order(order)
+    def _near(self, run: StepRun, end: Said, near: int) -> Wishes | None:
+        """What is wanted instead, if an order differed and the word that its register holds is that near: None if it isn't, or was taken before."""
+        if end.kind != "differs" or end.register is None or end.register in run.taken or end.register not in run.step.wishes:
+            return None
+        held = near_word(self.host, run.step.output, end.register, run.step.wishes[end.register], near)
+        run.taken.add(end.register)
+        return None if held is None else {**run.step.wishes, end.register: held}
 
-        self.host.run_course(course, self.bus, self.transfers, before if look or before_order else None, after_order)
-        self._accept(course, accept, before if look or before_order else None, after_order)
-        try:
-            course.end()
-        except NotDone as fault:
-            cell, why = fault.register, self.transfers.why()
-            possible = self.host.possible_words(course.output, cell) if cell in CODES else None
-            raise type(fault)(f"{f'{job}: ' * bool(job)}{fault}{'; ' * bool(why)}{why}", fault.kind, fault.word, possible, cell) \
-                from self.transfers.error
-        if look is not None:
-            self.delivered = look.after(course.turns_off)
-            if self.delivered.is_bad:
-                raise NotDelivered(f"{f'{job}: ' * bool(job)}{self.delivered.why}{self.delivered.words}", self.delivered)
-        return self.rail(course.output)
-
-    def _accept(self, course: Course, accept: GivenVoltage | None, *hooks: Callable[..., None] | None) -> None:
-        """Takes held words of orders that differed, each register's once, and carries the course on."""
-        taken = set[str | None]()
-        while accept is not None and self._takes(course, accept, taken):
-            self.host.run_course(course, self.bus, self.transfers, *hooks)
-
-    def _takes(self, course: Course, accept: GivenVoltage, taken: set[str | None]) -> bool:
-        """Whether a course that ended since an order differed begins anew with the held word, of a register that isn't among those taken."""
-        try:
-            course.end()
-        except Differs as fault:
-            if fault.register not in taken:
-                taken.add(fault.register)
-                with contextlib.suppress(Refused):
-                    course.accept(self.host, accept)
-                    return True
-        except (NotDone, Refused):
-            pass
-        return False
+    def _fault(self, run: StepRun, end: Said, job: str) -> PmhostError:
+        """The exception of a step that didn't end well."""
+        if end.kind == "fails" and run.delivered is not None:
+            return NotDelivered(f"{job}{run.delivered.why}{run.delivered.words}", run.delivered)
+        if end.kind == "beyond":
+            return beyond_of(end, run.step, self.host)
+        if end.kind == "unjudged":
+            return refusal(FORMAT_UNKNOWN)
+        fault = Unknown(WHY[end.kind], end.kind) if end.kind in WHY else end_fault(end.course, run.tries)
+        if not isinstance(fault, NotDone):
+            return fault
+        cell, why = fault.register, self.transfers.why()
+        possible = self.host.possible_words(run.step.output, cell) if cell in CODES else None
+        return type(fault)(f"{job}{fault}{'; ' * bool(why)}{why}", fault.kind, fault.word, possible, cell)
 
     def survey(self, output: int, tries: int = SURVEY_TRIES) -> RailState:
         """Reads all that decides what the output commands, and says it, in at most `tries` jobs. Orders nothing."""
-        return self.complete(Course.survey(output, tries), job=f"survey {output}")
+        return self.deliver(SequenceStep.surveys(0, output), tries, job=f"survey {output}")
 
     def set_voltage(self, output: int, voltage: GivenVoltage, register: str | int = "VOUT_COMMAND", tries: int = TRIES,
                     accept: GivenVoltage | None = None) -> RailState:
         """Brings a register of the output to the word of a voltage: the nearest one, of VOUT_MAX and VOUT_MIN the one that keeps the
         bound. Says what the output commands then. With `accept="3mV"` a part may round: if the order differs, a held word whose value is
         this near is taken."""
-        wanted = Voltage(voltage)
-        return self.complete(Course.voltage(output, wanted, register, tries), job=f"set {output} {wanted}", accept=accept)
+        wanted, name = Voltage(voltage), NAMES[code_of(register)]
+        if name in ("OPERATION", "WRITE_PROTECT"):
+            raise HostRefused(NO_VOLTAGE, None)
+        return self.deliver(SequenceStep.sets(0, output, {name: wanted}), tries, job=f"set {output} {wanted}", accept=accept)
 
     def apply(self, output: int, wanted: Wanted, tries: int = TRIES, before_order: Callable[[Job], None] | None = None,
               after_order: Callable[[Job, Step], None] | None = None, accept: GivenVoltage | None = None) -> RailState:
         """Brings the output's registers to the wanted words, as {"VOUT_COMMAND": 0x34CD}, in an order in which the output commands its old
-        value or its new one, and says what it commands then. `before_order` and `after_order` are those of `Host.run_course`, `accept`
-        that of `set_voltage`."""
-        return self.complete(Course.words(output, wanted, tries), before_order, after_order, f"apply {output}", accept)
+        value or its new one, and says what it commands then. `before_order`, `after_order` and `accept` are those of `deliver`."""
+        step = SequenceStep.sets(0, output, {NAMES[code_of(register)]: word for register, word in wanted.items()})
+        return self.deliver(step, tries, before_order, after_order, f"apply {output}", accept)
 
     def turn_on(self, output: int, tries: int = TRIES) -> RailState:
         """Brings OPERATION to 80h, once what the output will command then is known. L8, L2, L5 by its limits, P7 by WRITE_PROTECT."""
-        return self.complete(Course.power(output, ON, tries), job=f"on {output}")
+        return self.deliver(SequenceStep.turns(0, output, ON), tries, job=f"on {output}")
 
     def turn_off(self, output: int, tries: int = TRIES) -> RailState:
         """Orders OPERATION 00h at once, before anything is read. No limit refuses it."""
-        return self.complete(Course.power(output, OFF, tries), job=f"off {output}")
+        return self.deliver(SequenceStep.turns(0, output, OFF), tries, job=f"off {output}")
 
     def margin(self, output: int, side: str, tries: int = TRIES, ignore_faults: bool = False) -> RailState:
         """Brings OPERATION to A8h or 98h, by which the output commands its margin `high` or `low` and the part acts on faults. It is refused
         as `turn_on` is; and MarginRefused is raised if the margin's own fault limit, VOUT_OV_FAULT_LIMIT or VOUT_UV_FAULT_LIMIT, isn't known to
         be 1 % of what is commanded now away. With `ignore_faults` OPERATION is A4h or 94h, and that isn't asked for."""
-        return self.complete(Course.margin(output, side, tries, ignore_faults), job=f"margin {output} {side}")
+        return self.deliver(SequenceStep.turns(0, output, margin_byte(side, ignore_faults)), tries, job=f"margin {output} {side}")
 
     # ---- Commands ----
 

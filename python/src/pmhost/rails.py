@@ -13,7 +13,7 @@
 
 A rail has an output, its volts and its limits; margins, min and max (VOUT_MIN, VOUT_MAX) only if they are to be set. It is on,
 unless `on = false` says that it is off. `accept` is for a part that rounds: a held word that is this near is as wanted. Voltages are texts with their unit, exactly as they are written, to a whole microvolt.
-`after`, `wait` and `delivers` say a rail's place among the others (`sequence`).
+`after`, `wait` and `delivers` say a rail's place among the others (`rail_order`).
 
 A board with several parts has a table for each (`parts`), and `part = "u12"` in each rail. Without them the file is of one part, whose
 place is given on the command line: `lacks = ["VOUT_MIN"]` above the first rail names registers that it doesn't have, and without
@@ -26,7 +26,7 @@ from dataclasses import dataclass, field
 from decimal import Decimal
 from typing import Callable, TypeVar
 
-from . import sequence, voltages
+from . import rail_order, voltages
 from .parts import MOST_OUTPUTS, NAME, BadRails, BoardPart, is_whole, lacks_of, part_of, protect_of
 
 # The settings of a rail, by their registers.
@@ -35,7 +35,7 @@ SETTINGS = {"volts": "VOUT_COMMAND", "margin_high": "VOUT_MARGIN_HIGH", "margin_
 WORDS = ("volts", "margin_low", "margin_high")
 MARGINS = (SETTINGS["margin_high"], SETTINGS["margin_low"])
 BOUNDS = (SETTINGS["min"], SETTINGS["max"])
-KEYS = ("output", "limits", "on", "accept", *SETTINGS, *sequence.KEYS)
+KEYS = ("output", "limits", "on", "accept", *SETTINGS, *rail_order.KEYS)
 MOST_BYTES = 1 << 20
 LIMITS_EXAMPLE = '["0.85V", "0.95V"]'
 # What a file without a table of parts says of its one part.
@@ -124,7 +124,7 @@ def judged(found: dict[str, object]) -> Rails:
         faults += places_of(list(parts.values()))
     tables = found.get("parts")
     faults += outputs_of(list(rails.values()), parts, set(tables) if isinstance(tables, dict) else set())
-    ordered = list(rails.values()) if faults else sequence.in_order(list(rails.values()), faults)
+    ordered = list(rails.values()) if faults else rail_order.in_order(list(rails.values()), faults)
     if faults:
         raise BadRails("; ".join(faults))
     return Rails(ordered, parts)
@@ -213,7 +213,7 @@ def rail_of(name: str, table: object, has_parts: bool) -> Rail:
     accept = microvolts(f"{at}.accept", table["accept"]) if "accept" in table else None
     if accept is not None and accept < 0:
         raise BadRails(f'{at}.accept: give how near is near enough, as "3mV"')
-    rail = Rail(name, output, (least, most), settings, is_on, part, accept, *sequence.place_of(at, table))
+    rail = Rail(name, output, (least, most), settings, is_on, part, accept, *rail_order.place_of(at, table))
     judge(at, rail)
     return rail
 

@@ -1,22 +1,21 @@
-"""What an output commands, by what is known, and courses of a part that may not be there."""
+"""What an output commands, by what is known, and surveys of a part that may not be there."""
 from __future__ import annotations
 
 import contextlib
 from dataclasses import dataclass, field
-from typing import Callable
 
 from . import probe
-from .course import Course, CourseEnd, Job
 from .device import Device
 from .errors import LimitRefused
-from .host import Host
 from .operation import avsbus, ignores_faults, selected_by
 from .packets import Packet
 from .reads import Reads
-from .states import Bus, Known, Step
+from .sequence import WHY, Said, SequenceStep
+from .states import Known
+from .step_run import StepRun
 from .transfers import Transfers
 from .values import CODES, Format
-from .zeros import ADDRESS, REGISTER, Believing
+from .zeros import REGISTER
 
 CAPABILITY = Packet("read", 0x19)
 # What stands among the registers that are missed for a format that isn't spoken here.
@@ -101,80 +100,21 @@ def commanded(part: Device, output: int) -> Commanded:
     return found
 
 
-# ---- Courses ----
-
-class Silent(Exception):
-    """Nothing was answered in a course's first job."""
-
-
-class Nobody(Exception):
-    """Why no part answers: nothing was ordered."""
-
-
-class Listening(Transfers):
-    """Those of a course to a part that may not be there: it is Silent if the first job's requests are all unanswered."""
-
-    def __init__(self, passes: int) -> None:
-        super().__init__()
-        self._silence: int | None = passes
-
-    def answered(self, address: int, request: bytes, answer: bytes) -> None:
-        self._silence = None
-        super().answered(address, request, answer)
-
-    def fault(self, error: OSError) -> None:
-        super().fault(error)
-        self._listen()
-
-    def unheard(self, what: str) -> None:
-        super().unheard(what)
-        self._listen()
-
-    def _listen(self) -> None:
-        if self.has_written:
-            self._silence = None
-        if self._silence is not None and len(self.failed) >= self._silence:
-            raise Silent
-
-
-def believed(part: Device) -> Bus:
-    """The bus of a part, over which zeros of WRITE_PROTECT are believed if they are good."""
-    return Believing(part.bus, lambda: ask_operation(part)) if part.host.address == ADDRESS else part.bus
-
-
-def complete(part: Device, course: Course, before_order: Callable[[Job], None] | None = None,
-             after_order: Callable[[Job, Step], None] | None = None, ask: Callable[[], str] | None = None) -> None:
-    """Carries a course out, as `Host.run_course` does. If nobody answers its first job `ask` says why, nothing if the part answers,
-    and it goes on: Nobody, and without `ask` at once. NotBelieved if zeros of WRITE_PROTECT aren't believed."""
-    bus = believed(part)
-    part.transfers = Listening(part.host.passes)
-    try:
-        part.host.run_course(course, bus, part.transfers, before_order, after_order)
-    except Silent:
-        why = part.transfers.why() if ask is None else ask()
-        if why:
-            raise Nobody(why) from None
-        part.transfers = Transfers()
-        part.host.run_course(course, bus, part.transfers, before_order, after_order)
-
+# ---- Steps ----
 
 def survey(part: Device, output: int) -> Commanded:
     """Surveys an output: its format, OPERATION, the register that this selects, VOUT_MAX and VOUT_MIN."""
-    course = Course.survey(output, SURVEY_TRIES)
-    try:
-        complete(part, course)
-    except Nobody as nobody:
-        found = commanded(part, output)
-        found.missing = {"VOUT_MODE": str(nobody)}
-        return found
-    return behind(part, course)
+    part.transfers = Transfers()
+    return behind(part, output, StepRun(part, SequenceStep.surveys(0, output), SURVEY_TRIES).carry_out(ask=lambda: part.transfers.why()))
 
 
-def behind(part: Device, course: Course, end: CourseEnd | None = None) -> Commanded:
-    """What an output commands after a course, and what this has missed."""
-    found, end = commanded(part, course.output), end or course.ended or CourseEnd("")
-    if end.kind == "format":
-        found.missing = {FORMAT: probe.why_not_learned(part, course.output)}
+def behind(part: Device, output: int, end: Said) -> Commanded:
+    """What an output commands after a step of its own, or one that stands before an order, and what this has missed."""
+    found = commanded(part, output)
+    if end.kind == "nobody":
+        found.missing = {"VOUT_MODE": end.fault}
+    elif end.kind == "format":
+        found.missing = {FORMAT: probe.why_not_learned(part, output)}
     elif end.kind == "source":
         found.unended = f"OPERATION is {end.word:02X}, by which another source may decide the voltage{avsbus(end.word or 0)}: order OPERATION"
     elif end.kind == "spent" and end.fault:
@@ -183,15 +123,9 @@ def behind(part: Device, course: Course, end: CourseEnd | None = None) -> Comman
         found.unended = "the part restarts again and again"
     elif end.kind == "refused" and end.register in part.lacks:
         found.unended = f"OPERATION selects {end.register}, which the part doesn't have"
+    elif end.kind in WHY:
+        found.unended = WHY[end.kind]
     return found
-
-
-def ask_operation(part: Device) -> str:
-    """Why a check of OPERATION of output 0 gives no good answer, nothing if it gives one: by a host of its own, since a job is open
-    or its end isn't believed yet."""
-    host, transfers = Host(part.host.address, 1, part.host.passes), Transfers()
-    host.check(0, "OPERATION")
-    return "" if host.run(part.bus, transfers).kind == "done" else transfers.why() or "no good answer"
 
 
 def answers(part: Device) -> bool:

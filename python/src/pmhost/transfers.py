@@ -35,6 +35,11 @@ class Transfers:
         self._answers.append((address, request, answer))
 
     @property
+    def is_answered(self) -> bool:
+        """Whether any request was answered, good or not."""
+        return bool(self._answers)
+
+    @property
     def faults(self) -> list[str]:
         """What was wrong with answers, by letter and name."""
         return [found for _, found in self._read() if isinstance(found, str)]

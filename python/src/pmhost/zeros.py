@@ -9,7 +9,9 @@ from __future__ import annotations
 
 from typing import Callable, TypeVar
 
+from .host import Host
 from .states import Bus
+from .transfers import Transfers
 from .values import CODES
 
 ADDRESS, REGISTER = 0x48, "WRITE_PROTECT"
@@ -39,6 +41,19 @@ class Believing:
         if request != REQUEST:
             return read()
         return guard(ADDRESS, REGISTER, self.ask_operation, read, lambda came: came != ZEROS or read() == ZEROS)
+
+
+def believed(bus: Bus, host: Host) -> Bus:
+    """The bus of a host's part, over which zeros of WRITE_PROTECT are believed if they are good."""
+    return Believing(bus, lambda: ask_operation(bus, host)) if host.address == ADDRESS else bus
+
+
+def ask_operation(bus: Bus, host: Host) -> str:
+    """Why a check of OPERATION of output 0 gives no good answer, nothing if it gives one: by a host of its own, since a job is open
+    or its end isn't believed yet."""
+    other, transfers = Host(host.address, 1, host.passes), Transfers()
+    other.check(0, "OPERATION")
+    return "" if other.run(bus, transfers).kind == "done" else transfers.why() or "no good answer"
 
 
 def guard(address: int, register: str, ask_operation: Callable[[], str], read: Callable[[], T], is_held: Callable[[T], bool]) -> T:

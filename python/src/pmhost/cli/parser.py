@@ -7,7 +7,7 @@ import ast
 import re
 from typing import Any, Callable, NoReturn
 
-from .. import parts, sequence, voltages
+from .. import parts, rail_order, voltages
 from ..parts import MODEL_BUS
 from ..values import LOOKED_AT, MISSABLE
 from . import streams
@@ -102,7 +102,7 @@ def whole(least: int, most: int, what: str) -> Callable[[str], int]:
 def time_of(most: int, what: str) -> Callable[[str], int]:
     """The judge of a time with its unit, of at most so many seconds: its milliseconds."""
     def judge(word: str) -> int:
-        milliseconds = sequence.milliseconds(word)
+        milliseconds = rail_order.milliseconds(word)
         if milliseconds is None:
             raise argparse.ArgumentTypeError(f"{what} {shown(word.strip())}: give a time with its unit, as 12ms or 5s")
         if milliseconds > most * 1000:

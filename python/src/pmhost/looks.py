@@ -1,0 +1,38 @@
+"""How rails are looked at."""
+from __future__ import annotations
+
+from dataclasses import dataclass
+
+from .values import whole
+
+FAULT_LIMITS = {"refuse": 0, "tell": 1, "skip": 2}
+# Milliseconds before all is asked again; each further wait is twice as long.
+FIRST_WAIT = 10
+
+
+@dataclass(frozen=True)
+class Looks:
+    """How rails are looked at. `fault_limits` refuses a voltage at or beyond a fault limit (`refuse`), says so only (`tell`), or doesn't
+    read them (`skip`). `power_good` judges a rail of which only power good is missing (`judge`), or says so (`tell`). READ_VOUT may be
+    `within` thousandths away from what is commanded, and a rail is given `settle` milliseconds until it delivers."""
+
+    fault_limits: str = "refuse"
+    power_good: str = "judge"
+    within: int = 50
+    settle: int = 630
+
+    def __post_init__(self) -> None:
+        for name, words in (("fault_limits", FAULT_LIMITS), ("power_good", ("judge", "tell"))):
+            if getattr(self, name) not in words:
+                raise ValueError(f"{name}: {getattr(self, name)!r} isn't one of {', '.join(words)}")
+        whole(self.within, 0, 1000, "within", "thousandths")
+        whole(self.settle, 0, 60_000, "settle", "milliseconds")
+
+    @property
+    def rounds(self) -> int:
+        """How often all is asked: once, and after each wait that ends in time."""
+        rounds, wait, passed = 1, FIRST_WAIT, FIRST_WAIT
+        while passed <= self.settle:
+            rounds, wait = rounds + 1, 2 * wait
+            passed += wait
+        return rounds

@@ -1,0 +1,87 @@
+"""The order of a board's rails: which comes after which, how long is waited between two, and whether the ones before have to deliver.
+
+    [rails.io]
+    after = ["core"]      # core comes first
+    wait = "5ms"          # this long after core
+    delivers = true       # core has to deliver, by STATUS_WORD and READ_VOUT
+
+Without `after` rails keep the order of the file.
+"""
+from __future__ import annotations
+
+import re
+from typing import TYPE_CHECKING
+
+from .parts import BadRails
+
+if TYPE_CHECKING:
+    from .rails import Rail
+
+TIME = re.compile("([0-9]{1,9}) ?(ms|s)")
+MILLISECONDS = {"ms": 1, "s": 1000}
+MOST_WAIT = 60_000
+# The keys of a rail that say its place.
+KEYS = ("after", "wait", "delivers")
+
+
+def milliseconds(text: str) -> int | None:
+    """A time with its unit, as 12ms or 5s; None of another text."""
+    found = TIME.fullmatch(text.strip())
+    return None if found is None else int(found[1]) * MILLISECONDS[found[2]]
+
+
+def place_of(at: str, table: dict[str, object]) -> tuple[tuple[str, ...], int, bool]:
+    """What a rail's table says of its place: the rails before it, the milliseconds that are waited, and whether those have to deliver.
+    BadRails."""
+    after, wait, delivers = table.get("after", []), table.get("wait"), table.get("delivers", False)
+    if not isinstance(after, list) or any(not isinstance(name, str) for name in after):
+        raise BadRails(f'{at}.after: give a list of rails, as ["core"]')
+    if not isinstance(delivers, bool):
+        raise BadRails(f"{at}.delivers: give true or false")
+    found = milliseconds(wait) if isinstance(wait, str) else None if wait is not None else 0
+    if found is None or found > MOST_WAIT:
+        raise BadRails(f'{at}.wait: give a time of at most 60s with its unit, as "5ms"')
+    for key in ("wait", "delivers"):
+        if table.get(key) and not after:
+            raise BadRails(f'{at}.{key}: after which rails? give `after`, too, as ["core"]')
+    return tuple(after), found, delivers
+
+
+def in_order(rails: list[Rail], faults: list[str]) -> list[Rail]:
+    """The rails in their order: each comes after those that it names, and otherwise they keep that of the file. What is wrong goes to the
+    faults, and the order is that of the file then."""
+    wrong = [fault for rail in rails for fault in faults_of(rail, {it.name: it for it in rails})]
+    found: list[Rail] = []
+    left = list(rails)
+    while left and not wrong:
+        placed = {it.name for it in found}
+        free = next((it for it in left if placed.issuperset(it.after)), None)
+        if free is None:
+            wrong.append(circle(left))
+        else:
+            left.remove(free)
+            found.append(free)
+    faults += wrong
+    return rails if wrong else found
+
+
+def faults_of(rail: Rail, named: dict[str, Rail]) -> list[str]:
+    """What is wrong with the rails that one comes after."""
+    at, found = f"rails.{rail.name}", list[str]()
+    for name in rail.after:
+        if name == rail.name:
+            found.append(f"{at}.after: a rail doesn't come after itself")
+        elif name not in named:
+            found.append(f"{at}.after: there is no [rails.{name[:40]}]")
+        elif rail.delivers and not named[name].is_on:
+            found.append(f"{at}.delivers: {name} is to be off, and delivers nothing")
+    return found
+
+
+def circle(left: list[Rail]) -> str:
+    """The circle in which rails wait for one another, of rails none of which can come next."""
+    named, way = {it.name: it for it in left}, [left[0].name]
+    while way.count(way[-1]) < 2:
+        way.append(next(name for name in named[way[-1]].after if name in named))
+    way = way[way.index(way[-1]):]
+    return f"rails.{way[0]}.after: {' comes after '.join(way)}: leave one out"
