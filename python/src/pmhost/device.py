@@ -71,6 +71,8 @@ class Device:
         # How rails are looked at, and what was seen last.
         self.looks = looks
         self.delivered: Delivered | None = None
+        # Whether it was said that limits gave no good answer.
+        self.is_silence_told = False
         self.lacks = frozenset(str(it) if it in LOOKED_AT else NAMES[code_of(it)] for it in lacks)
         for output, pair in dict(limits or {}).items():
             if pair is None:

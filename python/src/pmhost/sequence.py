@@ -314,13 +314,13 @@ class Sequence:
         taken = frame_bytes(answer, 2**16, "answer")
         return self.host.step_of(library.pm_sequence_read_ended(REFERENCE(self._image), self.host.reference, taken, len(taken)))
 
-    def run(self, buses: Listed[Bus], told: Optional[Callable[[Said], object]] = None, after_order: Optional[Callable[[Job, Step], None]] = None,
+    def run(self, buses: Listed[Bus], told: Optional[Callable[[Said], object]] = None, after_order: Optional[Callable[[Job, Step], object]] = None,
             transfers: Optional[Transfers] = None, ask: Optional[Callable[[], str]] = None) -> Said:
         """Carries the list out, frame after frame, each over the bus of its host. The answer is its end, or what it was stopped at; called again
         it goes on.
 
         `told` hears all that is said meanwhile, a wait before it begins: if it answers False the loop ends there. `after_order` hears how each
-        order ended. `transfers` has those of the last job. `ask` is asked once why nobody answers, if the first job of the list had no answer at
+        order ended: if it answers False the loop ends by a Said of the kind `stopped`. `transfers` has those of the last job. `ask` is asked once why nobody answers, if the first job of the list had no answer at
         all; with an answer it ends the loop by a Said of the kind `nobody`, whose fault that is, and without one the list goes on. Whatever is
         raised meanwhile goes on to the caller, with the job that was under way ended as unknown."""
         kept, order, is_open = Transfers() if transfers is None else transfers, None, False
@@ -341,8 +341,8 @@ class Sequence:
                     order = None if found.is_request else ordered(self.host, found)
                 step = self._hear(found, self.host.came(buses[self.place], found, kept))
                 is_open = not step.is_over
-                if step.is_over and order is not None and after_order is not None:
-                    after_order(order, step)
+                if step.is_over and order is not None and after_order is not None and after_order(order, step) is False:
+                    return Said("stopped", self.begun)
                 if step.is_over and not self._is_heard:
                     self._is_heard = True
                     if ask is not None and not kept.has_written and not kept.is_answered and (why := ask()):
