@@ -5,13 +5,38 @@ from typing import Iterable
 
 from .course import Course, CourseEnd
 from .device import Device
+from .packets import pec
 from .part import ModelPart, ModelPartBus, Output
-from .values import NAMES
+from .states import Bus
+from .values import CODES, NAMES
 
 PROTECT = "WRITE_PROTECT"
 # The words with which an output of a model starts.
 REGISTERS = {"operation": "OPERATION", "command": "VOUT_COMMAND", "max": "VOUT_MAX", "high": "VOUT_MARGIN_HIGH", "low": "VOUT_MARGIN_LOW",
              "min": "VOUT_MIN"}
+
+
+class Unprotected:
+    """The bus of a part, over which WRITE_PROTECT reads as 00."""
+
+    def __init__(self, bus: Bus, address: int) -> None:
+        self.bus, self.request = bus, bytes([address << 1, CODES[PROTECT]])
+
+    def write(self, frame: bytes) -> bool:
+        return self.bus.write(frame)
+
+    def read(self, request: bytes, count: int) -> bytes:
+        if request != self.request:
+            return self.bus.read(request, count)
+        return bytes([0, pec(request + bytes([request[0] | 1, 0]))])
+
+
+def unprotected(part: Device) -> Device:
+    """A part as if its WRITE_PROTECT were 00, by a copy of its host that reads all anew. It is for what orders nothing."""
+    found = Device(Unprotected(part.bus, part.host.address), part.host.address, 8, lacks=part.lacks, looks=part.looks)
+    found.host = part.host.copy()
+    found.host.restart()
+    return found
 
 
 def modelled(part: Device, output: int, is_lifted: bool = False) -> Device:

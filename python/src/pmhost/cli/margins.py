@@ -20,7 +20,7 @@ from ..operation import MARGINS, ON, margin_byte, selected_by
 from ..parts import BadRails
 from ..rail_run import Restarted, Stopped
 from ..rails import Rail
-from ..rehearsal import first_not_reached
+from ..rehearsal import first_not_reached, unprotected
 from ..sequence import WHY, Heard, Rules, Said, SequenceStep
 from ..step_run import StepRun, look_at
 from ..survey import TRIES, Commanded, commanded, only_word, read, survey
@@ -105,8 +105,6 @@ class RailTest:
     rows: list[Row]
     ignores_faults: bool
     is_back: bool = False
-    # Whether WRITE_PROTECT of the file stands in the way of an order.
-    is_protected: bool = False
 
     def __post_init__(self) -> None:
         self.part = self.board.on(self.rail)
@@ -139,27 +137,18 @@ class RailTest:
         return replace(SequenceStep.turns(0, self.rail.output, self.byte_at(point), self.how), before=before)
 
     def plan(self, point: str) -> None:
-        """Goes up to the order by which the rail is at a point. Stopped if that would be refused, but for WRITE_PROTECT of the file."""
-        end = self.planned(point)
+        """Goes up to the order by which the rail is at a point. Stopped if that would be refused, but for WRITE_PROTECT of the file: it is
+        judged then as if that were 00."""
+        end = self.planned(point, self.part)
         if end.kind == "refused" and refusal(end.number).letter == "P7" and self.call.protection.is_in_the_way(self.rail.part):
-            # What the byte selects wasn't read.
-            self.is_protected = True
             read(self.part, self.rail.output, selected_by(self.byte_at(point)) or "")
-        elif end.kind not in ("order", "reached", "fails"):
+            end = self.planned(point, unprotected(self.part))
+        if end.kind not in ("order", "reached", "fails"):
             raise self.ended(point, end)
 
-    def unlock(self) -> None:
-        """Lifts WRITE_PROTECT of the file if it is in the way, and judges what that refused."""
-        protection, part = self.call.protection, self.rail.part
-        protection.touch(part)
-        protection.lift(part)
-        if self.is_protected:
-            for point in POINTS[:-1]:
-                self.plan(point)
-
-    def planned(self, point: str) -> Said:
+    def planned(self, point: str, part: Device) -> Said:
         """How far the way to a point goes without an order."""
-        run = StepRun(self.part, self.step_to(point), TRIES, lambda _: False)
+        run = StepRun(part, self.step_to(point), TRIES, lambda _: False)
         with self.stopping():
             end = self.carried_out(run)
         self.befores.setdefault(self.rail.name, run.before)
@@ -167,14 +156,17 @@ class RailTest:
 
     def carried_out(self, run: StepRun) -> Said:
         """To its end, or up to an order that isn't to begin."""
-        self.part.transfers = Transfers()
+        run.part.transfers = Transfers()
         return run.carry_out(ask=self.call.places()[self.rail.part].ask_operation)
 
     # ---- Orders ----
 
     def run(self) -> None:
         """Goes from point to point and back. Stopped; the way back is noted before the first order."""
-        self.call.back.note(Held(self.rail.name, self.rail.part, self.rail.output, {OPERATION: ON}))
+        protection, part = self.call.protection, self.rail.part
+        protection.touch(part)
+        protection.lift(part)
+        self.call.back.note(Held(self.rail.name, part, self.rail.output, {OPERATION: ON}))
         for point in POINTS[:-1]:
             self.measure(point, self.turn(point))
         for held, why in self.call.back.go():
@@ -312,8 +304,6 @@ def margin_test(arguments: argparse.Namespace) -> int:
         tests = [RailTest(call, board, rail, call.looks or Looks(), befores, rows, arguments.ignore_faults) for rail in arguments.chosen]
         for each in tests:
             each.judge()
-        for each in tests:
-            each.unlock()
         for each in tests:
             begun.append(each)
             each.run()
