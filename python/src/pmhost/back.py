@@ -6,10 +6,12 @@ from dataclasses import dataclass
 from typing import Callable, Mapping
 
 from . import clock
-from .course import Course, CourseEnd, in_hexadecimal
+from .course import in_hexadecimal
 from .device import Device
 from .errors import SAYINGS, refusal
-from .survey import believed, only_word
+from .sequence import WHY, Said, SequenceStep, Wishes
+from .step_run import StepRun
+from .survey import only_word
 from .transfers import Transfers
 from .values import Format
 from .zeros import NotBelieved
@@ -29,11 +31,11 @@ class Held:
     words: Mapping[str, int]
     form: Format | None = None
 
-    def course(self, tries: int = TRIES) -> Course:
-        """The course back."""
+    def step(self) -> SequenceStep:
+        """The step back."""
         byte = self.words.get(OPERATION)
-        words: dict[str | int, int] = {register: word for register, word in self.words.items()}
-        return Course.words(self.output, words, tries) if byte is None else Course.power(self.output, byte, tries)
+        words: Wishes = {register: word for register, word in self.words.items()}
+        return SequenceStep.sets(0, self.output, words) if byte is None else SequenceStep.turns(0, self.output, byte)
 
     @property
     def said(self) -> str:
@@ -72,22 +74,21 @@ def read_first(part: Device, held: Held) -> str:
 
 
 def carried_out(part: Device, held: Held) -> str:
-    """Carries the course back out: why it isn't reached."""
-    course, part.transfers = held.course(), Transfers()
-    part.host.run_course(course, believed(part), part.transfers)
-    end, form = course.ended or CourseEnd(""), part.host.format(held.output)
+    """Carries the step back out: why it isn't reached."""
+    part.transfers = Transfers()
+    end, form = StepRun(part, held.step(), TRIES).carry_out(), part.host.format(held.output)
     if held.form is not None and form != held.form:
         return "its voltages have another format now"
-    if end.kind == "reached" and all(only_word(part, held.output, register) == word for register, word in held.words.items()):
+    if end.is_well and all(only_word(part, held.output, register) == word for register, word in held.words.items()):
         return ""
     return why_not(end, part.transfers)
 
 
-def why_not(end: CourseEnd, transfers: Transfers) -> str:
-    """Why a course back came to another end."""
+def why_not(end: Said, transfers: Transfers) -> str:
+    """Why a step back came to another end."""
     if end.kind == "refused":
         fault = refusal(end.number, end.register)
         return f"{f'{fault.register}: ' * bool(fault.register)}{SAYINGS.get(fault.letter, fault.name)}: {fault.letter} {fault.name}"
     if end.word is not None:
         return f"{end.register} is {in_hexadecimal(end.register, end.word)}"
-    return f"{end.register or 'it'}: {transfers.why() or end.fault or 'no good answer'}"
+    return WHY.get(end.kind) or f"{end.register or 'it'}: {transfers.why() or end.fault or 'no good answer'}"

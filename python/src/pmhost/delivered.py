@@ -20,6 +20,8 @@ STATUS = ("STATUS_VOUT", "STATUS_IOUT", "STATUS_INPUT", "STATUS_TEMPERATURE")
 LIMITS = ("VOUT_OV_FAULT_LIMIT", "VOUT_OV_WARN_LIMIT", "VOUT_UV_WARN_LIMIT", "VOUT_UV_FAULT_LIMIT")
 # The fault limit of a margin, and how near it may be to the margin, in thousandths of what is commanded.
 MARGIN_LIMITS, NEAR = {"VOUT_MARGIN_HIGH": "VOUT_OV_FAULT_LIMIT", "VOUT_MARGIN_LOW": "VOUT_UV_FAULT_LIMIT"}, 10
+# Verdicts that are bad of a rail that has to deliver alone.
+NOT_ON = ("commanded off", "not known to be on", "went off")
 # The bits of STATUS_WORD that say a fault or point to one.
 FAULTS = {"VOUT", "IOUT_POUT", "INPUT", "VOUT_OV_FAULT", "IOUT_OC_FAULT", "VIN_UV_FAULT", "TEMPERATURE"}
 
@@ -91,6 +93,8 @@ class Delivered:
         kind, bit = self.verdict.kind, self.verdict
         if not self.is_bad:
             return ""
+        if kind in NOT_ON:
+            return kind
         said = {"off": "the rail is off", "fault": f"{name_of_bit(bit)} came with this call", "no power good": "power good is missing",
                 "outside": "READ_VOUT is outside the limits", "beyond": "READ_VOUT isn't what the output commands",
                 "power good alone": "power good is missing", "still on": "the part says that it is on"}.get(kind)
@@ -153,6 +157,13 @@ class Delivered:
     def _rest(self) -> str:
         """The status registers after words that they don't decide."""
         return f"; {self.status_words}" if self.status else ""
+
+
+def why_not_before(name: str, found: Delivered) -> str:
+    """Why a rail that has to deliver before another one begins doesn't, by what was seen of it."""
+    if found.is_missing:
+        return f"{name} has to deliver first, which isn't known: {found.lacking}"
+    return f"{name} has to deliver first: {found.why}{found.words}"
 
 
 def register_words(name: str, word: int) -> str:

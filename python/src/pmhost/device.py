@@ -12,8 +12,7 @@ from .errors import Differs, HostRefused, NotDone, PmhostError, Refused, Unknown
 from .host import Host
 from .looks import Looks
 from .operation import OFF, ON, margin_byte
-from .rounded import near_word
-from .sequence import WHY, Said, SequenceStep, Wishes
+from .sequence import WHY, Said, SequenceStep
 from .states import Bus, Known, RailState, Step
 from .step_run import StepRun
 from .transfers import Transfers
@@ -222,25 +221,13 @@ class Device:
         Raises how it ended, after the words of a job, if it has not reached what is wanted: a Refused, Differs, NoFormat, OtherSource or
         Spent; and NotDelivered. If an order differs and the held word is `accept` near, and within the limits, that is wanted instead."""
         self.transfers, self.delivered = Transfers(), None
-        step = replace(step, host=0, looks=step.looks or self.looks, lacks=self.lacks & {*LOOKED_AT})
+        step = replace(step, host=0, looks=step.looks or self.looks).lacking(self.lacks)
         run = StepRun(self, step, tries, before_order)
-        end = run.carry_out(after_order)
-        near = None if accept is None else given_microvolts(accept, "accept")
-        while near is not None and (held := self._near(run, end, near)) is not None:
-            end = run.want(held).carry_out(after_order)
-        if run.delivered is not None:
-            self.delivered = run.delivered
+        end = run.carry_out(after_order, None, None if accept is None else given_microvolts(accept, "accept"))
+        self.delivered = run.delivered
         if not end.is_well:
             raise self._fault(run, end, f"{job}: " * bool(job)) from self.transfers.error
         return self.rail(step.output)
-
-    def _near(self, run: StepRun, end: Said, near: int) -> Wishes | None:
-        """What is wanted instead, if an order differed and the word that its register holds is that near: None if it isn't, or was taken before."""
-        if end.kind != "differs" or end.register is None or end.register in run.taken or end.register not in run.step.wishes:
-            return None
-        held = near_word(self.host, run.step.output, end.register, run.step.wishes[end.register], near)
-        run.taken.add(end.register)
-        return None if held is None else {**run.step.wishes, end.register: held}
 
     def _fault(self, run: StepRun, end: Said, job: str) -> PmhostError:
         """The exception of a step that didn't end well."""

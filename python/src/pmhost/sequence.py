@@ -3,8 +3,8 @@ what became of a step, is what the library says; the loop here sends, waits and 
 from __future__ import annotations
 
 import ctypes
-from dataclasses import dataclass, field
-from typing import Callable, Mapping, Optional, Sequence as Listed, Union
+from dataclasses import dataclass, field, replace
+from typing import Callable, Iterable, Mapping, Optional, Sequence as Listed, Union
 
 from . import _library as at
 from . import clock
@@ -140,6 +140,10 @@ class SequenceStep:
         """Its rail alone is looked at."""
         return cls(host, output, "rests", looks=looks)
 
+    def lacking(self, registers: Iterable[str]) -> SequenceStep:
+        """The same of a part that doesn't have these registers."""
+        return replace(self, lacks=frozenset(LOOKED_AT) & frozenset(registers))
+
     @property
     def turns_off(self) -> bool:
         """Whether it turns its output off."""
@@ -227,7 +231,7 @@ class Said:
     @property
     def course(self) -> CourseEnd:
         """How the orders of the step ended: reached, too, where its rail doesn't do what it is to."""
-        return CourseEnd("reached") if self.kind == "fails" else CourseEnd(self.kind, self.register, self.number, self.word, self.fault)
+        return CourseEnd("reached") if self.kind in ("does", "fails") else CourseEnd(self.kind, self.register, self.number, self.word, self.fault)
 
     @property
     def is_well(self) -> bool:
@@ -255,8 +259,8 @@ class Sequence:
         self._image, count = at.SequenceImage(), len(self.steps)
         self._steps = (at.SequenceStepImage * max(count, 1))(*(step.image() for step in self.steps))
         self._records = (at.SequenceRecordImage * max(count, 1))()
-        # Whether a job has ended.
-        self._is_heard = False
+        # How many steps had begun as a first job of one ended last.
+        self._heard = 0
         library.pm_sequence_new(REFERENCE(self._image), whole(tries, 0, 0xFFFF, "tries"), rules.number)
 
     @property
@@ -320,9 +324,9 @@ class Sequence:
         it goes on.
 
         `told` hears all that is said meanwhile, a wait before it begins: if it answers False the loop ends there. `after_order` hears how each
-        order ended: if it answers False the loop ends by a Said of the kind `stopped`. `transfers` has those of the last job. `ask` is asked once why nobody answers, if the first job of the list had no answer at
-        all; with an answer it ends the loop by a Said of the kind `nobody`, whose fault that is, and without one the list goes on. Whatever is
-        raised meanwhile goes on to the caller, with the job that was under way ended as unknown."""
+        order ended: if it answers False the loop ends by a Said of the kind `stopped`. `transfers` has those of the last job. `ask` is asked why nobody answers, if the first job of a step had no answer at all and
+        nothing was written; with an answer it ends the loop by a Said of the kind `nobody`, whose fault that is, and without one the list goes
+        on. Whatever is raised meanwhile goes on to the caller, with the job that was under way ended as unknown."""
         kept, order, is_open = Transfers() if transfers is None else transfers, None, False
         try:
             while True:
@@ -343,10 +347,10 @@ class Sequence:
                 is_open = not step.is_over
                 if step.is_over and order is not None and after_order is not None and after_order(order, step) is False:
                     return Said("stopped", self.begun)
-                if step.is_over and not self._is_heard:
-                    self._is_heard = True
+                if step.is_over and self._heard != self.begun:
+                    self._heard = self.begun
                     if ask is not None and not kept.has_written and not kept.is_answered and (why := ask()):
-                        return Said("nobody", self.begun, True, fault=why)
+                        return Said("nobody", self.begun - 1, True, fault=why)
         except BaseException:
             self.give_up()
             raise

@@ -1,4 +1,4 @@
-"""One step of an output, carried out as a list of its own: what is judged as an order comes next, and what its rail was seen to do."""
+"""Steps of outputs, each carried out up to its own end: what is judged as an order comes next, and what its rail was seen to do."""
 from __future__ import annotations
 
 from dataclasses import replace
@@ -8,71 +8,129 @@ from .course import Job
 from .delivered import Delivered, delivered_of, judge_margin, limit_notes, silence_words, silent_limits
 from .looks import Looks
 from .operation import MARGINS, selected_by
-from .sequence import Heard, Rules, Said, Sequence, SequenceStep, Wishes
-from .states import Step
-from .values import LOOKED_AT
+from .rounded import near_word
+from .sequence import Heard, RailHeard, Rules, Said, Sequence, SequenceStep, Wishes
+from .states import Bus, Step
 from .zeros import believed
 
 if TYPE_CHECKING:
     from .device import Device
 
+# How many hosts a list goes over. Where steps have more parts a further one goes on.
+MOST_HOSTS = 8
+
+
+class StepLists:
+    """Steps of any parts, each with its device: one list of all, while they are of at most eight parts and each is looked at; then a further one.
+    `tries` is how many jobs each has at most."""
+
+    def __init__(self, steps: list[tuple[Device, SequenceStep]], tries: int, rules: Rules = Rules(asks=True)) -> None:
+        self.steps, self.tries, self.rules = steps, tries, rules
+        self.begin(0)
+
+    def at(self, place: int) -> Sequence:
+        """The list in which the step at this place is the next one, or under way: it begins there if the ones before aren't known to be over."""
+        if place != self.next or place - self.first >= len(self.list.steps):
+            self.begin(place)
+        return self.list
+
+    def begin(self, place: int) -> None:
+        """A list begins at this place."""
+        parts: list[Device] = []
+        steps = list[SequenceStep]()
+        for part, step in self.steps[place:]:
+            if part not in parts and len(parts) == MOST_HOSTS:
+                break
+            if part not in parts:
+                parts.append(part)
+            steps.append(replace(step, host=parts.index(part)))
+            if step.looks is None:
+                # Nothing would be said as it is over, unless its list is.
+                break
+        self.list = Sequence([part.host for part in parts], steps, self.rules, self.tries)
+        self.buses: list[Bus] = [believed(part.bus, part.host) for part in parts]
+        # Where it began, and the first step that isn't known to be over.
+        self.first = self.next = place
+
 
 class StepRun:
-    """A step of a part. `before_order` hears of each order before its first frame: if it raises, or answers False, the order hasn't begun.
-    `delivered` is what its rail was seen to do last, `taken` has the registers of which held words were taken."""
+    """A step of a part: a list of its own, or the one at a place of these lists. `before_order` hears of each order before its first frame: if it
+    raises, or answers False, the order hasn't begun. `end` is how it ended, `delivered` what its rail was seen to do last, `held` has the words
+    that were taken in the place of those that were wanted. A margin is judged by its own fault limit if it is `guarded`."""
 
     def __init__(self, part: Device, step: SequenceStep, tries: int, before_order: Optional[Callable[[Job], object]] = None,
-                 rules: Rules = Rules()) -> None:
-        self.part, self.tries, self.before_order, self.rules = part, tries, before_order, replace(rules, asks=True)
-        self.step = replace(step, host=0, lacks=part.lacks & {*LOOKED_AT})
-        self.taken, self.delivered, self.notes = set[str](), None, list[str]()
-        self.list, self._due = self._begun(), None
+                 lists: Optional[StepLists] = None, place: int = 0, rules: Rules = Rules()) -> None:
+        self.part, self.tries, self.before_order, self.place = part, tries, before_order, place
+        self.step = step.lacking(part.lacks)
+        self.lists, self.is_alone = lists or StepLists([(part, self.step)], tries, replace(rules, asks=True)), lists is None
+        # The order before which it stands.
+        self._due: Optional[Said] = None
+        self.list, self.end, self.delivered, self.notes, self.held = self.lists.list, Said("", 0), None, list[str](), dict[str, int]()
+        self.guarded = selected_by(step.byte) if step.act == "turns" and step.byte in MARGINS.values() else None
 
     delivered: Optional[Delivered]
-    # The order before which it stands.
-    _due: Optional[Said]
 
-    def _begun(self) -> Sequence:
-        return Sequence([self.part.host], [self.step], self.rules, self.tries)
-
-    def want(self, wishes: Wishes) -> StepRun:
-        """The step begins anew, to these words and voltages."""
-        self.step = replace(self.step, wishes=wishes, before=self.before)
-        self.list, self._due = self._begun(), None
+    def anew(self) -> StepRun:
+        """The step begins anew, and what comes after it in its list."""
+        self.lists.begin(self.place)
+        self._due = None
         return self
 
     @property
     def before(self) -> Heard:
-        """STATUS_WORD before its first order."""
+        """STATUS_WORD before its first order, as far as it was asked."""
         found = self.list.looked_at.before
         return found if found.asked else self.step.before
 
-    @property
-    def guarded(self) -> Optional[str]:
-        """The margin that it turns to, if the part acts on faults there."""
-        return selected_by(self.step.byte) if self.step.act == "turns" and self.step.byte in MARGINS.values() else None
+    def want(self, wishes: Wishes) -> StepRun:
+        """The same, to these words and voltages."""
+        self.step = replace(self.step, wishes=wishes, before=self.before)
+        self.lists.steps[self.place] = self.part, self.step
+        return self.anew()
 
-    def carry_out(self, after_order: Optional[Callable[[Job, Step], object]] = None, ask: Optional[Callable[[], str]] = None) -> Said:
-        """Goes on, to its end or to where `before_order` stops it. `ask` is that of `Sequence.run`. MarginRefused, and NotBelieved if zeros of
-        WRITE_PROTECT aren't believed."""
+    @property
+    def _heard(self) -> RailHeard:
+        """What was heard of its rail."""
+        return self.list.heard(self.place - self.lists.first)
+
+    def carry_out(self, after_order: Optional[Callable[[Job, Step], object]] = None, ask: Optional[Callable[[], str]] = None,
+                  accept: Optional[int] = None) -> Said:
+        """Goes on, to its end or to where `before_order` stops it. If an order differs and the held word is `accept` microvolts near, and within
+        the limits, the step begins anew to that word, once a register. `ask` is that of `Sequence.run`. MarginRefused, and NotBelieved if zeros
+        of WRITE_PROTECT aren't believed."""
+        taken = set[str]()
+        self._go(after_order, ask)
+        while accept is not None and self.end.kind == "differs" and self.end.register in self.step.wishes and self.end.register not in taken:
+            taken.add(self.end.register)
+            held = near_word(self.part.host, self.step.output, self.end.register, self.step.wishes[self.end.register], accept)
+            if held is None:
+                break
+            self.held[self.end.register] = held
+            self.want({**self.step.wishes, self.end.register: held})._go(after_order, ask)
+        return self.end
+
+    def _go(self, after_order: Optional[Callable[[Job, Step], object]], ask: Optional[Callable[[], str]]) -> None:
+        """The same, without `accept`."""
         if self._due is not None and self._asked(self._due) is False:
-            return self._due
-        said = self.list.run([believed(self.part.bus, self.part.host)], self._told, after_order, self.part.transfers, ask)
-        if said.kind == "fails":
-            self.see(said)
-        return said
+            return
+        self.list = self.lists.at(self.place)
+        self.end = self.list.run(self.lists.buses, self._told, after_order, self.part.transfers, ask)
+        if self.end.kind in ("does", "fails"):
+            self.see(self.end)
+        if not self.end.is_end and self.end.kind not in ("order", "stopped"):
+            self.lists.next = self.place + 1
 
     def _told(self, said: Said) -> object:
         if said.kind == "order":
             if self.step.looks is not None and not self.step.turns_off:
                 self._judge()
             return self._asked(said)
-        if said.kind == "does":
+        if said.kind == "does" and self.is_alone:
             self.see(said)
-        return None
+        return self.is_alone or said.kind == "wait"
 
-    def _asked(self, said: Said) -> object:
-        """An order comes next: False if it isn't to begin yet."""
+    def _asked(self, said: Said) -> bool:
+        """An order comes next: whether it may begin."""
         assert said.register is not None and said.word is not None
         may_begin = self.before_order is None or self.before_order(Job("order", said.register, said.word)) is not False
         self._due = None if may_begin else said
@@ -91,7 +149,7 @@ class StepRun:
 
     def see(self, said: Said) -> None:
         """What its rail does."""
-        self.delivered = delivered_of(said, self.step, self.list.heard(0), self.part.host, self.notes)
+        self.delivered = delivered_of(said, self.step, self._heard, self.part.host, self.notes)
 
 
 def look_at(part: Device, output: int, looks: Looks, before: Heard = Heard()) -> Delivered:

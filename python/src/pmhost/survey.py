@@ -5,8 +5,10 @@ import contextlib
 from dataclasses import dataclass, field
 
 from . import probe
+from .delivered import Delivered
 from .device import Device
 from .errors import LimitRefused
+from .looks import Looks
 from .operation import avsbus, ignores_faults, selected_by
 from .packets import Packet
 from .reads import Reads
@@ -104,8 +106,14 @@ def commanded(part: Device, output: int) -> Commanded:
 
 def survey(part: Device, output: int) -> Commanded:
     """Surveys an output: its format, OPERATION, the register that this selects, VOUT_MAX and VOUT_MIN."""
+    return looked_at(part, output, None)[0]
+
+
+def looked_at(part: Device, output: int, looks: Looks | None) -> tuple[Commanded, Delivered | None]:
+    """The same, and what its rail does."""
     part.transfers = Transfers()
-    return behind(part, output, StepRun(part, SequenceStep.surveys(0, output), SURVEY_TRIES).carry_out(ask=lambda: part.transfers.why()))
+    run = StepRun(part, SequenceStep.surveys(0, output, looks).lacking(part.lacks), SURVEY_TRIES)
+    return behind(part, output, run.carry_out(ask=lambda: part.transfers.why())), run.delivered
 
 
 def behind(part: Device, output: int, end: Said) -> Commanded:

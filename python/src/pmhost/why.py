@@ -6,14 +6,15 @@ from dataclasses import dataclass, field
 
 from . import voltages
 from .apply import word_of
+from .delivered import Delivered
 from .device import Device
 from .errors import Refused
-from .look import Delivered, Look, Looks
+from .looks import Looks
 from .rails import SETTINGS, Rail
 from .readings import KINDS, Reading, read
 from .rounded import near_word
 from .status import BITS
-from .survey import Commanded, commanded, survey
+from .survey import Commanded, commanded, looked_at
 from .values import LOOKED_AT
 from .voltages import of_microvolts
 
@@ -73,10 +74,9 @@ class Findings:
 
 def findings(part: Device, output: int, looks: Looks | None = None, place: Place | None = None) -> Findings:
     """Reads all that says why a rail isn't as it should be, which is given as long as `looks` says to deliver."""
-    seen = Findings(place or Place(str(output)), survey(part, output), lacks=frozenset(LOOKED_AT) & part.lacks)
+    state, delivered = looked_at(part, output, looks or Looks())
+    seen = Findings(place or Place(str(output)), state, delivered=delivered if state.is_on else None, lacks=frozenset(LOOKED_AT) & part.lacks)
     form = part.host.format(output)
-    if seen.state.is_on:
-        seen.delivered = Look(part, output, looks or Looks()).after()
 
     def take(name: str) -> Reading:
         seen.found[name] = read(part.bus, part.host.address, None if name in OF_DEVICE else output, name, form)
@@ -109,7 +109,7 @@ def is_of_file(part: Device, rail: Rail, word: int) -> bool:
     except Refused:
         return False
     return is_wanted or rail.accept is not None and near_word(
-        part, rail.output, register, of_microvolts(rail.settings["volts"]), rail.accept) is not None
+        part.host, rail.output, register, of_microvolts(rail.settings["volts"]), rail.accept) is not None
 
 
 def is_late(seen: Findings) -> bool:

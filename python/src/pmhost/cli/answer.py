@@ -11,8 +11,8 @@ from typing import Mapping
 
 from .. import voltages
 from ..began import now
+from ..delivered import Delivered
 from ..readings import KINDS
-from ..look import Delivered
 from ..survey import Commanded
 
 GREEN, RED, PLAIN = "\033[32m", "\033[31m", "\033[0m"

@@ -12,7 +12,7 @@ from ..part import ModelPartBus
 from ..parts import MODEL_BUS, BoardPart
 from ..device import Device
 from ..log import Log
-from ..look import Look, Looks
+from ..looks import Looks
 from ..models import why_other_model
 from ..rails import ONLY, Rail, Rails
 from ..reserved import why_reserved
@@ -205,10 +205,6 @@ class Call:
     def part(self) -> Device:
         """The same, through the one host of the call."""
         return self.only().pmbus()
-
-    def look(self, output: int) -> Look | None:
-        """A look at a rail of the one part."""
-        return None if self.looks is None else Look(self.part(), output, self.looks)
 
     def patient(self, busy_timeout: int | None = None) -> ModelPartBus | PatientBus:
         """The bus of the one part, which waits for it if it is busy."""

@@ -4,20 +4,23 @@ from __future__ import annotations
 
 import argparse
 import re
+from dataclasses import replace
 from typing import Any, Callable
 
 from .. import probe, voltages
 from ..back import Held
 from ..codes import CODES, code_of
-from ..course import Course, Job
+from ..course import Job
 from ..device import Device
-from ..errors import MarginRefused, PlanRefused, Refused, name_of
+from ..errors import MarginRefused, Refused, name_of
 from ..operation import ANOTHER, MARGINS, OFF, ON, margin_byte
 from ..readings import KINDS
-from ..rounded import Accepting
+from ..sequence import SequenceStep
 from ..states import Step
+from ..step_run import StepRun
 from ..stores import too_hot
-from ..survey import OFF_TRIES, TRIES, Nobody, complete, holds_zeros, survey
+from ..survey import OFF_TRIES, TRIES, holds_zeros, looked_at, survey
+from ..transfers import Transfers
 from ..zeros import NotBelieved, guard
 from . import readings, way
 from .about import described
@@ -25,8 +28,8 @@ from .answer import Answer, in_digits
 from .call import Call, said
 from .completion import completed_by
 from .names import BACK, IGNORE
-from .outcome import (DEVICE, REGISTERS, VOLTAGES, answer_of, cell_words, confirmed_alone, course_answer, deliver, rail_words, read_notes_behind,
-                      refused, tell_bad_end, why_not)
+from .outcome import (DEVICE, REGISTERS, VOLTAGES, answer_of, cell_words, confirmed_alone, deliver, rail_words, read_notes_behind, refused,
+                      step_answer, tell_bad_end, why_not)
 from .parser import BadCall, bus_options, shown, whole
 
 # What each command sends beside reads, for an interruption to say.
@@ -278,14 +281,13 @@ def read(arguments: argparse.Namespace) -> int:
 def survey_output(arguments: argparse.Namespace) -> int:
     """What an output commands. The status is 0 if that is known, and lies within its limits."""
     call: Call = arguments.call
-    state = survey(call.part(), arguments.output)
+    state, delivered = looked_at(call.part(), arguments.output, call.looks)
     found = answer_of(arguments, call.part(), None, "told", text=rail_words(state))
     found.commanded = state
     if not state.is_well:
         found.status, found.end, found.why = 1, "unsure", why_not(state) + read_notes_behind(call.part(), arguments.output, state)
-    look = call.look(arguments.output)
-    if look is not None and not state.missing:
-        deliver(found, look.after())
+    if delivered is not None:
+        deliver(found, delivered)
     return call.say(found)
 
 
@@ -325,68 +327,70 @@ def accept_in(arguments: argparse.Namespace) -> int | None:
     return named.accept if given is None and named is not None and hasattr(arguments, "accept") else given
 
 
-def run_course(arguments: argparse.Namespace, register: str, course: Course) -> Accepting | int:
-    """Carries a course out that orders a register; the status if it came to no end. If just the WRITE_PROTECT of the file is in the
-    way that is lifted, and the course carried out once more."""
-    protection, anew = arguments.call.protection, course.save()
-    protection.touch(arguments.call.part_name)
-    if course.turns_off:
-        protection.read(arguments.call.part_name)
-        protection.lift(arguments.call.part_name)
-    ran = run_once(arguments, register, course)
-    end = course.ended
-    if end is not None and end.kind == "refused" and name_of(end.number).startswith("P7 ") and protection.lift(arguments.call.part_name):
-        course.load(anew)
-        return run_once(arguments, register, course)
+def run_step(arguments: argparse.Namespace, register: str, step: SequenceStep, tries: int = TRIES, is_guarded: bool = True) -> StepRun | int:
+    """Carries a step out that orders a register, and looks at its rail; the status if it came to no end. If just the WRITE_PROTECT of the file is
+    in the way that is lifted, and the step carried out once more."""
+    call: Call = arguments.call
+    part, protection = call.part(), call.protection
+    protection.touch(call.part_name)
+    if step.turns_off:
+        protection.read(call.part_name)
+        protection.lift(call.part_name)
+    run: StepRun = getattr(arguments, "step_run", StepRun)(part, replace(step, looks=call.looks).lacking(part.lacks), tries)
+    arguments.begun = run
+    if not is_guarded:
+        run.guarded = None
+    ran = run_once(arguments, register, run)
+    if run.end.kind == "refused" and name_of(run.end.number).startswith("P7 ") and protection.lift(call.part_name):
+        return run_once(arguments, register, run.anew())
     return ran
 
 
-def run_once(arguments: argparse.Namespace, register: str, course: Course) -> Accepting | int:
+def run_once(arguments: argparse.Namespace, register: str, run: StepRun) -> StepRun | int:
     """The same, as it is."""
     call: Call = arguments.call
-    part, output, accepting = call.part(), arguments.output, Accepting(call.part(), course, accept_in(arguments))
-    look = arguments.look = call.look(output)
+    part, output, ordered = call.part(), arguments.output, getattr(arguments, "ordered", None)
+    part.transfers = Transfers()
 
     def before(order: Job) -> None:
-        if look is not None:
-            look.before(course, order)
         call.maybe = f"output {output} {order.register} may hold the old or the ordered word"
+        if ordered is not None:
+            ordered(order)
+
+    def confirmed(name: str, word: int) -> None:
+        call.ordered.note(call.part_name, output, name, word, said(arguments))
+        call.maybe, call.settled = "", lambda: f"{cell_words(arguments, part, name, word)} confirmed; what the output commands wasn't read"
 
     def after(order: Job, step: Step) -> None:
-        is_held = accepting.after(order, step) or step.kind == "done"
-        if is_held and order.word is not None:
-            word = accepting.taken.get(order.register, order.word)
-            call.ordered.note(call.part_name, output, order.register, word, said(arguments))
-            call.maybe, call.settled = "", lambda: (f"{cell_words(arguments, part, order.register, word)} confirmed; what the output commands "
-                                                    "wasn't read")
+        if step.kind == "done" and order.word is not None:
+            confirmed(order.register, order.word)
 
+    run.before_order = before
     try:
-        getattr(arguments, "carry_out", complete)(part, course, before, after, call.only().ask_operation)
-    except Nobody as nobody:
-        return call.say(call.nobody(arguments, str(nobody)))
-    except PlanRefused as fault:
-        return call.say(refused(arguments, part, register, fault))
+        end = run.carry_out(after, call.only().ask_operation, accept_in(arguments))
     except MarginRefused as fault:
         return call.say(answer_of(arguments, part, register, "refused", status=1, text=f"refused, {register} wasn't ordered",
                                   why=f"{fault.said}: {fault.do(IGNORE)}"))
     except NotBelieved as doubt:
         return call.say(not_told(arguments, part, doubt))
+    if end.kind == "nobody":
+        return call.say(call.nobody(arguments, end.fault))
+    for name, word in run.held.items():
+        confirmed(name, word)
     call.has_answered.add(call.part_name)
-    return accepting
+    return run
 
 
-def tell_course(arguments: argparse.Namespace, register: str, course: Course) -> int:
-    """Carries a course out that orders a register, and says what became of it and what the output then commands."""
-    ran, call = run_course(arguments, register, course), arguments.call
-    if isinstance(ran, int):
-        return ran
-    return int(call.say(course_answer(arguments, call.part(), register, course, register in ran.taken)))
+def tell_step(arguments: argparse.Namespace, register: str, step: SequenceStep, tries: int = TRIES, is_guarded: bool = True) -> int:
+    """Carries a step out that orders a register, and says what became of it and what the output then commands."""
+    ran, call = run_step(arguments, register, step, tries, is_guarded), arguments.call
+    return ran if isinstance(ran, int) else int(call.say(step_answer(arguments, call.part(), register, ran)))
 
 
 def set_voltage(arguments: argparse.Namespace) -> int:
     """Orders a voltage of a register."""
     wanted = voltages.of_microvolts(arguments.microvolts)
-    return tell_course(arguments, arguments.register, Course.voltage(arguments.output, wanted, arguments.register, TRIES))
+    return tell_step(arguments, arguments.register, SequenceStep.sets(0, arguments.output, {arguments.register: wanted}))
 
 
 def word(arguments: argparse.Namespace) -> int:
@@ -396,16 +400,14 @@ def word(arguments: argparse.Namespace) -> int:
     if register == DEVICE:
         return call.no_part(arguments) or carry_out(arguments, register, lambda: call.part().host.order(0, register, word))
     if register == "OPERATION":
-        return turn(arguments, word)
-    course = Course.words(output, {register: word}, TRIES)
-    ran = run_course(arguments, register, course)
+        return turn(arguments, word, False)
+    ran = run_step(arguments, register, SequenceStep.sets(0, output, {register: word}))
     if isinstance(ran, int):
         return ran
-    end = course.ended
-    if end is not None and end.kind == "format" and call.part().host.limits(output) is None:
+    if ran.end.kind == "format" and call.part().host.limits(output) is None:
         # Its words are no voltages that this host knows of: the order goes alone.
         return carry_out(arguments, register, lambda: call.part().host.order(output, register, word))
-    return call.say(course_answer(arguments, call.part(), register, course, register in ran.taken))
+    return call.say(step_answer(arguments, call.part(), register, ran))
 
 
 def operate(arguments: argparse.Namespace) -> int:
@@ -415,8 +417,7 @@ def operate(arguments: argparse.Namespace) -> int:
 
 def margin(arguments: argparse.Namespace) -> int:
     """Has an output command a margin. OPERATION is noted first if it is to come back."""
-    course = Course.margin(arguments.output, arguments.side, TRIES, arguments.ignore_faults)
-    return arguments.back and note_way_back(arguments) or tell_course(arguments, "OPERATION", course)
+    return arguments.back and note_way_back(arguments) or turn(arguments, arguments.byte)
 
 
 def note_way_back(arguments: argparse.Namespace) -> int:
@@ -439,11 +440,10 @@ def note_way_back(arguments: argparse.Namespace) -> int:
     return 0
 
 
-def turn(arguments: argparse.Namespace, byte: int) -> int:
+def turn(arguments: argparse.Namespace, byte: int, is_guarded: bool = True) -> int:
     """Brings OPERATION to a byte. One that turns the output off is the first frame."""
     arguments.byte = byte
-    kind: type[Course] = getattr(arguments, "course", Course)
-    return tell_course(arguments, "OPERATION", kind.power(arguments.output, byte, TRIES if byte & 0x80 else OFF_TRIES))
+    return tell_step(arguments, "OPERATION", SequenceStep.turns(0, arguments.output, byte), TRIES if byte & ON else OFF_TRIES, is_guarded)
 
 
 def send_command(arguments: argparse.Namespace) -> int:

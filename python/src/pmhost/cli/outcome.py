@@ -5,14 +5,15 @@ import argparse
 from typing import Any
 
 from .. import voltages
-from ..course import Course, CourseEnd, in_hexadecimal
-from ..device import Device
+from ..course import CourseEnd, in_hexadecimal
+from ..delivered import Delivered, beyond_of
+from ..device import FORMAT_UNKNOWN, Device
 from ..errors import SAYINGS, PlanRefused, Refused, refusal
-from ..look import Delivered
 from ..operation import avsbus, ignores_faults
 from ..rail_course import OUTSIDE
-from ..stairs import WHY
+from ..sequence import WHY
 from ..states import Step
+from ..step_run import StepRun
 from ..survey import FORMAT, Commanded, behind, commanded
 from ..values import CODES, Format
 from .again import RESTARTED
@@ -162,18 +163,21 @@ def is_well(found: Commanded, register: str, microvolts: int | None) -> bool:
                               wanted is not None and found.is_value(wanted))
 
 
-# What a course's end is called in the object of --json.
+# What a step's end is called in the object of --json.
 ENDS = {"differs": "differs", "format": "no format", "source": "other source", "spent": "spent", "changed": "changed", "restarted": "restarted"}
 
 
-def course_answer(arguments: argparse.Namespace, part: Device, register: str, course: Course, is_accepted: bool = False) -> Answer:
-    """The answer to a course that orders a register, whose word may have been taken because it is near enough."""
-    end = course.ended or CourseEnd("")
-    state = behind(part, course, end)
+def step_answer(arguments: argparse.Namespace, part: Device, register: str, run: StepRun) -> Answer:
+    """The answer to a step that orders a register, whose word may have been taken because it is near enough."""
+    if run.end.kind == "beyond":
+        return refused(arguments, part, register, beyond_of(run.end, run.step, part.host))
+    if run.end.kind == "unjudged":
+        return refused(arguments, part, register, refusal(FORMAT_UNKNOWN))
+    end, state = run.end.course, behind(part, run.step.output, run.end)
     if end.kind == "refused":
         return refused(arguments, part, register, refusal(end.number, end.register))
     if end.kind == "reached":
-        return reached(arguments, part, register, state, is_accepted, course.turns_off)
+        return reached(arguments, part, register, state, run)
     found = answer_of(arguments, part, register, ENDS[end.kind], state, status=1)
     has_written, cell = part.transfers.has_written, state.cells.get(end.register or "")
     if end.kind in WHY:
@@ -222,8 +226,9 @@ def deliver(found: Answer, delivered: Delivered) -> None:
         found.why += f"{'; ' * bool(found.why)}{delivered.why_told}"
 
 
-def reached(arguments: argparse.Namespace, part: Device, register: str, state: Commanded, is_accepted: bool, turns_off: bool) -> Answer:
-    """The answer to a course that has reached what is wanted: the register's word, and what the output commands."""
+def reached(arguments: argparse.Namespace, part: Device, register: str, state: Commanded, run: StepRun) -> Answer:
+    """The answer to a step that has reached what is wanted: the register's word, and what the output commands."""
+    is_accepted = register in run.held
     found = answer_of(arguments, part, register, "accepted" if is_accepted else "done", state)
     assert found.word is not None
     cell = cell_words(arguments, part, register, found.word, state.form)
@@ -235,8 +240,8 @@ def reached(arguments: argparse.Namespace, part: Device, register: str, state: C
     # One that is turned off is off, whatever it would command.
     if state.form is not None and arguments.command != "off" and not is_well(state, register, found.microvolts):
         found.status, found.end, found.why = 1, "cut" if state.is_well else "unsure", why_not(state)
-    if getattr(arguments, "look", None) is not None:
-        deliver(found, arguments.look.after(turns_off))
+    if run.delivered is not None:
+        deliver(found, run.delivered)
     if found.restart_seen and state.form is not None:
         found.text += "; restart seen, or the part rounds" if is_accepted else "; restart seen"
     return found

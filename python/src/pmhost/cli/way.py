@@ -3,20 +3,17 @@ from __future__ import annotations
 
 import argparse
 import contextlib
-import functools
 import os
 import stat
 from typing import Any, Callable, Iterator
 
 from ..apply import Board
-from ..course import Course, Job
 from ..device import Device
-from ..look import Look
 from ..picture.drawing import FAULT, INK, PALE
 from ..picture.stairs import RailStairs, StairsPicture
 from ..picture.way import COMMANDED, RailWay, WayPicture
 from ..rails import Rail
-from ..states import Step
+from ..step_run import StepRun
 from ..step_way import StepWay
 from ..way import Way
 from . import streams
@@ -189,24 +186,14 @@ class StairsFile:
             yield
             return
         way.begin(one.said, rail)
-        one.carry_out = functools.partial(self.carried, way, rail, one.carry_out)
+        one.ordered = lambda order: way.order(rail, order.word)
         try:
             yield
         finally:
-            look: Look | None = getattr(one, "look", None)
-            if look is not None:
-                way.measure(rail, look.delivery.verdict(look.part.host).microvolts)
+            run: StepRun | None = getattr(one, "begun", None)
+            if run is not None and run.delivered is not None:
+                way.measure(rail, run.delivered.verdict.microvolts)
             way.end()
-
-    @staticmethod
-    def carried(way: StepWay, rail: Rail, carry_out: Callable[..., None], part: Device, course: Course, before_order: Callable[[Job], None],
-                after_order: Callable[[Job, Step], None], ask: Callable[[], str]) -> None:
-        """Carries the step out, and notes what is known before its order."""
-        def before(order: Job) -> None:
-            before_order(order)
-            way.order(rail, order.word)
-
-        carry_out(part, course, before, after_order, ask)
 
     def ended(self, rail: Rail, status: int) -> None:
         """How the step of a rail ended."""
