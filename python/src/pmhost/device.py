@@ -67,8 +67,8 @@ class Device:
         lacks = tuple(lacks)
         self.bus, self.host = bus, Host(address, outputs, passes, [it for it in lacks if it not in LOOKED_AT])
         self.transfers, self.lock = Transfers(), threading.RLock()
-        # How rails are looked at, and what was seen last.
-        self.looks = looks
+        # How rails are looked at, what was seen last, and whether it was said that limits gave no good answer.
+        self.looks, self.has_told_silence = looks, False
         self.delivered: Delivered | None = None
         self.lacks = frozenset(str(it) if it in LOOKED_AT else NAMES[code_of(it)] for it in lacks)
         for output, pair in dict(limits or {}).items():

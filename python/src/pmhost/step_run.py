@@ -61,7 +61,8 @@ class StepRun:
                  lists: Optional[StepLists] = None, place: int = 0) -> None:
         self.part, self.step, self.tries, self.before_order, self.place = part, step, tries, before_order, place
         self.lists, self.is_alone = lists or StepLists([(part, step)], tries), lists is None
-        self.list, self.end, self.delivered, self.notes, self.held = self.lists.list, Said("", 0), None, list[str](), dict[str, int]()
+        self.list, self.end, self.delivered, self.held = self.lists.list, Said("", 0), None, dict[str, int]()
+        self.notes, self.silence = list[str](), list[str]()
         self.guarded = selected_by(step.byte) if step.act == "turns" and step.byte in MARGINS.values() else None
 
     delivered: Optional[Delivered]
@@ -87,19 +88,29 @@ class StepRun:
         """Goes on, to its end or to where `before_order` stops it. If an order differs and the held word is `accept` microvolts near, and within
         the limits, the step begins anew to that word, once a register. `ask` is that of `Sequence.run`. MarginRefused, and NotBelieved if zeros
         of WRITE_PROTECT aren't believed."""
-        taken = set[str]()
-        self._go(after_order, ask)
-        while accept is not None and self.end.kind == "differs" and self.end.register in self.step.wishes and self.end.register not in taken:
-            taken.add(self.end.register)
-            held = near_word(self.part.host, self.step.output, self.end.register, self.step.wishes[self.end.register], accept)
-            if held is None:
-                break
-            self.held[self.end.register] = held
-            self.want({**self.step.wishes, self.end.register: held})._go(after_order, ask)
+        def after(order: Job, step: Step) -> bool:
+            held = self._near(order.register, accept) if step.kind == "differs" else None
+            if held is not None:
+                self.held[order.register] = held
+            elif after_order is not None:
+                after_order(order, step)
+            return held is None
+
+        count = len(self.held)
+        self._go(after, ask)
+        while len(self.held) > count:
+            count = len(self.held)
+            self.want({**self.step.wishes, **self.held})._go(after, ask)
         return self.end
 
-    def _go(self, after_order: Optional[Callable[[Job, Step], None]], ask: Optional[Callable[[], str]]) -> None:
-        """The same, without `accept`."""
+    def _near(self, register: str, accept: Optional[int]) -> Optional[int]:
+        """The word that a register holds, if it is taken in the place of the one that is wanted, of which that is once."""
+        if accept is None or register in self.held or register not in self.step.wishes:
+            return None
+        return near_word(self.part.host, self.step.output, register, self.step.wishes[register], accept)
+
+    def _go(self, after_order: Callable[[Job, Step], object], ask: Optional[Callable[[], str]]) -> None:
+        """The same, up to an order that differs and is near."""
         self.list = self.lists.at(self.place)
         self.end = self.list.run(self.lists.buses, self._told, after_order, self.part.transfers, ask)
         if self.end.kind in ("does", "fails"):
@@ -121,7 +132,9 @@ class StepRun:
         """What is said of limits as an order comes next."""
         heard = self.list.looked_at
         silent = silent_limits(heard)
-        self.notes = [silence_words(silent)] * bool(silent) + limit_notes(self.step, heard, self.part.host)
+        if silent and not self.part.has_told_silence:
+            self.silence, self.part.has_told_silence = [silence_words(silent)], True
+        self.notes = self.silence + limit_notes(self.step, heard, self.part.host)
         if self.guarded is not None:
             judge_margin(self.guarded, self.step, heard, self.part.host)
 

@@ -110,10 +110,14 @@ def survey(part: Device, output: int) -> Commanded:
 
 
 def looked_at(part: Device, output: int, looks: Looks | None) -> tuple[Commanded, Delivered | None]:
-    """The same, and what its rail does."""
+    """The same, and what its rail does: also where a survey comes to no end, since what is commanded is another's or can't be judged."""
     part.transfers = Transfers()
     run = StepRun(part, SequenceStep.surveys(0, output, looks).lacking(part.lacks), SURVEY_TRIES)
-    return behind(part, output, run.carry_out(ask=lambda: part.transfers.why())), run.delivered
+    found = behind(part, output, run.carry_out(ask=lambda: part.transfers.why()))
+    if looks is not None and found.unended:
+        run = StepRun(part, SequenceStep.rests(0, output, looks).lacking(part.lacks), SURVEY_TRIES)
+        run.carry_out()
+    return found, run.delivered
 
 
 def behind(part: Device, output: int, end: Said) -> Commanded:
