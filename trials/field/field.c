@@ -15,6 +15,11 @@ int64_t field_microvolts(uint16_t word) {
     return (int64_t)word * 1000000 >> 12;
 }
 
+/* The microvolts of a word of two's complement. */
+static int64_t field_trim(uint16_t word) {
+    return (int64_t)(int16_t)word * 1000000 / 4096;
+}
+
 int64_t field_voltage(const field_part *part, const field_output *out) {
     if (part->now >= out->until) return out->to;
     return out->from + (out->to - out->from) * (int64_t)(part->now - out->since) / (int64_t)(out->until - out->since);
@@ -44,7 +49,7 @@ static void go_to(field_part *part, field_output *out, int64_t to, uint16_t for_
     out->to = to, out->since = part->now, out->until = part->now + (uint64_t)for_ms * 1000;
 }
 
-static void trip(field_part *part, field_output *out, uint16_t bit) {
+void field_trip(field_part *part, field_output *out, uint16_t bit) {
     out->vout |= bit, out->has_tripped = 1;
     out->to = out->from = 0, out->since = out->until = part->now;
 }
@@ -54,6 +59,7 @@ static void settle_output(field_part *part, uint8_t at) {
     int64_t to = 0;
     int is_on = is_commanded_on(part, at);
     (void)pm_part_commanded_microvolts(&part->chip, at, &to);
+    to += field_trim(out->held.trim) + field_trim(out->held.offset);
     if (!is_on) {
         out->has_tripped = 0;
         go_to(part, out, 0, out->off_ms);
@@ -64,13 +70,16 @@ static void settle_output(field_part *part, uint8_t at) {
     }
     int64_t volts = field_voltage(part, out);
     int is_guarded = is_on && !out->has_tripped && !ignores_faults(part, at);
-    if (is_guarded && volts > field_microvolts(out->held.ov_fault)) trip(part, out, VOUT_OV_FAULT);
+    if (is_guarded && volts > field_microvolts(out->held.ov_fault)) field_trip(part, out, VOUT_OV_FAULT);
     int is_settled = is_on && !out->has_tripped && part->now >= out->until;
-    if (is_guarded && is_settled && volts < field_microvolts(out->held.uv_fault)) trip(part, out, VOUT_UV_FAULT);
+    if (is_guarded && is_settled && volts < field_microvolts(out->held.uv_fault)) field_trip(part, out, VOUT_UV_FAULT);
     if (is_on && volts > field_microvolts(out->held.ov_warn)) out->vout |= VOUT_OV_WARNING;
     if (is_settled && !out->has_tripped && volts < field_microvolts(out->held.uv_warn)) out->vout |= VOUT_UV_WARNING;
     volts = field_voltage(part, out);
-    out->has_been_good = volts >= field_microvolts(out->has_been_good ? out->held.good_off : out->held.good_on) && volts > 0;
+    int is_good = volts >= field_microvolts(out->has_been_good ? out->held.good_off : out->held.good_on) && volts > 0;
+    if (!is_good) out->good_at = 0;
+    else if (!out->good_at) out->good_at = part->now + 1;
+    out->has_been_good = is_good && part->now + 1 >= out->good_at + (uint64_t)out->good_ms * 1000;
 }
 
 void field_settle(field_part *part) {
@@ -135,21 +144,26 @@ uint8_t field_new(field_part *part, uint8_t address, uint8_t outputs) {
     part->address = address, part->outputs = outputs, part->mode = ULINEAR16_12, part->step = 1, part->config_all = 0x04;
     part->transfer_us = 100;
     for (int at = 0; at < outputs; at++) {
-        part->out[at].held = (field_words){0xFFFF, 0xFFFF, 0, 0, 0x0400, 0x0200, ON_BY_BOTH, 0xFFFF, 0xFFFF, 0xFFFF};
+        part->out[at].held = (field_words){0xFFFF, 0xFFFF, 0, 0, 0x0400, 0x0200, ON_BY_BOTH, 0xFFFF, 0xFFFF, 0xFFFF, 0, 0};
         part->out[at].stored = part->out[at].held;
     }
     field_settle(part);
     return 0;
 }
 
+void field_order(field_part *part, uint8_t output, uint8_t byte) {
+    give_cell(part, output, OPERATION, byte);
+}
+
 void field_restart(field_part *part) {
     (void)pm_part_restart(&part->chip);
+    part->boots_until = part->now + (uint64_t)part->boot_ms * 1000;
     part->was_busy = part->cml = 0;
     for (uint8_t at = 0; at < part->outputs; at++) {
         field_output *out = &part->out[at];
         out->held = out->stored;
         out->vout = out->iout = out->input = out->temperature = out->has_tripped = out->has_been_good = 0;
-        out->from = out->to = 0, out->since = out->until = part->now;
+        out->from = out->to = 0, out->since = out->until = part->now, out->good_at = 0;
         if (out->pin_command) give_cell(part, at, VOUT_COMMAND, out->pin_command);
     }
     field_settle(part);
@@ -167,16 +181,20 @@ static const place WORDS[] = {
     OF_OUTPUT("VOUT_OV_FAULT_LIMIT", held.ov_fault), OF_OUTPUT("VOUT_OV_WARN_LIMIT", held.ov_warn),
     OF_OUTPUT("VOUT_UV_WARN_LIMIT", held.uv_warn), OF_OUTPUT("VOUT_UV_FAULT_LIMIT", held.uv_fault),
     OF_OUTPUT("POWER_GOOD_ON", held.good_on), OF_OUTPUT("POWER_GOOD_OFF", held.good_off), OF_OUTPUT("ON_OFF_CONFIG", held.on_off_config),
-    OF_OUTPUT("TON_DELAY", held.ton_delay), OF_OUTPUT("TON_RISE", held.ton_rise), OF_OUTPUT("TON_MAX_FAULT_LIMIT", held.ton_max)};
+    OF_OUTPUT("TON_DELAY", held.ton_delay), OF_OUTPUT("TON_RISE", held.ton_rise), OF_OUTPUT("TON_MAX_FAULT_LIMIT", held.ton_max),
+    OF_OUTPUT("VOUT_TRIM", held.trim), OF_OUTPUT("VOUT_CAL_OFFSET", held.offset)};
 static const place OUTPUTS[] = {
     OF_OUTPUT("is_run_low", is_run_low), OF_OUTPUT("is_good_low", is_good_low), OF_OUTPUT("pin_command", pin_command),
-    OF_OUTPUT("on_ms", on_ms), OF_OUTPUT("off_ms", off_ms), OF_OUTPUT("ramp_ms", ramp_ms), OF_OUTPUT("error", error),
+    OF_OUTPUT("on_ms", on_ms), OF_OUTPUT("off_ms", off_ms), OF_OUTPUT("ramp_ms", ramp_ms), OF_OUTPUT("good_ms", good_ms),
+    {"trip_at", offsetof(field_output, trip_at), 4}, OF_OUTPUT("error", error),
     OF_OUTPUT("has_tripped", has_tripped), OF_OUTPUT("STATUS_VOUT", vout), OF_OUTPUT("STATUS_IOUT", iout),
     OF_OUTPUT("STATUS_INPUT", input), OF_OUTPUT("STATUS_TEMPERATURE", temperature)};
 static const place PARTS[] = {
     OF_PART("busy_ms", busy_ms), OF_PART("store_ms", store_ms), OF_PART("restore_ms", restore_ms), OF_PART("busy_kind", busy_kind),
     OF_PART("MFR_CONFIG_ALL", config_all), OF_PART("step", step), OF_PART("clamps", clamps), OF_PART("transfer_us", transfer_us),
-    OF_PART("restart_at", restart_at), OF_PART("away_at_write", away_at_write), OF_PART("away_for", away_for),
+    OF_PART("restart_at", restart_at), OF_PART("boot_ms", boot_ms),
+    OF_PART("other_at", other_at), OF_PART("other_byte", other_byte), OF_PART("store_cml", store_cml),
+    OF_PART("away_at_write", away_at_write), OF_PART("away_for", away_for),
     OF_PART("gone_code", gone_code),
     OF_PART("gone_at_write", gone_at_write), OF_PART("gone_at_frame", gone_at_frame), OF_PART("back_at_frame", back_at_frame), OF_PART("lost_at_frame", lost_at_frame), OF_PART("no_page_plus", no_page_plus), OF_PART("no_pec", no_pec), OF_PART("transfers", transfers), OF_PART("writes", writes), OF_PART("stores", stores), OF_PART("questions", questions),
     OF_PART("now", now), OF_PART("STATUS_CML", cml)};

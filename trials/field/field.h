@@ -27,6 +27,7 @@ enum { FIELD_DEAF = 0, FIELD_REFUSES = 1, FIELD_ONES = 2 };
 typedef struct {
     uint16_t ov_fault, ov_warn, uv_warn, uv_fault, good_on, good_off, on_off_config;
     uint16_t ton_delay, ton_rise, ton_max;   /* in LINEAR11; FFFFh where it has none */
+    uint16_t trim, offset;  /* VOUT_TRIM and VOUT_CAL_OFFSET, two's complement, in the format of the output */
 } field_words;
 
 typedef struct {
@@ -34,21 +35,28 @@ typedef struct {
     uint16_t is_run_low;    /* the RUN pin is held low */
     uint16_t is_good_low;   /* POWER_GOOD is pulled low by something else on the board */
     uint16_t pin_command;   /* the word of VOUT_COMMAND that pins give at a start; 0 where none do */
-    uint16_t on_ms, off_ms, ramp_ms;
+    uint16_t on_ms, off_ms, ramp_ms; /* how long it goes up, coasts down and moves */
+    uint16_t good_ms;       /* how long after its voltage is good it says so */
+    uint32_t trip_at;       /* it trips before the frame behind so many of its bus, 0 for never */
     int16_t error;          /* how many words READ_VOUT is above the voltage */
     uint16_t has_tripped, has_been_good;
     uint16_t vout, iout, input, temperature;   /* what is latched of STATUS_VOUT to STATUS_TEMPERATURE */
     int64_t from, to;       /* the voltage in microvolts at the two ends of its ramp */
     uint64_t since, until;  /* the times of these ends in microseconds */
+    uint64_t good_at;       /* when its voltage became good */
 } field_output;
 
 typedef struct {
     pm_part chip;
     uint64_t now;           /* the time in microseconds, which the caller puts on */
     uint64_t ready;         /* until when it is busy */
+    uint64_t boots_until;   /* until when it hears nothing */
     uint32_t transfers, writes, stores, questions;   /* how many came, and how many while it was busy */
     uint32_t frames;        /* how many were sent to it, whether it heard them or not */
     uint32_t restart_at;    /* it restarts before the frame behind so many; 0 for never */
+    uint32_t other_at;      /* another master orders before that frame, 0 for never: this byte of OPERATION of output 0 */
+    uint16_t other_byte, boot_ms; /* how long it hears nothing after a restart */
+    uint16_t store_cml;     /* the bits of STATUS_CML with which a store fails, 0 where it doesn't */
     uint32_t away_at_write, away_for, away_until; /* the bus goes away as this write comes, 0 for never, for so many frames */
     uint16_t busy_ms, store_ms, restore_ms, busy_kind;
     uint16_t config_all;    /* MFR_CONFIG_ALL: bit 2 has the packet error code required */

@@ -89,6 +89,8 @@ static uint8_t word_of(const field_part *part, uint8_t code, uint8_t at, uint16_
     case 0x42: *word = out->held.ov_warn; return 2;
     case 0x43: *word = out->held.uv_warn; return 2;
     case 0x44: *word = out->held.uv_fault; return 2;
+    case 0x22: *word = out->held.trim; return 2;
+    case 0x23: *word = out->held.offset; return 2;
     case 0x5E: *word = out->held.good_on; return 2;
     case 0x5F: *word = out->held.good_off; return 2;
     case 0x60: case 0x61: case 0x62:
@@ -161,7 +163,7 @@ static int take_own(field_part *part, packet said, uint8_t at) {
     uint16_t protect = 0, word = (uint16_t)(said.count > 1 ? said.data[0] | said.data[1] << 8 : said.count ? said.data[0] : 0);
     uint16_t *places[] = {&held->ov_fault, 0, &held->ov_warn, &held->uv_warn, &held->uv_fault};
     uint16_t *place = said.code >= 0x40 && said.code <= 0x44 ? places[said.code - 0x40] : said.code == 0x5E ? &held->good_on
-        : said.code == 0x5F ? &held->good_off : said.code == ON_OFF_CONFIG ? &held->on_off_config : 0;
+        : said.code == 0x5F ? &held->good_off : said.code == 0x22 ? &held->trim : said.code == 0x23 ? &held->offset : said.code == ON_OFF_CONFIG ? &held->on_off_config : 0;
     if (said.code == MFR_CONFIG_ALL && !said.is_paged) place = &part->config_all;
     if (!place) return 0;
     (void)pm_part_word(&part->chip, 0, WRITE_PROTECT, &protect);
@@ -202,7 +204,8 @@ static void take_write(field_part *part, uint8_t *frame, uint64_t count) {
             frame[count - 3] = (uint8_t)word, frame[count - 2] = (uint8_t)(word >> 8);
             frame[count - 1] = field_pec(frame, count - 1, 0);
         }
-        if (pm_part_hear(&part->chip, frame, count, 0, &reply) == PM_HEARD_TAKEN) follow(part, said, page);
+        if (said.code == STORE_USER_ALL && part->store_cml) part->stores++, part->cml |= part->store_cml;
+        else if (pm_part_hear(&part->chip, frame, count, 0, &reply) == PM_HEARD_TAKEN) follow(part, said, page);
     }
     uint16_t for_ms = said.code == STORE_USER_ALL ? part->store_ms : said.code == RESTORE_USER_ALL ? part->restore_ms : part->busy_ms;
     part->ready = part->now + (uint64_t)for_ms * 1000;
@@ -259,9 +262,12 @@ static uint8_t hear_request(field_part *part, const uint8_t *bytes, uint64_t cou
 static int is_there(field_part *part, uint8_t is_request) {
     uint32_t sent = part->frames++;
     if (part->restart_at && sent == part->restart_at) field_restart(part);
+    if (part->other_at && sent == part->other_at) field_order(part, 0, (uint8_t)part->other_byte);
+    for (uint8_t at = 0; at < part->outputs; at++)
+        if (part->out[at].trip_at && sent == part->out[at].trip_at) field_trip(part, &part->out[at], VOUT_UV_FAULT);
     if (!is_request && part->away_at_write && part->writes + 1 == part->away_at_write && !part->away_until)
         part->away_until = sent + part->away_for;
-    return sent >= part->away_until;
+    return sent >= part->away_until && part->now >= part->boots_until;
 }
 
 uint8_t field_hear(field_part *part, const uint8_t *bytes, uint64_t count, uint8_t is_request, uint8_t *answer, uint64_t *length) {

@@ -16,6 +16,12 @@ int64_t field_voltage(const field_part *part, const field_output *out);
 /* Each rail goes where it is commanded, and trips where a fault limit says so. */
 void field_settle(field_part *part);
 
+/* An output trips, with this bit of STATUS_VOUT. */
+void field_trip(field_part *part, field_output *out, uint16_t bit);
+
+/* An output gets a byte of OPERATION, as of another master. */
+void field_order(field_part *part, uint8_t output, uint8_t byte);
+
 /* The packet error code of bytes behind those that gave `crc`. */
 uint8_t field_pec(const uint8_t *bytes, uint64_t count, uint8_t crc);
 

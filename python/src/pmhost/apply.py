@@ -1,7 +1,7 @@
 """Brings the parts of a board to the settings of a file of rails, and says rail by rail what became of it.
 
 Everything is read and judged before the first write: each part of a board file has to answer and to be the model that the file says,
-each rail's course goes up to its first order, and its margins are read. Then the courses go on to their ends, one rail after another in
+each rail's step goes up to its first order, and its margins are read. Then the steps go on to their ends, one rail after another in
 their order. What comes next, and what isn't ordered at all, is said by the library only: no rail commands anything on its way but what it
 commanded and what is wanted.
 """
@@ -14,14 +14,17 @@ from . import probe, voltages
 from .back import Held
 from .course import Wanted
 from .cuts import Cut, cuts
+from .delivered import Delivered
 from .device import Device
-from .errors import SAYINGS, Refused, refusal
-from .look import Delivered, Look, Looks
+from .errors import SAYINGS, Refused
+from .looks import Looks
 from .models import why_other_model
 from .parts import BoardPart
-from .rail_course import OUTSIDE, PROTECT, RailCourse, Restarted, Setting, Stopped
+from .rail_run import OUTSIDE, PROTECT, RailRun, Restarted, Setting, Stopped
 from .rails import BOUNDS, MARGINS, SETTINGS, WORDS, Rail
+from .sequence import Heard
 from .states import Step
+from .step_run import StepRun
 from .steps import begin, judge_way_back
 from .survey import Commanded, answers, commanded, only_word, read
 from .values import Format
@@ -65,14 +68,13 @@ class Board:
     settings: list[Setting] = field(default_factory=list)
     # The format of each rail, which stands here since a host may forget it.
     formats: dict[str, Format] = field(default_factory=dict)
-    # The course of each rail, and what was known behind it last.
-    courses: dict[str, RailCourse] = field(default_factory=dict)
-    # What each rail was seen to do last.
+    # The step of each rail, and what was known behind it last.
+    runs: dict[str, RailRun] = field(default_factory=dict)
+    # What each rail was seen to do last, after how many orders; STATUS_WORD before its first order; and what was said of its limits.
     delivered: dict[str, Delivered] = field(default_factory=dict)
     looked_at: dict[str, int] = field(default_factory=dict)
-    rail_looks: dict[str, Look] = field(default_factory=dict)
-    # Whether this may write: the fault limits are read then before the first order.
-    may_write: bool = False
+    befores: dict[str, Heard] = field(default_factory=dict)
+    notes: dict[str, list[str]] = field(default_factory=dict)
     surveys: dict[str, Commanded] = field(default_factory=dict)
     orders: int = 0
     # How many orders there had been when a rail was read last.
@@ -175,18 +177,27 @@ class Board:
 
     # ---- Frames ----
 
-    def look_of(self, rail: Rail) -> Look | None:
-        """The look at a rail, which stays one from its first order to the end."""
-        if self.looks is None:
-            return None
-        if rail.name not in self.rail_looks:
-            self.rail_looks[rail.name] = Look(self.on(rail), rail.output, self.looks)
-        return self.rail_looks[rail.name]
+    def before(self, rail: Rail) -> Heard:
+        """STATUS_WORD before the first order of a rail."""
+        return self.befores.get(rail.name, Heard())
 
     def look_at(self, rail: Rail) -> None:
-        """Reads all that a rail's course needs before its first order."""
-        self.courses[rail.name] = RailCourse(self, rail)
-        self.courses[rail.name].go(False)
+        """Reads all that a rail's step needs before its first order; where nothing is due, what the rail does, too."""
+        self.runs[rail.name] = RailRun(self, rail)
+        self.runs[rail.name].go(False)
+
+    def keep(self, rail: Rail, run: StepRun) -> None:
+        """Keeps what a run saw of its rail."""
+        self.befores[rail.name] = run.before
+        told = self.notes.setdefault(rail.name, [])
+        told += [note for note in run.notes if note not in told]
+        if run.delivered is not None:
+            self.see(rail, run.delivered)
+
+    def see(self, rail: Rail, found: Delivered) -> None:
+        """A rail was looked at."""
+        found.notes = [*self.notes.get(rail.name, [])]
+        self.delivered[rail.name], self.looked_at[rail.name] = found, self.orders
 
     def setting(self, rail: Rail, register: str) -> Setting:
         """The setting of a rail that has this register."""
@@ -219,10 +230,10 @@ class Board:
             raise Restarted(f"{rail.part or 'the part'} restarted meanwhile: nothing that was read before holds: run this again")
 
     def judge_refused(self, rail: Rail) -> None:
-        """Stops if the course of a rail is refused."""
-        end = self.courses[rail.name].course.ended
-        if end is not None and end.kind == "refused":
-            raise self.refused(rail, refusal(end.number, end.register))
+        """Stops if the step of a rail is refused."""
+        fault = self.runs[rail.name].refusal
+        if fault is not None:
+            raise self.refused(rail, fault)
 
     # ---- The whole ----
 
@@ -236,7 +247,6 @@ class Board:
 
     def prepare(self) -> None:
         """Reads and judges everything, and writes nothing."""
-        self.may_write = True
         self.read()
         for rail in self.rails:
             if not self.is_protected(rail) or not self.is_in_the_way(rail.part):
@@ -244,15 +254,15 @@ class Board:
         if not self.is_dry:
             self.unlock()
         for rail in self.rails if self.note is not None else ():
-            if self.courses[rail.name].course.ended is None:
+            if self.runs[rail.name].is_due:
                 judge_way_back(self, rail)
         if self.wants_store:
             self.judge_store()
 
     def is_protected(self, rail: Rail) -> bool:
-        """Whether WRITE_PROTECT refuses what a rail's course would order."""
-        end = self.courses[rail.name].course.ended
-        return end is not None and end.kind == "refused" and refusal(end.number).letter == "P7"
+        """Whether WRITE_PROTECT refuses what a rail's step would order."""
+        fault = self.runs[rail.name].refusal
+        return fault is not None and fault.letter == "P7"
 
     def unlock(self) -> None:
         """Lifts WRITE_PROTECT of the parts if just that of the file is in the way of an order, and judges their rails anew."""
@@ -274,9 +284,9 @@ class Board:
         """Orders what differs. Stopped."""
         self.prepare()
         for rail in self.rails:
-            if self.courses[rail.name].course.ended is None:
+            if self.runs[rail.name].is_due:
                 begin(self, rail)
-                self.courses[rail.name].go(True)
+                self.runs[rail.name].go(True)
                 self.judge_refused(rail)
                 if why := self.why_dead(rail):
                     raise Stopped(why)
@@ -306,7 +316,7 @@ class Board:
     def finish(self) -> None:
         """Stops if a setting isn't as it is wanted, or a rail doesn't command its voltage within its limits, or doesn't deliver it."""
         self.take()
-        read = [rail for rail in self.rails if rail.name in self.courses and rail.name not in self.faults]
+        read = [rail for rail in self.rails if rail.name in self.runs and rail.name not in self.faults]
         wrong = [it.name for it in self.settings if it.state not in AS_WANTED and it.rail in read]
         unsure = [f"{rail.name}: {why}" for rail in read if not wrong and (why := self.why_not_well(rail))]
         silent = [*dict.fromkeys(self.faults.values())]
@@ -319,7 +329,7 @@ class Board:
 
     def why_dead(self, rail: Rail) -> str:
         """Why a rail doesn't deliver. Stopped if something was ordered and its part restarted, which is said then."""
-        why = self.courses[rail.name].deliver()
+        why = self.runs[rail.name].deliver()
         if why and self.orders:
             self.look_at(rail)
         return why

@@ -67,9 +67,11 @@ class Device:
         lacks = tuple(lacks)
         self.bus, self.host = bus, Host(address, outputs, passes, [it for it in lacks if it not in LOOKED_AT])
         self.transfers, self.lock = Transfers(), threading.RLock()
-        # How rails are looked at, what was seen last, and whether it was said that limits gave no good answer.
-        self.looks, self.has_told_silence = looks, False
+        # How rails are looked at, and what was seen last.
+        self.looks = looks
         self.delivered: Delivered | None = None
+        # Whether it was said that limits gave no good answer.
+        self.is_silence_told = False
         self.lacks = frozenset(str(it) if it in LOOKED_AT else NAMES[code_of(it)] for it in lacks)
         for output, pair in dict(limits or {}).items():
             if pair is None:
@@ -219,7 +221,7 @@ class Device:
         Raises how it ended, after the words of a job, if it has not reached what is wanted: a Refused, Differs, NoFormat, OtherSource or
         Spent; and NotDelivered. If an order differs and the held word is `accept` near, and within the limits, that is wanted instead."""
         self.transfers, self.delivered = Transfers(), None
-        step = replace(step, host=0, looks=step.looks or self.looks).lacking(self.lacks)
+        step = replace(step, host=0, looks=step.looks or self.looks)
         run = StepRun(self, step, tries, before_order)
         end = run.carry_out(after_order, None, None if accept is None else given_microvolts(accept, "accept"))
         self.delivered = run.delivered

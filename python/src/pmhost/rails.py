@@ -252,7 +252,8 @@ def quoted(number: int | Decimal) -> str:
 
 
 def judge(at: str, rail: Rail) -> None:
-    """The limits are in order, every setting lies within them, and every word within VOUT_MIN and VOUT_MAX."""
+    """The limits are in order, every setting lies within them, every word within VOUT_MIN and VOUT_MAX, and no margin on the other side of
+    the volts."""
     least, most = rail.limits
     volts = voltages.shown
     if most < least:
@@ -267,3 +268,8 @@ def judge(at: str, rail: Rail) -> None:
         micro = rail.settings.get(key, low)
         if not low <= micro <= high:
             raise BadRails(f"{at}.{key}: {volts(micro)} is outside min to max, {volts(low)} to {volts(high)}")
+    nominal = rail.settings["volts"]
+    for key, is_wrong, side in (("margin_low", rail.settings.get("margin_low", nominal) > nominal, "above"),
+                                ("margin_high", rail.settings.get("margin_high", nominal) < nominal, "below")):
+        if is_wrong:
+            raise BadRails(f"{at}.{key}: {volts(rail.settings[key])} is {side} volts, {volts(nominal)}: are the margins exchanged?")

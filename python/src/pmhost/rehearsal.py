@@ -1,14 +1,14 @@
-"""A course rehearsed: on a copy of a host, to which each order is confirmed, or over a model of the part. Nothing is sent."""
+"""A course rehearsed: by a copy of a host, over a model of the part. Nothing is sent."""
 from __future__ import annotations
 
-from typing import Iterable, Iterator
+from typing import Iterable
 
-from .course import Course, CourseEnd, Job
+from .course import Course, CourseEnd
 from .device import Device
-from .packets import pec, read_write
+from .packets import pec
 from .part import ModelPart, ModelPartBus, Output
-from .values import NAMES
-
+from .states import Bus
+from .values import CODES, NAMES
 
 PROTECT = "WRITE_PROTECT"
 # The words with which an output of a model starts.
@@ -16,45 +16,27 @@ REGISTERS = {"operation": "OPERATION", "command": "VOUT_COMMAND", "max": "VOUT_M
              "min": "VOUT_MIN"}
 
 
-class Taking:
-    """A bus that reaches nobody: each write is acknowledged, and each request is answered by the word that was written last."""
+class Unprotected:
+    """The bus of a part, over which WRITE_PROTECT reads as 00."""
 
-    def __init__(self, address: int) -> None:
-        self.address, self.word = address, 0
+    def __init__(self, bus: Bus, address: int) -> None:
+        self.bus, self.request = bus, bytes([address << 1, CODES[PROTECT]])
 
     def write(self, frame: bytes) -> bool:
-        self.word = read_write(self.address, frame).word
-        return True
+        return self.bus.write(frame)
 
     def read(self, request: bytes, count: int) -> bytes:
-        word = self.word.to_bytes(count - 2, "little")
-        answer = bytes([len(word)]) + word
-        return answer + bytes([pec(request + bytes([request[0] | 1]) + answer)])
+        if request != self.request:
+            return self.bus.read(request, count)
+        return bytes([0, pec(request + bytes([request[0] | 1, 0]))])
 
 
-def copied(part: Device) -> Device:
-    """A device whose host knows what that of a part does, over a bus that reaches nobody."""
-    found = Device(Taking(part.host.address), 0x58, 8)
+def unprotected(part: Device) -> Device:
+    """A part as if its WRITE_PROTECT were 00, by a copy of its host that reads all anew. It is for what orders nothing."""
+    found = Device(Unprotected(part.bus, part.host.address), part.host.address, 8, lacks=part.lacks, looks=part.looks)
     found.host = part.host.copy()
+    found.host.restart()
     return found
-
-
-def rehearsed(part: Device, course: Course) -> Iterator[Job]:
-    """The orders of a course, each of which the copy hears as confirmed; up to its end, or the first register that it would read."""
-    while (order := course.next(part.host)) is not None and order.word is not None:
-        take(course, part)
-        yield order
-
-
-def take(course: Course, part: Device) -> None:
-    """The next order of a course is confirmed."""
-    is_over = False
-    while not is_over and (sending := course.frame(part.host)) is not None:
-        if sending.is_request:
-            step = course.read_ended(part.host, bytes([part.host.address << 1 | 1]) + part.bus.read(sending.frame, sending.answer))
-        else:
-            step = course.write_ended(part.host, part.bus.write(sending.frame))
-        is_over = step.is_over
 
 
 def modelled(part: Device, output: int, is_lifted: bool = False) -> Device:
@@ -67,9 +49,9 @@ def modelled(part: Device, output: int, is_lifted: bool = False) -> Device:
     mode = 0x40 if is_direct or form is None else form.exponent & 0x1F
     starts = [Output()] * host.outputs
     starts[output] = Output(mode, **words)
-    found = copied(part)
-    found.bus = ModelPartBus(ModelPart(host.address, starts, (form.m, form.b, form.exponent) if is_direct and form else (1, 0, 3),
-                                       0 if is_lifted else known.get(PROTECT, 0)))
+    coefficients = (form.m, form.b, form.exponent) if is_direct and form else (1, 0, 3)
+    found = Device(ModelPartBus(ModelPart(host.address, starts, coefficients, 0 if is_lifted else known.get(PROTECT, 0))), host.address, 8)
+    found.host = host.copy()
     return found
 
 

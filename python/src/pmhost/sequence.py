@@ -322,7 +322,7 @@ class Sequence:
         it goes on.
 
         `told` hears all that is said meanwhile, a wait before it begins: if it answers False the loop ends there. `after_order` hears how each
-        order ended: if it answers False the loop ends, too, by a Said of the kind of that end. `transfers` has those of the last job. `ask` is
+        order ended: if it answers False the loop ends, too, by a Said of the kind `stopped`. `transfers` has those of the last job. `ask` is
         asked once why nobody answers, if the first job had no answer at all and nothing was written; with an answer it ends the loop by a Said of
         the kind `nobody`, whose fault that is, and without one the list goes on. Whatever is raised meanwhile goes on to the caller, with the job
         that was under way ended as unknown."""
@@ -345,7 +345,7 @@ class Sequence:
                 step = self._hear(found, self.host.came(buses[self.place], found, kept))
                 is_open = not step.is_over
                 if step.is_over and order is not None and after_order is not None and after_order(order, step) is False:
-                    return Said(step.kind, self.begun - 1, register=order.register, word=step.word)
+                    return Said("stopped", self.begun)
                 if step.is_over and not is_heard:
                     is_heard = True
                     if ask is not None and not kept.has_written and not kept.is_answered and (why := ask()):

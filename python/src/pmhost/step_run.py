@@ -6,9 +6,10 @@ from typing import TYPE_CHECKING, Callable, Optional
 
 from .course import Job
 from .delivered import Delivered, delivered_of, judge_margin, limit_notes, silence_words, silent_limits
+from .looks import Looks
 from .operation import MARGINS, selected_by
 from .rounded import near_word
-from .sequence import RailHeard, Rules, Said, Sequence, SequenceStep, Wishes
+from .sequence import Heard, RailHeard, Rules, Said, Sequence, SequenceStep, Wishes
 from .states import Bus, Step
 from .zeros import believed
 
@@ -58,11 +59,13 @@ class StepRun:
     that were taken in the place of those that were wanted. A margin is judged by its own fault limit if it is `guarded`."""
 
     def __init__(self, part: Device, step: SequenceStep, tries: int, before_order: Optional[Callable[[Job], object]] = None,
-                 lists: Optional[StepLists] = None, place: int = 0) -> None:
-        self.part, self.step, self.tries, self.before_order, self.place = part, step, tries, before_order, place
-        self.lists, self.is_alone = lists or StepLists([(part, step)], tries), lists is None
-        self.list, self.end, self.delivered, self.held = self.lists.list, Said("", 0), None, dict[str, int]()
-        self.notes, self.silence = list[str](), list[str]()
+                 lists: Optional[StepLists] = None, place: int = 0, rules: Rules = Rules()) -> None:
+        self.part, self.tries, self.before_order, self.place = part, tries, before_order, place
+        self.step = step.lacking(part.lacks)
+        self.lists, self.is_alone = lists or StepLists([(part, self.step)], tries, replace(rules, asks=True)), lists is None
+        # The order before which it stands.
+        self._due: Optional[Said] = None
+        self.list, self.end, self.delivered, self.notes, self.held = self.lists.list, Said("", 0), None, list[str](), dict[str, int]()
         self.guarded = selected_by(step.byte) if step.act == "turns" and step.byte in MARGINS.values() else None
 
     delivered: Optional[Delivered]
@@ -70,11 +73,18 @@ class StepRun:
     def anew(self) -> StepRun:
         """The step begins anew, and what comes after it in its list."""
         self.lists.begin(self.place)
+        self._due = None
         return self
+
+    @property
+    def before(self) -> Heard:
+        """STATUS_WORD before its first order, as far as it was asked."""
+        found = self.list.looked_at.before
+        return found if found.asked else self.step.before
 
     def want(self, wishes: Wishes) -> StepRun:
         """The same, to these words and voltages."""
-        self.step = replace(self.step, wishes=wishes, before=self._heard.before)
+        self.step = replace(self.step, wishes=wishes, before=self.before)
         self.lists.steps[self.place] = self.part, self.step
         return self.anew()
 
@@ -83,18 +93,17 @@ class StepRun:
         """What was heard of its rail."""
         return self.list.heard(self.place - self.lists.first)
 
-    def carry_out(self, after_order: Optional[Callable[[Job, Step], None]] = None, ask: Optional[Callable[[], str]] = None,
+    def carry_out(self, after_order: Optional[Callable[[Job, Step], object]] = None, ask: Optional[Callable[[], str]] = None,
                   accept: Optional[int] = None) -> Said:
         """Goes on, to its end or to where `before_order` stops it. If an order differs and the held word is `accept` microvolts near, and within
         the limits, the step begins anew to that word, once a register. `ask` is that of `Sequence.run`. MarginRefused, and NotBelieved if zeros
         of WRITE_PROTECT aren't believed."""
-        def after(order: Job, step: Step) -> bool:
+        def after(order: Job, step: Step) -> object:
             held = self._near(order.register, accept) if step.kind == "differs" else None
             if held is not None:
                 self.held[order.register] = held
-            elif after_order is not None:
-                after_order(order, step)
-            return held is None
+                return False
+            return None if after_order is None else after_order(order, step)
 
         count = len(self.held)
         self._go(after, ask)
@@ -111,33 +120,50 @@ class StepRun:
 
     def _go(self, after_order: Callable[[Job, Step], object], ask: Optional[Callable[[], str]]) -> None:
         """The same, up to an order that differs and is near."""
+        if self._due is not None and self._asked(self._due) is False:
+            return
         self.list = self.lists.at(self.place)
         self.end = self.list.run(self.lists.buses, self._told, after_order, self.part.transfers, ask)
         if self.end.kind in ("does", "fails"):
             self.see(self.end)
-        if not self.end.is_end and self.end.kind != "order":
+        if not self.end.is_end and self.end.kind not in ("order", "stopped"):
             self.lists.next = self.place + 1
 
     def _told(self, said: Said) -> object:
         if said.kind == "order":
-            assert said.register is not None and said.word is not None
             if self.step.looks is not None and not self.step.turns_off:
                 self._judge()
-            return None if self.before_order is None else self.before_order(Job("order", said.register, said.word))
+            return self._asked(said)
         if said.kind == "does" and self.is_alone:
             self.see(said)
         return self.is_alone or said.kind == "wait"
+
+    def _asked(self, said: Said) -> bool:
+        """An order comes next: whether it may begin."""
+        assert said.register is not None and said.word is not None
+        may_begin = self.before_order is None or self.before_order(Job("order", said.register, said.word)) is not False
+        self._due = None if may_begin else said
+        return may_begin
 
     def _judge(self) -> None:
         """What is said of limits as an order comes next."""
         heard = self.list.looked_at
         silent = silent_limits(heard)
-        if silent and not self.part.has_told_silence:
-            self.silence, self.part.has_told_silence = [silence_words(silent)], True
-        self.notes = self.silence + limit_notes(self.step, heard, self.part.host)
+        if silent and not self.part.is_silence_told:
+            self.part.is_silence_told = True
+            self.notes.append(silence_words(silent))
+        self.notes += [note for note in limit_notes(self.step, heard, self.part.host) if note not in self.notes]
         if self.guarded is not None:
             judge_margin(self.guarded, self.step, heard, self.part.host)
 
     def see(self, said: Said) -> None:
         """What its rail does."""
         self.delivered = delivered_of(said, self.step, self._heard, self.part.host, self.notes)
+
+
+def look_at(part: Device, output: int, looks: Looks, before: Heard = Heard()) -> Delivered:
+    """What a rail does now, by what its host knows. `before` is STATUS_WORD before the first order."""
+    run = StepRun(part, replace(SequenceStep.rests(0, output, looks), before=before), 1)
+    run.carry_out()
+    assert run.delivered is not None
+    return run.delivered

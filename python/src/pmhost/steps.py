@@ -6,11 +6,14 @@ from typing import TYPE_CHECKING
 
 from . import clock, voltages
 from .back import Held
+from .course import Course
+from .delivered import Delivered
 from .errors import SAYINGS, refusal
-from .look import Delivered, Look, Looks
-from .rail_course import Stopped
+from .looks import Looks
+from .rail_run import Stopped
 from .rails import Rail
 from .rehearsal import is_reached, modelled
+from .step_run import look_at
 from .survey import TRIES, only_word
 
 if TYPE_CHECKING:
@@ -34,8 +37,8 @@ def begin(board: Board, rail: Rail) -> None:
     clock.wait(rail.wait / 1000)
     for each in board.rails if rail.delivers else ():
         if each.name in rail.after:
-            look = board.look_of(each) or Look(board.on(each), each.output, Looks())
-            found = board.delivered[each.name] = look.after()
+            found = look_at(board.on(each), each.output, board.looks or Looks(), board.before(each))
+            board.see(each, found)
             if why := why_not_before(each.name, found):
                 raise Stopped(f"{rail.name} isn't begun: {why}")
     if board.note is not None:
@@ -54,8 +57,8 @@ def held_of(board: Board, rail: Rail) -> Held:
 def judge_way_back(board: Board, rail: Rail) -> None:
     """Stops if the way back of a rail would be refused after its orders, which are rehearsed: nothing is sent."""
     held, model = held_of(board, rail), modelled(board.on(rail), rail.output)
-    back = held.course(TRIES)
-    if not is_reached(model, board.courses[rail.name].course.copy()) or is_reached(model, back):
+    back = Course.words(rail.output, {**held.words}, TRIES)
+    if not is_reached(model, Course.words(rail.output, board.wanted(rail), TRIES)) or is_reached(model, back):
         return
     end = back.ended
     if end is None or end.kind != "refused":

@@ -6,11 +6,12 @@ from typing import Mapping
 
 from . import voltages
 from .apply import Board
+from .course import Course, Job
 from .device import Device
 from .parts import BoardPart
-from .rail_course import Setting
+from .rail_run import Setting
 from .rails import SETTINGS, Rail
-from .rehearsal import copied, rehearsed
+from .rehearsal import modelled
 from .states import Step
 from .survey import only_word
 
@@ -82,11 +83,13 @@ class Way:
         self.rows[rail.name].append(WayRow(words, step.kind, f"given again: {end}" if is_again else end, self.known(rail, part)))
 
     def rehearse(self, rail: Rail) -> None:
-        """What the course of a rail orders if each order is confirmed: copies of the host and of the course hear this, and nothing is
-        sent."""
-        part = copied(self.board.on(rail))
-        for order in rehearsed(part, self.board.courses[rail.name].course.copy()):
-            self.rows[rail.name].append(WayRow(self.order_words(self.board.setting(rail, order.register)), "", PLANNED, self.known(rail, part)))
+        """What the step of a rail orders if each order is confirmed, over a model of its part: nothing is sent."""
+        model = modelled(self.board.on(rail), rail.output)
+
+        def after(order: Job, _: Step) -> None:
+            self.rows[rail.name].append(WayRow(self.order_words(self.board.setting(rail, order.register)), "", PLANNED, self.known(rail, model)))
+
+        model.host.run_course(Course.words(rail.output, self.board.wanted(rail)), model.bus, after_order=after)
 
     def known(self, rail: Rail, part: Device) -> Knowledge:
         return known_of(part, rail.output, self.parts[rail.part].lacks)

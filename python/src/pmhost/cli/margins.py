@@ -4,25 +4,27 @@ from __future__ import annotations
 
 import argparse
 import contextlib
-import functools
-from dataclasses import dataclass, field
-from typing import Any, Callable, Iterator
+from dataclasses import dataclass, replace
+from typing import Any, Iterator
 
-from .. import rails, voltages
+from .. import rails, readings, voltages
 from ..apply import AS_WANTED, Board
 from ..back import OPERATION, Held
-from ..course import Course, CourseEnd, Job, in_hexadecimal
+from ..course import CourseEnd, Job, in_hexadecimal
 from ..cuts import cuts
-from ..errors import SAYINGS, MarginRefused, PlanRefused, refusal
-from ..look import Delivered, Look, Looks, register_words
+from ..delivered import Delivered, beyond_of, register_words
+from ..device import Device
+from ..errors import SAYINGS, MarginRefused, refusal
+from ..looks import Looks
 from ..operation import MARGINS, ON, margin_byte, selected_by
 from ..parts import BadRails
-from ..rail_course import Due, Restarted, Stopped
+from ..rail_run import Restarted, Stopped
 from ..rails import Rail
-from ..rehearsal import first_not_reached
-from ..stairs import WHY, StairsStep
-from ..step_run import StepCourse, StepRun
-from ..survey import TRIES, Commanded, Nobody, commanded, complete, only_word, read, survey
+from ..rehearsal import first_not_reached, unprotected
+from ..sequence import WHY, Heard, Rules, Said, SequenceStep
+from ..step_run import StepRun, look_at
+from ..survey import TRIES, Commanded, commanded, only_word, read, survey
+from ..transfers import Transfers
 from ..zeros import NotBelieved
 from .about import described
 from .again import RESTARTED
@@ -92,19 +94,20 @@ class Row:
 
 @dataclass
 class RailTest:
-    """The test of one rail, the part of which ignores faults at the margins, or acts on them. `looks` are those at all rails of the board."""
+    """The test of one rail, the part of which ignores faults at the margins, or acts on them. `how` all rails of the board are looked at, and
+    `befores` has STATUS_WORD of each before the first order."""
 
     call: Call
     board: Board
     rail: Rail
-    looks: dict[str, Look]
+    how: Looks
+    befores: dict[str, Heard]
     rows: list[Row]
     ignores_faults: bool
     is_back: bool = False
-    look: Look = field(init=False)
 
     def __post_init__(self) -> None:
-        self.part, self.look = self.board.on(self.rail), self.looks[self.rail.name]
+        self.part = self.board.on(self.rail)
 
     # ---- Before any order ----
 
@@ -115,7 +118,7 @@ class RailTest:
             raise self.stopped(why_not(found))
         if found.is_on is False:
             raise Stopped(f"{name}: the output is off, and a margin would turn it on: order `on` first")
-        for point in POINTS:
+        for point in POINTS[:-1]:
             self.plan(point)
         refused = first_not_reached(self.part, self.rail.output, map(self.byte_at, POINTS), self.call.protection.is_in_the_way(self.rail.part))
         if refused is not None:
@@ -128,29 +131,33 @@ class RailTest:
         """The byte of OPERATION by which the rail is at a point."""
         return margin_byte(point, self.ignores_faults) if point in MARGINS else ON
 
+    def step_to(self, point: str) -> SequenceStep:
+        """The step by which the rail is at a point."""
+        before = self.befores.get(self.rail.name, Heard())
+        return replace(SequenceStep.turns(0, self.rail.output, self.byte_at(point), self.how), before=before)
+
     def plan(self, point: str) -> None:
-        """Goes up to the order by which the rail is at a point. Stopped if that would be refused."""
-        output, byte = self.rail.output, self.byte_at(point)
-        course = Course.margin(output, point, TRIES, self.ignores_faults) if point in MARGINS else Course.power(output, byte, TRIES)
+        """Goes up to the order by which the rail is at a point. Stopped if that would be refused, but for WRITE_PROTECT of the file: it is
+        judged then as if that were 00."""
+        end = self.planned(point, self.part)
+        if end.kind == "refused" and refusal(end.number).letter == "P7" and self.call.protection.is_in_the_way(self.rail.part):
+            read(self.part, self.rail.output, selected_by(self.byte_at(point)) or "")
+            end = self.planned(point, unprotected(self.part))
+        if end.kind not in ("order", "reached", "fails"):
+            raise self.ended(point, end)
 
-        def before(_: Job) -> None:
-            raise Due
-
-        with contextlib.suppress(Due), self.stopping():
-            complete(self.part, course, before)
-        end = course.ended
-        if end is not None and end.kind == "refused" and refusal(end.number).letter == "P7" and self.call.protection.is_in_the_way(self.rail.part):
-            # The way is lifted before the first order, and what the byte selects wasn't read.
-            read(self.part, output, selected_by(byte) or "")
-        elif end is not None and end.kind != "reached":
-            raise self.stopped(self.why_ended(byte, end))
-        elif end is not None:
-            return
+    def planned(self, point: str, part: Device) -> Said:
+        """How far the way to a point goes without an order."""
+        run = StepRun(part, self.step_to(point), TRIES, lambda _: False)
         with self.stopping():
-            if self.look.has_looked_before:
-                self.look.judge(course)
-            else:
-                self.look.before(course, Job("order", OPERATION, byte))
+            end = self.carried_out(run)
+        self.befores.setdefault(self.rail.name, run.before)
+        return end
+
+    def carried_out(self, run: StepRun) -> Said:
+        """To its end, or up to an order that isn't to begin."""
+        run.part.transfers = Transfers()
+        return run.carry_out(ask=self.call.places()[self.rail.part].ask_operation)
 
     # ---- Orders ----
 
@@ -160,51 +167,61 @@ class RailTest:
         protection.touch(part)
         protection.lift(part)
         self.call.back.note(Held(self.rail.name, part, self.rail.output, {OPERATION: ON}))
-        way = [self.byte_at(point) for point in POINTS[:-1]]
-        run = StepRun([(self.part, StairsStep.turns(0, self.rail.output, byte)) for byte in way], TRIES)
-        for place, (point, byte) in enumerate(zip(POINTS, way)):
-            self.turn(point, byte, functools.partial(run.carry_out, place))
-            self.measure(point, byte)
+        for point in POINTS[:-1]:
+            self.measure(point, self.turn(point))
         for held, why in self.call.back.go():
             self.is_back = not why
             if why:
                 raise Stopped(words_of(held, why))
-        self.measure(POINTS[-1], ON)
+        self.measure(POINTS[-1], look_at(self.part, self.rail.output, self.how, self.befores.get(self.rail.name, Heard())))
 
-    def turn(self, point: str, byte: int, carry_out: Callable[..., None]) -> None:
-        """Orders a byte, a step of stairs. Stopped if that isn't confirmed."""
-        course, call = StepCourse.power(self.rail.output, byte, TRIES), self.call
-
+    def turn(self, point: str) -> Delivered:
+        """Brings the rail to a point, and looks at it. Stopped if its byte isn't confirmed."""
         def before(_: Job) -> None:
-            call.maybe = f"{self.rail.name} may be on a margin"
+            self.call.maybe = f"{self.rail.name} may be on a margin"
 
+        run = StepRun(self.part, self.step_to(point), TRIES, before, Rules(ends_at_restart=True))
         with self.stopping():
-            carry_out(self.part, course, before, lambda *_: None, call.places()[self.rail.part].ask_operation)
-        end = course.ended or CourseEnd("")
-        why = f"{self.rail.name}: at {point}: {self.why_ended(byte, end)}"
-        if end.kind == "restarted":
-            raise Restarted(why)
-        if end.kind != "reached":
-            raise Stopped(why)
+            end = self.carried_out(run)
+        if run.delivered is None:
+            raise self.ended(point, end, f"at {point}: ")
+        return run.delivered
 
-    def measure(self, point: str, byte: int) -> None:
-        """Looks at the rail and at all others, which stay as they are. Restarted, or Stopped if one doesn't do what it is to."""
-        found = self.look.after()
-        others = [(rail, self.looks[rail.name].after(not rail.is_on)) for rail in self.board.rails if rail is not self.rail]
-        silent = self.read_again(point, byte)
+    def ended(self, point: str, end: Said, at: str = "") -> Stopped:
+        """Why the rail isn't at a point."""
+        if end.kind == "nobody":
+            return self.stopped(f"no good answer: {end.fault}")
+        if end.kind == "beyond":
+            fault = beyond_of(end, self.step_to(point), self.part.host)
+            return self.stopped(f"{fault.said}: {fault.letter} {fault.name}")
+        why = f"{self.rail.name}: {at}{self.why_ended(self.byte_at(point), end.course)}"
+        return Restarted(why) if end.kind == "restarted" else Stopped(why)
+
+    def measure(self, point: str, found: Delivered) -> None:
+        """Looks at all others, which stay as they are. Restarted, or Stopped if one of all doesn't do what it is to."""
+        others = [(rail, self.why_other(rail)) for rail in self.board.rails if rail is not self.rail]
+        silent = self.read_again(point, self.byte_at(point))
         self.rows.append(Row(self.rail, point, commanded(self.part, self.rail.output), found))
         state = self.rows[-1].state
         if found.is_bad:
             raise self.stopped(f"at {point}: {found.why_told}")
-        for rail, other in others:
-            if other.is_bad:
+        for rail, why in others:
+            if why:
                 # (its part may have restarted: that is said then)
                 self.board.look_at(rail)
-                raise Stopped(f"{self.rail.name}: at {point}: {rail.name}: {other.why_told}")
+                raise Stopped(f"{self.rail.name}: at {point}: {rail.name}: {why}")
         if silent:
             raise self.stopped(f"at {point}: {silent}")
         if state.limits_state != "within" or state.value is None or not state.is_value(state.value):
             raise self.stopped(f"at {point}: it isn't known to command its voltage{limit_words(state)}")
+
+    def why_other(self, rail: Rail) -> str:
+        """Why another rail doesn't do what it is to, nothing if it does."""
+        part = self.board.on(rail)
+        if not rail.is_on:
+            return why_not_off(part, rail.output)
+        found = look_at(part, rail.output, self.how, self.befores.get(rail.name, Heard()))
+        return found.why_told if found.is_bad else ""
 
     def read_again(self, point: str, byte: int) -> str:
         """Reads OPERATION and the register that it selects after a look: a restart before that may pass for a margin that is near. Why one
@@ -220,17 +237,15 @@ class RailTest:
         held = only_word(self.part, self.rail.output, OPERATION)
         return "" if held == byte else f"{OPERATION} isn't {byte:02X} any more"
 
-    # ---- Courses ----
+    # ---- What is said ----
 
     @contextlib.contextmanager
     def stopping(self) -> Iterator[None]:
-        """Within it Stopped is raised if nobody answers, a voltage is at or beyond a fault limit, or a margin may trip the rail."""
+        """Within it Stopped is raised if zeros aren't believed, or a margin may trip the rail."""
         try:
             yield
-        except (Nobody, NotBelieved) as silent:
+        except NotBelieved as silent:
             raise self.stopped(f"no good answer: {silent}") from None
-        except PlanRefused as fault:
-            raise self.stopped(f"{fault.said}: {fault.letter} {fault.name}") from None
         except MarginRefused as near:
             raise self.stopped(f"{near.said}: {near.do(IGNORE)}") from None
 
@@ -248,6 +263,16 @@ class RailTest:
 
     def stopped(self, why: str) -> Stopped:
         return Stopped(f"{self.rail.name}: {why}")
+
+
+def why_not_off(part: Device, output: int) -> str:
+    """Why a rail that is to be off isn't known to be, by STATUS_WORD; nothing if it is, or the part lacks that."""
+    if "STATUS_WORD" in part.lacks:
+        return ""
+    found = readings.read(part.bus, part.host.address, output, "STATUS_WORD", None)
+    if found.word is None:
+        return f"whether the rail is off isn't known: STATUS_WORD: {found.why or 'no good answer'}"
+    return "" if "OFF" in found.bits else "the part says that it is on: `why` says more"
 
 
 def judge_board(board: Board) -> None:
@@ -275,13 +300,10 @@ def margin_test(arguments: argparse.Namespace) -> int:
     why, status = "", 0
     try:
         judge_board(board)
-        looks = {rail.name: Look(board.on(rail), rail.output, call.looks or Looks()) for rail in file.rails}
-        tests = [RailTest(call, board, rail, looks, rows, arguments.ignore_faults) for rail in arguments.chosen]
+        befores = {name: Heard(1, found.status) for name, found in board.delivered.items() if found.status is not None}
+        tests = [RailTest(call, board, rail, call.looks or Looks(), befores, rows, arguments.ignore_faults) for rail in arguments.chosen]
         for each in tests:
             each.judge()
-        for look in looks.values():
-            if not look.has_looked_before:
-                look.read_before()
         for each in tests:
             begun.append(each)
             each.run()

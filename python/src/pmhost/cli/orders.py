@@ -336,7 +336,7 @@ def run_step(arguments: argparse.Namespace, register: str, step: SequenceStep, t
     if step.turns_off:
         protection.read(call.part_name)
         protection.lift(call.part_name)
-    run: StepRun = getattr(arguments, "step_run", StepRun)(part, replace(step, looks=call.looks).lacking(part.lacks), tries)
+    run: StepRun = getattr(arguments, "step_run", StepRun)(part, replace(step, looks=call.looks), tries)
     arguments.begun = run
     if not is_guarded:
         run.guarded = None

@@ -10,7 +10,7 @@ from ..delivered import Delivered, beyond_of
 from ..device import FORMAT_UNKNOWN, Device
 from ..errors import SAYINGS, PlanRefused, Refused, refusal
 from ..operation import avsbus, ignores_faults
-from ..rail_course import OUTSIDE
+from ..rail_run import OUTSIDE
 from ..sequence import WHY
 from ..states import Step
 from ..step_run import StepRun

@@ -7,7 +7,7 @@ from typing import Any
 from .. import rails, voltages
 from ..apply import AS_WANTED, Board
 from ..parts import BadRails
-from ..rail_course import Restarted, Setting, Stopped
+from ..rail_run import Restarted, Setting, Stopped
 from ..rails import Rail
 from ..stores import too_hot
 from . import way

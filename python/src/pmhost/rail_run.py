@@ -1,15 +1,20 @@
-"""A rail's course under `apply`: it goes up to its first order, or on to its end, and its settings hear what becomes of them."""
+"""A rail's step under `apply`: it goes up to its first order, or on to its end, and its settings hear what becomes of them."""
 from __future__ import annotations
 
-from dataclasses import dataclass
+from dataclasses import dataclass, replace
 from typing import TYPE_CHECKING
 
-from .course import Course, Job
-from .errors import PlanRefused
+from .course import Job
+from .delivered import beyond_of
+from .device import FORMAT_UNKNOWN
+from .errors import SAYINGS, PlanRefused, Refused, refusal
 from .rails import SETTINGS, Rail
-from .rounded import Taken, near_word
+from .rounded import near_word
+from .sequence import Said, SequenceStep
 from .states import Step
-from .survey import FORMAT, TRIES, Nobody, behind, commanded, complete, only_word
+from .step_run import StepRun, look_at
+from .survey import FORMAT, TRIES, behind, commanded, only_word
+from .transfers import Transfers
 from .voltages import of_microvolts
 from .zeros import NotBelieved
 
@@ -17,7 +22,7 @@ if TYPE_CHECKING:
     from .apply import Board
 
 PROTECT = "WRITE_PROTECT"
-# How often a course begins anew since held words were taken.
+# How often a step begins anew since held words were taken.
 ROUNDS = 3 * len(SETTINGS)
 OUTSIDE = "the output commands a voltage outside its limits"
 
@@ -32,14 +37,6 @@ class Stopped(Exception):
 
 class Restarted(Stopped):
     """A part restarted meanwhile, which is all that went wrong: the same call again may end well."""
-
-
-class Due(Exception):
-    """An order is due, and none is to be sent yet."""
-
-
-class Unjudged(Exception):
-    """An order is due, and whether held words are near enough wasn't looked at: the host has no job open then."""
 
 
 @dataclass(eq=False)
@@ -63,72 +60,78 @@ class Setting:
         return f"{self.rail.name}.{self.key}"
 
 
-class RailCourse:
-    """A rail's course from its start. What stops it is raised as Stopped."""
+class RailRun:
+    """The step of a rail, to the words that are wanted of it. What stops it is raised as Stopped."""
 
     def __init__(self, board: Board, rail: Rail) -> None:
         self.board, self.rail, self.part = board, rail, board.on(rail)
-        self.course, self.may_order, self.is_judged = self.begun(), False, self.accept is None
+        self.may_order, self.is_judged = False, self.accept is None
+        self.run = StepRun(self.part, replace(SequenceStep.sets(0, rail.output, board.wanted(rail), board.looks), before=board.before(rail)), TRIES,
+                           self.before)
+        self.end: Said | None = None
 
     @property
     def accept(self) -> int | None:
         """How near a held word has to be, None if only the very word will do."""
         return self.board.accept if self.rail.accept is None else self.rail.accept
 
-    def begun(self) -> Course:
-        """A course to the words that are wanted now."""
-        return Course.words(self.rail.output, self.board.wanted(self.rail), TRIES)
+    @property
+    def is_due(self) -> bool:
+        """Whether it stands before an order."""
+        return self.end is not None and not self.end.is_end
+
+    @property
+    def refusal(self) -> Refused | None:
+        """What it was refused for, if it was."""
+        return refusal(self.end.number, self.end.register) if self.end is not None and self.end.kind == "refused" else None
 
     def go(self, may_order: bool) -> None:
         """Goes on, to its end or, if nothing may be ordered, up to its first order. Stops if a register gives no good answer, or a
-        restart was seen, or the course ended otherwise. What it refuses is said by the board, since one that orders nothing reads on."""
+        restart was seen, or it ended otherwise. What it refuses is said by the board, since one that orders nothing reads on."""
         self.may_order = may_order
         board, rail = self.board, self.rail
+        self.part.transfers = Transfers()
         try:
-            for _ in range(ROUNDS):
-                try:
-                    complete(self.part, self.course, self.before, self.after)
-                    if not self.takes():
-                        break
-                except Unjudged:
-                    self.is_judged = True
-                    if not self.takes():
-                        continue
-                except Taken:
-                    pass
-                self.course, self.is_judged = self.begun(), False
-        except Due:
-            pass
-        except Nobody as nobody:
-            raise self.unheard("VOUT_MODE", str(nobody)) from None
+            end = self.carried_out()
         except NotBelieved as doubt:
             self.part.restart()
             raise self.unheard(PROTECT, str(doubt)) from None
-        board.surveys[rail.name], board.read_at[rail.name] = behind(self.part, self.course), board.orders
+        if end.kind == "nobody":
+            raise self.unheard("VOUT_MODE", end.fault)
+        self.end = end
+        board.keep(rail, self.run)
+        board.surveys[rail.name], board.read_at[rail.name] = behind(self.part, rail.output, end), board.orders
+        if end.kind in ("beyond", "unjudged"):
+            raise self.beyond(end)
         board.seen(rail, None, None)
         board.look(rail)
         self.judge()
 
-    def before(self, order: Job) -> None:
-        """An order is due. Before the first one the rail is looked at: a goal at or beyond a fault limit stops it."""
-        if not self.is_judged:
-            raise Unjudged
-        look = self.board.look_of(self.rail) if self.board.may_write else None
-        if look is not None:
-            try:
-                look.before(self.course, order)
-            except PlanRefused as fault:
-                self.board.surveys[self.rail.name] = behind(self.part, self.course)
-                raise Stopped(f"{self.rail.name}: {fault.said}: {fault.letter} {fault.name}") from None
-        if not self.may_order:
-            raise Due
+    def carried_out(self) -> Said:
+        """To its end, or to an order that isn't to begin yet. Held words that are near enough are taken before the first order, and after each
+        that differs."""
+        for _ in range(ROUNDS):
+            end = self.run.carry_out(self.after, lambda: self.part.transfers.why())
+            was_judged, self.is_judged = self.is_judged, True
+            if self.accept is not None and (end.kind == "stopped" or (end.is_end or not was_judged) and self.takes()):
+                self.run.want(self.board.wanted(self.rail))
+                self.is_judged = False
+            elif end.is_end or was_judged or not self.may_order:
+                break
+        return end
+
+    def before(self, order: Job) -> bool:
+        """An order is due: whether it may begin."""
+        if not self.is_judged or not self.may_order:
+            return False
         self.board.look(self.rail)
         it = self.board.setting(self.rail, order.register)
         self.board.before_order(it)
         it.is_ordered, self.board.orders = True, self.board.orders + 1
+        return True
 
-    def after(self, order: Job, step: Step) -> None:
-        """An order has ended."""
+    def after(self, order: Job, step: Step) -> bool:
+        """An order has ended: whether the run goes on."""
         board, rail = self.board, self.rail
         it = board.setting(rail, order.register)
         held = self.near(it) if step.kind == "differs" else None
@@ -138,15 +141,16 @@ class RailCourse:
         if held is not None:
             # What wasn't possible before looks like a restart.
             board.had_restarted.add(rail.part)
-            raise Taken
+            return False
         if step.word is not None and board.has_restarted(rail):
             raise self.stopped(self.unconfirmed(it, step.word, "it restarted, or rounds: --accept takes a word that is near"))
+        return True
 
     def near(self, it: Setting) -> int | None:
         """The word that a setting's register holds, if it is near enough to what the file has."""
         if self.accept is None:
             return None
-        return near_word(self.part, self.rail.output, it.register, of_microvolts(self.rail.settings[it.key]), self.accept)
+        return near_word(self.part.host, self.rail.output, it.register, of_microvolts(self.rail.settings[it.key]), self.accept)
 
     def takes(self) -> bool:
         """Held words that are near enough are wanted in the place of those of the file, and no others: whether that changed anything."""
@@ -158,18 +162,25 @@ class RailCourse:
         return self.board.wanted(self.rail) != was
 
     def deliver(self) -> str:
-        """Looks at what the rail does: why it doesn't deliver, nothing if it does."""
-        look = self.board.look_of(self.rail)
-        if look is None:
+        """Looks at what the rail does, unless that was done since the last order: why it doesn't deliver, nothing if it does."""
+        board, rail = self.board, self.rail
+        if board.looks is None:
             return ""
-        found = self.board.delivered[self.rail.name] = look.after()
-        self.board.looked_at[self.rail.name] = self.board.orders
-        is_outside = found.verdict.kind == "outside" and self.board.state(self.rail).limits_state == "outside"
-        return f"{self.rail.name}: {OUTSIDE if is_outside else found.why_told}" if found.is_bad else ""
+        if board.looked_at.get(rail.name) != board.orders:
+            board.see(rail, look_at(self.part, rail.output, board.looks, board.before(rail)))
+        found = board.delivered[rail.name]
+        is_outside = found.verdict.kind == "outside" and board.state(rail).limits_state == "outside"
+        return f"{rail.name}: {OUTSIDE if is_outside else found.why_told}" if found.is_bad else ""
+
+    def beyond(self, end: Said) -> Stopped:
+        """Its goal is at or beyond a fault limit, or can't be judged."""
+        fault = beyond_of(end, self.run.step, self.part.host) if end.kind == "beyond" else refusal(FORMAT_UNKNOWN)
+        said = fault.said if isinstance(fault, PlanRefused) else SAYINGS[fault.letter]
+        return Stopped(f"{self.rail.name}: {said}: {fault.letter} {fault.name}")
 
     def judge(self) -> None:
         """Stops if it has ended, and neither as it is wanted nor refused."""
-        board, rail, found, end = self.board, self.rail, self.board.surveys[self.rail.name], self.course.ended
+        board, rail, found, end = self.board, self.rail, self.board.surveys[self.rail.name], self.end
         for register, why in found.missing.items():
             it = next((each for each in board.of(rail) if each.register == register and each.is_ordered), None)
             held = None if it is None else only_word(self.part, rail.output, register)
@@ -177,7 +188,7 @@ class RailCourse:
             raise self.stopped(f"{rail.name}: its format isn't known: {why}" if register == FORMAT else words)
         if found.unended:
             raise self.stopped(f"{rail.name}: {found.unended}")
-        if end is not None and end.register is not None and end.word is not None:
+        if end is not None and end.kind == "differs" and end.register is not None:
             raise self.stopped(self.unconfirmed(board.setting(rail, end.register), end.word, self.part.transfers.why()))
 
     def unheard(self, register: str, why: str) -> Stopped:
