@@ -5,9 +5,9 @@ import os
 import re
 import unittest
 
-from pmhost import Course, Device, Looks, NotDelivered, PlanRefused, Refused
-from pmhost.delivery import VERDICTS
+from pmhost import Device, Looks, NotDelivered, PlanRefused, Refused, SequenceStep
 from pmhost.errors import Differs, NotDone, Spent
+from pmhost.sequence import VERDICTS
 from pmhost.values import NAMES
 
 from .field import ADDRESS, Field, FieldBus
@@ -69,15 +69,15 @@ def rows():
     return [Row(block) for block in re.split(r"\n{2,}", re.sub(r"(?m)^#.*\n", "", stored(ROWS)).strip())]
 
 
-def course_of(kind, output, *words):
-    """The course of a call."""
+def step_of(kind, output, *words):
+    """The step of a call."""
     if kind == "survey":
-        return Course.survey(int(output))
+        return SequenceStep.surveys(0, int(output))
     if kind == "set":
-        return Course.voltage(int(output), f"{words[0]}uV", NAMES[int(words[1], 16)] if words[1:] else "VOUT_COMMAND")
+        return SequenceStep.sets(0, int(output), {NAMES[int(words[1], 16)] if words[1:] else "VOUT_COMMAND": f"{words[0]}uV"})
     if kind == "word":
-        return Course.words(int(output), {NAMES[int(words[0], 16)]: int(words[1], 16)})
-    return Course.power(int(output), int(words[0], 16))
+        return SequenceStep.sets(0, int(output), {NAMES[int(words[0], 16)]: int(words[1], 16)})
+    return SequenceStep.turns(0, int(output), int(words[0], 16))
 
 
 def digits(register, word):
@@ -85,7 +85,7 @@ def digits(register, word):
 
 
 def ended_of(fault):
-    """A course's end that isn't reached, as a row has it."""
+    """A step's end that isn't reached, as a row has it."""
     if isinstance(fault, Refused):
         return f"refused {fault.letter} {fault.register}"
     if isinstance(fault, Differs):
@@ -100,10 +100,10 @@ def ended_of(fault):
 class ByADevice(unittest.TestCase):
     """Each call is one of a Device."""
 
-    def ended(self, device, course):
+    def ended(self, device, step):
         """What it is, its end, what it says, and the status."""
         try:
-            device.complete(course)
+            device.deliver(step, is_guarded=False)
         except NotDelivered as fault:
             return VERDICT_WORDS[fault.kind], "reached", fault.delivered.said, "1"
         except PlanRefused as fault:
@@ -129,8 +129,7 @@ class ByADevice(unittest.TestCase):
             if not is_well:
                 continue
             kind, output, *words = wanted["call"].split()
-            course = course_of(kind, output, *words)
-            found, end, says, status = self.ended(device, course)
+            found, end, says, status = self.ended(device, step_of(kind, output, *words))
             self.assertEqual((f"{found} {part.volts(int(output))}", status), (wanted["is"], wanted["status"]), says)
             self.assertEqual(end[:len(wanted.get("end", "reached"))], wanted.get("end", "reached"))
             if says is not None:

@@ -7,17 +7,17 @@ from decimal import Decimal
 from types import SimpleNamespace
 from unittest import mock
 
-from pmhost import Course, Device, Format, ModelPart, ModelPartBus, Output, clock, delivery, stores, why
+from pmhost import Course, Device, Format, ModelPart, ModelPartBus, Output, clock, stores, why
+from pmhost._library import HeardImage, SaidImage
 from pmhost.cuts import Cut, cuts
-from pmhost.delivery import Heard, Verdict
-from pmhost.look import Delivered, Looks, has_room
-from pmhost.errors import refusal
+from pmhost.delivered import Delivered, has_room, why_not_before
+from pmhost.looks import Looks
 from pmhost.operation import avsbus, ignores_faults, margin_byte, selected_by
 from pmhost.parts import BadRails
 from pmhost.readings import Reading
 from pmhost.rehearsal import first_not_reached, is_reached, modelled
-from pmhost.rounded import Accepting
 from pmhost.rail_order import place_of
+from pmhost.sequence import KINDS, VERDICTS, Heard, Verdict, said_of
 from pmhost.states import Step
 from pmhost.transfers import Transfers
 from pmhost.zeros import Believing, NotBelieved
@@ -207,11 +207,11 @@ class Whys(unittest.TestCase):
         def read(bus, address, output, name, form):
             asked.append((output, name))
             return Reading(name, 1, bits=["VOUT", "CML", "INPUT"] if name == "STATUS_WORD" else [])
-        with mock.patch.multiple(why, read=read, survey=lambda *_: learned, commanded=lambda *_: learned):
+        with mock.patch.multiple(why, read=read, looked_at=lambda *_: (learned, None), commanded=lambda *_: learned):
             self.assertIs(why.findings(part, 1).state, learned)
         told = [*asked, asked.clear()][:-1]
         part.lacks = {"STATUS_WORD", "READ_VOUT"}
-        with mock.patch.multiple(why, read=read, survey=lambda *_: learned, commanded=lambda *_: learned):
+        with mock.patch.multiple(why, read=read, looked_at=lambda *_: (learned, None), commanded=lambda *_: learned):
             why.findings(part, 1)
         self.assertEqual([name for _, name in asked], ["ON_OFF_CONFIG", "READ_VIN", "VOUT_OV_FAULT_LIMIT", "VOUT_UV_FAULT_LIMIT", "POWER_GOOD_ON",
                                                        "WRITE_PROTECT"])
@@ -234,7 +234,7 @@ class NewFaults(unittest.TestCase):
         for register, status, bit, name in (("STATUS_VOUT", 0x8000, 4, "VOUT_UV_FAULT"), ("STATUS_IOUT", 0x4000, 7, "IOUT_OC_FAULT"),
                                             ("STATUS_INPUT", 0x2000, 4, "VIN_UV_FAULT"), ("STATUS_TEMPERATURE", 0x0004, 7, "OT_FAULT"),
                                             ("STATUS_WORD", 0x0020, 5, "VOUT_OV_FAULT")):
-            found = Delivered(0, Verdict("fault", register, bit), Looks(), status=status)
+            found = Delivered(0, Verdict("fault", register, bit), True, Looks(), status=status)
             with self.subTest(register=register):
                 self.assertEqual((found.said.rpartition(": ")[2], found.why, found.why_told),
                                  (*[f"{name} came with this call"] * 2, f"{name} came with this call: `why` says more"))
@@ -248,43 +248,32 @@ class Places(unittest.TestCase):
                 place_of("rails.io", {"after": ["core"], "wait": wait})
 
 
-class Roundings(unittest.TestCase):
-    def test_a_word_is_taken_of_an_order_that_differs_and_once(self):
-        asked, order = [], SimpleNamespace(register="VOUT_MAX")
-        course = SimpleNamespace(accept=lambda _, microvolts: asked.append(microvolts.microvolts))
-        part = SimpleNamespace(host=None)
-        for accept, kind, word in ((None, "differs", 5), (1000, "done", 5), (1000, "unknown", None), (1000, "differs", None)):
-            found = Accepting(part, course, accept)
-            self.assertEqual((found.after(order, Step(kind, word)), found.taken, asked), (False, {}, []))
-        found = Accepting(part, course, 1000)
-        self.assertEqual((found.after(order, Step("differs", 5)), found.taken, asked), (True, {"VOUT_MAX": 5}, [1000]))
-        self.assertEqual((found.after(order, Step("differs", 6)), found.taken, asked), (False, {"VOUT_MAX": 5}, [1000]))
-
-        def refuse(*_):
-            raise refusal(0x51)
-        course.accept = refuse
-        found = Accepting(part, course, 1000)
-        self.assertEqual((found.after(order, Step("differs", 5)), found.taken), (False, {}))
-
-
 class Deliveries(unittest.TestCase):
     def test_what_came_of_a_question(self):
-        found = delivery.Delivery(0)
-        for asked, fault, said in ((0, 0, Heard(0, None)), (1, 0, Heard(1, 0x40)), (2, 0x35, Heard(2, None, "F5 WrongPec")),
-                                   (3, delivery.NO_ANSWER, Heard(3, None, "no answer", True))):
-            question = found._image.status_word
-            question.asked, question.fault, question.word = asked, fault, 0x40
-            self.assertEqual(found.heard("status_word"), said)
+        for asked, fault, said, words in ((0, 0, Heard(), ""), (1, 0, Heard(1, 0x40), ""), (2, 0x35, Heard(2, None, 0x35), "F5 WrongPec"),
+                                          (3, 1, Heard(3, None, 1), "no answer")):
+            found = Heard.of(HeardImage(asked, fault, 0x40 if asked and not fault else 0))
+            self.assertEqual((found, found.fault, Heard.of(found.image())), (said, words, said))
 
-    def test_each_field_of_a_verdict(self):
-        def verdict(*given):
-            for name, value in (("kind", 5), ("code", 0x7A), ("bit", 6), ("fault", 0x35), ("has_microvolts", 1), ("microvolts", -7)):
-                setattr(given[-1]._obj, name, value)
-            return 0
-        found = delivery.Delivery(0)
-        with mock.patch.object(delivery, "library", SimpleNamespace(pm_delivery_verdict=verdict)):
-            said = found.verdict(SimpleNamespace(reference=None))
-        self.assertEqual(said, delivery.Verdict("fault", "STATUS_VOUT", 6, "F5 WrongPec", -7))
+    def test_each_field_of_what_is_said(self):
+        image = SaidImage(kind=14, verdict=5, code=0x7A, bit=6, fault=0x35, has_microvolts=1, microvolts=-7, step=3)
+        found = said_of(image, True)
+        self.assertEqual((found.kind, found.step, found.is_end, found.register, found.verdict), (
+            "fails", 3, True, "STATUS_VOUT", Verdict("fault", "STATUS_VOUT", 6, "F5 WrongPec", -7)))
+        self.assertEqual([said_of(SaidImage(kind=kind, word=5), False).word is None for kind, name in enumerate(KINDS) if name],
+                         [name not in ("differs", "format", "source", "order", "beyond", "left") for name in KINDS if name])
+        self.assertEqual((found.course.kind, said_of(SaidImage(kind=13), False).course.kind, said_of(SaidImage(kind=3), True).course.kind),
+                         ("reached", "reached", "differs"))
+
+    def test_why_a_rail_that_has_to_deliver_does_not(self):
+        for verdict, lacks, said in ((Verdict("commanded off"), frozenset(), "core has to deliver first: commanded off"),
+                                     (Verdict("not known to be on"), frozenset(), "core has to deliver first: not known to be on"),
+                                     (Verdict("outside", "READ_VOUT", microvolts=0), frozenset(), "core has to deliver first: READ_VOUT is outside the limits"),
+                                     (Verdict("not known", "STATUS_WORD"), frozenset(("STATUS_WORD", "READ_VOUT")),
+                                      "core has to deliver first, which isn't known: the part lacks STATUS_WORD and READ_VOUT")):
+            found = Delivered(0, verdict, True, Looks(), limits=(1, 2), lacks=lacks)
+            self.assertEqual(why_not_before("core", found)[:len(said)], said)
+        self.assertLessEqual({"commanded off", "not known to be on", "went off"}, {*VERDICTS})
 
 
 class Steps(unittest.TestCase):

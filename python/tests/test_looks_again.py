@@ -9,10 +9,11 @@ from unittest import mock
 from pmhost.cli import readings, why
 from pmhost.cli.again import RESTARTED, Ordered, are_several
 from pmhost.cli.answer import Answer, between, in_digits, number
-from pmhost.delivery import Verdict
-from pmhost.look import Delivered, Looks
+from pmhost.delivered import Delivered
+from pmhost.looks import Looks
 from pmhost.readings import Reading
 from pmhost.reads import Read
+from pmhost.sequence import Verdict
 from pmhost.states import Known
 from pmhost.survey import Commanded
 from pmhost.why import Findings, Place
@@ -83,7 +84,7 @@ class Answers(unittest.TestCase):
         commanded = Commanded("VOUT_COMMAND", 1, True, 1_000_000, 1_000_001, (900_000, 1_100_000), "within", {"VOUT_MAX": "", "VOUT_MIN": ""},
                               ignores_faults=False)
         answer = Answer("set 0 1V", "restarted", status=3, output=0, register="OPERATION", word=0x80, microvolts=1_000_000, possible=(0x80, 0), why="so",
-                        commanded=commanded, delivered=Delivered(0, Verdict("off", microvolts=5), Looks(), status=0x40), restart_seen=True, refusal="L3 BelowLimit")
+                        commanded=commanded, delivered=Delivered(0, Verdict("off", microvolts=5), True, Looks(), status=0x40), restart_seen=True, refusal="L3 BelowLimit")
         found = json.loads(answer.as_json({"part": "u1"}))
         del found["time"]
         self.assertEqual(found, {

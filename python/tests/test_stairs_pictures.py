@@ -119,7 +119,7 @@ class Pictures(unittest.TestCase):
         self.assertEqual((status, heads[0]), (1, "on board.toml: stopped"))
         self.assertIn(("not as wanted: core", drawing.FAULT), [(it.words, it.colour) for it in drawn.texts])
         self.assertEqual((rows["core"].volts, rows["core"].measured, rows["core"].circles), ([0, 1], ["0 V"], [0]))
-        self.assertEqual((rows["io"].labels, rows["io"].volts, rows["io"].measured), ([NOT_KNOWN, OFF], [0], []))
+        self.assertEqual((rows["io"].labels, rows["io"].volts, rows["io"].measured), ([NOT_KNOWN], [], []))
 
     def test_what_is_measured_far_above_has_its_label_beside_its_circle(self):
         """2 V, whose label reaches down to that of the line."""

@@ -213,16 +213,19 @@ class Device:
 
     @alone
     def deliver(self, step: SequenceStep, tries: int = TRIES, before_order: Callable[[Job], None] | None = None,
-                after_order: Callable[[Job, Step], None] | None = None, job: str = "", accept: GivenVoltage | None = None) -> RailState:
+                after_order: Callable[[Job, Step], None] | None = None, job: str = "", accept: GivenVoltage | None = None,
+                is_guarded: bool = True) -> RailState:
         """Carries one step of an output out, as a list of its own, looks at its rail, and says what the output commands then. `looks` of the
         device say how, where the step doesn't. `before_order` hears of each order before its first frame: if it raises, the order hasn't begun.
         `after_order` hears how it ended.
 
         Raises how it ended, after the words of a job, if it has not reached what is wanted: a Refused, Differs, NoFormat, OtherSource or
-        Spent; and NotDelivered. If an order differs and the held word is `accept` near, and within the limits, that is wanted instead."""
+        Spent; and NotDelivered. If an order differs and the held word is `accept` near, and within the limits, that is wanted instead. A
+        margin at which the part acts on faults is judged by its own fault limit, as `margin` says, if it `is_guarded`."""
         self.transfers, self.delivered = Transfers(), None
-        step = replace(step, host=0, looks=step.looks or self.looks).lacking(self.lacks)
+        step = replace(step, host=0, looks=step.looks or self.looks)
         run = StepRun(self, step, tries, before_order)
+        run.guarded = run.guarded if is_guarded else None
         end = run.carry_out(after_order, None, None if accept is None else given_microvolts(accept, "accept"))
         self.delivered = run.delivered
         if not end.is_well:

@@ -259,8 +259,6 @@ class Sequence:
         self._image, count = at.SequenceImage(), len(self.steps)
         self._steps = (at.SequenceStepImage * max(count, 1))(*(step.image() for step in self.steps))
         self._records = (at.SequenceRecordImage * max(count, 1))()
-        # How many steps had begun as a first job of one ended last.
-        self._heard = 0
         library.pm_sequence_new(REFERENCE(self._image), whole(tries, 0, 0xFFFF, "tries"), rules.number)
 
     @property
@@ -324,10 +322,11 @@ class Sequence:
         it goes on.
 
         `told` hears all that is said meanwhile, a wait before it begins: if it answers False the loop ends there. `after_order` hears how each
-        order ended: if it answers False the loop ends by a Said of the kind `stopped`. `transfers` has those of the last job. `ask` is asked why nobody answers, if the first job of a step had no answer at all and
-        nothing was written; with an answer it ends the loop by a Said of the kind `nobody`, whose fault that is, and without one the list goes
-        on. Whatever is raised meanwhile goes on to the caller, with the job that was under way ended as unknown."""
-        kept, order, is_open = Transfers() if transfers is None else transfers, None, False
+        order ended: if it answers False the loop ends, too, by a Said of the kind `stopped`. `transfers` has those of the last job. `ask` is
+        asked once why nobody answers, if the first job had no answer at all and nothing was written; with an answer it ends the loop by a Said of
+        the kind `nobody`, whose fault that is, and without one the list goes on. Whatever is raised meanwhile goes on to the caller, with the job
+        that was under way ended as unknown."""
+        kept, order, is_open, is_heard = Transfers() if transfers is None else transfers, None, False, False
         try:
             while True:
                 found = self.next()
@@ -347,10 +346,10 @@ class Sequence:
                 is_open = not step.is_over
                 if step.is_over and order is not None and after_order is not None and after_order(order, step) is False:
                     return Said("stopped", self.begun)
-                if step.is_over and self._heard != self.begun:
-                    self._heard = self.begun
+                if step.is_over and not is_heard:
+                    is_heard = True
                     if ask is not None and not kept.has_written and not kept.is_answered and (why := ask()):
-                        return Said("nobody", self.begun - 1, True, fault=why)
+                        return Said("nobody", self.begun, True, fault=why)
         except BaseException:
             self.give_up()
             raise

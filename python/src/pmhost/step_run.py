@@ -98,19 +98,28 @@ class StepRun:
         """Goes on, to its end or to where `before_order` stops it. If an order differs and the held word is `accept` microvolts near, and within
         the limits, the step begins anew to that word, once a register. `ask` is that of `Sequence.run`. MarginRefused, and NotBelieved if zeros
         of WRITE_PROTECT aren't believed."""
-        taken = set[str]()
-        self._go(after_order, ask)
-        while accept is not None and self.end.kind == "differs" and self.end.register in self.step.wishes and self.end.register not in taken:
-            taken.add(self.end.register)
-            held = near_word(self.part.host, self.step.output, self.end.register, self.step.wishes[self.end.register], accept)
-            if held is None:
-                break
-            self.held[self.end.register] = held
-            self.want({**self.step.wishes, self.end.register: held})._go(after_order, ask)
+        def after(order: Job, step: Step) -> object:
+            held = self._near(order.register, accept) if step.kind == "differs" else None
+            if held is not None:
+                self.held[order.register] = held
+                return False
+            return None if after_order is None else after_order(order, step)
+
+        count = len(self.held)
+        self._go(after, ask)
+        while len(self.held) > count:
+            count = len(self.held)
+            self.want({**self.step.wishes, **self.held})._go(after, ask)
         return self.end
 
-    def _go(self, after_order: Optional[Callable[[Job, Step], object]], ask: Optional[Callable[[], str]]) -> None:
-        """The same, without `accept`."""
+    def _near(self, register: str, accept: Optional[int]) -> Optional[int]:
+        """The word that a register holds, if it is taken in the place of the one that is wanted, of which that is once."""
+        if accept is None or register in self.held or register not in self.step.wishes:
+            return None
+        return near_word(self.part.host, self.step.output, register, self.step.wishes[register], accept)
+
+    def _go(self, after_order: Callable[[Job, Step], object], ask: Optional[Callable[[], str]]) -> None:
+        """The same, up to an order that differs and is near."""
         if self._due is not None and self._asked(self._due) is False:
             return
         self.list = self.lists.at(self.place)

@@ -14,7 +14,7 @@ from .packets import Packet
 from .reads import Reads
 from .sequence import WHY, Said, SequenceStep
 from .states import Known
-from .step_run import StepRun
+from .step_run import StepRun, look_at
 from .transfers import Transfers
 from .values import CODES, Format
 from .zeros import REGISTER
@@ -110,10 +110,11 @@ def survey(part: Device, output: int) -> Commanded:
 
 
 def looked_at(part: Device, output: int, looks: Looks | None) -> tuple[Commanded, Delivered | None]:
-    """The same, and what its rail does."""
+    """The same, and what its rail does: also where a survey comes to no end, since what is commanded is another's or can't be judged."""
     part.transfers = Transfers()
-    run = StepRun(part, SequenceStep.surveys(0, output, looks).lacking(part.lacks), SURVEY_TRIES)
-    return behind(part, output, run.carry_out(ask=lambda: part.transfers.why())), run.delivered
+    run = StepRun(part, SequenceStep.surveys(0, output, looks), SURVEY_TRIES)
+    found = behind(part, output, run.carry_out(ask=lambda: part.transfers.why()))
+    return found, look_at(part, output, looks) if looks is not None and found.unended else run.delivered
 
 
 def behind(part: Device, output: int, end: Said) -> Commanded:

@@ -327,7 +327,7 @@ def accept_in(arguments: argparse.Namespace) -> int | None:
     return named.accept if given is None and named is not None and hasattr(arguments, "accept") else given
 
 
-def run_step(arguments: argparse.Namespace, register: str, step: SequenceStep, tries: int = TRIES, is_guarded: bool = True) -> StepRun | int:
+def run_step(arguments: argparse.Namespace, register: str, step: SequenceStep, tries: int, is_guarded: bool = True) -> StepRun | int:
     """Carries a step out that orders a register, and looks at its rail; the status if it came to no end. If just the WRITE_PROTECT of the file is
     in the way that is lifted, and the step carried out once more."""
     call: Call = arguments.call
@@ -336,7 +336,7 @@ def run_step(arguments: argparse.Namespace, register: str, step: SequenceStep, t
     if step.turns_off:
         protection.read(call.part_name)
         protection.lift(call.part_name)
-    run: StepRun = getattr(arguments, "step_run", StepRun)(part, replace(step, looks=call.looks).lacking(part.lacks), tries)
+    run: StepRun = getattr(arguments, "step_run", StepRun)(part, replace(step, looks=call.looks), tries)
     arguments.begun = run
     if not is_guarded:
         run.guarded = None
@@ -381,7 +381,7 @@ def run_once(arguments: argparse.Namespace, register: str, run: StepRun) -> Step
     return run
 
 
-def tell_step(arguments: argparse.Namespace, register: str, step: SequenceStep, tries: int = TRIES, is_guarded: bool = True) -> int:
+def tell_step(arguments: argparse.Namespace, register: str, step: SequenceStep, tries: int, is_guarded: bool = True) -> int:
     """Carries a step out that orders a register, and says what became of it and what the output then commands."""
     ran, call = run_step(arguments, register, step, tries, is_guarded), arguments.call
     return ran if isinstance(ran, int) else int(call.say(step_answer(arguments, call.part(), register, ran)))
@@ -390,7 +390,7 @@ def tell_step(arguments: argparse.Namespace, register: str, step: SequenceStep, 
 def set_voltage(arguments: argparse.Namespace) -> int:
     """Orders a voltage of a register."""
     wanted = voltages.of_microvolts(arguments.microvolts)
-    return tell_step(arguments, arguments.register, SequenceStep.sets(0, arguments.output, {arguments.register: wanted}))
+    return tell_step(arguments, arguments.register, SequenceStep.sets(0, arguments.output, {arguments.register: wanted}), TRIES)
 
 
 def word(arguments: argparse.Namespace) -> int:
@@ -401,7 +401,7 @@ def word(arguments: argparse.Namespace) -> int:
         return call.no_part(arguments) or carry_out(arguments, register, lambda: call.part().host.order(0, register, word))
     if register == "OPERATION":
         return turn(arguments, word, False)
-    ran = run_step(arguments, register, SequenceStep.sets(0, output, {register: word}))
+    ran = run_step(arguments, register, SequenceStep.sets(0, output, {register: word}), TRIES)
     if isinstance(ran, int):
         return ran
     if ran.end.kind == "format" and call.part().host.limits(output) is None:
