@@ -90,10 +90,8 @@ def calls():
         types = {it for text in files.values() for it in re.findall(r'pub extern "C" fn (pm_\w+)\(', text)}
         yield f"calls of {crate}", types, {"its header": set(re.findall(r"^(?:void|uint\d+_t|pm_\w+) (pm_\w+)\(", HEADERS[crate], re.MULTILINE))}
         both |= types
-    going = {it for it in both if re.match("pm_(delivery|stairs)_", it)} - {"pm_delivery_judge"}  # (Rust has sequences, and Python not yet)
-    yield "calls for Python", {it for it in both if not it.startswith("pm_sequence_")}, {
-        "python": set(re.findall(r'^    "(pm_\w+)": \(', PYTHON, re.MULTILINE))}
-    yield "calls for Rust", both - going, {"rust": set(re.findall(r"pub fn (pm_\w+)\(", RUST))}
+    yield "calls for Python", both, {"python": set(re.findall(r'^    "(pm_\w+)": \(', PYTHON, re.MULTILINE))}
+    yield "calls for Rust", both, {"rust": set(re.findall(r"pub fn (pm_\w+)\(", RUST))}
 
 
 # ---- Refusals ----

@@ -160,8 +160,7 @@ class Processes(unittest.TestCase):
     # What a library of this package answers: its numbers.
     NUMBERS = {"pm_version": _library.VERSION, "pm_host_version": _library.HOST_VERSION, "pm_host_size": _library.HOST_SIZE,
                "pm_course_version": _library.COURSE_VERSION, "pm_course_size": _library.COURSE_SIZE, "pm_part_size": _library.PART_SIZE,
-               "pm_delivery_version": _library.DELIVERY_VERSION, "pm_delivery_size": ctypes.sizeof(_library.DeliveryImage),
-               "pm_stairs_version": _library.STAIRS_VERSION, "pm_stairs_size": ctypes.sizeof(_library.StairsImage)}
+               "pm_sequence_version": _library.SEQUENCE_VERSION, "pm_sequence_size": ctypes.sizeof(_library.SequenceImage)}
 
     @contextlib.contextmanager
     def another(self):

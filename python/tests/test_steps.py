@@ -6,7 +6,7 @@ from unittest import mock
 from pmhost import back, clock, steps
 from pmhost.delivery import VERDICTS, Verdict
 from pmhost.look import Delivered, Looks
-from pmhost.rail_course import Stopped
+from pmhost.rail_run import Stopped
 
 
 def delivered(kind):

@@ -8,7 +8,7 @@ pub const COURSE_VERSION: u16 = 1;
 pub const COURSE_SIZE: usize = 104;
 pub const DELIVERY_SIZE: usize = 66;
 pub const SEQUENCE_VERSION: u16 = 1;
-pub const SEQUENCE_SIZE: usize = 400;
+pub const SEQUENCE_SIZE: usize = 376;
 pub const SEQUENCE_STEP_SIZE: usize = 104;
 pub const SEQUENCE_RECORD_SIZE: usize = 176;
 pub const CELLS: usize = 49;
@@ -261,14 +261,13 @@ pub struct SequenceImage {
     pub leaves: u8,
     pub asks: u8,
     pub said: SaidImage,
-    pub marks: [u16; 2],
     pub tries: u16,
     pub begun: u16,
     pub host: u8,
     pub keeps_back: u8,
     pub ends_at_restart: u8,
-    pub unused_too: [u8; 5],
-    pub held: [[u64; 22]; 2],
+    pub unused: u8,
+    pub held: [[u64; 21]; 2],
 }
 
 #[repr(C)]
@@ -408,7 +407,6 @@ extern "C" {
     pub fn pm_course_next(course: &CourseImage, host: &HostImage, next: &mut CourseJobImage) -> u8;
     pub fn pm_course_job_now(course: &CourseImage, now: &mut CourseJobImage) -> u8;
     pub fn pm_course_goal(course: &CourseImage, host: &HostImage, code: u8, word: &mut u16) -> u8;
-    pub fn pm_delivery_judge(delivery: &DeliveryImage, host: &HostImage, word: u16, judgement: &mut JudgementImage) -> u8;
     pub fn pm_sequence_size() -> u64;
     pub fn pm_sequence_version() -> u16;
     pub fn pm_sequence_new(sequence: &mut SequenceImage, tries: u16, rules: u8);
@@ -423,6 +421,7 @@ extern "C" {
     ) -> u8;
     pub fn pm_sequence_write_ended(sequence: &mut SequenceImage, host: &mut HostImage, acked: u8) -> StepImage;
     pub fn pm_sequence_read_ended(sequence: &mut SequenceImage, host: &mut HostImage, bytes: *const u8, count: u64) -> StepImage;
+    pub fn pm_sequence_judge(record: &SequenceRecordImage, host: &HostImage, word: u16, judgement: &mut JudgementImage) -> u8;
     pub fn pm_refusal_name(number: u8, name: &mut NameImage) -> u8;
     pub fn pm_end_name(kind: u16, name: &mut NameImage) -> u8;
     pub fn pm_microvolts(format: &FormatImage, word: u16, microvolts: &mut i64) -> u8;

@@ -165,8 +165,6 @@ refusals! {
     NoDelivery = 0xEC,
     /// The course orders no word of this register.
     NoGoal = 0xED,
-    /// The memory holds no stairs. No call of this crate answers it.
-    NoStairs = 0xEE,
     /// A step has a host, a wish or a look that there isn't, or a list has more than 65,535 steps.
     NoStep = 0xEF,
     /// The memory holds no sequence. Of one that is made: the linked library's have another layout than this crate's.

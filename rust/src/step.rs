@@ -355,7 +355,7 @@ impl SequenceRecord {
     pub fn judge(&self, host: &Host, word: u16) -> Result<Judgement, Refusal> {
         const P8: u8 = Refusal::P8BeyondFaultLimit.number();
         let mut found = ffi::JudgementImage::default();
-        let number = unsafe { ffi::pm_delivery_judge(&self.image.look, &host.image, word, &mut found) };
+        let number = unsafe { ffi::pm_sequence_judge(&self.image, &host.image, word, &mut found) };
         accepted(if number == P8 { 0 } else { number })?;
         Ok(Judgement { fault: limit_of(found.fault, found.fault_word), warning: limit_of(found.warning, found.warning_word) })
     }

@@ -66,9 +66,8 @@ bound() {
     if nm "$1" | grep -q ' T pm_part_'; then
         promised "$1" PM_PART_STACK "$says"
     else
-        promised "$1" PM_STAIRS_STACK "$says"
-        promised "$1" PM_STACK "$(trials/c/stack.py "$1" pm_stairs_ask pm_stairs_write_ended pm_stairs_read_ended pm_sequence_next \
-            pm_sequence_write_ended pm_sequence_read_ended | cut -d' ' -f1)"
+        promised "$1" PM_SEQUENCE_STACK "$says"
+        promised "$1" PM_STACK "$(trials/c/stack.py "$1" pm_sequence_next pm_sequence_write_ended pm_sequence_read_ended | cut -d' ' -f1)"
     fi
 }
 
@@ -286,20 +285,11 @@ pm_course_power(&course, 0, 0x80, 8)
 pm_course_want(&course, PM_VOUT_MAX, 3500000)
 pm_course_accept(&course, &host, 3000)
 pm_course_frame(&course, &host, &sending)
-pm_course_goal(&course, &host, PM_VOUT_COMMAND, &delivered.word)
+pm_course_goal(&course, &host, PM_VOUT_COMMAND, &word)
 pm_host_run_course(&host, &course, 0, 0, 0).kind
-pm_delivery_new(&delivery, 0, PM_FAULT_LIMITS_REFUSE, 1, 50, 8)
-pm_delivery_before(&delivery)
-pm_delivery_after(&delivery, 0)
-pm_delivery_frame(&delivery, &host, &sending)
-pm_delivery_read_ended(&delivery, &host, sending.bytes, 0)
-pm_delivery_verdict(&delivery, &host, &delivered)
-pm_delivery_judge(&delivery, &host, 0x1000, &judgement)
+pm_sequence_judge(&record, &host, 0x1000, &judgement)
 pm_paged_request(0x58, 0, 0x40, 2, &sending)
 pm_read_paged(0x58, 0, 0x40, 2, sending.bytes, 5, &block)
-pm_stairs_ask(&stairs, &host, steps, 1, steps, 1, &sending)
-pm_stairs_skip(&stairs)
-pm_stairs_check(&host, steps, &stopped)
 pm_sequence_next(&sequence, &host, &step, 1, &record, 1, &sending)
 pm_run_sequence(&sequence, hosts, 0, 1, &step, 1, &record, 1, 0, 0, 0, 0)
 END
@@ -312,19 +302,15 @@ static pm_host host;
 static pm_wanted wanted;
 static pm_course course;
 static pm_sending sending;
-static pm_delivery delivery;
-static pm_delivered delivered;
+static uint16_t word;
 static pm_judgement judgement;
 static pm_block block;
-static pm_stairs stairs;
-static pm_stairs_step steps[1];
-static pm_stairs_end stopped;
 static pm_sequence sequence;
 static pm_sequence_step step;
 static pm_sequence_record record;
 static pm_host *const hosts[1] = {&host};
-int main(void) { (void)host; (void)wanted; (void)course; (void)sending; (void)delivery; (void)delivered; (void)judgement; (void)block;
-(void)stairs; (void)steps; (void)stopped; (void)sequence; (void)step; (void)record; (void)hosts;' row=0
+int main(void) { (void)host; (void)wanted; (void)course; (void)sending; (void)word; (void)judgement; (void)block;
+(void)sequence; (void)step; (void)record; (void)hosts;' row=0
     while read -r call; do
         row=$((row + 1))
         echo "$before return $call; }" > "$folder/asks.c"

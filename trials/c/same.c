@@ -42,7 +42,7 @@ uint32_t wide_word(const pm_format *format, int64_t microvolts, uint16_t *word) 
 #define wide_word pm_nearest_word
 #endif
 
-enum { HOSTS = 4, HALVES = PM_HOST_SIZE / 2, GUARD = 4, ROOM = 320, EXPORTS = 92, STEPS_OF_LISTS = 4 };
+enum { HOSTS = 4, HALVES = PM_HOST_SIZE / 2, GUARD = 4, ROOM = 320, EXPORTS = 76, STEPS_OF_LISTS = 4 };
 
 /* Hosts at addresses that eight divides, with guards around them: the last is damaged. */
 static uint64_t memory[HOSTS][(GUARD + HALVES + GUARD) / 4];
@@ -54,20 +54,11 @@ static struct {
     uint8_t a[3]; pm_sending sending; uint8_t b; pm_part_reply reply; uint16_t c; pm_words words; uint16_t d; pm_standing standing;
     uint16_t e; pm_format format; uint16_t f; pm_packet packet; uint16_t g; uint16_t word; uint16_t h[4]; int64_t microvolts;
     uint16_t i[4]; pm_limits limits; uint16_t j[4]; pm_band band; uint16_t k[4]; pm_name name; pm_payload payload; uint16_t l[4];
-    pm_rail rail; uint16_t m[4]; pm_course_end end; uint16_t n[2]; pm_course_job job; uint16_t o[4]; pm_delivered delivered; uint16_t p[2];
-    pm_judgement judgement; uint8_t q[3]; pm_block block; uint8_t r[3];
+    pm_rail rail; uint16_t m[4]; pm_course_end end; uint16_t n[2]; pm_course_job job; uint16_t o[4]; pm_judgement judgement; uint8_t q[3]; pm_block block; uint8_t r[3];
 } out;
 
 /* A course, with guards around it. */
 static struct { uint16_t before[4]; pm_course course; uint16_t after[4]; } asked;
-
-/* A delivery, with guards around it. */
-static struct { uint16_t before[3]; pm_delivery delivery; uint16_t after[3]; } looked;
-
-/* Stairs, their steps and the steps back, with guards around them. */
-static struct {
-    uint16_t before[4]; pm_stairs stairs; pm_stairs_step steps[STEPS_OF_LISTS], backs[STEPS_OF_LISTS]; pm_stairs_end end; uint16_t after[4];
-} stood;
 
 /* A sequence, its steps and its records, with guards around them. */
 static struct {
@@ -265,18 +256,16 @@ static unsigned draw_count(void) {
 }
 
 /* Who hands out a frame and hears what became of it. */
-enum { BY_HOST, BY_COURSE, BY_STAIRS, BY_SEQUENCE };
+enum { BY_HOST, BY_COURSE, BY_SEQUENCE };
 
-/* What is to be sent goes to the converter, and what comes of it to the host, or to the course, the stairs or the sequence. */
+/* What is to be sent goes to the converter, and what comes of it to the host, or to the course or the sequence. */
 static void exchange(pm_host *host, int by) {
-    unsigned fate = draw(10), steps = by >= BY_STAIRS ? draw_count() : 0, backs = by >= BY_STAIRS ? draw_count() : 0;
+    unsigned fate = draw(10), steps = by == BY_SEQUENCE ? draw_count() : 0, backs = by == BY_SEQUENCE ? draw_count() : 0;
     memset(&out.sending, (int)draw(256), sizeof out.sending);
     if (by == BY_COURSE)
         heard(61, pm_course_frame(&asked.course, host, &out.sending), 255);
-    else if (by == BY_STAIRS)
-        heard(79, pm_stairs_ask(&stood.stairs, host, stood.steps, steps, stood.backs, backs, &out.sending), 255);
     else if (by == BY_SEQUENCE)
-        heard(89, pm_sequence_next(&listed.sequence, host, listed.steps, steps, listed.records, backs, &out.sending), 255);
+        heard(72, pm_sequence_next(&listed.sequence, host, listed.steps, steps, listed.records, backs, &out.sending), 255);
     else
         heard(9, pm_host_frame(host, &out.sending), 255);
     wrote(&out.sending, sizeof out.sending);
@@ -287,14 +276,12 @@ static void exchange(pm_host *host, int by) {
     if (!is_request) {
         uint8_t acked = (uint8_t)(fate == 2 ? draw(256) : answer == PM_HEARD_TAKEN ? 1 + draw(255) : 0);
         if (by == BY_COURSE && fate > 5) {
-            told(84, pm_course_after_write(&asked.course, host, acked, (uint8_t)draw(3), &out.sending));
+            told(67, pm_course_after_write(&asked.course, host, acked, (uint8_t)draw(3), &out.sending));
             wrote(&out.sending, sizeof out.sending);
         } else if (by == BY_COURSE)
             told(62, pm_course_write_ended(&asked.course, host, acked));
-        else if (by == BY_STAIRS)
-            told(80, pm_stairs_write_ended(&stood.stairs, host, acked));
         else if (by == BY_SEQUENCE)
-            told(90, pm_sequence_write_ended(&listed.sequence, host, acked));
+            told(73, pm_sequence_write_ended(&listed.sequence, host, acked));
         else
             told(10, pm_host_write_ended(host, acked));
         return;
@@ -307,14 +294,12 @@ static void exchange(pm_host *host, int by) {
     if (fate == 4)
         count = draw(ROOM - 4);
     if (by == BY_COURSE && fate > 5) {
-        told(85, pm_course_after_read(&asked.course, host, at, count, (uint8_t)draw(3), &out.sending));
+        told(68, pm_course_after_read(&asked.course, host, at, count, (uint8_t)draw(3), &out.sending));
         wrote(&out.sending, sizeof out.sending);
     } else if (by == BY_COURSE)
         told(63, pm_course_read_ended(&asked.course, host, at, fate == 5 ? 0 : count));
-    else if (by == BY_STAIRS)
-        told(81, pm_stairs_read_ended(&stood.stairs, host, at, fate == 5 ? 0 : count));
     else if (by == BY_SEQUENCE)
-        told(91, pm_sequence_read_ended(&listed.sequence, host, at, fate == 5 ? 0 : count));
+        told(74, pm_sequence_read_ended(&listed.sequence, host, at, fate == 5 ? 0 : count));
     else
         told(11, pm_host_read_ended(host, at, fate == 5 ? 0 : count));
 }
@@ -391,7 +376,12 @@ static void rails(pm_host *host) {
         else
             heard(53, pm_course_accept(course, host, draw(1 << 20)), 255);
         break;
-    case 6: heard(54, pm_course_next(course, host, &out.job), 255); break;
+    case 6:
+        if (draw(2))
+            heard(54, pm_course_next(course, host, &out.job), 255);
+        else
+            heard(64, pm_course_goal(course, host, code, &out.word), 255);
+        break;
     case 7: heard(55, (uint32_t)pm_course_size() ^ (uint32_t)(pm_course_size() >> 32), UINT32_MAX);
         heard(56, pm_course_version(), 65535); break;
     case 8: heard(59, pm_course_ended(course, &out.end), 255); break;
@@ -409,31 +399,11 @@ static void rails(pm_host *host) {
     add_halves((const uint16_t *)&asked, sizeof asked / 2);
 }
 
-/* The request of a delivery goes to the converter, and what comes back to it. */
-static void look(const pm_host *host) {
-    unsigned fate = draw(12);
-    memset(&out.sending, (int)draw(256), sizeof out.sending);
-    heard(71, pm_delivery_frame(&looked.delivery, host, &out.sending), 255);
-    wrote(&out.sending, sizeof out.sending);
-    unsigned count = out.sending.length % (sizeof out.sending.bytes + 1);
-    out.reply.length = 0;
-    if (fate != 0)
-        hear(out.sending.bytes, count, 1);
-    uint8_t *at = room + draw(4);
-    count = out.reply.length % (sizeof out.reply.bytes + 1);
-    memcpy(at, out.reply.bytes, count);
-    if (fate == 1 && count)
-        damage(at, count);
-    if (fate == 2)
-        count = draw(ROOM - 4);
-    heard(72, pm_delivery_read_ended(&looked.delivery, host, at, count), 255);
-}
-
 /* Reads by PAGE_PLUS of any code: a request, and an answer that is right most times. */
 static void paged(void) {
     uint8_t address = (uint8_t)(draw(16) ? 0x58 : draw(256)), output = draw_output(), code = draw_code();
     uint8_t size = (uint8_t)(draw(16) ? draw(4) : draw(256)), came[40], whole[64];
-    unsigned refused = heard(75, pm_paged_request(address, output, code, size, &out.sending), 255), count = out.sending.length % 17;
+    unsigned refused = heard(66, pm_paged_request(address, output, code, size, &out.sending), 255), count = out.sending.length % 17;
     for (unsigned i = 0; i < sizeof came; i++)
         came[i] = (uint8_t)draw(256);
     unsigned length = draw(4) ? size % 33 + 3u : draw(sizeof came + 1);
@@ -443,37 +413,7 @@ static void paged(void) {
         memcpy(whole + count, came, length - 1);
         came[length - 1] = (uint8_t)wide_pec(whole, count + length - 1);
     }
-    heard(74, pm_read_paged(address, output, code, size, came, length, &out.block), 255);
-}
-
-/* What an output does, and which limits a word is at or beyond. */
-static void deliveries(const pm_host *host) {
-    uint8_t output = draw_output(), code = draw_code(), limits = (uint8_t)draw(5), lacks = (uint8_t)draw(20), is_off = (uint8_t)draw(3);
-    uint16_t word = draw_word(), within = (uint16_t)(draw(4) ? draw(100) : draw(65536)), rounds = (uint16_t)(draw(8) ? draw(4) : draw(65536));
-    pm_delivery *delivery = &looked.delivery;
-    memset(&out, (int)draw(256), sizeof out);
-    switch (draw(12)) {
-    case 0: heard(64, pm_delivery_new(delivery, output, limits, lacks, within, rounds), 255); break;
-    case 1: heard(65, pm_delivery_before(delivery), 255); break;
-    case 2: heard(66, pm_delivery_after(delivery, is_off), 255); break;
-    case 3: heard(67, pm_delivery_verdict(delivery, host, &out.delivered), 255); break;
-    case 4: heard(68, pm_delivery_judge(delivery, host, word, &out.judgement), 255); break;
-    case 5: heard(69, pm_course_goal(&asked.course, host, code, &out.word), 255); break;
-    case 6: heard(70, (uint32_t)pm_delivery_size() ^ (uint32_t)(pm_delivery_size() >> 32), UINT32_MAX);
-        heard(73, pm_delivery_version(), 65535); break;
-    case 7: paged(); break;
-    case 8:
-        if (draw(8) == 0)
-            damage((uint8_t *)delivery, sizeof *delivery);
-        break;
-    default: /* request after request: it mostly ends */
-        heard(65 + is_off % 2u, is_off % 2 ? pm_delivery_after(delivery, 0) : pm_delivery_before(delivery), 255);
-        for (unsigned frames = draw(30); frames; frames--)
-            look(host);
-        heard(67, pm_delivery_verdict(delivery, host, &out.delivered), 255); break;
-    }
-    add_bytes(&out, sizeof out);
-    add_halves((const uint16_t *)&looked, sizeof looked / 2);
+    heard(65, pm_read_paged(address, output, code, size, came, length, &out.block), 255);
 }
 
 /* A wish and a step, most times such as there are. */
@@ -510,43 +450,16 @@ static pm_sequence_step draw_step(void) {
     return step;
 }
 
-/* Stairs over the hosts. */
-static void stairs(pm_host *host) {
-    uint16_t tries = (uint16_t)(draw(8) ? 4 + draw(40) : draw(65536));
-    uint8_t is_down = (uint8_t)(draw(2) ? 0 : 1 + draw(255));
-    memset(&out, (int)draw(256), sizeof out);
-    switch (draw(10)) {
-    case 0: pm_stairs_new(&stood.stairs, tries, is_down); heard(78, 0, 255); break;
-    case 1: heard(82, pm_stairs_skip(&stood.stairs), 255); break;
-    case 2: heard(83, pm_stairs_check(host, &stood.steps[draw(STEPS_OF_LISTS)], &stood.end), 255); break;
-    case 3: heard(76, (uint32_t)pm_stairs_size() ^ (uint32_t)(pm_stairs_size() >> 32), UINT32_MAX);
-        heard(77, pm_stairs_version(), 65535); break;
-    case 4:
-        for (unsigned i = 0; i < STEPS_OF_LISTS; i++) {
-            pm_sequence_step step = draw_step();
-            memcpy(&stood.steps[i], &step, sizeof stood.steps[i]);
-        }
-        break;
-    case 5:
-        if (draw(8) == 0)
-            damage((uint8_t *)&stood.stairs, sizeof stood.stairs);
-        break;
-    default: /* frame after frame, by the host that they name */
-        for (unsigned frames = draw(40); frames; frames--)
-            exchange(draw(16) ? host_at(stood.stairs.host % HOSTS) : host, BY_STAIRS);
-        break;
-    }
-    add_halves((const uint16_t *)&stood, sizeof stood / 2);
-}
-
 /* A sequence over the hosts. */
 static void sequences(pm_host *host) {
     uint16_t tries = (uint16_t)(draw(8) ? 4 + draw(40) : draw(65536));
     uint8_t rules = (uint8_t)(draw(8) ? draw(16) : draw(256));
-    switch (draw(10)) {
-    case 0: pm_sequence_new(&listed.sequence, tries, rules); heard(88, 0, 255); break;
-    case 1: heard(86, (uint32_t)pm_sequence_size() ^ (uint32_t)(pm_sequence_size() >> 32), UINT32_MAX);
-        heard(87, pm_sequence_version(), 65535); break;
+    unsigned place = draw(STEPS_OF_LISTS);
+    memset(&out, (int)draw(256), sizeof out);
+    switch (draw(12)) {
+    case 0: pm_sequence_new(&listed.sequence, tries, rules); heard(71, 0, 255); break;
+    case 1: heard(69, (uint32_t)pm_sequence_size() ^ (uint32_t)(pm_sequence_size() >> 32), UINT32_MAX);
+        heard(70, pm_sequence_version(), 65535); break;
     case 2:
         for (unsigned i = 0; i < STEPS_OF_LISTS; i++)
             listed.steps[i] = draw_step();
@@ -555,11 +468,17 @@ static void sequences(pm_host *host) {
         if (draw(8) == 0)
             damage((uint8_t *)&listed.sequence, sizeof listed.sequence);
         break;
+    case 4: heard(75, pm_sequence_judge(&listed.records[place], host, draw_word(), &out.judgement), 255); break;
+    case 5:
+        if (draw(8) == 0)
+            damage((uint8_t *)&listed.records[place].look, sizeof listed.records[place].look);
+        break;
     default: /* frame after frame, by the host that it names */
         for (unsigned frames = draw(40); frames; frames--)
             exchange(draw(16) ? host_at(listed.sequence.host % HOSTS) : host, BY_SEQUENCE);
         break;
     }
+    add_bytes(&out, sizeof out);
     add_halves((const uint16_t *)&listed, sizeof listed / 2);
 }
 
@@ -672,12 +591,10 @@ static void step(void) {
         exchange(host, BY_HOST);
     else if (kind < 60)
         rails(host);
-    else if (kind < 61 && draw(2))
-        stairs(host);
-    else if (kind < 61)
+    else if (kind < 62)
         sequences(host);
     else if (kind < 64)
-        deliveries(host);
+        paged();
     else if (kind < 70)
         ask(host);
     else if (kind < 78 && draw(8))
@@ -705,8 +622,6 @@ static int life(unsigned number, uint32_t steps) {
         room[i] = (uint8_t)draw(256);
     memset(memory, 0, sizeof memory);
     memset(&kept, 0, sizeof kept);
-    memset(&looked, 0, sizeof looked);
-    memset(&stood, 0, sizeof stood);
     memset(&listed, 0, sizeof listed);
     memset(&out, 0, sizeof out);
     new_part();

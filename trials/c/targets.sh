@@ -146,7 +146,7 @@ deepest() {
 }
 
 # measured NAME: text of the host's archive, flash of an order alone, stack of a host's call, of pm_refusal_name, of the three calls of
-# stairs that the header promises by themselves and of a part's call, instructions
+# a list that the header promises by themselves and of a part's call, instructions
 measured() {
     local name=$1 text order=-
     text=$(size -t "$folder/$name.a" 2> /dev/null | awk 'END {print $1}')
@@ -156,14 +156,14 @@ measured() {
             -u pm_host_confirmed_word "$folder/$name.a" -o "$folder/$name.alone" 2> /dev/null &&
             order=$(size "$folder/$name.alone" | awk 'END {print $1}')
     fi
-    echo "$text $order $(deepest "$name" pm_refusal_name pm_stairs_ask pm_stairs_write_ended pm_stairs_read_ended pm_sequence_next pm_sequence_write_ended pm_sequence_read_ended) $(deepest "$name.part") $(instructions "$name")"
+    echo "$text $order $(deepest "$name" pm_refusal_name pm_sequence_next pm_sequence_write_ended pm_sequence_read_ended) $(deepest "$name.part") $(instructions "$name")"
 }
 
 # within NAME: the stack is at most what the header promises
 within() {
     local host naming asks writes reads part most=() each
     read -r _ _ host naming asks writes reads part _ < "$folder/$1.measured"
-    for each in PM_STACK PM_NAME_STACK PM_STAIRS_STACK PM_PART_STACK; do
+    for each in PM_STACK PM_NAME_STACK PM_SEQUENCE_STACK PM_PART_STACK; do
         most+=("$(sed -n "s/^#define $each \([0-9]*\)$/\1/p" crates/pm_host_c/include/pmhost.h crates/pm_device_c/include/pmpart.h)")
     done
     if { [ "$host" -le "${most[0]}" ] && [ "$naming" -le "${most[1]}" ] && [ "$asks" -le "${most[2]}" ] && [ "$writes" -le "${most[2]}" ] &&
@@ -189,27 +189,27 @@ target() {
 
 # leave NAME: the archives, the headers and the line of facts
 leave() {
-    local name=$1 text order host naming stairs part orders
-    read -r text order host naming stairs _ _ part orders < "$folder/$name.measured"
+    local name=$1 text order host naming list part orders
+    read -r text order host naming list _ _ part orders < "$folder/$name.measured"
     mkdir -p "$out/$name"
     cp "$folder/$name.a" "$out/$name/libpm_host_c.a"
     cp "$folder/$name.part.a" "$out/$name/libpm_device_c.a"
     cp crates/pm_host_c/include/pmhost.h crates/pm_device_c/include/pmpart.h "$out/$name/"
     echo "commit=$(git rev-parse HEAD) toolchain=$(rt version | tr ' ' '-') target=$name proof=${class[$name]} flags=$(tr ' ' ',' <<< "${flags[$name]}")" \
-        "text=$text order=$order stack-host=$host stack-name=$naming stack-stairs=$stairs stack-part=$part instructions=$orders sha256=$(sha256sum "$folder/$name.a" | cut -d' ' -f1)" \
+        "text=$text order=$order stack-host=$host stack-name=$naming stack-list=$list stack-part=$part instructions=$orders sha256=$(sha256sum "$folder/$name.a" | cut -d' ' -f1)" \
         "sha256-part=$(sha256sum "$folder/$name.part.a" | cut -d' ' -f1)" \
         > "$out/$name/facts"
 }
 
 # table: what the page shows
 table() {
-    local name text order host naming stairs part orders
-    echo "| target | how | host's archive, bytes | only an order | stack of a host's call | of pm_refusal_name | of pm_stairs_ask | of a part's call | instructions of an order |"
+    local name text order host naming list part orders
+    echo "| target | how | host's archive, bytes | only an order | stack of a host's call | of pm_refusal_name | of pm_sequence_next | of a part's call | instructions of an order |"
     echo "|---|---|---|---|---|---|---|---|---|"
     for name in $names; do
         [ -f "$folder/$name.measured" ] || continue
-        read -r text order host naming stairs _ _ part orders < "$folder/$name.measured"
-        echo "| ${title[$name]} | ${meaning[${class[$name]}]} | $text | $order | $host | $naming | $stairs | $part | $orders |"
+        read -r text order host naming list _ _ part orders < "$folder/$name.measured"
+        echo "| ${title[$name]} | ${meaning[${class[$name]}]} | $text | $order | $host | $naming | $list | $part | $orders |"
     done
 }
 

@@ -3,6 +3,4 @@ mod Sent
 mod Heard
 mod Named
 mod Ceils
-mod TellsStairs
-mod HandsStairs
 mod Sequences

@@ -11,8 +11,7 @@ pub mod Packets
 pub mod Paged
 pub mod Rail
 pub mod Sizes
-pub mod Stairs
-pub mod StairsStep
+pub mod Placed
 pub mod SequenceStep
 pub mod SequenceSaid
 pub mod Sequence

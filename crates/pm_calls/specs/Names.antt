@@ -100,7 +100,7 @@ accept_words n = option_map accept_fault_words (find (λ fault. accept_fault_num
 abbrev pub delivery_words : ℕ → Option (List ℕ)
 delivery_words n = option_map delivery_fault_words (find (λ fault. delivery_fault_number fault == n) delivery_faults)
 
--- what only a caller in C can ask wrongly, of a host, a course, a delivery or a part
+-- what only a caller in C can ask wrongly, of a host, a course, a sequence or a part
 abbrev pub own_words : ℕ → Option (List ℕ)
 own_words n =
     if n == 0xE0 then Some (codes "NoHost")
@@ -117,9 +117,8 @@ own_words n =
     else (if n == 0xEB then Some (codes "NoBand")
     else (if n == 0xEC then Some (codes "NoDelivery")
     else (if n == 0xED then Some (codes "NoGoal")
-    else (if n == 0xEE then Some (codes "NoStairs")
     else (if n == 0xEF then Some (codes "NoStep")
-    else (if n == 0xF0 then Some (codes "NoSequence") else None))))))))))))))))
+    else (if n == 0xF0 then Some (codes "NoSequence") else None)))))))))))))))
 
 -- the words of a refusal, of which each kind has numbers that begin with a digit of its own
 abbrev pub refusal_words : ℕ → Option (List ℕ)

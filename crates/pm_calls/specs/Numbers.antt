@@ -1,6 +1,6 @@
 -- The numbers that calls answer, of which no two mean two things: 0 where nothing is refused; a refusal's own,
 -- which stands beside its words; E0h to E4h, E6h, E7h, E9h to EFh for what only a caller in C can ask wrongly; 91h
--- to 93h for where a voltage lies; 95h for a course that has ended; and 96h and 97h for stairs. This project's own choice.
+-- to 93h for where a voltage lies; 95h for a course that has ended; and 96h to 9Ah for what a sequence says. This project's own choice.
 use Rattle.std.specs.Prelude.{ℕ, Option, Some, None}
 use Rattle.pm_host.specs.declared.fault.HostFault.{HostFault}
 use Rattle.pm_host.specs.FaultWords.{host_fault_number}
@@ -47,7 +47,7 @@ no_course = 0xE9
 abbrev pub no_band_there : ℕ
 no_band_there = 0xEB
 
--- the memory holds no delivery
+-- nothing was heard of the rail
 abbrev pub no_delivery : ℕ
 no_delivery = 0xEC
 
@@ -58,10 +58,6 @@ no_goal = 0xED
 -- there is less room than there are steps
 abbrev pub no_room : ℕ
 no_room = 0xEA
-
--- the memory holds no stairs
-abbrev pub no_stairs : ℕ
-no_stairs = 0xEE
 
 -- the memory holds no sequence
 abbrev pub no_sequence : ℕ
@@ -85,7 +81,7 @@ within_not_known = 0x93
 abbrev pub ended : ℕ
 ended = 0x95
 
--- stairs are to be asked again, or the way back of a step would be refused
+-- a sequence is to be asked again, or the way back of a step would be refused
 abbrev pub again : ℕ
 again = 0x96
 

@@ -7,7 +7,7 @@ use Rattle.pm_stairs.specs.declared.sequence.Placed.{Placed}
 use Rattle.pm_stairs.specs.declared.step.WordStep.{WordStep}
 use Rattle.pm_calls.specs.declared.sequence_step.SequenceStepImage.{SequenceStepImage}
 use Rattle.pm_calls.specs.Numbers.{no_step}
-use Rattle.pm_calls.specs.StairsStep.{placed_in, step_image}
+use Rattle.pm_calls.specs.Placed.{placed_in, step_image}
 
 -- how its rail is looked at: 0 not, 1 it is, 2 it has to deliver; what the part lacks: 1 STATUS_WORD, 2 READ_VOUT, 3 both
 abbrev pub are_looks : SequenceStepImage → Bool

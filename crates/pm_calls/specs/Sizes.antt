@@ -48,18 +48,18 @@ heard_size = 2 + word_size
 abbrev pub delivery_size : ℕ
 delivery_size = 2 * word_size + 4 + 3 * word_size + 13 * heard_size
 
--- a step of stairs: eight bytes, and five wishes of two words, four bytes of no meaning and eight of a voltage
-abbrev pub stairs_step_size : ℕ
-stairs_step_size = 8 + 5 * (2 * word_size + 4 + 8)
+-- what a step does: eight bytes, and five wishes of two words, four bytes of no meaning and eight of a voltage
+abbrev pub placed_size : ℕ
+placed_size = 8 + 5 * (2 * word_size + 4 + 8)
 
--- stairs: the mark, the version, the tries and the steps begun; eight bytes; how they ended, in sixteen; the step under way, in eight
--- bytes, two words and five wishes; and two courses
-abbrev pub stairs_size : ℕ
-stairs_size = 4 * word_size + 8 + 16 + (8 + 2 * word_size + 5 * (2 * word_size)) + 2 * course_size
+-- how far a list has come: the tries and the steps begun; four bytes; the step under way, in eight bytes, two words and five wishes; and two
+-- courses
+abbrev pub list_size : ℕ
+list_size = 2 * word_size + 4 + (8 + 2 * word_size + 5 * (2 * word_size)) + 2 * course_size
 
--- a step of a sequence: that of stairs, four bytes, two words, four bytes of a wait, and what was heard before
+-- a step of a sequence: what it does, four bytes, two words, four bytes of a wait, and what was heard before
 abbrev pub sequence_step_size : ℕ
-sequence_step_size = stairs_step_size + 4 + 2 * word_size + 4 + heard_size
+sequence_step_size = placed_size + 4 + 2 * word_size + 4 + heard_size
 
 -- a record: a step, a delivery, and six bytes of no meaning
 abbrev pub sequence_record_size : ℕ
@@ -69,9 +69,9 @@ sequence_record_size = sequence_step_size + delivery_size + 6
 abbrev pub said_size : ℕ
 said_size = 6 + 3 * word_size + 4 + 8
 
--- a sequence: the mark, the version, the steps that were left and two bytes; what was said; stairs; a look, which is a delivery without its
+-- a sequence: the mark, the version, the steps that were left and two bytes; what was said; how far its list has come; a look, which is a delivery without its
 -- mark and version, what was heard before and eight bytes; six bytes; its end, in six bytes and two words; and an order, in four bytes and
 -- a word
 abbrev pub sequence_size : ℕ
-sequence_size = 3 * word_size + 2 + said_size + stairs_size + (delivery_size - 2 * word_size + heard_size + 8) + 6 + (6 + 2 * word_size)
+sequence_size = 3 * word_size + 2 + said_size + list_size + (delivery_size - 2 * word_size + heard_size + 8) + 6 + (6 + 2 * word_size)
     + (4 + word_size)

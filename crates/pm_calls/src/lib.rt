@@ -6,11 +6,10 @@
 
 pub mod answer;
 pub mod course;
-pub mod delivered;
-pub mod delivery;
 pub mod goal;
 pub mod host;
 pub mod host_step;
+pub mod judgement;
 pub mod known;
 pub mod known_cells;
 pub mod laws;
@@ -20,11 +19,10 @@ pub mod numbers;
 pub mod other_read;
 pub mod packet;
 pub mod rail;
-mod seen;
+mod reading;
 pub mod sequence;
 mod sequence_said;
 pub mod sequence_step;
-pub mod stairs;
-pub mod stairs_step;
+pub mod placed;
 pub mod told;
 pub mod voltages;

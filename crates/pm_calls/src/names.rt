@@ -196,7 +196,7 @@ fn words_of_accept(number: u8) -> Option<&'static str>
     }
 }
 
-// The words of what only a caller in C can ask wrongly, of a host, a course, a delivery, a sequence or a part.
+// The words of what only a caller in C can ask wrongly, of a host, a course, a sequence or a part.
 #[inline(never)]
 fn words_of_own(number: u8) -> Option<&'static str>
     ensures words { option_map (λ words. words.now) result ≡ own_words number }
@@ -217,7 +217,6 @@ fn words_of_own(number: u8) -> Option<&'static str>
         0xEB => Some("NoBand"),
         0xEC => Some("NoDelivery"),
         0xED => Some("NoGoal"),
-        0xEE => Some("NoStairs"),
         0xEF => Some("NoStep"),
         0xF0 => Some("NoSequence"),
         _ => None,

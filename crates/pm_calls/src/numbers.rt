@@ -30,7 +30,7 @@ pub const NO_COURSE: u8 = 0xE9;
 /// Another than the output's registers may decide its voltage.
 pub const NO_BAND: u8 = 0xEB;
 
-/// The memory holds no delivery.
+/// Nothing was heard of the rail.
 pub const NO_DELIVERY: u8 = 0xEC;
 
 /// The course has no goal of this register.
@@ -48,16 +48,13 @@ pub const WITHIN_NOT_KNOWN: u8 = 0x93;
 /// A course has ended.
 pub const ENDED: u8 = 0x95;
 
-/// The memory holds no stairs.
-pub const NO_STAIRS: u8 = 0xEE;
-
 /// The numbers mean no step, or there is none to leave.
 pub const NO_STEP: u8 = 0xEF;
 
 /// There is less room than there are steps.
 pub const NO_ROOM: u8 = 0xEA;
 
-/// Stairs are to be asked again.
+/// A sequence is to be asked again.
 pub const AGAIN: u8 = 0x96;
 
 /// The way back of a step would be refused.

@@ -4,7 +4,7 @@ ghost use Rattle.std.specs.Prelude.{◌≡◌};
 ghost use Rattle.pm_calls.specs.SequenceStep.{are_looks, back_image, looks_asked, step_in};
 
 use crate::numbers::NO_STEP;
-use crate::stairs_step::StairsStepImage;
+use crate::placed::PlacedImage;
 use pm_delivery::Heard;
 use pm_memory::DeliveryImage;
 use pm_sequence::{Looks, Step};
@@ -15,7 +15,7 @@ use pm_stairs::WordStep;
 #[derive(Clone, Copy, Debug)]
 pub struct SequenceStepImage {
     /// Its host, its output, and what is done to it.
-    pub placed: StairsStepImage,
+    pub placed: PlacedImage,
     /// 0 if its rail isn't looked at, 1 if it is, 2 if it has to deliver before the next step begins.
     pub looks: u8,
     /// What is done about fault limits, as in a delivery.
@@ -91,7 +91,7 @@ impl SequenceStepImage {
         ensures { result ≡ back_image host step.now }
     {
         SequenceStepImage {
-            placed: StairsStepImage::of(host, step),
+            placed: PlacedImage::of(host, step),
             looks: 0,
             fault_limits: 0,
             lacks: 0,

@@ -12,8 +12,8 @@
  *   - counts are in elements, uint64_t on every processor, and tell the truth;
  *   - one call at a time works on a host, a course or a sequence: no call waits for another one or refuses it, so threads that share
  *     a host hold a lock of yours over each whole job or course, and over all hosts of a list from its begin to its end;
- *   - each call has PM_STACK bytes of stack, pm_refusal_name PM_NAME_STACK, and pm_sequence_next, pm_sequence_write_ended,
- *     pm_sequence_read_ended, pm_stairs_ask, pm_stairs_write_ended and pm_stairs_read_ended PM_STAIRS_STACK.
+ *   - each call has PM_STACK bytes of stack, pm_refusal_name PM_NAME_STACK, and pm_sequence_next, pm_sequence_write_ended and
+ *     pm_sequence_read_ended PM_SEQUENCE_STACK.
  *
  * The library takes no memory, keeps nothing between calls, calls nothing and never blocks.
  *
@@ -53,7 +53,7 @@ extern "C" {
 #define PM_VERSION 0x0001
 
 /* The versions of the layouts of a host, a course, what is heard of a rail, and a sequence, and their sizes in bytes. A call takes at most
- * PM_STACK bytes of stack, and those that are named above PM_STAIRS_STACK. pm_refusal_name takes PM_NAME_STACK, since a loader may bind
+ * PM_STACK bytes of stack, and those that are named above PM_SEQUENCE_STACK. pm_refusal_name takes PM_NAME_STACK, since a loader may bind
  * memmove in it.
  * docs/c.md has what calls take on each processor. An archive says its own bound as stack-bytes in its section .comment. */
 #define PM_HOST_VERSION 6
@@ -63,15 +63,15 @@ extern "C" {
 #define PM_DELIVERY_VERSION 2
 #define PM_DELIVERY_SIZE 66
 #define PM_SEQUENCE_VERSION 1
-#define PM_SEQUENCE_SIZE 400
+#define PM_SEQUENCE_SIZE 376
 #define PM_SEQUENCE_STEP_SIZE 104
 #define PM_SEQUENCE_RECORD_SIZE 176
 #define PM_STACK 4096
-#define PM_STAIRS_STACK 12288
+#define PM_SEQUENCE_STACK 12288
 #define PM_NAME_STACK 4096
 
 /* What a call answers: 0, or why it is refused. A refused call changes nothing, but for these. pm_host_frame, pm_course_frame,
- * pm_course_after_write, pm_course_after_read, pm_sequence_next and pm_delivery_frame then write PM_NOTHING. pm_pec, pm_host_restart_seen and
+ * pm_course_after_write, pm_course_after_read and pm_sequence_next then write PM_NOTHING. pm_pec, pm_host_restart_seen and
  * pm_host_limits_state answer something else: each says what. Of these numbers the last answers PM_NO_LIMITS only. PM_ENDED refuses
  * nothing, and is none of them. pm_refusal_name gives the name of each, and of those of pmpart.h. */
 enum {
@@ -113,9 +113,8 @@ enum {
     PM_NO_COURSE = 0xE9,          /* the memory holds no course of this version, or none to which a voltage can be added */
     PM_NO_ROOM = 0xEA,            /* there is room for fewer steps of the way back than there are steps */
     PM_NO_BAND = 0xEB,            /* OPERATION may be a byte that hands the output's voltage to AVSBus */
-    PM_NO_DELIVERY = 0xEC,        /* the memory holds no delivery of this version */
+    PM_NO_DELIVERY = 0xEC,        /* nothing was heard of the step's rail */
     PM_NO_GOAL = 0xED,            /* the course asks for no word of this register */
-    PM_NO_STAIRS = 0xEE,          /* the memory holds no stairs of this version */
     PM_NO_STEP = 0xEF,            /* a step has a kind, a host, a wish or a look that there isn't, or none is there to be left; or a list has
                                    * more than 65,535 steps */
     PM_NO_SEQUENCE = 0xF0,        /* the memory holds no sequence of this version */
@@ -402,20 +401,19 @@ typedef struct {
 } pm_sequence_said;
 
 /* A sequence, in memory of yours: how far a list of steps has come. The named fields are there to be read; only the calls write them. It
- * holds no host, no list and no pointer, and may be copied. A call asks first for the marks, the versions and fields that a sequence has,
+ * holds no host, no list and no pointer, and may be copied. A call asks first for the mark, the version and fields that a sequence has,
  * and answers PM_NO_SEQUENCE if one lacks. */
 typedef struct {
     uint16_t mark, version;
     uint16_t left;         /* how many steps were left */
     uint8_t leaves, asks;  /* 1 of PM_LEAVES, 1 of PM_ASKS */
     pm_sequence_said said; /* with each answer but PM_OK, PM_AGAIN and a refusal */
-    uint16_t marks[2];
     uint16_t tries;        /* how many jobs each step has at most */
     uint16_t begun;        /* how many steps have begun or were left */
     uint8_t host;          /* the place of the host that the next call takes, and on whose bus the frame goes */
     uint8_t keeps_back, ends_at_restart; /* 1 of PM_KEEPS_BACK, 1 of PM_ENDS_AT_RESTART */
-    uint8_t unused_too[5];
-    uint64_t held[44];
+    uint8_t unused;
+    uint64_t held[42];
 } pm_sequence;
 
 typedef char pm_sequence_has_its_size[sizeof(pm_sequence) == PM_SEQUENCE_SIZE ? 1 : -1];
@@ -751,7 +749,7 @@ void pm_sequence_new(pm_sequence *sequence, uint16_t tries, uint8_t rules);
  *                   are known, as sequence->said says. Asked again the step begins
  *   PM_ENDED        as sequence->said says
  * PM_NO_HOST, PM_NO_SEQUENCE, PM_NO_ROOM; PM_NO_STEP and H4 for the newest step that has begun and the first that hasn't, PM_NO_STEP for a
- * list of more than 65,535 steps. Then nothing changes. This call and the next two take at most PM_STAIRS_STACK bytes of stack. */
+ * list of more than 65,535 steps. Then nothing changes. This call and the next two take at most PM_SEQUENCE_STACK bytes of stack. */
 PM_MUST_USE
 uint8_t pm_sequence_next(pm_sequence *sequence, pm_host *host, const pm_sequence_step *steps, uint64_t count, pm_sequence_record *records,
                          uint64_t room, pm_sending *frame);
@@ -761,26 +759,6 @@ uint8_t pm_sequence_next(pm_sequence *sequence, pm_host *host, const pm_sequence
 pm_step pm_sequence_write_ended(pm_sequence *sequence, pm_host *host, uint8_t acked);
 pm_step pm_sequence_read_ended(pm_sequence *sequence, pm_host *host, const uint8_t *bytes, uint64_t count);
 
-/* ---- Going: what sequences take the place of ---- */
-
-/* These calls go, and no loop of this header makes them. A list of one step does what a course with a delivery did, and a list of steps what
- * stairs did. */
-#define PM_STAIRS_VERSION 1
-#define PM_STAIRS_SIZE 272
-#define PM_STAIRS_STEP_SIZE 88
-
-/* What an output does, by pm_delivery_verdict. */
-typedef struct {
-    uint8_t kind;
-    uint8_t code;           /* the command code of the register that says so, or 0 */
-    uint8_t bit;            /* of PM_NEW_FAULT, from 0 */
-    uint8_t fault;          /* of PM_DELIVERY_NOT_KNOWN: PM_NO_ANSWER, PM_F1_NOT_OURS to PM_F5_WRONG_PEC */
-    uint8_t has_microvolts; /* 1 if READ_VOUT gave a good answer and stands in `microvolts` */
-    uint8_t unused;
-    uint16_t word;          /* what the register `code` held in this round, if its answer was good; otherwise 0 */
-    int64_t microvolts;     /* READ_VOUT, rounded down; 0 if it isn't known */
-} pm_delivered;
-
 /* Which limits a word is at or beyond: command codes, 0 if there is none, and the words that these registers hold. */
 typedef struct {
     uint8_t fault;         /* VOUT_OV_FAULT_LIMIT (40h) or VOUT_UV_FAULT_LIMIT (44h) */
@@ -788,125 +766,11 @@ typedef struct {
     uint16_t fault_word, warning_word;
 } pm_judgement;
 
-/* A step: one output of one of several parts, and what is done to it. */
-typedef struct {
-    uint8_t host;   /* the place of its host among yours, 0 to 7 */
-    uint8_t output; /* 0 to 7 */
-    uint8_t kind;   /* PM_SETS: registers get words or voltages; PM_TURNS: OPERATION gets `byte`, on, off or a margin;
-                     * PM_STEP_SURVEYS: nothing is ordered, and all that decides what the output commands is read;
-                     * PM_STEP_RESTS: nothing is ordered or read, which undoes a step that ordered nothing */
-    uint8_t byte;   /* of PM_TURNS, otherwise 0 */
-    uint8_t unused[4];
-    pm_sequence_wish command, max, margin_high, margin_low, min; /* of PM_SETS */
-} pm_stairs_step;
-
-typedef char pm_stairs_step_has_its_size[sizeof(pm_stairs_step) == PM_STAIRS_STEP_SIZE ? 1 : -1];
-
-/* How stairs ended; kind 0 if they go on. PM_REACHED if each step is over, or was left by pm_stairs_skip; otherwise as of a sequence. */
-typedef struct {
-    uint8_t kind;
-    uint8_t number;    /* of PM_REFUSED and PM_WAY_BACK_REFUSED; otherwise 0 */
-    uint8_t code;      /* a register's command code, VOUT_MODE (20h) of a learn, or 0 */
-    uint8_t has_begun; /* 1 if the step had begun; 0 if all outputs stand on the stair before it */
-    uint16_t word;     /* of PM_STILL_DIFFERS, PM_OTHER_FORMAT and PM_OTHER_SOURCE; otherwise 0 */
-    uint16_t fault;    /* of PM_SPENT, as of a course; otherwise 0 */
-    uint16_t step;     /* its place in the list, from 0; of PM_REACHED how many steps there are */
-    uint16_t unused[3];
-} pm_stairs_end;
-
-/* Stairs, in memory of yours: how far a list of steps has come. The fields before `held` are there to be read; only the calls write
- * them. They hold no host, no list and no pointer, and may be copied. A call asks first for the mark, the version and fields that
- * stairs have, and answers PM_NO_STAIRS if one lacks. */
-typedef struct {
-    uint16_t mark, version;
-    uint16_t tries;   /* how many jobs each step has at most */
-    uint16_t begun;   /* how many steps have begun or were left. But for those that were left, the outputs stand on this stair, that of the
-                       * newest step, or on the one before */
-    uint8_t host;     /* the place of the host that the next call takes, and on whose bus the frame goes */
-    uint8_t keeps_back, ends_at_restart; /* 1 of a way up, 0 of a way down: a way back is kept; a restart that was seen ends them */
-    uint8_t unused[5];
-    pm_stairs_end end;
-    uint64_t held[30];
-} pm_stairs;
-
-typedef char pm_stairs_has_its_size[sizeof(pm_stairs) == PM_STAIRS_SIZE ? 1 : -1];
-
-uint64_t pm_delivery_size(void);
-uint16_t pm_delivery_version(void);
-uint64_t pm_stairs_size(void);
-uint16_t pm_stairs_version(void);
-
-/* Makes a delivery of an output, whatever stood in the memory. `lacks` is what the part lacks by its data sheet, mostly 0, `within` and
- * `rounds` are as in pm_delivery; 1000 thousandths at most count. H4 for an output above 7; then nothing is written. */
+/* Which fault limit and which limit of a warning a word of the output's voltage is at or beyond, by its value and by what was heard of the
+ * step's rail; a limit that gave no good answer isn't judged. P8 if that is a fault limit, unless PM_FAULT_LIMITS_TELL: the limit is noted in
+ * each case. PM_NO_HOST, PM_NO_DELIVERY if nothing was heard, H4, H7 if the format isn't known; then nothing is written. */
 PM_MUST_USE
-uint8_t pm_delivery_new(pm_delivery *delivery, uint8_t output, uint8_t fault_limits, uint8_t lacks, uint16_t within, uint16_t rounds);
-
-/* Begins to look at what stands before the first order of a call: STATUS_WORD, and the fault limits and warnings unless they are
- * skipped. Once a call is enough: limits and `before` stay until it is asked for again. Ask for it before no order that turns the
- * output off. PM_NO_DELIVERY. */
-PM_MUST_USE
-uint8_t pm_delivery_before(pm_delivery *delivery);
-
-/* Begins to look at what the output does, after a good end: with `off` not 0 after an order that turned it off. Without a look before,
- * as after a survey, no fault is new. PM_NO_DELIVERY. */
-PM_MUST_USE
-uint8_t pm_delivery_after(pm_delivery *delivery, uint8_t off);
-
-/* The request that is to be sent now, the same until it has heard what came back. 0; or PM_ENDED, and then PM_NOTHING, if nothing is
- * left to ask. Each question is asked at most as many times as the host has passes, until a good answer comes. If the output
- * doesn't do yet what it is to, all is asked again, at most `rounds` times: `round` has grown by one then, and the caller waits before
- * it sends that. A register that `lacks` has isn't asked. PM_NO_HOST, PM_NO_DELIVERY, H4, and then PM_NOTHING. */
-PM_MUST_USE
-uint8_t pm_delivery_frame(pm_delivery *delivery, const pm_host *host, pm_sending *sending);
-
-/* That request was sent, and these bytes came back, the read address first; 0 bytes if none came. An answer of nothing but FFh is
- * one that nobody gave: hand over 0 bytes. PM_NO_HOST, PM_NO_DELIVERY, H4, PM_OTHER_FRAME if no request is to be sent. */
-PM_MUST_USE
-uint8_t pm_delivery_read_ended(pm_delivery *delivery, const pm_host *host, const uint8_t *bytes, uint64_t count);
-
-/* What the output does: kind PM_NOT_YET until pm_delivery_frame has answered PM_ENDED. PM_NO_HOST, PM_NO_DELIVERY, H4; then nothing is
- * written. */
-PM_MUST_USE
-uint8_t pm_delivery_verdict(const pm_delivery *delivery, const pm_host *host, pm_delivered *delivered);
-
-/* Which fault limit and which limit of a warning a word of the output's voltage is at or beyond, by its value; a limit that gave no good
- * answer isn't judged. P8 if that is a fault limit, unless PM_FAULT_LIMITS_TELL: the limit is noted in each case. PM_NO_HOST,
- * PM_NO_DELIVERY, H4, H7 if the format isn't known; then nothing is written. */
-PM_MUST_USE
-uint8_t pm_delivery_judge(const pm_delivery *delivery, const pm_host *host, uint16_t word, pm_judgement *judgement);
-
-/* Makes stairs, whatever stood in the memory: no step has begun, and each has at most this many jobs. If `is_down` isn't 0 it is a way
- * down. It notes no way back, and reads nothing before an order that turns an output off. It goes on after a restart of a part, and
- * can leave a step that stopped. */
-void pm_stairs_new(pm_stairs *stairs, uint16_t tries, uint8_t is_down);
-
-/* What is to be sent now, by the host at the place stairs->host. `steps` is the whole list, the same each time. As step N begins,
- * backs[N] becomes the step that undoes it: carried out the newest first, by stairs of their own, they are the way back. Of a way
- * down nothing is written there, and `room` may be 0.
- *   PM_OK           the frame goes on the bus of that host, and stays the same until pm_stairs_write_ended or pm_stairs_read_ended
- *   PM_AGAIN        ask at once by the host at stairs->host, which may be another; with all but PM_OK the frame is PM_NOTHING
- *   PM_NO_WAY_BACK  before the first order of a step, once: the plan of its way back would be refused by the words that are known, as
- *                   stairs->end says. Asked again the step begins
- *   PM_ENDED        as stairs->end says
- * PM_NO_HOST, PM_NO_STAIRS, PM_NO_ROOM; PM_NO_STEP and H4 for the first step that hasn't begun. Then nothing changes.
- * This call and the next two take at most PM_STAIRS_STACK bytes of stack. */
-PM_MUST_USE
-uint8_t pm_stairs_ask(pm_stairs *stairs, pm_host *host, const pm_stairs_step *steps, uint64_t count, pm_stairs_step *backs, uint64_t room,
-                      pm_sending *frame);
-
-/* What became of the frame, by the host at stairs->host, as of a course. PM_NO_HOST, PM_NO_STAIRS, PM_OTHER_FRAME. */
-pm_step pm_stairs_write_ended(pm_stairs *stairs, pm_host *host, uint8_t acked);
-pm_step pm_stairs_read_ended(pm_stairs *stairs, pm_host *host, const uint8_t *bytes, uint64_t count);
-
-/* Leaves the step of a way down that stopped, so that the next one goes on. PM_NO_STAIRS; PM_NO_STEP if there is none. */
-PM_MUST_USE
-uint8_t pm_stairs_skip(pm_stairs *stairs);
-
-/* Judges a step by the words that its host knows: survey the output first, and check WRITE_PROTECT and what the step changes.
- * PM_OK; PM_ENDED if its plan is refused (P1, P4: learn or check first), PM_NO_WAY_BACK if that of its
- * way back is, as `end` says, of step 0. PM_NO_HOST, PM_NO_STEP, H4. */
-PM_MUST_USE
-uint8_t pm_stairs_check(const pm_host *host, const pm_stairs_step *step, pm_stairs_end *end);
+uint8_t pm_sequence_judge(const pm_sequence_record *record, const pm_host *host, uint16_t word, pm_judgement *judgement);
 
 /* ---- The loop of a driver ---- */
 

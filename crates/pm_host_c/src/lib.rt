@@ -25,8 +25,6 @@
 
 mod answer;
 mod course;
-mod delivered;
-mod delivery;
 mod goal;
 mod host;
 mod known;
@@ -37,7 +35,6 @@ mod other_read;
 mod packet;
 mod rail;
 mod sequence;
-mod stairs;
 #[cfg(test)]
 mod tests;
 mod told;

@@ -1,12 +1,16 @@
 //! A sequence over hosts in a caller's memory: a list of steps is carried out, and what its rails do is looked at.
 
 ghost use Rattle.std.specs.Prelude.{◌≡◌, not, ◌==◌};
+ghost use Rattle.pm_host.specs.Summary.{format_at};
 ghost use Rattle.pm_host.specs.Transcript.{Finished};
+ghost use Rattle.pm_calls.specs.Delivery.{asked_number, idle, judge_number, judgement_after};
 ghost use Rattle.pm_calls.specs.Sequence.{sequence_begun, HearsIn, NextIn, ReadIn};
 ghost use Rattle.pm_calls.specs.Sizes.{sequence_size};
 ghost use Rattle.pm_memory.specs.SequenceImage.{sequence_version};
 
 use pm_calls::host_step::HostStep;
+use pm_calls::judgement::{JudgementImage, judge_in, refusal};
+use pm_calls::numbers::ACCEPTED;
 use pm_calls::sequence::{begun, next, read_ended, tell};
 use pm_calls::sequence_step::{SequenceRecordImage, SequenceStepImage};
 use pm_host::Told;
@@ -29,8 +33,8 @@ pub extern "C" fn pm_sequence_version() -> u16
     SequenceImage::VERSION
 }
 
-/// Makes a sequence of which no step has begun, each with this many jobs at most. The rules: 1 a way down, 2 a step that stops is left, 4
-/// each order is told before it begins, or a sum.
+/// Makes a sequence of which no step has begun, each with this many jobs at most. The rules: 1 a way back is kept, 2 a restart
+/// ends it, 4 a step that stops is left, 8 each order is told before it begins, or a sum.
 #[unsafe(no_mangle)]
 pub extern "C" fn pm_sequence_new(sequence: &mut SequenceImage, tries: u16, rules: u8)
     ensures { sequence.new ≡ sequence_begun tries rules }
@@ -77,4 +81,25 @@ pub extern "C" fn pm_sequence_read_ended(
     ensures { ReadIn host.old sequence.old bytes.now result host.new sequence.new }
 {
     read_ended(sequence, host, bytes)
+}
+
+/// Which limits that were heard of the rail of a step a word of its output is at or beyond. P8 if that is a fault limit, and fault limits
+/// refuse; that limit is written then too. E0h, ECh if nothing was heard of the rail, H4, H7; then nothing is written.
+#[unsafe(no_mangle)]
+pub extern "C" fn pm_sequence_judge(
+    record: &SequenceRecordImage,
+    host: &GuardImage,
+    word: u16,
+    judgement: &mut JudgementImage,
+) -> u8
+    ensures number { let refusal = asked_number host.now record.now.look in
+        result ≡ judge_number refusal (format_at (idle host.now) record.now.look.delivery.output) record.now.look.delivery word }
+    ensures judgement { let refusal = asked_number host.now record.now.look in
+        judgement.new ≡ judgement_after refusal (format_at (idle host.now) record.now.look.delivery.output) record.now.look.delivery word judgement.old }
+{
+    let number = refusal(&record.look, host);
+    if number != ACCEPTED {
+        return number;
+    }
+    judge_in(&record.look.delivery, host, word, judgement)
 }

@@ -1,14 +1,12 @@
 mod calls;
 mod checks;
 mod courses;
-mod deliveries;
 mod example;
 mod law_uses;
 mod limits;
 mod packets;
 mod rails;
 mod sequences;
-mod stairs;
 
 use self::calls::{
     at_least, at_most, band, check, clear, finished, format, got, host, kept, learn, limits,

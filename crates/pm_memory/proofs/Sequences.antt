@@ -10,11 +10,10 @@ use Rattle.pm_sequence.specs.declared.look.Look.{Look}
 use Rattle.pm_sequence.specs.declared.sequence.Phase.{Phase}
 use Rattle.pm_sequence.specs.declared.sequence.Phase.TheVariants as phase
 use Rattle.pm_sequence.specs.declared.sequence.Sequence.{Sequence}
-use Rattle.pm_memory.specs.declared.stairs_end.StairsEndImage.{StairsEndImage}
 use Rattle.pm_memory.specs.declared.sequence_image.SaidImage.{SaidImage}
 use Rattle.pm_memory.specs.CourseImage.{IsKept}
 use Rattle.pm_memory.specs.SequenceImage.{look_image, look_read, phase_number, phase_read, sequence_image, sequence_in, IsKeptList, IsKeptSequence, SequencesAreKept}
-use Rattle.pm_memory.specs.StairsImage.{end_none, stairs_image, stairs_in}
+use Rattle.pm_memory.specs.ListImage.{list_image, list_in}
 use Rattle.pm_memory.proofs.Courses.{kept}
 use Rattle.pm_memory.proofs.Kept.{flag-kept, wanted-kept}
 
@@ -38,11 +37,11 @@ made q newest coming = record q { stairs = record q.stairs { under = newest; com
 abbrev step_of : ℕ → WordAct → FrameCourse → Under
 step_of output act course = record { step = record { output = output; act = act }; course = course }
 
-abbrev IsListKept : List → StairsEndImage → Type 0
-IsListKept q end = stairs_in (stairs_image q end) ≡ Some q
+abbrev IsListKept : List → Type 0
+IsListKept q = list_in (list_image q) ≡ Some q
 
-none-at : (q : List) (end : StairsEndImage) (coming : Option FrameCourse) → IfSome coming IsKept → IsListKept (made q None coming) end
-none-at q end None is = rw (
+none-at : (q : List) (coming : Option FrameCourse) → IfSome coming IsKept → IsListKept (made q None coming)
+none-at q None is = rw (
   flag-kept q.is_free,
   flag-kept q.is_warned,
   flag-kept q.keeps_back,
@@ -50,7 +49,7 @@ none-at q end None is = rw (
   flag-kept q.stairs.reading,
   flag-kept q.stairs.restarted,
 ) refl
-none-at q end (Some c) is = rw (
+none-at q (Some c) is = rw (
   kept c is,
   flag-kept q.is_free,
   flag-kept q.is_warned,
@@ -60,9 +59,9 @@ none-at q end (Some c) is = rw (
   flag-kept q.stairs.restarted,
 ) refl
 
-some-at : (q : List) (end : StairsEndImage) (output : ℕ) (act : WordAct) (course : FrameCourse) (coming : Option FrameCourse) → IsKept course
-    → IfSome coming IsKept → IsListKept (made q (Some (step_of output act course)) coming) end
-some-at q end output (words.Sets wanted) course None own is = rw (
+some-at : (q : List) (output : ℕ) (act : WordAct) (course : FrameCourse) (coming : Option FrameCourse) → IsKept course
+    → IfSome coming IsKept → IsListKept (made q (Some (step_of output act course)) coming)
+some-at q output (words.Sets wanted) course None own is = rw (
   kept course own,
   wanted-kept wanted,
   flag-kept q.is_free,
@@ -72,7 +71,7 @@ some-at q end output (words.Sets wanted) course None own is = rw (
   flag-kept q.stairs.reading,
   flag-kept q.stairs.restarted,
 ) refl
-some-at q end output (words.Sets wanted) course (Some c) own is = rw (
+some-at q output (words.Sets wanted) course (Some c) own is = rw (
   kept course own,
   kept c is,
   wanted-kept wanted,
@@ -83,7 +82,7 @@ some-at q end output (words.Sets wanted) course (Some c) own is = rw (
   flag-kept q.stairs.reading,
   flag-kept q.stairs.restarted,
 ) refl
-some-at q end output (words.Turns byte) course None own is = rw (
+some-at q output (words.Turns byte) course None own is = rw (
   kept course own,
   flag-kept q.is_free,
   flag-kept q.is_warned,
@@ -92,7 +91,7 @@ some-at q end output (words.Turns byte) course None own is = rw (
   flag-kept q.stairs.reading,
   flag-kept q.stairs.restarted,
 ) refl
-some-at q end output (words.Turns byte) course (Some c) own is = rw (
+some-at q output (words.Turns byte) course (Some c) own is = rw (
   kept course own,
   kept c is,
   flag-kept q.is_free,
@@ -102,7 +101,7 @@ some-at q end output (words.Turns byte) course (Some c) own is = rw (
   flag-kept q.stairs.reading,
   flag-kept q.stairs.restarted,
 ) refl
-some-at q end output words.Nothing course None own is = rw (
+some-at q output words.Nothing course None own is = rw (
   kept course own,
   flag-kept q.is_free,
   flag-kept q.is_warned,
@@ -111,7 +110,7 @@ some-at q end output words.Nothing course None own is = rw (
   flag-kept q.stairs.reading,
   flag-kept q.stairs.restarted,
 ) refl
-some-at q end output words.Nothing course (Some c) own is = rw (
+some-at q output words.Nothing course (Some c) own is = rw (
   kept course own,
   kept c is,
   flag-kept q.is_free,
@@ -122,17 +121,17 @@ some-at q end output words.Nothing course (Some c) own is = rw (
   flag-kept q.stairs.restarted,
 ) refl
 
-list-at : (q : List) (end : StairsEndImage) (newest : Option Under) (coming : Option FrameCourse) → IfSome newest (λ under. IsKept under.course)
-    → IfSome coming IsKept → IsListKept (made q newest coming) end
-list-at q end None coming own is = none-at q end coming is
-list-at q end (Some under) coming own is = some-at q end under.step.output under.step.act under.course coming own is
+list-at : (q : List) (newest : Option Under) (coming : Option FrameCourse) → IfSome newest (λ under. IsKept under.course)
+    → IfSome coming IsKept → IsListKept (made q newest coming)
+list-at q None coming own is = none-at q coming is
+list-at q (Some under) coming own is = some-at q under.step.output under.step.act under.course coming own is
 
-list-kept : (q : List) (end : StairsEndImage) → IsKeptList q → IsListKept q end
-list-kept q end is = list-at q end q.stairs.under q.stairs.coming is.under is.coming
+list-kept : (q : List) → IsKeptList q → IsListKept q
+list-kept q is = list-at q q.stairs.under q.stairs.coming is.under is.coming
 
 sequence-kept : (q : Sequence) (said : SaidImage) → IsKeptSequence q → sequence_in (sequence_image q said) ≡ Some q
 sequence-kept q said is = rw (
-  list-kept q.list end_none is.list,
+  list-kept q.list is.list,
   look-kept q.look,
   phase-kept q.phase,
   is.told,

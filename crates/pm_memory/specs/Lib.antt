@@ -8,7 +8,7 @@ pub mod Guard
 pub mod Hosted
 pub mod Memory
 pub mod Sending
-pub mod StairsImage
+pub mod ListImage
 pub mod SequenceEnd
 pub mod SequenceImage
 pub mod Wanted

@@ -17,8 +17,7 @@ use Rattle.pm_stairs.specs.declared.said.StepEnd.TheVariants as stop
 use Rattle.pm_memory.specs.declared.course_end_image.EndNumbers.{EndNumbers}
 use Rattle.pm_memory.specs.declared.sequence_end.SequenceEndImage.{SequenceEndImage}
 use Rattle.pm_memory.specs.declared.sequence_end.VerdictNumbers.{VerdictNumbers}
-use Rattle.pm_memory.specs.CourseEnd.{end_held}
-use Rattle.pm_memory.specs.StairsImage.{stop_numbers}
+use Rattle.pm_memory.specs.CourseEnd.{end_held, end_numbers, kind_alone}
 
 -- ---- What a rail does ----
 
@@ -89,6 +88,12 @@ stopped_numbers i = record (end_alone i.kind) {
   word = i.word;
 }
 
+-- the end of the step's course, or 7 where the step changed, 8 where a part restarted
+abbrev pub stop_numbers : StepEnd → EndNumbers
+stop_numbers (stop.Course end) = end_numbers (Some end)
+stop_numbers stop.Changed = kind_alone 7
+stop_numbers stop.Restarted = kind_alone 8
+
 abbrev pub stop_written : StepEnd → SequenceEndImage
 stop_written why = stopped_numbers (stop_numbers why)
 
@@ -102,7 +107,7 @@ beyond_written (BeyondFaultLimit limit word) = record (end_alone 11) {
 abbrev pub does_numbers : VerdictNumbers → SequenceEndImage
 does_numbers i = record (end_alone 14) { code = i.code; verdict = i.kind; bit = i.bit; fault = i.fault }
 
--- 0 where it goes on; 1 reached; 2 to 8 as the stop of stairs; 10 steps were left, 11 beyond a fault limit, 12 it can't be judged, 14 the rail
+-- 0 where it goes on; 1 reached; 2 to 8 as a step stops; 10 steps were left, 11 beyond a fault limit, 12 it can't be judged, 14 the rail
 -- doesn't do what it is to
 abbrev pub end_written : Option End → SequenceEndImage
 end_written None = end_alone 0

@@ -17,7 +17,7 @@ use Rattle.pm_memory.specs.declared.sequence_image.ToldImage.{ToldImage}
 use Rattle.pm_memory.specs.CourseImage.{IsKept}
 use Rattle.pm_memory.specs.Flag.{flag}
 use Rattle.pm_memory.specs.SequenceEnd.{end_read, end_written}
-use Rattle.pm_memory.specs.StairsImage.{end_none, stairs_image, stairs_in, stairs_meant}
+use Rattle.pm_memory.specs.ListImage.{list_image, list_in, list_meant}
 
 -- the bytes 'SQ' and the number of this layout, which other memory lacks
 abbrev pub sequence_mark : ℕ
@@ -95,11 +95,11 @@ sequence_read i list = record {
 }
 
 abbrev pub sequence_in : SequenceImage → Option Sequence
-sequence_in i = if i.mark == sequence_mark && i.version == sequence_version then option_map (sequence_read i) (stairs_in i.list) else None
+sequence_in i = if i.mark == sequence_mark && i.version == sequence_version then option_map (sequence_read i) (list_in i.list) else None
 
 -- what the numbers mean of memory that holds one
 abbrev pub sequence_meant : SequenceImage → Sequence
-sequence_meant i = sequence_read i (stairs_meant i.list)
+sequence_meant i = sequence_read i (list_meant i.list)
 
 -- how it is written, with what was said last
 abbrev pub sequence_image : Sequence → SaidImage → SequenceImage
@@ -110,7 +110,7 @@ sequence_image q said = record {
   leaves = flag q.leaves;
   asks = flag q.asks;
   said = said;
-  list = stairs_image q.list end_none;
+  list = list_image q.list;
   look = look_image q.look;
   look_host = q.look_host;
   phase = phase_number q.phase;

@@ -1,10 +1,9 @@
 //! How a sequence ends and what a rail does, as plain numbers.
 
 ghost use Rattle.std.specs.Prelude.{◌≡◌};
-ghost use Rattle.pm_memory.specs.SequenceEnd.{beyond_read, does_read, end_read, end_written, question_read, stop_read, stop_written, verdict_numbers, verdict_read, verdict_said};
+ghost use Rattle.pm_memory.specs.SequenceEnd.{beyond_read, does_read, end_read, end_written, question_read, stop_numbers, stop_read, stop_written, verdict_numbers, verdict_read, verdict_said};
 
 use crate::course_end_image::{EndNumbers, end_held};
-use crate::stairs_end::numbers_of;
 use pm_delivery::{DeliveryFault, Question, Verdict};
 use pm_sequence::End;
 use pm_stairs::StepEnd;
@@ -29,7 +28,7 @@ pub struct VerdictNumbers {
 #[repr(C)]
 #[derive(Clone, Copy, Debug)]
 pub struct SequenceEndImage {
-    /// 0 if it goes on; 1 reached; 2 to 8 as the stop of stairs; 10 steps were left, 11 the goal is beyond a fault limit, 12 it can't be
+    /// 0 if it goes on; 1 reached; 2 to 8 as a step stops; 10 steps were left, 11 the goal is beyond a fault limit, 12 it can't be
     /// judged, 14 the rail doesn't do what it is to.
     pub kind: u8,
     /// The number of the refusal, otherwise 0.
@@ -48,7 +47,7 @@ pub struct SequenceEndImage {
     pub word: u16,
 }
 
-// The kinds of ends that no stop of stairs has.
+// The kinds of ends that no stop of a step has.
 const REACHED: u8 = 1;
 
 const CHANGED: u8 = 7;
@@ -283,5 +282,16 @@ impl SequenceEndImage {
                 None => None,
             },
         }
+    }
+}
+
+// The numbers of how a step stopped.
+fn numbers_of(why: StepEnd) -> EndNumbers
+    ensures { result ≡ stop_numbers why }
+{
+    match why {
+        StepEnd::Course(end) => EndNumbers::of(Some(end)),
+        StepEnd::Changed => EndNumbers::kind(CHANGED),
+        StepEnd::Restarted => EndNumbers::kind(RESTARTED),
     }
 }

@@ -6,10 +6,9 @@ ghost use Rattle.pm_table.specs.Rules.{rule};
 ghost use Rattle.pm_table.specs.Cell.{output_of as spec_output_of};
 
 use crate::course_image::flag;
+use crate::list_image::ListImage;
 use crate::look_image::LookImage;
 use crate::sequence_end::SequenceEndImage;
-use crate::stairs_end::StairsEndImage;
-use crate::stairs_image::StairsImage;
 use pm_host::Job;
 use pm_sequence::{Phase, Sequence};
 use pm_table::{Cell, Code, cell_of};
@@ -75,7 +74,7 @@ pub struct SequenceImage {
     /// What was said last.
     pub said: SaidImage,
     /// How far the list of steps has come.
-    pub list: StairsImage,
+    pub list: ListImage,
     /// The look at a rail.
     pub look: LookImage,
     /// The place of the host whose output is looked at.
@@ -178,7 +177,7 @@ impl SequenceImage {
             leaves: 0,
             asks: 0,
             said,
-            list: StairsImage::BLANK,
+            list: ListImage::BLANK,
             look: LookImage::of(&sequence.look),
             look_host: 0,
             phase: 0,
@@ -203,7 +202,7 @@ impl SequenceImage {
         self.leaves = flag(sequence.leaves);
         self.asks = flag(sequence.asks);
         self.said = said;
-        self.list.write(&sequence.list, StairsEndImage::none());
+        self.list.write(&sequence.list);
         self.look = LookImage::of(&sequence.look);
         self.look_host = sequence.look_host;
         self.phase = phase_number(sequence.phase);
@@ -222,7 +221,7 @@ impl SequenceImage {
         if self.mark != SequenceImage::MARK || self.version != SequenceImage::VERSION {
             return false;
         }
-        self.list.is_stairs()
+        self.list.is_list()
     }
 
     /// What the numbers mean of memory that holds a sequence.

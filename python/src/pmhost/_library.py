@@ -139,8 +139,8 @@ class SaidImage(c.Structure):
 
 class SequenceImage(c.Structure):
     _fields_ = [("mark", c.c_uint16), ("version", c.c_uint16), ("left", c.c_uint16), ("leaves", c.c_uint8), ("asks", c.c_uint8), ("said", SaidImage),
-                ("marks", c.c_uint16 * 2), ("tries", c.c_uint16), ("begun", c.c_uint16), ("host", c.c_uint8), ("keeps_back", c.c_uint8),
-                ("ends_at_restart", c.c_uint8), ("unused", c.c_uint8 * 5), ("held", c.c_uint64 * 32), ("look", RailHeardImage), ("more", c.c_uint8 * 34)]
+                ("tries", c.c_uint16), ("begun", c.c_uint16), ("host", c.c_uint8), ("keeps_back", c.c_uint8), ("ends_at_restart", c.c_uint8),
+                ("unused", c.c_uint8), ("held", c.c_uint64 * 30), ("look", RailHeardImage), ("more", c.c_uint8 * 34)]
 
 
 class NameImage(c.Structure):

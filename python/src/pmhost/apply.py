@@ -75,6 +75,8 @@ class Board:
     looked_at: dict[str, int] = field(default_factory=dict)
     befores: dict[str, Heard] = field(default_factory=dict)
     notes: dict[str, list[str]] = field(default_factory=dict)
+    # Whether this may write: steps are looked at then, and the fault limits are read before the first order.
+    may_write: bool = False
     surveys: dict[str, Commanded] = field(default_factory=dict)
     orders: int = 0
     # How many orders there had been when a rail was read last.
@@ -247,6 +249,7 @@ class Board:
 
     def prepare(self) -> None:
         """Reads and judges everything, and writes nothing."""
+        self.may_write = True
         self.read()
         for rail in self.rails:
             if not self.is_protected(rail) or not self.is_in_the_way(rail.part):

@@ -66,8 +66,8 @@ class RailRun:
     def __init__(self, board: Board, rail: Rail) -> None:
         self.board, self.rail, self.part = board, rail, board.on(rail)
         self.may_order, self.is_judged = False, self.accept is None
-        self.run = StepRun(self.part, replace(SequenceStep.sets(0, rail.output, board.wanted(rail), board.looks), before=board.before(rail)), TRIES,
-                           self.before)
+        step = SequenceStep.sets(0, rail.output, board.wanted(rail), board.looks if board.may_write else None)
+        self.run = StepRun(self.part, replace(step, before=board.before(rail)), TRIES, self.before)
         self.end: Said | None = None
 
     @property

@@ -7,7 +7,7 @@ from typing import TYPE_CHECKING
 from . import clock, voltages
 from .back import Held
 from .course import Course
-from .delivered import Delivered
+from .delivered import why_not_before
 from .errors import SAYINGS, refusal
 from .looks import Looks
 from .rail_run import Stopped
@@ -18,18 +18,6 @@ from .survey import TRIES, only_word
 
 if TYPE_CHECKING:
     from .apply import Board
-
-# What a rail may be that comes before one with `delivers`, beside those that are no fault of it.
-NOT_ON = ("commanded off", "not known to be on", "went off")
-
-
-def why_not_before(name: str, found: Delivered) -> str:
-    """Why a rail doesn't deliver after which another one is to begin, by what was seen of it; nothing if it does."""
-    if found.is_missing:
-        return f"{name} has to deliver first, which isn't known: {found.lacking}"
-    if found.is_bad or found.verdict.kind in NOT_ON:
-        return f"{name} has to deliver first: {found.why or found.verdict.kind}{found.words}"
-    return ""
 
 
 def begin(board: Board, rail: Rail) -> None:

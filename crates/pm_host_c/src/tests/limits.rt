@@ -168,7 +168,7 @@ fn a_band_beyond_its_limits_is_outside(rt: HostRuntime) {
 
 // Each refusal that only a caller in C gets and one of each other kind, with its name; an empty name for a number
 // that has none.
-static REFUSALS: [(u8, &[u8]); 33] = [
+static REFUSALS: [(u8, &[u8]); 32] = [
     (0x00, b""),
     (0x06, b"H6 TooUncertain\0\0"),
     (0x15, b"N5 TooLarge\0"),
@@ -200,7 +200,6 @@ static REFUSALS: [(u8, &[u8]); 33] = [
     (0xEB, b"NoBand\0"),
     (0xEC, b"NoDelivery\0"),
     (0xED, b"NoGoal\0"),
-    (0xEE, b"NoStairs\0"),
     (0xEF, b"NoStep\0"),
 ];
 

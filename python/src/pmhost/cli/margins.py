@@ -10,7 +10,7 @@ from typing import Any, Iterator
 from .. import rails, readings, voltages
 from ..apply import AS_WANTED, Board
 from ..back import OPERATION, Held
-from ..course import CourseEnd, Job, in_hexadecimal
+from ..course import CourseEnd, in_hexadecimal
 from ..cuts import cuts
 from ..delivered import Delivered, beyond_of, register_words
 from ..device import Device
@@ -21,11 +21,11 @@ from ..parts import BadRails
 from ..rail_run import Restarted, Stopped
 from ..rails import Rail
 from ..rehearsal import first_not_reached, unprotected
-from ..sequence import WHY, Heard, Rules, Said, SequenceStep
+from ..sequence import UP, WHY, Heard, Said, Sequence, SequenceStep
 from ..step_run import StepRun, look_at
 from ..survey import TRIES, Commanded, commanded, only_word, read, survey
 from ..transfers import Transfers
-from ..zeros import NotBelieved
+from ..zeros import NotBelieved, believed
 from .about import described
 from .again import RESTARTED
 from .answer import Answer, between, delivery_of, number
@@ -150,14 +150,10 @@ class RailTest:
         """How far the way to a point goes without an order."""
         run = StepRun(part, self.step_to(point), TRIES, lambda _: False)
         with self.stopping():
-            end = self.carried_out(run)
+            part.transfers = Transfers()
+            end = run.carry_out(ask=self.call.places()[self.rail.part].ask_operation)
         self.befores.setdefault(self.rail.name, run.before)
         return end
-
-    def carried_out(self, run: StepRun) -> Said:
-        """To its end, or up to an order that isn't to begin."""
-        run.part.transfers = Transfers()
-        return run.carry_out(ask=self.call.places()[self.rail.part].ask_operation)
 
     # ---- Orders ----
 
@@ -167,25 +163,38 @@ class RailTest:
         protection.touch(part)
         protection.lift(part)
         self.call.back.note(Held(self.rail.name, part, self.rail.output, {OPERATION: ON}))
-        for point in POINTS[:-1]:
-            self.measure(point, self.turn(point))
+        self.go(POINTS[:-1])
         for held, why in self.call.back.go():
             self.is_back = not why
             if why:
                 raise Stopped(words_of(held, why))
-        self.measure(POINTS[-1], look_at(self.part, self.rail.output, self.how, self.befores.get(self.rail.name, Heard())))
+        self.measure(POINTS[-1])
 
-    def turn(self, point: str) -> Delivered:
-        """Brings the rail to a point, and looks at it. Stopped if its byte isn't confirmed."""
-        def before(_: Job) -> None:
-            self.call.maybe = f"{self.rail.name} may be on a margin"
+    def go(self, points: tuple[str, ...]) -> None:
+        """Brings the rail to these points, which were judged before, as one list, and measures each before the next one's order. Stopped if a
+        byte isn't confirmed."""
+        left = list(points)
 
-        run = StepRun(self.part, self.step_to(point), TRIES, before, Rules(ends_at_restart=True))
+        def told(said: Said) -> None:
+            if said.kind == "order":
+                while len(points) - len(left) < said.step:
+                    self.measure(left.pop(0))
+                self.call.maybe = f"{self.rail.name} may be on a margin"
+
+        self.part.transfers = Transfers()
+        steps = [replace(self.step_to(point), looks=None) for point in points]
+        run, bus = Sequence([self.part.host], steps, replace(UP, asks=True), TRIES), believed(self.part.bus, self.part.host)
         with self.stopping():
-            end = self.carried_out(run)
-        if run.delivered is None:
+            end = run.run([bus], told, transfers=self.part.transfers, ask=self.call.places()[self.rail.part].ask_operation)
+        if not end.is_well:
+            point = points[end.step]
             raise self.ended(point, end, f"at {point}: ")
-        return run.delivered
+        for point in left:
+            self.measure(point)
+
+    def looked(self) -> Delivered:
+        """What the rail does."""
+        return look_at(self.part, self.rail.output, self.how, self.befores.get(self.rail.name, Heard()))
 
     def ended(self, point: str, end: Said, at: str = "") -> Stopped:
         """Why the rail isn't at a point."""
@@ -197,8 +206,9 @@ class RailTest:
         why = f"{self.rail.name}: {at}{self.why_ended(self.byte_at(point), end.course)}"
         return Restarted(why) if end.kind == "restarted" else Stopped(why)
 
-    def measure(self, point: str, found: Delivered) -> None:
-        """Looks at all others, which stay as they are. Restarted, or Stopped if one of all doesn't do what it is to."""
+    def measure(self, point: str) -> None:
+        """Looks at the rail and at all others, which stay as they are. Restarted, or Stopped if one doesn't do what it is to."""
+        found = self.looked()
         others = [(rail, self.why_other(rail)) for rail in self.board.rails if rail is not self.rail]
         silent = self.read_again(point, self.byte_at(point))
         self.rows.append(Row(self.rail, point, commanded(self.part, self.rail.output), found))

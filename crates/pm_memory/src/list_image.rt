@@ -1,17 +1,16 @@
-//! Stairs in a caller's memory: plain numbers, and what they mean.
+//! How far a list of steps has come, in a caller's memory: plain numbers, and what they mean.
 
 ghost use Rattle.std.specs.Prelude.{◌≡◌, option_map};
 ghost use Rattle.pm_table.specs.Rules.{rule};
-ghost use Rattle.pm_memory.specs.StairsImage.{course_written, stairs_image, stairs_in, stairs_meant, under_image, under_numbers, under_words};
+ghost use Rattle.pm_memory.specs.ListImage.{course_written, list_image, list_in, list_meant, under_image, under_numbers, under_words};
 
 use crate::course_image::{CourseImage, flag};
-use crate::stairs_end::StairsEndImage;
 use crate::wanted_image::WantedImage;
 use pm_course::FrameCourse;
 use pm_rail::Wanted;
 use pm_stairs::{Sequence, Stairs, Under, WordAct, WordStep};
 
-/// The words of a step that has begun, and the marks of stairs, as plain numbers.
+/// The words of a step that has begun, and the marks of a list, as plain numbers.
 #[repr(C)]
 #[derive(Clone, Copy, Debug)]
 pub struct UnderImage {
@@ -39,14 +38,10 @@ pub struct UnderImage {
     pub words: WantedImage,
 }
 
-/// Stairs in memory that a caller keeps. It has no padding, holds no address of memory, and may be copied.
+/// How far a list of steps has come. It has no padding.
 #[repr(C)]
 #[derive(Clone, Copy, Debug)]
-pub struct StairsImage {
-    /// 5253h, the bytes 'SR'.
-    pub mark: u16,
-    /// The number of this layout.
-    pub version: u16,
+pub struct ListImage {
     /// How many jobs each step has at most.
     pub tries: u16,
     /// How many steps have begun.
@@ -58,9 +53,7 @@ pub struct StairsImage {
     /// 1 if a restart of a part that was seen ends them, otherwise 0.
     pub ends_at_restart: u8,
     /// No meaning.
-    pub unused: [u8; 5],
-    /// How they ended.
-    pub end: StairsEndImage,
+    pub unused: u8,
     /// The step under way, and marks.
     pub under: UnderImage,
     /// The course of the step under way.
@@ -76,24 +69,15 @@ const TURNS: u8 = 2;
 
 const NOTHING: u8 = 3;
 
-impl StairsImage {
-    /// The mark of stairs.
-    pub const MARK: u16 = 0x5253;
-
-    /// The number of the layout.
-    pub const VERSION: u16 = 1;
-
-    /// Zeros, which are no stairs.
-    pub(crate) const BLANK: StairsImage = StairsImage {
-        mark: 0,
-        version: 0,
+impl ListImage {
+    /// Zeros.
+    pub(crate) const BLANK: ListImage = ListImage {
         tries: 0,
         begun: 0,
         host: 0,
         keeps_back: 0,
         ends_at_restart: 0,
-        unused: [0; 5],
-        end: StairsEndImage::BLANK,
+        unused: 0,
         under: UnderImage {
             kind: 0,
             host: 0,
@@ -111,57 +95,31 @@ impl StairsImage {
         coming: CourseImage::BLANK,
     };
 
-    /// The image of stairs, with how they ended.
-    pub fn of(stairs: &Sequence, end: StairsEndImage) -> StairsImage
-        ensures { result ≡ stairs_image stairs.now end }
+    /// The memory holds this list now, whatever stood there.
+    pub fn write(&mut self, list: &Sequence)
+        ensures { self.new ≡ list_image list.now }
     {
-        let mut image = StairsImage::BLANK;
-        image.write(stairs, end);
-        image
+        self.tries = list.tries;
+        self.begun = list.begun;
+        self.host = list.host;
+        self.keeps_back = flag(list.keeps_back);
+        self.ends_at_restart = flag(list.ends_at_restart);
+        self.unused = 0;
+        self.under = UnderImage::of(list);
+        write_under(&mut self.course, &list.stairs.under);
+        write_course(&mut self.coming, &list.stairs.coming);
     }
 
-    /// The memory holds these stairs now, with how they ended, whatever stood there.
-    pub fn write(&mut self, stairs: &Sequence, end: StairsEndImage)
-        ensures { self.new ≡ stairs_image stairs.now end }
+    /// Whether the memory holds a list.
+    pub fn is_list(&self) -> bool
+        ensures { list_in self.now ≡ rule result (list_meant self.now) }
     {
-        self.mark = StairsImage::MARK;
-        self.version = StairsImage::VERSION;
-        self.tries = stairs.tries;
-        self.begun = stairs.begun;
-        self.host = stairs.host;
-        self.keeps_back = flag(stairs.keeps_back);
-        self.ends_at_restart = flag(stairs.ends_at_restart);
-        self.unused = [0; 5];
-        self.end = end;
-        self.under = UnderImage::of(stairs);
-        write_under(&mut self.course, &stairs.stairs.under);
-        write_course(&mut self.coming, &stairs.stairs.coming);
-    }
-
-    /// The stairs; `None` if the memory holds none.
-    pub fn stairs(&self) -> Option<Sequence>
-        ensures { result ≡ stairs_in self.now }
-    {
-        if self.is_stairs() {
-            Some(self.held())
-        } else {
-            None
-        }
-    }
-
-    /// Whether the memory holds stairs.
-    pub fn is_stairs(&self) -> bool
-        ensures { stairs_in self.now ≡ rule result (stairs_meant self.now) }
-    {
-        if self.mark != StairsImage::MARK || self.version != StairsImage::VERSION {
-            return false;
-        }
         self.course.is_course() && self.coming.is_course()
     }
 
-    /// What the numbers mean of memory that holds stairs.
+    /// What the numbers mean of memory that holds a list.
     pub fn held(&self) -> Sequence
-        ensures { result ≡ stairs_meant self.now }
+        ensures { result ≡ list_meant self.now }
     {
         Sequence {
             stairs: Stairs {
@@ -213,39 +171,39 @@ fn write_course(image: &mut CourseImage, course: &Option<FrameCourse>)
 }
 
 impl UnderImage {
-    // The step under way and the marks of stairs.
-    fn of(stairs: &Sequence) -> UnderImage
-        ensures { result ≡ under_image stairs.now stairs.now.stairs.under }
+    // The step under way and the marks of a list.
+    fn of(list: &Sequence) -> UnderImage
+        ensures { result ≡ under_image list.now list.now.stairs.under }
     {
-        match stairs.stairs.under {
-            None => UnderImage::numbers(stairs, 0, 0, 0, &Wanted::nothing()),
+        match list.stairs.under {
+            None => UnderImage::numbers(list, 0, 0, 0, &Wanted::nothing()),
             Some(under) => match under.step.act {
                 WordAct::Sets(wanted) => {
-                    UnderImage::numbers(stairs, SETS, under.step.output, 0, &wanted)
+                    UnderImage::numbers(list, SETS, under.step.output, 0, &wanted)
                 }
                 WordAct::Turns(byte) => {
-                    UnderImage::numbers(stairs, TURNS, under.step.output, byte, &Wanted::nothing())
+                    UnderImage::numbers(list, TURNS, under.step.output, byte, &Wanted::nothing())
                 }
                 WordAct::Nothing => {
-                    UnderImage::numbers(stairs, NOTHING, under.step.output, 0, &Wanted::nothing())
+                    UnderImage::numbers(list, NOTHING, under.step.output, 0, &Wanted::nothing())
                 }
             },
         }
     }
 
-    // The numbers of a step and the marks of stairs.
-    fn numbers(stairs: &Sequence, kind: u8, output: u8, byte: u16, wanted: &Wanted) -> UnderImage
-        ensures { result ≡ under_numbers stairs.now kind output byte wanted.now }
+    // The numbers of a step and the marks of a list.
+    fn numbers(list: &Sequence, kind: u8, output: u8, byte: u16, wanted: &Wanted) -> UnderImage
+        ensures { result ≡ under_numbers list.now kind output byte wanted.now }
     {
         UnderImage {
             kind,
-            host: stairs.under_host,
+            host: list.under_host,
             output,
-            is_free: u8::from(stairs.is_free),
-            is_warned: u8::from(stairs.is_warned),
-            is_reading: u8::from(stairs.stairs.reading),
-            is_restarted: u8::from(stairs.stairs.restarted),
-            has_coming: u8::from(stairs.stairs.coming.is_some()),
+            is_free: u8::from(list.is_free),
+            is_warned: u8::from(list.is_warned),
+            is_reading: u8::from(list.stairs.reading),
+            is_restarted: u8::from(list.stairs.restarted),
+            has_coming: u8::from(list.stairs.coming.is_some()),
             byte,
             unused: 0,
             words: WantedImage::of(wanted),

@@ -1,5 +1,5 @@
 use Rattle.std.proofs.Common.{refl}
-use Rattle.pm_memory.proofs.stairs_image.StairsImage.write.Goals as goal
+use Rattle.pm_memory.proofs.list_image.ListImage.write.Goals as goal
 
 pub returns : goal.returns
 returns c = rw (c.flag-self.ensures, c.flag-self-2.ensures, c.of-self.ensures, c.write_under.ensures, c.write_course.ensures) refl

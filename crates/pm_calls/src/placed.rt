@@ -1,7 +1,7 @@
-//! The steps of stairs in a caller's memory: plain numbers, and what they mean.
+//! What a step of a list does, in a caller's memory: plain numbers, and what they mean.
 
 ghost use Rattle.std.specs.Prelude.{◌≡◌};
-ghost use Rattle.pm_calls.specs.StairsStep.{act_asked, are_wishes as spec_are_wishes, is_wish as spec_is_wish, placed_in, step_image, step_numbers, wish_asked, wishes_asked, word_image};
+ghost use Rattle.pm_calls.specs.Placed.{act_asked, are_wishes as spec_are_wishes, is_wish as spec_is_wish, placed_in, step_image, step_numbers, wish_asked, wishes_asked, word_image};
 
 use crate::numbers::NO_STEP;
 use pm_course::{Wish, Wishes};
@@ -12,7 +12,7 @@ use pm_stairs::{Act, Placed, Step, WordAct, WordStep};
 /// What a step asks for of a register.
 #[repr(C)]
 #[derive(Clone, Copy, Debug)]
-pub struct StairsWishImage {
+pub struct StepWishImage {
     /// 0 if it stays, 1 a word, 2 a voltage.
     pub kind: u16,
     /// The word, otherwise 0.
@@ -26,7 +26,7 @@ pub struct StairsWishImage {
 /// A step of one of several parts. It has no padding.
 #[repr(C)]
 #[derive(Clone, Copy, Debug)]
-pub struct StairsStepImage {
+pub struct PlacedImage {
     /// The place of its host, 0 to 7.
     pub host: u8,
     /// Its output.
@@ -39,15 +39,15 @@ pub struct StairsStepImage {
     /// No meaning.
     pub unused: [u8; 4],
     /// What is asked for of VOUT_COMMAND.
-    pub command: StairsWishImage,
+    pub command: StepWishImage,
     /// That of VOUT_MAX.
-    pub max: StairsWishImage,
+    pub max: StepWishImage,
     /// That of VOUT_MARGIN_HIGH.
-    pub margin_high: StairsWishImage,
+    pub margin_high: StepWishImage,
     /// That of VOUT_MARGIN_LOW.
-    pub margin_low: StairsWishImage,
+    pub margin_low: StepWishImage,
     /// That of VOUT_MIN.
-    pub min: StairsWishImage,
+    pub min: StepWishImage,
 }
 
 // The kinds of wishes.
@@ -64,7 +64,7 @@ const SURVEYS: u8 = 3;
 
 const RESTS: u8 = 4;
 
-impl StairsWishImage {
+impl StepWishImage {
     // Whether there is such a wish.
     fn is_wish(&self) -> bool
         ensures { result ≡ spec_is_wish self.now }
@@ -86,10 +86,10 @@ impl StairsWishImage {
     }
 
     // The image of a word, or of none.
-    fn of(word: Option<u16>) -> StairsWishImage
+    fn of(word: Option<u16>) -> StepWishImage
         ensures { result ≡ word_image word }
     {
-        StairsWishImage {
+        StepWishImage {
             kind: u16::from(word.is_some()),
             word: word.unwrap_or(0),
             unused: 0,
@@ -98,7 +98,7 @@ impl StairsWishImage {
     }
 }
 
-impl StairsStepImage {
+impl PlacedImage {
     /// The step that the numbers mean, or the number of what is wrong with them.
     pub(crate) fn placed(&self) -> Result<Placed, u8>
         ensures { result ≡ placed_in self.now }
@@ -159,7 +159,7 @@ impl StairsStepImage {
     }
 
     /// The image of a step in words.
-    pub fn of(host: u8, step: &WordStep) -> StairsStepImage
+    pub fn of(host: u8, step: &WordStep) -> PlacedImage
         ensures { result ≡ step_image host step.now }
     {
         match step.act {
@@ -177,19 +177,19 @@ impl StairsStepImage {
 }
 
 // The numbers of a step.
-fn numbers(host: u8, output: u8, kind: u8, byte: u8, wanted: &Wanted) -> StairsStepImage
+fn numbers(host: u8, output: u8, kind: u8, byte: u8, wanted: &Wanted) -> PlacedImage
     ensures { result ≡ step_numbers host output kind byte wanted.now }
 {
-    StairsStepImage {
+    PlacedImage {
         host,
         output,
         kind,
         byte,
         unused: [0; 4],
-        command: StairsWishImage::of(wanted.command),
-        max: StairsWishImage::of(wanted.max),
-        margin_high: StairsWishImage::of(wanted.margin_high),
-        margin_low: StairsWishImage::of(wanted.margin_low),
-        min: StairsWishImage::of(wanted.min),
+        command: StepWishImage::of(wanted.command),
+        max: StepWishImage::of(wanted.max),
+        margin_high: StepWishImage::of(wanted.margin_high),
+        margin_low: StepWishImage::of(wanted.margin_low),
+        min: StepWishImage::of(wanted.min),
     }
 }
