@@ -216,7 +216,7 @@ class Device:
                 after_order: Callable[[Job, Step], None] | None = None, job: str = "", accept: GivenVoltage | None = None,
                 is_guarded: bool = False) -> RailState:
         """Carries one step of an output out, as a list of its own, looks at its rail, and says what the output commands then. `looks` of the
-        device say how, where the step doesn't. `before_order` hears of each order before its first frame: if it raises, the order hasn't begun.
+        device say how, unless the step does. `before_order` hears of each order before its first frame: if it raises, the order hasn't begun.
         `after_order` hears how it ended.
 
         Raises how it ended, after the words of a job, if it has not reached what is wanted: a Refused, Differs, NoFormat, OtherSource or

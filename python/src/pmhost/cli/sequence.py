@@ -40,8 +40,8 @@ def turn_all(arguments: argparse.Namespace) -> int:
 
 
 class FileSteps:
-    """The steps of the rails of a file. Before that of a rail with `delivers` stand looks at the rails that it names, which have to deliver; and
-    where a list would go over too many parts, looks at all rails before it. `looked` has the places of these by the rail's name."""
+    """The steps of the rails of a file. Before that of a rail with `delivers` stand looks at the rails that it names, which have to deliver. If a
+    list would go over too many parts, all rails before it are looked at. `looked` has the places of these looks by the rail's name."""
 
     def __init__(self, arguments: argparse.Namespace, is_down: bool) -> None:
         self.arguments, self.call, self.is_down = arguments, arguments.call, is_down
