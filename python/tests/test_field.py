@@ -6,7 +6,7 @@ import pickle
 import threading
 import unittest
 
-from pmhost import Course, Device, LimitRefused, Looks, MarginRefused, ModelPart, ModelPartBus, NotDelivered, Output, PlanRefused, Unknown
+from pmhost import Device, LimitRefused, Looks, MarginRefused, ModelPart, ModelPartBus, NotDelivered, Output, PlanRefused, SequenceStep, Unknown
 
 from . import field_boards, field_calls
 from .field import ADDRESS, Field, FieldBus
@@ -110,7 +110,7 @@ class Api(unittest.TestCase):
 
     def test_whoever_names_the_byte_or_does_not_look_is_not_refused(self):
         part, device = self.device(("VOUT_UV_FAULT_LIMIT", 0x0ED8))
-        device.complete(Course.power(0, 0x98))
+        device.deliver(SequenceStep.turns(0, 0, 0x98))
         self.assertEqual(part.volts(), 937500)
         part, device = self.device(("VOUT_UV_FAULT_LIMIT", 0x0ED8), looks=None)
         device.margin(0, "low")

@@ -103,7 +103,7 @@ class ByADevice(unittest.TestCase):
     def ended(self, device, step):
         """What it is, its end, what it says, and the status."""
         try:
-            device.deliver(step, is_guarded=False)
+            device.deliver(step)
         except NotDelivered as fault:
             return VERDICT_WORDS[fault.kind], "reached", fault.delivered.said, "1"
         except PlanRefused as fault:

@@ -4,7 +4,7 @@ from decimal import Decimal
 from unittest import mock
 
 import pmhost
-from pmhost import Band, Course, CourseEnd, Differs, Host, Job, PlanRefused, RailState, Spent, Step, Unknown, Voltage
+from pmhost import Band, Course, CourseEnd, Differs, Host, Job, PlanRefused, RailState, SequenceStep, Spent, Step, Unknown, Voltage
 
 from pmhost.cuts import cuts
 
@@ -179,8 +179,7 @@ class Power(unittest.TestCase):
 
 class Plans(unittest.TestCase):
     def test_an_order_is_told_before_it_begins(self):
-        pmbus = rails()
-        course, seen = Course.words(0, VOLTS), []
+        pmbus, seen = rails(), []
 
         def stop(order):
             seen.append((order, pmbus.host.possible_words(0, "VOUT_COMMAND")))
@@ -188,11 +187,13 @@ class Plans(unittest.TestCase):
 
         for _ in range(2):
             with self.assertRaises(EOFError):
-                pmbus.complete(course, stop)
-            self.assertEqual((course.next(pmbus.host), pmbus.host.frame(), course.job()), (Job("order", "VOUT_COMMAND", 0x3500), None, None))
-        self.assertEqual([order for order, _ in seen], [Job("order", "VOUT_COMMAND", 0x3500)] * 2)
+                pmbus.apply(0, VOLTS, before_order=stop)
+            self.assertIsNone(pmbus.host.frame())
+        self.assertEqual(seen, [(Job("order", "VOUT_COMMAND", 0x3500), (0x34CD,))] * 2)
         self.assertEqual(pmbus.host.possible_words(0, "VOUT_COMMAND"), (0x34CD,), "an order that hasn't begun makes no word possible")
-        self.assertEqual(course.frame(pmbus.host).frame, bytes.fromhex("B0050400 21003559"))
+        course = Course.words(0, VOLTS)
+        pmbus.host.run_course(course, pmbus.bus, before_order=lambda order: seen.append((order, None)))
+        self.assertEqual((seen[-1], course.ended.kind), ((Job("order", "VOUT_COMMAND", 0x3500), None), "reached"))
         self.assertEqual(rails().apply(0, {0x21: 0x34CD}), AT_3V3)
 
     def test_each_refusal_names_its_register(self):
@@ -226,13 +227,11 @@ class Plans(unittest.TestCase):
 
     def test_several_voltages_are_wanted(self):
         pmbus = recorded(limits=None)
-        course = Course.voltage(0, "3.5625V")
-        course.want("VOUT_MAX", "3.625V")
-        pmbus.complete(course)
+        pmbus.deliver(SequenceStep.sets(0, 0, {"VOUT_COMMAND": "3.5625V", "VOUT_MAX": "3.625V"}))
         self.assertEqual((codes(pmbus.bus.frames), pmbus.bus.part.voltage(0)), ([0x24, 0x21], Decimal("3.5625")))
         course = Course.voltage(0, "3.5625V", "VOUT_MAX")
         course.want("VOUT_MAX", "3.6V")
-        pmbus.complete(course)
+        pmbus.host.run_course(course, pmbus.bus)
         self.assertEqual(pmbus.bus.part.word(0, "VOUT_MAX"), 0x3999)
 
 
@@ -300,17 +299,18 @@ class Applies(unittest.TestCase):
             calls = [*[mock.DEFAULT] * place, KeyboardInterrupt, *[mock.DEFAULT] * 40]
             with mock.patch.object(pmbus.bus.part, "hear", wraps=pmbus.bus.part.hear, side_effect=calls):
                 with self.subTest(place=place), self.assertRaises(KeyboardInterrupt):
-                    pmbus.complete(course)
+                    pmbus.host.run_course(course, pmbus.bus)
                 self.assertEqual((pmbus.host.frame(), course.job(), course.ended), (None, None, None))
-                pmbus.complete(course)
+                pmbus.host.run_course(course, pmbus.bus)
             self.assertEqual((course.ended.kind, pmbus.bus.part.word(0, "VOUT_COMMAND")), ("reached", 0x3500))
 
     def test_what_a_hook_raises_behind_an_order_goes_on_to_the_caller(self):
         pmbus, course = recorded(), Course.words(0, VOLTS)
         with self.assertRaises(EOFError):
-            pmbus.complete(course, after_order=mock.Mock(side_effect=EOFError))
+            pmbus.host.run_course(course, pmbus.bus, after_order=mock.Mock(side_effect=EOFError))
         self.assertEqual((pmbus.host.frame(), pmbus.host.confirmed_word(0, "VOUT_COMMAND"), course.ended), (None, 0x3500, None))
-        self.assertEqual((pmbus.complete(course).is_on, course.ended), (True, CourseEnd("reached")))
+        pmbus.host.run_course(course, pmbus.bus)
+        self.assertEqual((pmbus.rail(0).is_on, course.ended), (True, CourseEnd("reached")))
 
     def test_a_job_that_is_interrupted_before_its_first_frame_has_ended(self):
         pmbus = recorded()
@@ -459,6 +459,11 @@ class Formats(unittest.TestCase):
                 pmbus = rails(Exchanged, limits=None)
                 pmbus.bus.frames.clear()
                 pmbus.bus.reads = reads
+                if reads:
+                    # A list ends as its format changes under way; the same call again ends well.
+                    with self.assertRaises(Unknown) as it:
+                        pmbus.set_voltage(0, "3.25V")
+                    self.assertEqual(it.exception.kind, "changed")
                 rail = pmbus.set_voltage(0, "3.25V")
                 self.assertEqual((rail.band, pmbus.bus.part.voltage(0)), (Band(Voltage("3250000uV"), Voltage("3250000uV")), Decimal("3.25")))
                 self.assertLess(pmbus.bus.reads, 0)

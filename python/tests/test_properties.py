@@ -1,10 +1,10 @@
 """Random courses, deliveries and verdicts of the bench beside slow plain programs. PMHOST_DRAWS says how many of each are drawn, as 20000."""
 import os
 import unittest
+from dataclasses import replace
 from fractions import Fraction
 
-from pmhost import Course, Host
-from pmhost.delivery import Delivery
+from pmhost import Course, Heard, Host, Looks, Sequence, SequenceStep
 from pmhost.errors import name_of as refusal_of
 from pmhost.packets import pec
 from pmhost.torture.program import Run
@@ -115,6 +115,8 @@ OWN_FAULTS = (5, 4, 3)
 POINTS = ((15, 0x7A, (7, 4, 2)), (14, 0x7B, (7, 6, 4, 3, 1)), (13, 0x7C, (7, 4, 2)), (2, 0x7D, (7, 4)))
 NAMES = {0x79: "STATUS_WORD", 0x7A: "STATUS_VOUT", 0x7B: "STATUS_IOUT", 0x7C: "STATUS_INPUT", 0x7D: "STATUS_TEMPERATURE", 0x8B: "READ_VOUT"}
 SIZES = {0x7A: 1, 0x7B: 1, 0x7C: 1, 0x7D: 1}
+# The numbers of what was wrong with an answer.
+NUMBERS = {"none": 1, "damaged": 0x35}
 
 
 def bit(word, place):
@@ -175,16 +177,15 @@ class Rail:
         self.held = {0x79: answer(status), **{code: answer(draw.choice((0, draw.randrange(256), 1 << draw.randrange(8)))) for code in SIZES},
                      0x8B: answer(draw.choice((0x1000, 0x1000, 0x10A0, 0x1100, 0x0F70, 0x0000, 0x1800)))}
         self.before = answer(draw.choice((0, status, status & draw.randrange(0x10000))))
-        self.has_ordered = False
 
-    def read(self, frame):
+    def read(self, frame, _):
         code = frame[4]
-        found = self.before if code == 0x79 and not self.has_ordered else self.held.get(code, "none")
+        found = self.held.get(code, "none")
         if found == "none":
             return b""
         size = SIZES.get(code, 2)
-        came = bytes([ADDRESS << 1 | 1, size]) + (0 if found == "damaged" else found).to_bytes(size, "little")
-        return came + bytes([pec(frame + came) ^ (found == "damaged")])
+        came = bytes([size]) + (0 if found == "damaged" else found).to_bytes(size, "little")
+        return came + bytes([pec(frame + bytes([ADDRESS << 1 | 1]) + came) ^ (found == "damaged")])
 
 
 def known_host():
@@ -202,31 +203,24 @@ def known_host():
 class Deliveries(unittest.TestCase):
     @seeded(2)
     def test_each_verdict_is_the_plain_one_s(self, draw):
+        """Of a step that looks at a rail alone, once; what STATUS_WORD was before is handed to it."""
         host, found = known_host(), set()
         for number in range(DRAWS * 4):
             rail, within, looks_before = Rail(draw), draw.choice((0, 30, 50, 1000)), draw.random() < 0.8
-            said, seen = ([each for each in ("STATUS_WORD", "READ_VOUT") if draw.random() < 0.15] for _ in range(2))
-            lacks = {*said, *seen}
-            delivery = Delivery(0, draw.choice(("refuse", "skip")), said, within, draw.choice((1, 3)), seen)
-            if looks_before:
-                delivery.look_before()
-                self.carry_out(delivery, host, rail)
-            rail.has_ordered = True
-            delivery.look_after(False)
-            self.carry_out(delivery, host, rail)
-            verdict = delivery.verdict(host)
+            lacks, told = {each for each in ("STATUS_WORD", "READ_VOUT") if draw.random() < 0.2}, []
+            before = Heard(2, None, NUMBERS[rail.before]) if isinstance(rail.before, str) else Heard(1, rail.before)
+            step = replace(SequenceStep.rests(0, 0, Looks(within=within, settle=0)).lacking(lacks), before=before if looks_before else Heard())
+            end = Sequence([host], [step]).run([rail], told.append)
+            said = next((it for it in told if it.verdict), end)
             kind, code, place = verdict_of(rail.held, rail.before, looks_before, lacks, (Fraction(9, 10), Fraction(12, 10)), within, 1)
             with self.subTest(number=number, held=rail.held, before=rail.before, lacks=lacks, within=within):
-                self.assertEqual((verdict.kind, verdict.register, verdict.bit), (kind, NAMES.get(code), place))
+                self.assertEqual((said.verdict.kind, said.verdict.register, said.verdict.bit), (kind, NAMES.get(code), place))
+                is_well = kind.startswith("delivers") or len(lacks) == 2
+                self.assertEqual((said.kind, end.is_well), ("does" if is_well else "fails", is_well))
                 if kind == "not known" and not (code == 0x79 and "STATUS_WORD" in lacks):
-                    self.assertEqual(verdict.fault, {"none": "no answer", "damaged": "F5 WrongPec"}[rail.held[code]])
+                    self.assertEqual(said.verdict.fault, {"none": "no answer", "damaged": "F5 WrongPec"}[rail.held[code]])
             found.add(kind)
         self.assertEqual(found, {"delivers", "off", "fault", "outside", "beyond", "power good alone", "no power good", "not known", "delivers by READ_VOUT"})
-
-    @staticmethod
-    def carry_out(delivery, host, rail):
-        while (sending := delivery.frame(host)) is not None:
-            delivery.read_ended(host, rail.read(sending.frame))
 
 
 # ---- The bench's verdict ----

@@ -6,7 +6,7 @@ import tempfile
 import unittest
 from unittest import mock
 
-from pmhost import clock
+from pmhost import clock, sequence
 from pmhost.cli import streams
 from pmhost.rails import Rail
 from pmhost.rail_order import in_order, milliseconds
@@ -143,6 +143,18 @@ class Frames(unittest.TestCase):
     def test_off_goes_in_reverse_and_waits(self):
         status, orders, waited, err = self.run_board("off", "FILE", starts=(0x80, 0x80, 0x80))
         self.assertEqual((status, orders, waited, err), (0, [(2, 0), (1, 0), (0, 0)], [(1, 40), (2, 40)], ""))
+
+    def test_a_call_makes_one_list(self):
+        """Its rails are steps of it, and so are the looks before one with `delivers`."""
+        for command, starts, steps in (("on", (0, 0, 0), 4), ("off", (0x80, 0x80, 0x80), 3)):
+            made, begin = [], sequence.Sequence.__init__
+
+            def kept(it, *words, made=made, begin=begin):
+                begin(it, *words)
+                made.append(it)
+            with mock.patch.object(sequence.Sequence, "__init__", kept):
+                self.assertEqual(self.run_board(command, "FILE", starts=starts)[::3], (0, ""))
+            self.assertEqual([len(it.steps) for it in made], [steps])
 
     def test_no_rail_comes_before_another_one_where_the_bus_goes_away(self):
         for place in range(0, 110, 3):

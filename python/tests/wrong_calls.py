@@ -4,19 +4,17 @@ from fractions import Fraction
 
 from pmhost import Course, Device, Format, HostRefused, LimitRefused, LINEAR11, MemoryRefused, ModelPart, ModelPartBus, NumberRefused, Output, Packet, Voltage
 from pmhost import Host, pec, read_answer, read_block, read_plain, read_request, read_write
-from pmhost import FrameRefused, SetupRefused, Smbus2Bus
-from pmhost.delivery import Delivery
+from pmhost import FrameRefused, Looks, Rules, Sequence, SequenceStep, SetupRefused, Smbus2Bus
 from pmhost.packets import paged_request, read_paged
 
 REQUEST = Packet("PAGE_PLUS_READ", 0x21)
 
 
-
-def looking(output):
-    """A delivery of an output that is looked at now."""
-    found = Delivery(output)
-    found.look_after()
-    return found
+def begun():
+    """A list of its own, whose first frame is under way."""
+    made = Sequence([Host(0x58)], [SequenceStep.surveys(0, 0)])
+    made.next()
+    return made
 
 
 # Of a Device `p` with two learned outputs, of which output 0 has limits of 3.2 to 3.465 V, and of its host.
@@ -90,7 +88,22 @@ CALLS = [
     (lambda p: Course.survey(0).write_ended(p.host, "yes"), TypeError, "acked: True or False is wanted, and not 'yes'"),
     (lambda p: Course.survey(0).after_write(p.host, "yes"), TypeError, "acked: True or False is wanted, and not 'yes'"),
     *((lambda p, call=call: call(p.host, bytes(65537)), ValueError, "answer: 65537 are more than 65536") for call in (
-        Course.survey(0).read_ended, Course.survey(0).after_read, looking(0).read_ended)),
+        Course.survey(0).read_ended, Course.survey(0).after_read)),
+    (lambda p: begun().read_ended(bytes(65537)), ValueError, "answer: 65537 are more than 65536"),
+    (lambda p: begun().write_ended(True), MemoryRefused, "OtherFrame"),
+    (lambda p: begun().write_ended("yes"), TypeError, "acked: True or False is wanted, and not 'yes'"),
+    (lambda p: Sequence([p.host], []).read_ended(b""), MemoryRefused, "OtherFrame"),
+    (lambda p: Sequence([p.host], [SequenceStep.turns(1, 0, 0x80)]), ValueError, "host of a step: 1 isn't 0 to 0"),
+    (lambda p: Sequence([p.host], [SequenceStep.turns(0, 8, 0x80)]), ValueError, "output: 8 isn't 0 to 7"),
+    (lambda p: Sequence([p.host], [SequenceStep.turns(0, 0, 256)]), ValueError, "byte: 256 isn't 0 to 255"),
+    (lambda p: Sequence([p.host], [SequenceStep.sets(0, 0, {"OPERATION": 0x80})]), ValueError, "step: OPERATION is no voltage of an output"),
+    (lambda p: Sequence([p.host], [SequenceStep.sets(0, 0, {"VOUT_MAX": 1, 0x24: 1})]), ValueError, "step: VOUT_MAX stands twice"),
+    (lambda p: Sequence([p.host], [SequenceStep.sets(0, 0, {"VOUT_MAX": 0x10000})]), ValueError, "step VOUT_MAX: 65536 isn't 0 to 65535"),
+    (lambda p: Sequence([p.host], [SequenceStep.sets(0, 0, {"VOUT_MAX": 3.3})]), TypeError, "voltage: give a text with its unit"),
+    (lambda p: Sequence([p.host], [SequenceStep(0, 0, "rests", wait=2**32)]), ValueError, "wait: 4294967296 isn't 0 to 4294967295: milliseconds"),
+    (lambda p: Sequence([p.host], [], Rules(), 65536), ValueError, "tries: 65536 isn't 0 to 65535"),
+    (lambda p: Looks("refused"), ValueError, "fault_limits: 'refused' isn't one of refuse, tell, skip"),
+    (lambda p: Looks(within=1001), ValueError, "within: 1001 isn't 0 to 1000: thousandths"),
     (lambda p: Course.survey(0, -1), ValueError, "tries: -1 isn't 0 to 65535"),
     (lambda p: Course.words(0, {"OPERATION": 0x80}), ValueError, "wanted: OPERATION is no voltage of an output"),
     (lambda p: Course.voltage(0, 3.3), TypeError, "voltage: give a text with its unit"),
@@ -147,10 +160,6 @@ CALLS = [
         REQUEST.frame, lambda it: read_write(it, b"\xb0\x03\x46"), lambda it: read_request(it, b"\xb0\x19"), lambda it: read_answer(it, REQUEST, b""),
         lambda it: paged_request(it, 0, 0x40, 2), lambda it: read_paged(it, 0, 0x40, 2, b""), lambda it: read_block(it, 0x99, b""),
         lambda it: read_plain(it, 0x79, 2, b""))),
-    (lambda p: looking(2).frame(p.host), HostRefused, "H4 UnknownOutput"),
-    (lambda p: looking(2).read_ended(p.host, b""), HostRefused, "H4 UnknownOutput"),
-    (lambda p: looking(2).verdict(p.host), HostRefused, "H4 UnknownOutput"),
-    (lambda p: looking(2).judge(p.host, 0x1000), HostRefused, "H4 UnknownOutput"),
     (lambda p: read_write(0x58, b"\xb0\x21\xcd\x34\x00"), FrameRefused, "F5 WrongPec"),
     (lambda p: read_request(0x58, b"\xb2\x21"), FrameRefused, "F1 NotOurs"),
     (lambda p: read_answer(0x58, REQUEST, b"\xb1\x02\xcd\x34\x00"), FrameRefused, "F5 WrongPec"),

@@ -215,7 +215,7 @@ def told_word(host: Host, output: int, word: int) -> str:
 
 
 def goals_of(step: SequenceStep, host: Host) -> dict[str, int]:
-    """The words by which the output may command a voltage once the step is over: those that it wants of VOUT_COMMAND and of the margins, or
+    """The words by which the output may command a voltage once the step is over: those of VOUT_COMMAND and of the margins that it orders, or
     the one that is known of the register that its byte selects."""
     form = host.format(step.output)
     if step.act == "turns":
@@ -231,7 +231,7 @@ def goals_of(step: SequenceStep, host: Host) -> dict[str, int]:
 
 
 def limit_notes(step: SequenceStep, heard: RailHeard, host: Host) -> list[str]:
-    """Which limits the goals of a step are at or beyond, in words: those of warnings, and those of faults where the step only tells them."""
+    """Which limits the goals of a step are at or beyond, in words: those of warnings, and those of faults if the step doesn't refuse them."""
     form, notes = host.format(step.output), list[str]()
     for register, word in goals_of(step, host).items():
         for pair in (LIMITS[0], LIMITS[3]), LIMITS[1:3]:

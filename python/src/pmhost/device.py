@@ -6,7 +6,7 @@ import threading
 from dataclasses import replace
 from typing import Callable, Iterable, Mapping, ParamSpec, TypeVar
 
-from .course import SURVEY_TRIES, TRIES, Job, Wanted, end_fault
+from .course import SURVEY_TRIES, TRIES, Job, Wanted, end_fault, wanted_image
 from .delivered import Delivered, NotDelivered, beyond_of
 from .errors import Differs, HostRefused, NotDone, PmhostError, Refused, Unknown, refusal
 from .host import Host
@@ -214,9 +214,9 @@ class Device:
     @alone
     def deliver(self, step: SequenceStep, tries: int = TRIES, before_order: Callable[[Job], None] | None = None,
                 after_order: Callable[[Job, Step], None] | None = None, job: str = "", accept: GivenVoltage | None = None,
-                is_guarded: bool = True) -> RailState:
+                is_guarded: bool = False) -> RailState:
         """Carries one step of an output out, as a list of its own, looks at its rail, and says what the output commands then. `looks` of the
-        device say how, where the step doesn't. `before_order` hears of each order before its first frame: if it raises, the order hasn't begun.
+        device say how, unless the step does. `before_order` hears of each order before its first frame: if it raises, the order hasn't begun.
         `after_order` hears how it ended.
 
         Raises how it ended, after the words of a job, if it has not reached what is wanted: a Refused, Differs, NoFormat, OtherSource or
@@ -265,6 +265,7 @@ class Device:
               after_order: Callable[[Job, Step], None] | None = None, accept: GivenVoltage | None = None) -> RailState:
         """Brings the output's registers to the wanted words, as {"VOUT_COMMAND": 0x34CD}, in an order in which the output commands its old
         value or its new one, and says what it commands then. `before_order`, `after_order` and `accept` are those of `deliver`."""
+        wanted_image(wanted)
         step = SequenceStep.sets(0, output, {NAMES[code_of(register)]: word for register, word in wanted.items()})
         return self.deliver(step, tries, before_order, after_order, f"apply {output}", accept)
 
@@ -280,7 +281,7 @@ class Device:
         """Brings OPERATION to A8h or 98h, by which the output commands its margin `high` or `low` and the part acts on faults. It is refused
         as `turn_on` is; and MarginRefused is raised if the margin's own fault limit, VOUT_OV_FAULT_LIMIT or VOUT_UV_FAULT_LIMIT, isn't known to
         be 1 % of what is commanded now away. With `ignore_faults` OPERATION is A4h or 94h, and that isn't asked for."""
-        return self.deliver(SequenceStep.turns(0, output, margin_byte(side, ignore_faults)), tries, job=f"margin {output} {side}")
+        return self.deliver(SequenceStep.turns(0, output, margin_byte(side, ignore_faults)), tries, job=f"margin {output} {side}", is_guarded=True)
 
     # ---- Commands ----
 

@@ -1,5 +1,5 @@
 """Lists of steps: outputs of several parts come up, move and go down one after another; one output is a list of one step. What comes next, and
-what became of a step, is what the library says; the loop here sends, waits and tells."""
+what became of a step, is what the library says; the loop here sends, waits and hands on what is said."""
 from __future__ import annotations
 
 import ctypes
@@ -137,7 +137,7 @@ class SequenceStep:
 
     @classmethod
     def rests(cls, host: int, output: int, looks: Optional[Looks] = None) -> SequenceStep:
-        """Its rail alone is looked at."""
+        """Nothing but its rail is looked at."""
         return cls(host, output, "rests", looks=looks)
 
     def lacking(self, registers: Iterable[str]) -> SequenceStep:
@@ -230,7 +230,7 @@ class Said:
 
     @property
     def course(self) -> CourseEnd:
-        """How the orders of the step ended: reached, too, where its rail doesn't do what it is to."""
+        """How the orders of the step ended: reached, too, if its rail doesn't do what it is to."""
         return CourseEnd("reached") if self.kind in ("does", "fails") else CourseEnd(self.kind, self.register, self.number, self.word, self.fault)
 
     @property

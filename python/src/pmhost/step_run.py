@@ -95,7 +95,7 @@ class StepRun:
 
     def carry_out(self, after_order: Optional[Callable[[Job, Step], object]] = None, ask: Optional[Callable[[], str]] = None,
                   accept: Optional[int] = None) -> Said:
-        """Goes on, to its end or to where `before_order` stops it. If an order differs and the held word is `accept` microvolts near, and within
+        """Goes on to its end, or until `before_order` stops it. If an order differs and the held word is `accept` microvolts near, and within
         the limits, the step begins anew to that word, once a register. `ask` is that of `Sequence.run`. MarginRefused, and NotBelieved if zeros
         of WRITE_PROTECT aren't believed."""
         def after(order: Job, step: Step) -> object:

@@ -110,7 +110,7 @@ def survey(part: Device, output: int) -> Commanded:
 
 
 def looked_at(part: Device, output: int, looks: Looks | None) -> tuple[Commanded, Delivered | None]:
-    """The same, and what its rail does: also where a survey comes to no end, since what is commanded is another's or can't be judged."""
+    """The same, and what its rail does: also if the survey comes to no end, since another source may decide or a register is missing."""
     part.transfers = Transfers()
     run = StepRun(part, SequenceStep.surveys(0, output, looks), SURVEY_TRIES)
     found = behind(part, output, run.carry_out(ask=lambda: part.transfers.why()))

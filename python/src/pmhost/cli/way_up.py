@@ -149,22 +149,26 @@ class WayUp:
 
         one.ordered = ordered
 
-    def why_fallen(self, rail: Rail, found: Delivered) -> tuple[str, int]:
+    def why_fallen(self, rail: Rail, found: Delivered | str) -> tuple[str, int]:
         """Why a rail doesn't deliver that did, and the status: RESTARTED if its part restarted."""
         part = self.part(rail)
         part.host.check(rail.output, "OPERATION")
         part.run()
         if part.restart_seen and rail.part not in self.had_restarted:
             return f"{rail.part or 'the part'} restarted after {rail.name} delivered", RESTARTED
+        if isinstance(found, str):
+            return f"{rail.name}: {found}", 1
+        if found.is_missing:
+            return why_not_before(rail.name, found), 1
         went = "went off after it delivered: " if found.verdict.kind == "off" else "doesn't deliver any more: "
         return f"{rail.name} {went}{found.said}", 1
 
-    def not_begun(self, one: argparse.Namespace, rail: Rail, fallen: Rail, found: Delivered) -> int:
+    def not_begun(self, one: argparse.Namespace, rail: Rail, fallen: Rail, found: Delivered | str) -> int:
         """A rail isn't begun, since one before it fell or isn't known to deliver."""
-        why, status = (why_not_before(fallen.name, found), 1) if found.is_missing else self.why_fallen(fallen, found)
+        why, status = self.why_fallen(fallen, found)
         return self.call.say(Answer(one.said, "not begun", "not begun, nothing was ordered", status, why, rail.output))
 
-    def fell(self, rail: Rail, found: Delivered) -> int:
+    def fell(self, rail: Rail, found: Delivered | str) -> int:
         """A rail fell while the ones behind it were turned on."""
         why, status = self.why_fallen(rail, found)
         return self.call.say(Answer(said(self.arguments), "fell", "", status, why))
