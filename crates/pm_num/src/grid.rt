@@ -62,6 +62,7 @@ impl Grid {
     }
 
     // `x`, moved by the offset, as a numerator over both denominators.
+    #[inline(never)]
     fn moved(&self, x: &Frac) -> i128
         ensures value { result
             ≡ x.now.num *ℤ pos self.now.den +ℤ self.now.offset *ℤ pos x.now.den }
@@ -72,6 +73,7 @@ impl Grid {
     }
 
     // The step, as a numerator over both denominators.
+    #[inline(never)]
     fn spacing(&self, x: &Frac) -> i128
         ensures value { result ≡ pos (self.now.step * x.now.den) }
         ensures positive { pos 0 <ℤ result }

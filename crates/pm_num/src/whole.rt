@@ -18,6 +18,7 @@ pub fn floor(a: i128, d: i128) -> i128
 }
 
 /// The least whole number that is not below `a / d`.
+#[inline(never)]
 pub fn ceiling(a: i128, d: i128) -> i128
     requires positive { pos 0 <ℤ d }
     requires small { unsigned_abs a < 2 ^ 120 }
@@ -27,6 +28,7 @@ pub fn ceiling(a: i128, d: i128) -> i128
 }
 
 /// The whole number nearest to `a / d`; of two that are equally near, the lower.
+#[inline(never)]
 pub fn rounded(a: i128, d: i128) -> i128
     requires positive { pos 0 <ℤ d }
     requires small { unsigned_abs a < 2 ^ 120 }
