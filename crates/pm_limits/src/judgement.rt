@@ -251,7 +251,7 @@ fn micro_word(state: &State, stage: Option<Stage>, cell: Cell, x: i64) -> Result
         Cell::Out(output, register) if register.is_voltage() => output,
         _ => return Err(LimitFault::Host(HostFault::BadWord)),
     };
-    let format = match format_in(state, output) {
+    let format = match state.format(output).voltage_format() {
         Some(format) => format,
         None => return Err(LimitFault::Host(HostFault::FormatUnknown)),
     };
