@@ -166,9 +166,9 @@ class RailRun:
         board, rail = self.board, self.rail
         if board.looks is None:
             return ""
-        if board.looked_at.get(rail.name) != board.orders:
-            board.see(rail, look_at(self.part, rail.output, board.looks, board.before(rail)))
-        found = board.delivered[rail.name]
+        is_seen = board.looked_at.get(rail.name) == board.orders
+        found = board.last_look[rail.name] if is_seen else look_at(self.part, rail.output, board.looks, board.before(rail))
+        board.see(rail, found)
         is_outside = found.verdict.kind == "outside" and board.state(rail).limits_state == "outside"
         return f"{rail.name}: {OUTSIDE if is_outside else found.why_told}" if found.is_bad else ""
 
