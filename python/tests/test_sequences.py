@@ -115,6 +115,12 @@ class Watched(Part):
         return super().hear(frame, ending)
 
 
+def ways(orders):
+    """The outputs that were turned on, and those that were turned off behind that."""
+    ups = [output for output, byte in orders if byte == 0x80]
+    return ups, [output for output, byte in orders if byte == 0]
+
+
 class Frames(unittest.TestCase):
     """Three rails, the file's order of which isn't that of their steps."""
 
@@ -151,20 +157,31 @@ class Frames(unittest.TestCase):
             self.assertEqual([len(it.steps) for it in made], [steps])
 
     def test_no_rail_comes_before_another_one_where_the_bus_goes_away(self):
-        for place in range(0, 60, 3):
+        for place in range(0, 110, 3):
             with self.subTest(place=place):
                 status, orders, _, err = self.run_board("on", "FILE", mishaps=["ok"] * place + ["deaf"] * 60)
-                outputs = [output for output, _ in orders]
-                self.assertEqual(outputs, sorted(outputs))
-                self.assertEqual((status == 0, status == 0), (set(outputs) == {0, 1, 2} and err == "", err == ""))
+                ups, downs = ways(orders)
+                self.assertEqual((ups, downs), (sorted(ups), sorted(downs, reverse=True)))
+                self.assertEqual((status == 0, status == 0), (set(ups) == {0, 1, 2} and not downs and err == "", err == ""))
+
+    def test_nothing_stays_on_after_a_restart_in_the_middle(self):
+        """Each rail that was known to be off is off again, but where the part comes up on by itself."""
+        for place in range(0, 110, 2):
+            with self.subTest(place=place):
+                status, orders, _, err = self.run_board("on", "FILE", mishaps=["ok"] * place + ["restart"])
+                ups, downs = ways(orders)
+                self.assertIn(status, (0, 1, 3), err)
+                if status:
+                    self.assertLessEqual(set(ups), set(downs), err)
 
     def test_a_restart_at_each_transfer(self):
         """Each call ends in a status of its own, and no rail comes before another."""
         ends = set()
-        for place in range(60):
+        for place in range(110):
             with self.subTest(place=place):
                 status, orders, _, err = self.run_board("on", "FILE", mishaps=["ok"] * place + ["restart"])
-                self.assertEqual([output for output, _ in orders], sorted(output for output, _ in orders))
+                ups, downs = ways(orders)
+                self.assertEqual((ups, downs), (sorted(ups), sorted(downs, reverse=True)))
                 self.assertEqual((status == 0, status in (0, 1, 3)), (err == "", True))
                 ends.add(status)
         self.assertLessEqual({0, 3}, ends)
@@ -206,7 +223,7 @@ class Gates(unittest.TestCase):
             if seconds and part.orders:
                 part.bus.part.set_reading(0, "READ_VOUT", 0)
 
-        for command, wanted in (("delivers = true", [(0, 0x80)]), ("delivers = false", [(0, 0x80), (1, 0x80)])):
+        for command in "delivers = true", "delivers = false":
             part = Watched((0, 0, 0))
             text = "\n".join([table_of("u1", 7, 0x58, 3), rail_of("core", 0), rail_of("io", 1, 'after = ["core"]', 'wait = "20ms"', command)])
             with tempfile.NamedTemporaryFile("w", suffix=".toml") as file, mock.patch.object(clock, "wait", trip):
@@ -214,10 +231,9 @@ class Gates(unittest.TestCase):
                 file.flush()
                 status, _, err = called(["on", file.name], BoardKernel({7: {0x58: part}}))
             with self.subTest(command=command):
-                self.assertEqual(part.orders, wanted)
-                if command == "delivers = true":
-                    self.assertEqual(status, 1)
-                    self.assertIn("core has to deliver first: ", err)
+                self.assertEqual((status, part.orders), (1, [(0, 0x80), (0, 0)]))
+                self.assertIn("on io: core doesn't deliver any more: READ_VOUT 0V", err)
+                self.assertIn("turned off again: core; nothing was ordered of io", err)
 
 
 class Seen(Watched):
@@ -273,11 +289,11 @@ class Silence(unittest.TestCase):
     def test_a_part_without_status_word_and_read_vout(self):
         unknown = "whether the rail delivers isn't known: the part seems to lack STATUS_WORD and READ_VOUT"
         status, orders, _, err = self.run_board(self.board, [], [STATUS_WORD, READ_VOUT])
-        self.assertEqual((status, orders), (1, [(0, 0x80)]))
+        self.assertEqual((status, orders), (1, [(0, 0x80), (0, 0)]))
         self.assertIn(unknown, err)
         said = self.board.replace("[rails.core]", 'lacks = ["STATUS_WORD", "READ_VOUT"]\n[rails.core]')
         status, orders, _, err = self.run_board(said, [], [STATUS_WORD, READ_VOUT])
-        self.assertEqual((status, orders), (1, [(0, 0x80)]))
+        self.assertEqual((status, orders), (1, [(0, 0x80), (0, 0)]))
         self.assertIn("core has to deliver first, which isn't known: the part lacks STATUS_WORD and READ_VOUT", err)
         status, orders, out, _ = self.run_board(said.replace("delivers = true", ""), [], [STATUS_WORD, READ_VOUT])
         self.assertEqual((status, orders), (0, [(0, 0x80), (1, 0x80)]))

@@ -9,11 +9,21 @@ from .reads import Reads
 
 def why_other_model(device: Device, part: BoardPart) -> str:
     """Why a part isn't the model that a board file says: nothing if it is, or the file doesn't say."""
+    return why_not_model(device, part, True)
+
+
+def why_another_model(device: Device, part: BoardPart) -> str:
+    """The same, by a good answer alone: one that gives none may be the part."""
+    return why_not_model(device, part, False)
+
+
+def why_not_model(device: Device, part: BoardPart, has_to_answer: bool) -> str:
+    """Why a part isn't the model that a board file says."""
     if not part.model:
         return ""
     read = Reads(device.bus, part.address).block(probe.MFR_BLOCKS["MFR_MODEL"])
     if read.payload is None:
-        return f"{part.name}: MFR_MODEL gave no good answer ({read.why}), and has to begin with \"{part.model}\""
+        return f"{part.name}: MFR_MODEL gave no good answer ({read.why}), and has to begin with \"{part.model}\"" if has_to_answer else ""
     if not read.payload.startswith(part.model.encode("ascii")):
         return f"{part.name}: MFR_MODEL is {probe.block_words(read.payload)}, and has to begin with \"{part.model}\""
     return ""

@@ -157,9 +157,9 @@ class StepRun:
         self.delivered = delivered_of(said, self.step, self._heard, self.part.host, self.notes)
 
 
-def look_at(part: Device, output: int, looks: Looks, before: Heard = Heard()) -> Delivered:
-    """What a rail does now, by what its host knows. `before` is STATUS_WORD before the first order."""
-    run = StepRun(part, replace(SequenceStep.rests(0, output, looks), before=before), 1)
+def look_at(part: Device, output: int, looks: Looks, before: Heard = Heard(), must: bool = False) -> Delivered:
+    """What a rail does now, by what its host knows. `before` is STATUS_WORD before the first order; it has to deliver if it `must`."""
+    run = StepRun(part, replace(SequenceStep.rests(0, output, looks), before=before, must=must), 1)
     run.carry_out()
     assert run.delivered is not None
     return run.delivered

@@ -25,10 +25,10 @@ def begin(board: Board, rail: Rail) -> None:
     clock.wait(rail.wait / 1000)
     for each in board.rails if rail.delivers else ():
         if each.name in rail.after:
-            found = look_at(board.on(each), each.output, board.looks or Looks(), board.before(each))
+            found = look_at(board.on(each), each.output, board.looks or Looks(), board.before(each), True)
             board.see(each, found)
-            if why := why_not_before(each.name, found):
-                raise Stopped(f"{rail.name} isn't begun: {why}")
+            if found.is_bad:
+                raise Stopped(f"{rail.name} isn't begun: {why_not_before(each.name, found)}")
     if board.note is not None:
         board.note(held_of(board, rail))
 

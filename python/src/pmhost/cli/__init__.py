@@ -159,6 +159,7 @@ def run_to_the_end(call: Call) -> int:
     finally:
         status = call.back.end() or call.protection.lock() or status
         call.close()
+    call.raise_fault()
     return status
 
 

@@ -2,11 +2,12 @@
 from __future__ import annotations
 
 import argparse
+import contextlib
 import sys
-from typing import Any, Callable
+from typing import Any, Callable, Iterator
 
 from ..began import head_of
-from ..bus import LinuxBus, PatientBus, Trace
+from ..bus import LinuxBus, NoBus, PatientBus, Trace
 from ..bus.linux import BusTrace, Calls
 from ..part import ModelPartBus
 from ..parts import MODEL_BUS, BoardPart
@@ -55,6 +56,9 @@ class Call:
         self._log: Log | None = None
         self._rails: Rails | None = None
         self.under_way = self.maybe = self.unsaid = ""
+        # Whether what can't be written ends nothing, and what couldn't be.
+        self._goes_on = False
+        self._kept: streams.NoStream | NoBus | None = None
         self.settled: str | Callable[[], str] = NOTHING
         # The parts that have answered, and the rail that the command under way names, which a file has.
         self.has_answered, self.identified, self.ordered = set[str](), set[str](), Ordered()
@@ -225,7 +229,8 @@ class Call:
     def other_model(self, arguments: argparse.Namespace) -> int:
         """Before the first command about a rail of a part that a file has, this has to be the model that the file says. 0, or the status."""
         place = None if self.named is None else self.only()
-        if place is None or self.part_name in self.identified or getattr(arguments, "is_question", False):
+        if place is None or self.part_name in self.identified or getattr(arguments, "is_question", False) or arguments.command == "off":
+            # (what turns an output off asks by itself)
             return 0
         why = why_other_model(place.pmbus(), place.part)
         if why:
@@ -265,13 +270,37 @@ class Call:
         """Prints an answer, and on standard error why it is a bad one. Its status."""
         place = answer.place() if self.named is None or answer.output is None or answer.name else f" {self.named.name}"
         lines = [answer.as_json(self.where())] if self.is_json else [f"{answer.command.split()[0]}{place}: {answer.text}"] if answer.text else []
-        self.say_lines(lines)
+        self._or_later(lambda: self.say_lines(lines))
         if answer.why:
             complain(f"{answer.command}: {answer.why}")
+        self._or_later(self.raise_fault)
+        return answer.status
+
+    def raise_fault(self) -> None:
+        """A NoBus if the trace or the log failed."""
         for file in (self._trace, self._log):
             if file is not None:
                 file.raise_fault()
-        return answer.status
+
+    def _or_later(self, write: Callable[[], None]) -> None:
+        """Writes something. What is raised by that is kept within `going_on`."""
+        try:
+            write()
+        except (streams.NoStream, NoBus) as fault:
+            if not self._goes_on:
+                raise
+            self._kept = self._kept or fault
+
+    @contextlib.contextmanager
+    def going_on(self) -> Iterator[None]:
+        """Within it a line, a trace or a log that can't be written ends nothing: that is raised after it."""
+        self._goes_on = True
+        try:
+            yield
+        finally:
+            self._goes_on = False
+        if self._kept is not None:
+            raise self._kept
 
     def where(self) -> dict[str, object]:
         """The bus, the address and the name of the part that the command under way is about, None of each if these are several."""

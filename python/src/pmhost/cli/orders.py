@@ -13,9 +13,10 @@ from ..codes import CODES, code_of
 from ..course import Job
 from ..device import Device
 from ..errors import MarginRefused, Refused, name_of
+from ..models import why_another_model
 from ..operation import ANOTHER, MARGINS, OFF, ON, margin_byte
 from ..readings import KINDS
-from ..sequence import SequenceStep
+from ..sequence import Said, SequenceStep
 from ..states import Step
 from ..step_run import StepRun
 from ..stores import too_hot
@@ -147,6 +148,9 @@ def add(commands: Any) -> None:
         found.add_argument("output", **output)
         found.set_defaults(byte=byte)
         way.add(found, way.STAIRS[name])
+        if name == "on":
+            found.add_argument("--leave-on", action="store_true",
+                               help="of a board file: a way up that fails turns off what doesn't deliver; all that it turned on if left out")
         bus_options(found)
     found = command("margin", margin, judge_margin)
     found.add_argument("output", **output)
@@ -341,9 +345,14 @@ def run_step(arguments: argparse.Namespace, register: str, step: SequenceStep, t
     if not is_guarded:
         run.guarded = None
     ran = run_once(arguments, register, run)
-    if run.end.kind == "refused" and name_of(run.end.number).startswith("P7 ") and protection.lift(call.part_name):
+    if is_protected(run.end) and protection.lift(call.part_name):
         return run_once(arguments, register, run.anew())
     return ran
+
+
+def is_protected(end: Said) -> bool:
+    """Whether WRITE_PROTECT refuses what a step would order."""
+    return end.kind == "refused" and name_of(end.number).startswith("P7 ")
 
 
 def run_once(arguments: argparse.Namespace, register: str, run: StepRun) -> StepRun | int:
@@ -412,7 +421,22 @@ def word(arguments: argparse.Namespace) -> int:
 
 def operate(arguments: argparse.Namespace) -> int:
     """Turns an output on or off."""
-    return turn(arguments, arguments.byte)
+    return turn_off(arguments) if arguments.byte == OFF else turn(arguments, arguments.byte)
+
+
+def turn_off(arguments: argparse.Namespace) -> int:
+    """Turns an output off, whatever its part is. Where MFR_MODEL says that it is another one than the file's, OPERATION has to answer first, and
+    the line behind it says so."""
+    call: Call = arguments.call
+    why = "" if call.named is None else why_another_model(call.part(), call.only().part)
+    if why:
+        part = call.part()
+        part.host.check(arguments.output, "OPERATION")
+        if part.run().kind != "done":
+            return call.say(answer_of(arguments, part, "OPERATION", "unknown", status=1, text="not known to be off, and nothing was ordered",
+                                      why=f"{why}; OPERATION: {part.transfers.why() or 'no good answer'}"))
+    status = turn(arguments, OFF)
+    return max(status, call.say(Answer(said(arguments), "other part", "", 1, why, arguments.output))) if why else status
 
 
 def margin(arguments: argparse.Namespace) -> int:

@@ -62,7 +62,9 @@ def judge(arguments: argparse.Namespace) -> None:
 
 
 def judge_none(arguments: argparse.Namespace) -> None:
-    """No picture of one output is drawn. BadCall."""
+    """No picture of one output is drawn, and none is left on. BadCall."""
+    if getattr(arguments, "leave_on", False):
+        raise BadCall(f"{arguments.said}: --leave-on is for the rails of a board file: give one, without the name of a rail")
     if getattr(arguments, "picture", None) is not None:
         raise BadCall(f"{arguments.said}: --picture draws the rails of a board file: give one, without the name of a rail")
 

@@ -1,0 +1,195 @@
+"""`on board.toml`, the way up: all is asked and judged before the first order, the rails that are on are looked at before each further one, and a way
+up that fails goes down again."""
+from __future__ import annotations
+
+import argparse
+from dataclasses import replace
+from typing import Callable
+
+from ..course import Job
+from ..delivered import Delivered, why_not_before
+from ..device import Device
+from ..errors import Refused, refusal
+from ..looks import Looks
+from ..models import why_other_model
+from ..operation import OFF, ON
+from ..rails import Rail
+from ..sequence import Heard, SequenceStep
+from ..step_run import StepRun
+from ..survey import TRIES
+from ..transfers import Transfers
+from ..zeros import NotBelieved
+from . import orders
+from .again import RESTARTED
+from .answer import Answer
+from .call import Call, said
+from .file_steps import AT_THE_END, FileSteps
+from .outcome import refused, step_answer
+from .signals import Later
+from .way import StairsFile
+
+
+class WayUp:
+    """Rails of a file that are turned on, in their order. `turned` are those that were known to be off, and of which an order that turns on may have been
+    heard; `turn_off` turns them off again, the last one first."""
+
+    def __init__(self, arguments: argparse.Namespace, rails: list[Rail], file: StairsFile,
+                 turn_off: Callable[[argparse.Namespace, list[Rail], StairsFile], int]) -> None:
+        self.arguments, self.rails, self.file, self.turn_off = arguments, rails, file, turn_off
+        self.call: Call = arguments.call
+        self.turned, self.turned_off, self.was_on, self.ended = list[Rail](), list[Rail](), list[Rail](), dict[str, int]()
+        self.befores = dict[str, Heard]()
+        self.had_restarted = {rail.part for rail in rails if self.part(rail).restart_seen}
+
+    def part(self, rail: Rail) -> Device:
+        return self.call.places()[rail.part].pmbus()
+
+    def is_on(self, rail: Rail) -> bool | None:
+        """Whether OPERATION has a rail on, by what is known; None if that doesn't tell."""
+        held = {word >= ON for word in self.part(rail).host.possible_words(rail.output, "OPERATION") or ()}
+        return held.pop() if len(held) == 1 else None
+
+    def of_rail(self, rail: Rail) -> argparse.Namespace:
+        """The same command about one rail."""
+        one = argparse.Namespace(**{**vars(self.arguments), "named": rail, "output": rail.output, "said": f"{self.arguments.command} {rail.name}"})
+        self.call.begin(one)
+        return one
+
+    def go(self) -> int:
+        """The status."""
+        if status := self.judge():
+            return status
+        try:
+            status = self.climb()
+        except BaseException:
+            with Later():
+                self.go_down()
+            raise
+        return max(status, self.stop()) if status else 0
+
+    # ---- Before any order ----
+
+    def judge(self) -> int:
+        """Asks each part and judges each rail, and orders nothing. 0, or the status if the way up isn't to begin."""
+        for rail in self.rails:
+            one = self.of_rail(rail)
+            status = self.other_model(one, rail) or self.judge_rail(one, rail)
+            if status:
+                self.call.begin(self.arguments)
+                return max(status, self.call.say(Answer(said(self.arguments), "refused", "", status, "nothing was ordered")))
+        return 0
+
+    def other_model(self, one: argparse.Namespace, rail: Rail) -> int:
+        """The status if a rail's part isn't the one of the file."""
+        if rail.part in self.call.identified:
+            return 0
+        why = why_other_model(self.part(rail), self.call.places()[rail.part].part)
+        self.call.identified.add(rail.part)
+        return self.call.say(Answer(one.said, "other part", "", 1, why, rail.output)) if why else 0
+
+    def judge_rail(self, one: argparse.Namespace, rail: Rail) -> int:
+        """Reads all that a rail's order needs, up to the order. The status if it would be refused, but for WRITE_PROTECT of the file."""
+        part, looks = self.part(rail), replace(self.call.looks or Looks(), settle=0)
+        run = one.begun = StepRun(part, SequenceStep.turns(0, rail.output, self.arguments.byte, looks), TRIES, lambda _: False)
+        part.transfers = Transfers()
+        try:
+            end = run.carry_out(ask=self.call.only().ask_operation)
+        except NotBelieved as doubt:
+            return self.call.say(orders.not_told(one, part, doubt))
+        if end.kind == "nobody":
+            return self.call.say(self.call.nobody(one, end.fault))
+        self.call.has_answered.add(rail.part)
+        self.befores[rail.name] = run.before
+        if self.is_on(rail):
+            self.was_on.append(rail)
+        if orders.is_protected(end) and self.call.protection.is_in_the_way(rail.part) or end.kind in ("reached", "fails"):
+            return 0
+        if end.kind != "order":
+            return self.call.say(step_answer(one, part, "OPERATION", run))
+        try:
+            part.host.copy().order(rail.output, "OPERATION", self.arguments.byte)
+        except Refused as fault:
+            return self.call.say(refused(one, part, "OPERATION", refusal(fault.number, "OPERATION")))
+        return 0
+
+    # ---- Up ----
+
+    def climb(self) -> int:
+        """Turns the rails on, up to the first that doesn't come to its end, or one before that falls. The status."""
+        steps = FileSteps(self.arguments, False, self.befores)
+        for place, rail in enumerate(self.rails):
+            steps.add(rail, rail.wait, self.rails[:place])
+        steps.look_at(AT_THE_END, self.rails[:-1])
+        for rail in self.rails:
+            one = steps.of_rail(rail)
+            with self.file.step(one, rail):
+                self.watch(one, rail)
+                fallen = steps.fallen(rail.name, self.file)
+                status = self.not_begun(one, rail, *fallen) if fallen else orders.operate(one)
+                if rail in self.turned and not self.part(rail).transfers.has_written:
+                    # The order was refused as it came next.
+                    self.turned.remove(rail)
+            self.file.ended(rail, status)
+            self.ended[rail.name] = status
+            if status:
+                return status
+        self.call.begin(self.arguments)
+        fallen = steps.fallen(AT_THE_END, self.file)
+        return self.fell(*fallen) if fallen else self.call.ordered.look(self.call)
+
+    def watch(self, one: argparse.Namespace, rail: Rail) -> None:
+        """Notes an order that turns a rail on which was known to be off."""
+        drawn: Callable[[Job], object] | None = getattr(one, "ordered", None)
+
+        def ordered(order: Job) -> None:
+            if self.is_on(rail) is False and rail not in self.turned:
+                self.turned.append(rail)
+            if drawn is not None:
+                drawn(order)
+
+        one.ordered = ordered
+
+    def why_fallen(self, rail: Rail, found: Delivered) -> tuple[str, int]:
+        """Why a rail doesn't deliver that did, and the status: RESTARTED if its part restarted."""
+        part = self.part(rail)
+        part.host.check(rail.output, "OPERATION")
+        part.run()
+        if part.restart_seen and rail.part not in self.had_restarted:
+            return f"{rail.part or 'the part'} restarted after {rail.name} delivered", RESTARTED
+        went = "went off after it delivered: " if found.verdict.kind == "off" else "doesn't deliver any more: "
+        return f"{rail.name} {went}{found.said}", 1
+
+    def not_begun(self, one: argparse.Namespace, rail: Rail, fallen: Rail, found: Delivered) -> int:
+        """A rail isn't begun, since one before it fell or isn't known to deliver."""
+        why, status = (why_not_before(fallen.name, found), 1) if found.is_missing else self.why_fallen(fallen, found)
+        return self.call.say(Answer(one.said, "not begun", "not begun, nothing was ordered", status, why, rail.output))
+
+    def fell(self, rail: Rail, found: Delivered) -> int:
+        """A rail fell while the ones behind it were turned on."""
+        why, status = self.why_fallen(rail, found)
+        return self.call.say(Answer(said(self.arguments), "fell", "", status, why))
+
+    # ---- Down ----
+
+    def stop(self) -> int:
+        """The way up has failed: goes down, and says how each rail stands. The status of the way down."""
+        status = self.go_down()
+        untouched = [it for it in self.rails if it not in self.turned and it not in self.was_on]
+        named = [("turned off again: {}", [it for it in self.turned_off if self.file.status.get(it.name) == 0]),
+                 ("may be on: {}", [it for it in self.turned_off if self.file.status.get(it.name) != 0]),
+                 ("left on: {}", [it for it in self.turned if it not in self.turned_off]), ("on before, and left: {}", self.was_on),
+                 ("came on by itself: {}", [it for it in untouched if self.is_on(it)]),
+                 ("nothing was ordered of {}", [it for it in untouched if not self.is_on(it)])]
+        why = "; ".join(words.format(", ".join(it.name for it in rails)) for words, rails in named if rails)
+        self.call.begin(self.arguments)
+        return max(status, self.call.say(Answer(said(self.arguments), "stopped", "", 1, why)))
+
+    def go_down(self) -> int:
+        """Turns off what was turned on, the last one first; with --leave-on only what doesn't deliver. The status."""
+        kept = [it for it in self.turned if self.arguments.leave_on and self.ended.get(it.name) == 0]
+        self.turned_off = [it for it in self.turned[::-1] if it not in kept]
+        if not self.turned_off:
+            return 0
+        down = argparse.Namespace(**{**vars(self.arguments), "command": "off", "byte": OFF, "said": f"off {self.arguments.said.partition(' ')[2]}"})
+        self.call.begin(down)
+        return self.turn_off(down, self.turned_off, self.file)
