@@ -118,13 +118,13 @@ class Pictures(unittest.TestCase):
         heads, rows, status, drawn = self.drawn("on", word=0)
         self.assertEqual((status, heads[0]), (1, "on board.toml: stopped"))
         self.assertIn(("not as wanted: core", drawing.FAULT), [(it.words, it.colour) for it in drawn.texts])
-        self.assertEqual((rows["core"].volts, rows["core"].measured, rows["core"].circles), ([0, 1], ["0 V"], [0]))
-        self.assertEqual((rows["io"].labels, rows["io"].volts, rows["io"].measured), ([NOT_KNOWN], [], []))
+        self.assertEqual((rows["core"].volts, rows["core"].measured, rows["core"].circles), ([0, 1, 0], ["0 V"], [0]))
+        self.assertEqual((rows["io"].labels, rows["io"].volts, rows["io"].measured), ([NOT_KNOWN, OFF], [0], []))
 
     def test_what_is_measured_far_above_has_its_label_beside_its_circle(self):
         """2 V, whose label reaches down to that of the line."""
         _, rows, status, _ = self.drawn("on", word=0x2000)
-        self.assertEqual((status, rows["core"].volts, rows["core"].measured, rows["core"].circles), (1, [0, 1], ["2 V"], [2.0]))
+        self.assertEqual((status, rows["core"].volts, rows["core"].measured, rows["core"].circles), (1, [0, 1, 0], ["2 V"], [2.0]))
 
     def test_an_output_that_may_be_on_or_off(self):
         """The bus goes away as core is ordered, and stays away."""
@@ -140,7 +140,7 @@ class Pictures(unittest.TestCase):
     def test_one_that_may_command_either_is_a_shade(self):
         """core is at its margin high as it is turned on, and nothing comes back."""
         shades = set()
-        for place in range(30):
+        for place in range(60):
             _, rows, _, drawn = self.drawn("on", starts=(0xA8, 0), mishaps=["ok"] * place + ["deaf"] * 400)
             # (the legend has one too)
             if any(it.get("fill") == drawing.LINE and it.get("fill-opacity") == re.findall(r"[\d.]+", SHADE)[0]

@@ -62,12 +62,13 @@ class StepRun:
     def __init__(self, part: Device, step: SequenceStep, tries: int, before_order: Optional[Callable[[Job], object]] = None,
                  lists: Optional[StepLists] = None, place: int = 0, rules: Rules = Rules()) -> None:
         self.part, self.tries, self.before_order, self.place = part, tries, before_order, place
-        self.step = step.lacking(part.lacks)
-        self.lists, self.is_alone = lists or StepLists([(part, self.step)], tries, replace(rules, asks=True)), lists is None
+        self.step, self.is_alone = step.lacking(part.lacks), lists is None
+        self.guarded = selected_by(step.byte) if step.act == "turns" and step.byte in MARGINS.values() else None
+        asks = before_order is not None or self.guarded is not None
+        self.lists = lists or StepLists([(part, self.step)], tries, replace(rules, asks=asks))
         # The order before which it stands.
         self._due: Optional[Said] = None
         self.list, self.end, self.delivered, self.notes, self.held = self.lists.list, Said("", 0), None, list[str](), dict[str, int]()
-        self.guarded = selected_by(step.byte) if step.act == "turns" and step.byte in MARGINS.values() else None
 
     delivered: Optional[Delivered]
 
