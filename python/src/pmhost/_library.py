@@ -131,6 +131,10 @@ class SequenceRecordImage(c.Structure):
     _fields_ = [("back", SequenceStepImage), ("mark", c.c_uint16), ("version", c.c_uint16), ("look", RailHeardImage), ("unused", c.c_uint8 * 6)]
 
 
+class JudgementImage(c.Structure):
+    _fields_ = [("fault", c.c_uint8), ("warning", c.c_uint8), ("fault_word", c.c_uint16), ("warning_word", c.c_uint16)]
+
+
 class SaidImage(c.Structure):
     _fields_ = [("kind", c.c_uint8), ("number", c.c_uint8), ("code", c.c_uint8), ("verdict", c.c_uint8), ("bit", c.c_uint8),
                 ("has_microvolts", c.c_uint8), ("word", c.c_uint16), ("fault", c.c_uint16), ("step", c.c_uint16), ("milliseconds", c.c_uint32),
@@ -235,6 +239,7 @@ CALLS = {
     "pm_sequence_next": (_u8, [_sequence, _host, _at(SequenceStepImage), _u64, _at(SequenceRecordImage), _u64, _at(SendingImage)]),
     "pm_sequence_write_ended": (StepImage, [_sequence, _host, _u8]),
     "pm_sequence_read_ended": (StepImage, [_sequence, _host, _bytes, _u64]),
+    "pm_sequence_judge": (_u8, [_at(SequenceRecordImage), _host, _u16, _at(JudgementImage)]),
     "pm_refusal_name": (_u8, [_u8, _at(NameImage)]),
     "pm_end_name": (_u8, [_u16, _at(NameImage)]),
     "pm_microvolts": (_u8, [_at(FormatImage), _u16, _at(_i64)]),

@@ -2,7 +2,7 @@
 from __future__ import annotations
 
 from dataclasses import dataclass, field
-from typing import Optional
+from typing import Callable, Optional
 
 from . import voltages
 from .course import GOALS
@@ -160,10 +160,12 @@ class Delivered:
 
 
 def why_not_before(name: str, found: Delivered) -> str:
-    """Why a rail that has to deliver before another one begins doesn't, by what was seen of it."""
+    """Why a rail that has to deliver before another one begins doesn't, by what was seen of it; nothing if it does."""
     if found.is_missing:
         return f"{name} has to deliver first, which isn't known: {found.lacking}"
-    return f"{name} has to deliver first: {found.why}{found.words}"
+    if found.is_bad or found.verdict.kind in NOT_ON:
+        return f"{name} has to deliver first: {found.why or found.verdict.kind}{found.words}"
+    return ""
 
 
 def register_words(name: str, word: int) -> str:
@@ -230,16 +232,11 @@ def goals_of(step: SequenceStep, host: Host) -> dict[str, int]:
     return found
 
 
-def limit_notes(step: SequenceStep, heard: RailHeard, host: Host) -> list[str]:
-    """Which limits the goals of a step are at or beyond, in words: those of warnings, and those of faults if the step doesn't refuse them."""
-    form, notes = host.format(step.output), list[str]()
-    for register, word in goals_of(step, host).items():
-        for pair in (LIMITS[0], LIMITS[3]), LIMITS[1:3]:
-            beyond = [(name, limit) for name in pair if (limit := heard.word(name)) is not None and form is not None
-                      and is_beyond(form, word, limit, name == pair[0])]
-            notes += [f"{register} {told_word(host, step.output, word)} is at or beyond {name} {told_word(host, step.output, limit)}"
-                      for name, limit in beyond[:1]]
-    return notes
+def limit_notes(step: SequenceStep, judge: Callable[[int], dict[str, int]], host: Host) -> list[str]:
+    """Which limits the goals of a step are at or beyond, in words: those of warnings, and those of faults if the step doesn't refuse them. `judge`
+    says it of a word."""
+    return [f"{register} {told_word(host, step.output, word)} is at or beyond {limit} {told_word(host, step.output, held)}"
+            for register, word in goals_of(step, host).items() for limit, held in judge(word).items()]
 
 
 def is_beyond(form: Format, word: int, limit: int, is_high: bool) -> bool:

@@ -291,6 +291,14 @@ class Sequence:
         the order doesn't turn it off."""
         return RailHeard.of(self._image.look)
 
+    def judge(self, step: int, word: int) -> dict[str, int]:
+        """Which fault limit and which limit of a warning a word of the output's voltage is at or beyond, by what was heard of the rail of a step:
+        their names with their words. None if no limit gave a good answer, or no format is known."""
+        found = at.JudgementImage()
+        library.pm_sequence_judge(REFERENCE(self._records[step]), self.hosts[self.steps[step].host].reference, whole(word, 0, 0xFFFF, "word"),
+                                  REFERENCE(found))
+        return {LOOKED[code]: held for code, held in ((found.fault, found.fault_word), (found.warning, found.warning_word)) if code}
+
     def way_back(self) -> list[SequenceStep]:
         """The steps that undo those that have begun, the newest first: those of a list of its own."""
         return [SequenceStep.of(each.back) for each in self._records[: self.begun]][::-1]

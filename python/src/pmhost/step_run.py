@@ -1,6 +1,7 @@
 """Steps of outputs, each carried out up to its own end: what is judged as an order comes next, and what its rail was seen to do."""
 from __future__ import annotations
 
+import functools
 from dataclasses import replace
 from typing import TYPE_CHECKING, Callable, Optional
 
@@ -61,12 +62,13 @@ class StepRun:
     def __init__(self, part: Device, step: SequenceStep, tries: int, before_order: Optional[Callable[[Job], object]] = None,
                  lists: Optional[StepLists] = None, place: int = 0, rules: Rules = Rules()) -> None:
         self.part, self.tries, self.before_order, self.place = part, tries, before_order, place
-        self.step = step.lacking(part.lacks)
-        self.lists, self.is_alone = lists or StepLists([(part, self.step)], tries, replace(rules, asks=True)), lists is None
+        self.step, self.is_alone = step.lacking(part.lacks), lists is None
+        self.guarded = selected_by(step.byte) if step.act == "turns" and step.byte in MARGINS.values() else None
+        asks = before_order is not None or self.guarded is not None
+        self.lists = lists or StepLists([(part, self.step)], tries, replace(rules, asks=asks))
         # The order before which it stands.
         self._due: Optional[Said] = None
         self.list, self.end, self.delivered, self.notes, self.held = self.lists.list, Said("", 0), None, list[str](), dict[str, int]()
-        self.guarded = selected_by(step.byte) if step.act == "turns" and step.byte in MARGINS.values() else None
 
     delivered: Optional[Delivered]
 
@@ -131,8 +133,8 @@ class StepRun:
 
     def _told(self, said: Said) -> object:
         if said.kind == "order":
-            if self.step.looks is not None and not self.step.turns_off:
-                self._judge()
+            if self.guarded is not None and self.step.looks is not None:
+                judge_margin(self.guarded, self.step, self.list.looked_at, self.part.host)
             return self._asked(said)
         if said.kind == "does" and self.is_alone:
             self.see(said)
@@ -145,19 +147,14 @@ class StepRun:
         self._due = None if may_begin else said
         return may_begin
 
-    def _judge(self) -> None:
-        """What is said of limits as an order comes next."""
-        heard = self.list.looked_at
-        silent = silent_limits(heard)
+    def see(self, said: Said) -> None:
+        """What its rail does, and what is said of its limits: that they gave no good answer once a part."""
+        silent = silent_limits(self._heard)
         if silent and not self.part.is_silence_told:
             self.part.is_silence_told = True
             self.notes.append(silence_words(silent))
-        self.notes += [note for note in limit_notes(self.step, heard, self.part.host) if note not in self.notes]
-        if self.guarded is not None:
-            judge_margin(self.guarded, self.step, heard, self.part.host)
-
-    def see(self, said: Said) -> None:
-        """What its rail does."""
+        judge = functools.partial(self.list.judge, self.place - self.lists.first)
+        self.notes += [note for note in limit_notes(self.step, judge, self.part.host) if note not in self.notes]
         self.delivered = delivered_of(said, self.step, self._heard, self.part.host, self.notes)
 
 

@@ -320,7 +320,7 @@ class Call:
 
     def unsure(self) -> str:
         """What is unknown of the command under way."""
-        has_written = any(each.has_written for each in self._places.values())
+        has_written = any(each.has_written for each in ([self.only()] if self.named is not None else self._places.values()))
         if self.maybe and has_written:
             return self.maybe
         return self.settled() if callable(self.settled) else self.settled

@@ -340,7 +340,7 @@ def run_step(arguments: argparse.Namespace, register: str, step: SequenceStep, t
     if step.turns_off:
         protection.read(call.part_name)
         protection.lift(call.part_name)
-    run: StepRun = getattr(arguments, "step_run", StepRun)(part, replace(step, looks=call.looks), tries)
+    run: StepRun = getattr(arguments, "step_run", StepRun)(part, replace(step, looks=call.looks), tries, getattr(arguments, "ordered", None))
     arguments.begun = run
     if not is_guarded:
         run.guarded = None
@@ -358,13 +358,9 @@ def is_protected(end: Said) -> bool:
 def run_once(arguments: argparse.Namespace, register: str, run: StepRun) -> StepRun | int:
     """The same, as it is."""
     call: Call = arguments.call
-    part, output, ordered = call.part(), arguments.output, getattr(arguments, "ordered", None)
+    part, output = call.part(), arguments.output
     part.transfers = Transfers()
-
-    def before(order: Job) -> None:
-        call.maybe = f"output {output} {order.register} may hold the old or the ordered word"
-        if ordered is not None:
-            ordered(order)
+    call.maybe = f"output {output} {register} may hold the old or the ordered word"
 
     def confirmed(name: str, word: int) -> None:
         call.ordered.note(call.part_name, output, name, word, said(arguments))
@@ -374,7 +370,6 @@ def run_once(arguments: argparse.Namespace, register: str, run: StepRun) -> Step
         if step.kind == "done" and order.word is not None:
             confirmed(order.register, order.word)
 
-    run.before_order = before
     try:
         end = run.carry_out(after, call.only().ask_operation, accept_in(arguments))
     except MarginRefused as fault:

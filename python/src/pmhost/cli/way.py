@@ -156,7 +156,7 @@ class StairsFile:
     """What `on` or `off` of a board file draws, if it draws: written after what it says, whatever came."""
 
     def __init__(self, arguments: argparse.Namespace, rails: list[Rail]) -> None:
-        self.arguments, self.rails, self.status = arguments, rails, dict[str, int]()
+        self.arguments, self.rails, self.status, self.failed = arguments, rails, dict[str, int](), set[str]()
         self.way = None if arguments.picture is None else StepWay(rails, self.part_of)
 
     def part_of(self, rail: Rail) -> Device | None:
@@ -171,7 +171,7 @@ class StairsFile:
         end = "broken off"
         try:
             yield
-            end = "done" if len(self.status) == len(self.rails) and not any(self.status.values()) else "stopped"
+            end = "done" if len(self.status) == len(self.rails) and not self.failed else "stopped"
         except Interrupted:
             end = "interrupted"
             raise
@@ -198,8 +198,10 @@ class StairsFile:
             way.end()
 
     def ended(self, rail: Rail, status: int) -> None:
-        """How the step of a rail ended."""
+        """How the step of a rail ended. One that failed is as it is drawn, also if it was turned off again."""
         self.status[rail.name] = status
+        if status:
+            self.failed.add(rail.name)
 
     def measure(self, rail: Rail, microvolts: int | None) -> None:
         """READ_VOUT of a rail before the one whose step is under way."""
@@ -208,7 +210,7 @@ class StairsFile:
 
     def write(self, way: StepWay, end: str) -> str:
         """Draws it: why the file failed, nothing if it didn't."""
-        marks = {rail.name: {None: "none", 0: "good"}.get(self.status.get(rail.name), "fault") for rail in self.rails}
+        marks = {rail.name: "fault" if rail.name in self.failed else "good" if rail.name in self.status else "none" for rail in self.rails}
         rails = [RailStairs(rail.name, output_of(rail), rail.limits, marks[rail.name]) for rail in self.rails]
         title = f"{self.arguments.command} {shown(os.path.basename(self.arguments.file))}: {end}"
         bad = [name for name, mark in marks.items() if mark == "fault"]
