@@ -145,8 +145,8 @@ class Frames(unittest.TestCase):
         self.assertEqual((status, orders, waited, err), (0, [(2, 0), (1, 0), (0, 0)], [(1, 40), (2, 40)], ""))
 
     def test_a_call_makes_one_list(self):
-        """Its rails are steps of it, and so are the looks before each and behind the last one. What is judged before that orders nothing."""
-        for command, starts, judged, steps in (("on", (0, 0, 0), 3, 8), ("off", (0x80, 0x80, 0x80), 0, 3)):
+        """Its rails are steps of it, and so are the looks between and behind them. Before it `on` judges each rail by a list that orders nothing."""
+        for command, starts, steps in (("on", (0, 0, 0), [1, 1, 1, 8]), ("off", (0x80, 0x80, 0x80), [3])):
             made, begin = [], sequence.Sequence.__init__
 
             def kept(it, *words, made=made, begin=begin):
@@ -154,7 +154,8 @@ class Frames(unittest.TestCase):
                 made.append(it)
             with mock.patch.object(sequence.Sequence, "__init__", kept):
                 self.assertEqual(self.run_board(command, "FILE", starts=starts)[::3], (0, ""))
-            self.assertEqual([len(it.steps) for it in made], [*[1] * judged, steps])
+            self.assertEqual([len(it.steps) for it in made], steps)
+            self.assertEqual([it.begun for it in made][:-1], [0] * (len(steps) - 1))
 
     def test_no_rail_comes_before_another_one_where_the_bus_goes_away(self):
         for place in range(0, 110, 3):
