@@ -5,13 +5,14 @@ import argparse
 import functools
 from dataclasses import replace
 
+from ..course import OFF_TRIES
 from ..delivered import Delivered
 from ..device import Device
 from ..looks import Looks
 from ..rails import Rail
 from ..sequence import WHY, Heard, Rules, SequenceStep
 from ..step_run import StepLists, StepRun
-from ..survey import OFF_TRIES, TRIES
+from ..survey import TRIES
 from .call import Call
 from .way import StairsFile
 
