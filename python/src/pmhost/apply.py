@@ -26,6 +26,7 @@ from .sequence import Heard
 from .states import Step
 from .step_run import StepRun
 from .steps import begin, judge_way_back
+from .stores import has_failed
 from .survey import Commanded, answers, commanded, only_word, read
 from .values import Format
 
@@ -56,6 +57,8 @@ class Board:
     accept: int | None = None
     looks: Looks | None = None
     wants_store: bool = False
+    # Whether STATUS_CML is cleared before a store.
+    clears: bool = False
     # What notes of a rail what it held before its first order, where there is to be a way back.
     note: Callable[[Held], None] | None = None
     # Whether a part holds just the WRITE_PROTECT of its file, and what lifts that; a dry run lifts nothing.
@@ -251,6 +254,9 @@ class Board:
 
     def prepare(self) -> None:
         """Reads and judges everything, and writes nothing."""
+        for name, part in self.having_rails().items() if self.wants_store else ():
+            if why := has_failed(part, self.clears and not self.is_dry):
+                raise Stopped(f"{f'{name}: ' * bool(name)}{why}")
         self.may_write = True
         self.read()
         for rail in self.rails:
