@@ -137,7 +137,7 @@ fn wanted_goal(asked: &FrameCourse, state: &State, register: Reg) -> Option<u16>
     let Some(microvolts) = asked.voltages.of(register) else {
         return word_wanted(asked, register);
     };
-    let Some(format) = state.format(asked.course.survey.output).format() else {
+    let Some(format) = state.format(asked.course.survey.output).voltage_format() else {
         return None;
     };
     match nearest_word(&format, microvolts) {

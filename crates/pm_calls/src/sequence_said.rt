@@ -3,8 +3,8 @@
 ghost use Rattle.std.specs.Prelude.{◌≡◌};
 ghost use Rattle.pm_calls.specs.SequenceSaid.{end_said, number_said as spec_number_said, numbers_said as spec_numbers_said, order_said as spec_order_said, pause_of as spec_pause_of, rail_of as spec_rail_of, rail_said as spec_rail_said, said_with as spec_said_with, step_said as spec_step_said, step_under as spec_step_under, wait_said as spec_wait_said, way_back_said as spec_way_back_said, IsReading, IsSaid};
 
-use crate::reading::{said_by, told, word_of};
 use crate::numbers::{ACCEPTED, AGAIN, ASKED, ENDED, NO_WAY_BACK, TOLD, WAIT};
+use crate::reading::{said_by, told, word_of};
 use pm_delivery::{Delivery, Verdict};
 use pm_host::Job;
 use pm_memory::{GuardImage, SaidImage, SequenceEndImage, job_numbers};

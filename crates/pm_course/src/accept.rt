@@ -1,7 +1,7 @@
 //! A word that a part made of another one: it may be taken in the place of what is wanted.
 
 ghost use Rattle.std.specs.Prelude.{◌≡◌, ◌<◌, ◌≤◌, ◌^◌, ℤ, pos, ◌+ℤ◌, ◌-ℤ◌, None, Some, Ok, option_map, unsigned_abs, IfOk};
-ghost use Rattle.pm_num.specs.AnyFormat.{shape_of, shape_value};
+ghost use Rattle.pm_num.specs.AnyFormat.{voltage_shape, shape_value};
 ghost use Rattle.pm_num.specs.Ratio.{is_above as spec_is_above, micros, InBounds};
 ghost use Rattle.pm_host.specs.Image.{held};
 ghost use Rattle.pm_limits.specs.Bounds.{outside_fault};
@@ -18,7 +18,7 @@ use crate::wish::Wishes;
 use crate::words::word_for;
 use pm_host::{Stage, State};
 use pm_limits::{Guard, OutputLimits};
-use pm_num::{AnyFormat, Frac, NumFault, NumFormat, micro};
+use pm_num::{VoltageFormat, Frac, NumFault, NumFormat, micro};
 use pm_rail::{PlanFault, Wanted};
 use pm_table::{Cell, Reg};
 use std::cmp::Ordering;
@@ -86,7 +86,7 @@ impl FrameCourse {
         let Some(register) = self.taken_of(&words) else {
             return Err(nothing_near());
         };
-        let Some(format) = host.format(self.course.survey.output).format() else {
+        let Some(format) = host.format(self.course.survey.output).voltage_format() else {
             return Err(Refusal::of_plan(PlanFault::FormatUnknown));
         };
         let cell = Cell::Out(self.course.survey.output, register);
@@ -139,8 +139,8 @@ impl FrameCourse {
     }
 
     // The microvolts that are wanted of a register.
-    fn aim(&self, format: &AnyFormat, words: &Wanted, register: Reg) -> Result<i64, NumFault>
-        ensures { IsAim (shape_of format.now) (voltage_of self.now.voltages register) (wants_of words.now register) result }
+    fn aim(&self, format: &VoltageFormat, words: &Wanted, register: Reg) -> Result<i64, NumFault>
+        ensures { IsAim (voltage_shape format.now) (voltage_of self.now.voltages register) (wants_of words.now register) result }
     {
         match (self.voltages.of(register), words.word(register)) {
             (Some(microvolts), _) => Ok(microvolts),
@@ -291,8 +291,8 @@ fn is_above(p: &Frac, q: &Frac) -> bool
 }
 
 // Whole microvolts of which just this word is formed.
-fn meaning(format: &AnyFormat, register: Reg, word: u16) -> Option<i64>
-    ensures { IsMeaning (shape_of format.now) register word result }
+fn meaning(format: &VoltageFormat, register: Reg, word: u16) -> Option<i64>
+    ensures { IsMeaning (voltage_shape format.now) register word result }
 {
     match format.value_of(word).floor_microvolts() {
         Err(_) => None,

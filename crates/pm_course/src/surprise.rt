@@ -136,10 +136,7 @@ fn is_possible(host: &State, cell: Cell, word: u16) -> bool
     requires { IsCell 8 cell }
     ensures { result ≡ spec_is_possible word (possible_at (held None host.now) cell) }
 {
-    match host.known.possible(cell).listed() {
-        Some(words) => words.contains(&word),
-        None => true,
-    }
+    host.known.possible(cell).allows(word)
 }
 
 // The word of a payload of one byte or two, low byte first.

@@ -2,7 +2,7 @@
 
 ghost use Rattle.std.specs.Prelude.{◌≡◌, ◌<◌, None, Some, option_map, IfOk};
 ghost use Rattle.std.specs.Result.{result_err};
-ghost use Rattle.pm_num.specs.AnyFormat.{shape_of};
+ghost use Rattle.pm_num.specs.AnyFormat.{voltage_shape};
 ghost use Rattle.pm_host.specs.Image.{held};
 ghost use Rattle.pm_rail.specs.Survey.{wanted_in};
 ghost use Rattle.pm_course.specs.FrameCourse.{format_now, missing_of};
@@ -12,7 +12,7 @@ use crate::course_end::Refusal;
 use crate::frame_course::FrameCourse;
 use pm_host::{State, nearest_word};
 use pm_limits::{LimitFault, PartRegisters};
-use pm_num::{AnyFormat, at_least, at_most};
+use pm_num::{VoltageFormat, at_least, at_most};
 use pm_rail::Wanted;
 use pm_table::Reg;
 
@@ -26,7 +26,7 @@ impl FrameCourse {
         if !self.course.survey.learned {
             return Ok(self.words_wanted());
         }
-        match host.format(self.course.survey.output).format() {
+        match host.format(self.course.survey.output).voltage_format() {
             Some(format) => self.words_in(&format),
             None => Ok(self.words_wanted()),
         }
@@ -43,8 +43,8 @@ impl FrameCourse {
     }
 
     // The words that are ordered, in a format.
-    fn words_in(&self, format: &AnyFormat) -> Result<Wanted, Refusal>
-        ensures { AreFormed (Some (shape_of format.now)) (wanted_in self.now.course.survey.plan) self.now.voltages result }
+    fn words_in(&self, format: &VoltageFormat) -> Result<Wanted, Refusal>
+        ensures { AreFormed (Some (voltage_shape format.now)) (wanted_in self.now.course.survey.plan) self.now.voltages result }
     {
         let words = self.words_wanted();
         let command = self.meant(format, Reg::VoutCommand, words.command)?;
@@ -64,14 +64,14 @@ impl FrameCourse {
     // What is ordered of a register, in a format: the word of the voltage that is wanted of it, or else this word.
     fn meant(
         &self,
-        format: &AnyFormat,
+        format: &VoltageFormat,
         register: Reg,
         word: Option<u16>,
     ) -> Result<Option<u16>, Refusal>
         ensures fault { result_err result
-            ≡ meant_fault (shape_of format.now) register (voltage_of self.now.voltages register) }
+            ≡ meant_fault (voltage_shape format.now) register (voltage_of self.now.voltages register) }
         ensures meant { IfOk result
-            (IsMeant (shape_of format.now) register (voltage_of self.now.voltages register) word) }
+            (IsMeant (voltage_shape format.now) register (voltage_of self.now.voltages register) word) }
     {
         match self.voltages.of(register) {
             None => Ok(word),
@@ -125,9 +125,9 @@ fn missing_at(register: Reg) -> Refusal
 }
 
 /// The word of a voltage in a format, or the number of why it has none.
-pub(crate) fn word_for(format: &AnyFormat, register: Reg, microvolts: i64) -> Result<u16, u8>
-    ensures fault { result_err result ≡ no_word_number (shape_of format.now) register microvolts }
-    ensures word { IfOk result (IsWordFor (shape_of format.now) register microvolts) }
+pub(crate) fn word_for(format: &VoltageFormat, register: Reg, microvolts: i64) -> Result<u16, u8>
+    ensures fault { result_err result ≡ no_word_number (voltage_shape format.now) register microvolts }
+    ensures word { IfOk result (IsWordFor (voltage_shape format.now) register microvolts) }
 {
     match register {
         Reg::VoutMax => match at_most(format, microvolts) {

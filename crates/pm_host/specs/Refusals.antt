@@ -89,11 +89,13 @@ outside_fault least greatest x =
     else (if not (is_at_most x greatest) then Some AboveGreatest else None)
 
 -- N5 for a number of microvolts beyond 10^15 in size, then N3 or N4
-abbrev pub range_fault : Shape → ℤ → Option HostFault
-range_fault shape x =
+abbrev pub range_fault_in : Ratio → Ratio → ℤ → Option HostFault
+range_fault_in least greatest x =
     if nat_lt (10 ^ 15) (unsigned_abs x) then Some (Num TooLarge)
-    else option_map (λ fault. Num fault)
-    (outside_fault (shape_lowest shape) (shape_highest shape) (micros x))
+    else option_map (λ fault. Num fault) (outside_fault least greatest (micros x))
+
+abbrev pub range_fault : Shape → ℤ → Option HostFault
+range_fault shape x = range_fault_in (shape_lowest shape) (shape_highest shape) x
 
 -- H3, H4, H5 and H7 in this order, then N5, N3 and N4, then H6 for a word that has no room
 abbrev pub micro_fault : Summary → Cell → ℤ → Option HostFault

@@ -1,14 +1,14 @@
 ghost use Rattle.std.specs.Prelude.{◌≡◌, ◌<◌, length, Some, option_map};
 ghost use Rattle.std.specs.Result.{result_ok};
-ghost use Rattle.pm_num.specs.AnyFormat.{shape_of, InUlinear16};
+ghost use Rattle.pm_num.specs.AnyFormat.{shape_of, voltage_shape, InUlinear16};
 ghost use Rattle.pm_table.specs.Coefficients.{coefficients_of};
 ghost use Rattle.pm_table.specs.Format.{shape_in};
 ghost use Rattle.pm_table.specs.VoutMode.{exponent_of};
 ghost use Rattle.pm_host.specs.Image.{format_held};
 ghost use Rattle.pm_host.specs.Memory.{IsFormat};
 
-use pm_num::{AnyFormat, Ulinear16};
-use pm_table::{Coefficients, VoutMode, format_of};
+use pm_num::{AnyFormat, Ulinear16, VoltageFormat};
+use pm_table::{Coefficients, VoutMode, voltage_format_of};
 
 /// What a host learned of the format of an output's voltages: the bytes that the device answered.
 #[repr(C)]
@@ -58,11 +58,20 @@ impl FormatImage {
     pub fn format(&self) -> Option<AnyFormat>
         ensures { option_map shape_of result ≡ format_held self.now }
     {
+        self.voltage_format().map(VoltageFormat::any)
+    }
+
+    /// The same, as one of the two formats that it may be.
+    pub fn voltage_format(&self) -> Option<VoltageFormat>
+        ensures { option_map voltage_shape result ≡ format_held self.now }
+    {
         if self.mode == FormatImage::DIRECT {
-            return format_of(VoutMode::Direct, Coefficients::read(self.coefficients)).ok();
+            return voltage_format_of(VoutMode::Direct, Coefficients::read(self.coefficients)).ok();
         }
         match VoutMode::read(self.mode) {
-            Ok(VoutMode::Linear(exponent)) => { Ulinear16::new(exponent).map(AnyFormat::Ulinear16) }
+            Ok(VoutMode::Linear(exponent)) => {
+                Ulinear16::new(exponent).map(VoltageFormat::Ulinear16)
+            }
             _ => None,
         }
     }

@@ -1,7 +1,7 @@
 ghost use Rattle.std.specs.Prelude.{◌≡◌, true, false, MatchOption};
 ghost use Rattle.pm_host.specs.Image.{listing, words_held};
 ghost use Rattle.pm_host.specs.Memory.{AreWords};
-ghost use Rattle.pm_host.specs.Possible.{is_possible, has_room, joined, only as spec_only};
+ghost use Rattle.pm_host.specs.Possible.{is_possible, has_room, is_listed as spec_is_listed, joined, only as spec_only};
 
 use crate::knowledge::Possible;
 use arrayvec::ArrayVec;
@@ -53,11 +53,11 @@ impl WordsImage {
     /// Whether the cell may hold this word. The word that was listed last is looked at first: it is that of the open
     /// order.
     #[inline(always)]
-    pub(crate) fn allows(&self, word: u16) -> bool
+    pub fn allows(&self, word: u16) -> bool
         ensures { result ≡ is_possible word (words_held self.now) }
     {
         match self.listed() {
-            Some(words) => words.last() == Some(&word) || words.contains(&word),
+            Some(words) => words.last() == Some(&word) || is_listed(words, word),
             None => true,
         }
     }
@@ -91,4 +91,11 @@ impl WordsImage {
             words: [word, 0, 0, 0, 0, 0, 0, 0, 0, 0, 0, 0, 0, 0, 0, 0],
         }
     }
+}
+
+// Whether a word is in the list.
+fn is_listed(words: &[u16], word: u16) -> bool
+    ensures { result ≡ spec_is_listed word words.now }
+{
+    words.iter().any(|listed| *listed == word)
 }

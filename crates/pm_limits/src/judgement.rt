@@ -14,7 +14,7 @@ ghost use Rattle.pm_limits.specs.Band.{lets_on as spec_lets_on, within_of};
 ghost use Rattle.pm_limits.specs.declared.fault.LimitFault.TheVariants.{Host};
 ghost use Rattle.pm_limits.specs.declared.output_limits.OutputLimits.TheVariants.{Between};
 ghost use Rattle.pm_host.specs.declared.fault.HostFault.TheVariants.{Busy};
-ghost use Rattle.pm_limits.specs.Bounds.{outside_fault, place_fault};
+ghost use Rattle.pm_limits.specs.Bounds.{place_fault};
 ghost use Rattle.pm_limits.specs.Guard.{IsJudged, is_beyond as spec_is_beyond, judged, limited_fault, missing_cell, missing_ordered, narrower_fault, of_host, open_fault, operation_limit, ordered_output as spec_ordered_output, unsure_fault, voltage_limit, word_fault};
 
 use crate::band::{Band, band_on};
@@ -25,7 +25,7 @@ use crate::limits::Limits;
 use crate::output_limits::OutputLimits;
 use crate::part_registers::PartRegisters;
 use pm_host::{HostFault, Job, Stage, State, nearest_word};
-use pm_num::{AnyFormat, Linear11, NumFormat};
+use pm_num::NumFormat;
 use pm_table::{Cell, Operation, Reg};
 use std::cmp::Ordering;
 
@@ -251,7 +251,7 @@ fn micro_word(state: &State, stage: Option<Stage>, cell: Cell, x: i64) -> Result
         Cell::Out(output, register) if register.is_voltage() => output,
         _ => return Err(LimitFault::Host(HostFault::BadWord)),
     };
-    let format = match format_in(state, output) {
+    let format = match state.format(output).voltage_format() {
         Some(format) => format,
         None => return Err(LimitFault::Host(HostFault::FormatUnknown)),
     };
@@ -315,19 +315,9 @@ fn place_of(state: &State, limits: &Limits, output: u8, word: u16) -> Option<Ord
     ensures { place_fault result ≡ voltage_limit (Between limits.now) (format_at (held None state.now) output) word }
 {
     match format_in(state, output) {
-        Some(AnyFormat::Linear11) => Some(place_in(&Linear11, limits, word)),
-        Some(AnyFormat::Ulinear16(format)) => Some(place_in(&format, limits, word)),
-        Some(AnyFormat::Direct(format)) => Some(place_in(&format, limits, word)),
+        Some(format) => Some(limits.place(&format.value_of(word))),
         None => None,
     }
-}
-
-// The place of a word's value beside limits, in one format, so that no value goes through memory.
-#[inline(always)]
-fn place_in<F: NumFormat>(format: &F, limits: &Limits, word: u16) -> Ordering
-    ensures { place_fault (Some result) ≡ outside_fault limits.now (F.value format.now word) }
-{
-    limits.place(&format.value_of(word))
 }
 
 // Refuses a byte that leaves the output on, unless that is known to be within its limits.

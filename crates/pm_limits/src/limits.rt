@@ -1,4 +1,4 @@
-ghost use Rattle.std.specs.Prelude.{◌≡◌, ◌≤◌, ◌^◌, ◌*ℤ◌, ℤ, pos, unsigned_abs, Some, IfOk};
+ghost use Rattle.std.specs.Prelude.{◌≡◌, ◌≤◌, ◌^◌, unsigned_abs, Some, IfOk};
 ghost use Rattle.std.specs.Result.{result_err};
 ghost use Rattle.pm_num.specs.Ratio.{is_above as spec_is_above, micros};
 ghost use Rattle.pm_limits.specs.Band.{band_within};
@@ -91,7 +91,6 @@ impl Limits {
     }
 
     /// The place of a value beside the limits: `Less` below, `Equal` within, `Greater` above.
-    #[inline(always)]
     pub(crate) fn place(&self, value: &Frac) -> Ordering
         ensures { place_fault (Some result) ≡ outside_fault self.now value.now }
     {
@@ -144,26 +143,9 @@ fn volts(x: i64) -> Frac
     }
 }
 
-// Whether the first value is the greater one, by cross products.
-#[inline(always)]
+// Whether the first value is the greater one.
 fn is_above(p: &Frac, q: &Frac) -> bool
     ensures { result ≡ spec_is_above p.now q.now }
 {
-    cross(q, p) < cross(p, q)
-}
-
-// The numerator of the first times the denominator of the other. Each has room in 64 bits.
-#[inline(always)]
-fn cross(p: &Frac, q: &Frac) -> i128
-    ensures { result ≡ p.now.num *ℤ pos q.now.den }
-{
-    product(p.num() as i64, q.den() as i64)
-}
-
-// The product of two numbers: one instruction. A product of two numbers of 128 bits takes many.
-#[inline(always)]
-fn product(a: i64, b: i64) -> i128
-    ensures { result ≡ a *ℤ b }
-{
-    i128::from(a) * i128::from(b)
+    p.cmp_value(q) == Ordering::Greater
 }

@@ -7,7 +7,7 @@ use Rattle.std.proofs.Math.Nat.{le_of_mul-le-mul_right, pow-le-pow_right, mul-po
 use Rattle.std.proofs.lemmas.Int.{ints, by_lt_z, to_z-of_z, unsigned_abs-mul}
 use Rattle.std.proofs.lemmas.Nat.{mul-le, pow-add, pow_pos}
 use borrow.Author.Differences.{product_is}
-use mir.Syntax.{w128, w8}
+use mir.Syntax.{w128, w64, w8}
 use mir.Val.{SFits, to_z, of_z}
 use Rattle.pm_num.specs.{Lemmas.OneWord.at_most_both, Lemmas.Unsigned.lower-positive}
 use Rattle.pm_num.specs.Bounds.{IsAtMost, IsAtLeast}
@@ -205,7 +205,7 @@ greatest_from_floor {b = b} {q = q} a k d h is_b is_e is_r le =
     by_lt_z q k (λ less. let i = lt-times q k d less in absurd (omega (arith, ints))) (λ p. omega (arith, ints))
 
 -- What the code passed and returned, at the numbers that are meant.
-pub same_product : {p q r : ℤ} (a b : ℤ) → SFits w128 p → SFits w128 q → r ≡ to_z w128 (of_z w128 p) *ℤ to_z w128 (of_z w128 q) → p ≡ a
+pub same_product : {p q r : ℤ} (a b : ℤ) → SFits w64 p → SFits w64 q → r ≡ to_z w64 (of_z w64 p) *ℤ to_z w64 (of_z w64 q) → p ≡ a
     → q ≡ b
     → r ≡ a *ℤ b
 same_product a b fits_p fits_q e is_p is_q = let f = simp to_z-of_z at e in cc
@@ -213,11 +213,6 @@ same_product a b fits_p fits_q e is_p is_q = let f = simp to_z-of_z at e in cc
 -- The code's product s is that of a and b if its factors are a and b, which the casts keep.
 pub product_at : {p q r s : ℤ} (a b : ℤ) → r ≡ p *ℤ q → p ≡ a → q ≡ b → s ≡ r → s ≡ a *ℤ b
 product_at {q = q} a b e is_p is_q is_s = is_s ∙ e ∙ ap (λ (z : ℤ). z *ℤ q) is_p ∙ ap (λ (z : ℤ). a *ℤ z) is_q
-
--- A product that fits is kept by its casts, whichever equal factors it is written with.
-pub product_kept : {p q : ℤ} (a b : ℤ) → p ≡ a → q ≡ b → SFits w128 (a *ℤ b) → to_z w128 (of_z w128 (p *ℤ q)) ≡ a *ℤ b
-product_kept {p} {q} a b e f h = ap (λ (z : ℤ). to_z w128 (of_z w128 (z *ℤ q))) e ∙ ap (λ (z : ℤ). to_z w128 (of_z w128 (a *ℤ z))) f
-    ∙ to_z-of_z w128 (a *ℤ b) h
 
 -- The size of a product.
 pub product_size : {r : ℤ} (a b : ℤ) → r ≡ a *ℤ b → unsigned_abs r ≡ unsigned_abs a * unsigned_abs b

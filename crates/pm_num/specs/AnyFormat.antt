@@ -1,6 +1,8 @@
 use Rattle.std.specs.Prelude.{ℕ, ℤ}
 use Rattle.pm_num.specs.declared.any_format.AnyFormat.{AnyFormat}
 use Rattle.pm_num.specs.declared.any_format.AnyFormat.TheVariants.{Linear11, Ulinear16, Direct}
+use Rattle.pm_num.specs.declared.voltage_format.VoltageFormat.{VoltageFormat}
+use Rattle.pm_num.specs.declared.voltage_format.VoltageFormat.TheVariants as voltage
 use Rattle.pm_num.specs.Ratio.{Ratio}
 use Rattle.pm_num.specs.Value.{linear11_value, linear11_least, linear11_greatest, ulinear16_value, direct_value, direct_least}
 use Rattle.pm_num.specs.Value.{direct_greatest}
@@ -51,3 +53,11 @@ any_lowest f = shape_lowest (shape_of f)
 
 abbrev pub any_highest : AnyFormat → Ratio
 any_highest f = shape_highest (shape_of f)
+
+-- A format of an output's voltages among the three, and its shape.
+abbrev pub any_of : VoltageFormat → AnyFormat
+any_of (voltage.Ulinear16 f) = Ulinear16 f
+any_of (voltage.Direct f) = Direct f
+
+abbrev pub voltage_shape : VoltageFormat → Shape
+voltage_shape f = shape_of (any_of f)

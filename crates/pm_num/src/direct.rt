@@ -17,7 +17,7 @@ use crate::frac::Frac;
 use crate::grid::Grid;
 use crate::num_format::NumFormat;
 use crate::power::{lower_of_ten, upper_of_ten};
-use crate::whole::product;
+use crate::whole::short_product;
 
 // The word of the least number in two's complement.
 const SMALLEST: u16 = 0x8000;
@@ -72,7 +72,7 @@ impl Direct {
     }
 
     // `z` times the sign of the slope.
-    fn times_sign(&self, z: i128) -> i128
+    fn times_sign(&self, z: i64) -> i64
         requires { unsigned_abs z ≤ 2 ^ 56 }
         ensures value { result ≡ sign self.now.m *ℤ z }
         ensures size { unsigned_abs result ≡ unsigned_abs z }
@@ -81,24 +81,24 @@ impl Direct {
     }
 
     // The word as a number, times the denominator of `10^R`.
-    fn scaled(&self, word: u16) -> i128
+    fn scaled(&self, word: u16) -> i64
         ensures value { result ≡ signed 16 word *ℤ pos (lower 10 self.now.r) }
         ensures size { unsigned_abs result ≤ 2 ^ 15 * lower 10 self.now.r }
     {
-        product(i128::from(word.cast_signed()), lower_of_ten(self.r))
+        short_product(i64::from(word.cast_signed()), lower_of_ten(self.r))
     }
 
     // The offset `b`, times the numerator of `10^R`.
-    fn offset(&self) -> i128
+    fn offset(&self) -> i64
         ensures value { result ≡ self.now.b *ℤ pos (upper 10 self.now.r) }
         ensures size { unsigned_abs result ≤ 2 ^ 15 * upper 10 self.now.r }
         ensures small { unsigned_abs result ≤ 2 ^ 55 }
     {
-        product(i128::from(self.b), upper_of_ten(self.r))
+        short_product(i64::from(self.b), upper_of_ten(self.r))
     }
 
     // The numerator of the value of `word`, but for the sign of the slope.
-    fn difference(&self, word: u16) -> i128
+    fn difference(&self, word: u16) -> i64
         ensures value { let y = signed 16 word *ℤ pos (lower 10 self.now.r) in
             result ≡ y -ℤ self.now.b *ℤ pos (upper 10 self.now.r) }
         ensures small { unsigned_abs result ≤ 2 ^ 55 }
@@ -107,12 +107,12 @@ impl Direct {
     }
 
     // The denominator of every value.
-    fn den(&self) -> i128
+    fn den(&self) -> i64
         ensures value { result ≡ pos (unsigned_abs self.now.m * upper 10 self.now.r) }
         ensures positive { pos 1 ≤ℤ result }
         ensures small { result ≤ℤ pos (2 ^ 55) }
     {
-        product(i128::from(self.m.unsigned_abs()), upper_of_ten(self.r))
+        short_product(i64::from(self.m.unsigned_abs()), upper_of_ten(self.r))
     }
 
     // The values of all words, evenly spaced; a value's place grows with it.
@@ -128,7 +128,7 @@ impl Direct {
 }
 
 // The word that is `y` in two's complement.
-fn word_of(y: i128) -> u16
+fn word_of(y: i64) -> u16
     requires above { neg_ℤ (pos 32768) ≤ℤ y }
     requires below { y ≤ℤ pos 32767 }
     ensures { signed 16 result ≡ y }
@@ -171,18 +171,18 @@ impl NumFormat for Direct {
 
     fn nearest(&self, x: Frac) -> Result<u16, NumFault> {
         in_range(&x, &self.least(), &self.greatest())?;
-        Ok(word_of(self.times_sign(self.grid().nearest(&x))))
+        Ok(word_of(self.times_sign(self.grid().nearest(&x) as i64)))
     }
 }
 
 impl BoundFormat for Direct {
     fn round_down(&self, x: Frac) -> Result<u16, NumFault> {
         let x = capped(x, &self.least(), &self.greatest())?;
-        Ok(word_of(self.times_sign(self.grid().floor(&x))))
+        Ok(word_of(self.times_sign(self.grid().floor(&x) as i64)))
     }
 
     fn round_up(&self, x: Frac) -> Result<u16, NumFault> {
         let x = raised(x, &self.least(), &self.greatest())?;
-        Ok(word_of(self.times_sign(self.grid().ceiling(&x))))
+        Ok(word_of(self.times_sign(self.grid().ceiling(&x) as i64)))
     }
 }

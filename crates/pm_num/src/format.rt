@@ -32,6 +32,7 @@ pub fn canonical<F: NumFormat>(format: &F, word: u16) -> u16
 }
 
 /// Refuses `x` if it lies outside `least` and `greatest`.
+#[inline(never)]
 pub(crate) fn in_range(x: &Frac, least: &Frac, greatest: &Frac) -> Result<(), NumFault>
     ensures inside { IsOk result ↔ IsBetween least.now greatest.now x.now }
     ensures refused { IfErr result (IsOutside least.now greatest.now x.now) }
@@ -43,6 +44,7 @@ pub(crate) fn in_range(x: &Frac, least: &Frac, greatest: &Frac) -> Result<(), Nu
 }
 
 /// `x`, or `greatest` if `x` lies above it. N3 if `x` lies below `least`.
+#[inline(never)]
 pub(crate) fn capped(x: Frac, least: &Frac, greatest: &Frac) -> Result<Frac, NumFault>
     requires { AtMost least.now greatest.now }
     ensures fault { result_err result ≡ below_fault least.now x }
@@ -58,6 +60,7 @@ pub(crate) fn capped(x: Frac, least: &Frac, greatest: &Frac) -> Result<Frac, Num
 }
 
 /// `x`, or `least` if `x` lies below it. N4 if `x` lies above `greatest`.
+#[inline(never)]
 pub(crate) fn raised(x: Frac, least: &Frac, greatest: &Frac) -> Result<Frac, NumFault>
     requires { AtMost least.now greatest.now }
     ensures fault { result_err result ≡ above_fault greatest.now x }

@@ -9,7 +9,7 @@ ghost use Rattle.std.specs.declared.cmp.Ordering.TheVariants.{Less, Equal, Great
 ghost use Rattle.pm_num.specs.declared.fault.NumFault.TheVariants.{TooLarge};
 
 use crate::fault::NumFault;
-use crate::whole::floor;
+use crate::whole::{floor, product};
 use std::cmp::Ordering;
 use std::marker::Model;
 
@@ -17,10 +17,10 @@ use std::marker::Model;
 const LIMIT: i128 = 1 << 55;
 
 // Millionths in one.
-const MILLION: i128 = 1_000_000;
+const MILLION: i64 = 1_000_000;
 
 // The greatest number of whole millionths of a value that is given in microvolts, in size.
-const FAR: i128 = 1_000_000_000_000_000;
+const FAR: i64 = 1_000_000_000_000_000;
 
 // The greatest number of millionths that [`micro`] takes, in size.
 const MICRO_LIMIT: i64 = 1_000_000_000_000_000;
@@ -31,8 +31,8 @@ const MICRO_LIMIT: i64 = 1_000_000_000_000_000;
 /// that is why there is no `==`. [`Frac::same_value`] and [`Frac::cmp_value`] compare values.
 #[derive(Clone, Copy, Debug)]
 pub struct Frac {
-    num: i128,
-    den: i128,
+    num: i64,
+    den: i64,
 }
 
 impl Model for Frac {
@@ -61,11 +61,14 @@ impl Frac {
         if den < 1 || LIMIT < den || num < -LIMIT || LIMIT < num {
             return None;
         }
-        Some(Frac { num, den })
+        Some(Frac {
+            num: num as i64,
+            den: den as i64,
+        })
     }
 
     /// The fraction `num / den`, which are in bounds.
-    pub(crate) fn of(num: i128, den: i128) -> Frac
+    pub(crate) fn of(num: i64, den: i64) -> Frac
         requires { InBounds num den }
         ensures { result ≡ record { num = num; den = unsigned_abs den } }
     {
@@ -77,11 +80,27 @@ impl Frac {
         ensures value { result ≡ self.now.num }
         ensures bounds { InBounds self.now.num (pos self.now.den) }
     {
-        self.num
+        i128::from(self.num)
     }
 
     /// The denominator, as it was given.
     pub fn den(&self) -> i128
+        ensures value { result ≡ pos self.now.den }
+        ensures bounds { InBounds self.now.num (pos self.now.den) }
+    {
+        i128::from(self.den)
+    }
+
+    // The numerator in 64 bits.
+    pub(crate) fn short_num(&self) -> i64
+        ensures value { result ≡ self.now.num }
+        ensures bounds { InBounds self.now.num (pos self.now.den) }
+    {
+        self.num
+    }
+
+    // The denominator in 64 bits.
+    pub(crate) fn short_den(&self) -> i64
         ensures value { result ≡ pos self.now.den }
         ensures bounds { InBounds self.now.num (pos self.now.den) }
     {
@@ -92,10 +111,12 @@ impl Frac {
     fn cross(&self, o: &Frac) -> i128
         ensures { result ≡ self.now.num *ℤ pos o.now.den }
     {
-        self.num() * o.den()
+        product(self.short_num(), o.short_den())
     }
 
     /// The order of the two values, by cross products.
+    // It isn't inlined: its products are long.
+    #[inline(never)]
     pub fn cmp_value(&self, o: &Frac) -> Ordering
         ensures order { result
             ≡ int_cmp (self.now.num *ℤ pos o.now.den) (o.now.num *ℤ pos self.now.den) }
@@ -118,7 +139,7 @@ impl Frac {
         ensures reached { AtMost (micros result) self.now }
         ensures greatest { (k : ℤ) → AtMost (micros k) self.now → k ≤ℤ result }
     {
-        floor(self.num() * MILLION, self.den())
+        floor(product(self.short_num(), MILLION), self.den())
     }
 
     /// A value in volts as microvolts, rounded down. N5 [`NumFault::TooLarge`] exactly if the value is beyond
@@ -139,8 +160,9 @@ impl Frac {
         ensures far { result ≡ is_far self.now }
         ensures bounds { InBounds self.now.num (pos self.now.den) }
     {
-        let microvolts = self.num() * MILLION;
-        FAR * self.den() < microvolts || microvolts < -FAR * self.den()
+        let microvolts = product(self.short_num(), MILLION);
+        let far = product(FAR, self.short_den());
+        far < microvolts || microvolts < -far
     }
 }
 
@@ -154,7 +176,7 @@ pub fn micro(x: i64) -> Result<Frac, NumFault>
         return Err(NumFault::TooLarge);
     }
     Ok(Frac {
-        num: i128::from(x),
+        num: x,
         den: MILLION,
     })
 }

@@ -10,9 +10,9 @@ use std::marker::Model;
 /// The numbers `(k * step - offset) / den`, one for each whole `k`.
 #[derive(Drop)]
 pub struct Grid {
-    den: i128,
-    step: i128,
-    offset: i128,
+    den: i64,
+    step: i64,
+    offset: i64,
 }
 
 impl Model for Grid {
@@ -29,7 +29,7 @@ impl Model for Grid {
 
 impl Grid {
     /// The grid of these three numbers.
-    pub fn new(den: i128, step: i128, offset: i128) -> Grid
+    pub fn new(den: i64, step: i64, offset: i64) -> Grid
         requires { IsSpacing den step offset }
         ensures { result
             ≡ record { den = unsigned_abs den; step = unsigned_abs step; offset = offset } }
@@ -38,7 +38,7 @@ impl Grid {
     }
 
     // The denominator of every number.
-    fn den(&self) -> i128
+    fn den(&self) -> i64
         ensures value { result ≡ pos self.now.den }
         ensures sizes { IsSpacing (pos self.now.den) (pos self.now.step) self.now.offset }
     {
@@ -46,7 +46,7 @@ impl Grid {
     }
 
     // How far neighbours are apart, as a numerator.
-    fn step(&self) -> i128
+    fn step(&self) -> i64
         ensures value { result ≡ pos self.now.step }
         ensures sizes { IsSpacing (pos self.now.den) (pos self.now.step) self.now.offset }
     {
@@ -54,7 +54,7 @@ impl Grid {
     }
 
     // What is taken from every numerator.
-    fn offset(&self) -> i128
+    fn offset(&self) -> i64
         ensures value { result ≡ self.now.offset }
         ensures sizes { IsSpacing (pos self.now.den) (pos self.now.step) self.now.offset }
     {
@@ -62,22 +62,24 @@ impl Grid {
     }
 
     // `x`, moved by the offset, as a numerator over both denominators.
+    #[inline(never)]
     fn moved(&self, x: &Frac) -> i128
         ensures value { result
             ≡ x.now.num *ℤ pos self.now.den +ℤ self.now.offset *ℤ pos x.now.den }
         ensures sizes { IsSpacing (pos self.now.den) (pos self.now.step) self.now.offset }
         ensures small { unsigned_abs result < 2 ^ 120 }
     {
-        product(x.num(), self.den()) + product(self.offset(), x.den())
+        product(x.short_num(), self.den()) + product(self.offset(), x.short_den())
     }
 
     // The step, as a numerator over both denominators.
+    #[inline(never)]
     fn spacing(&self, x: &Frac) -> i128
         ensures value { result ≡ pos (self.now.step * x.now.den) }
         ensures positive { pos 0 <ℤ result }
         ensures small { unsigned_abs result < 2 ^ 120 }
     {
-        product(self.step(), x.den())
+        product(self.step(), x.short_den())
     }
 
     /// The `k` of the number nearest to `x`, and of two that are equally near the lower.

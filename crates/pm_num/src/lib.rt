@@ -33,6 +33,7 @@ mod linear11;
 mod num_format;
 mod power;
 mod ulinear16;
+mod voltage_format;
 mod whole;
 
 pub use any_format::AnyFormat;
@@ -48,3 +49,4 @@ pub use laws::{
 pub use linear11::Linear11;
 pub use num_format::NumFormat;
 pub use ulinear16::Ulinear16;
+pub use voltage_format::VoltageFormat;

@@ -17,7 +17,7 @@ use crate::format::{capped, in_range, raised};
 use crate::frac::Frac;
 use crate::num_format::NumFormat;
 use crate::power::{lower_of_two, power_of_two, upper_of_two};
-use crate::whole::{ceiling, floor, product, rounded};
+use crate::whole::{ceiling, floor, product, rounded, short_product};
 
 /// LINEAR11 of PMBus 1.3 Part II: a word stands for `Y * 2^N`, with the exponent `N` in bits 15:11
 /// and the mantissa `Y` in bits 10:0, both in two's complement.
@@ -116,12 +116,12 @@ fn mantissa_of(word: u16) -> i16
 }
 
 // The numerator of the value of `word`.
-fn numerator(word: u16) -> i128
+fn numerator(word: u16) -> i64
     ensures value { result ≡ mantissa word *ℤ pos (upper 2 (exponent word)) }
     ensures small { unsigned_abs result ≤ 2 ^ 55 }
 {
-    product(
-        i128::from(mantissa_of(word)),
+    short_product(
+        i64::from(mantissa_of(word)),
         upper_of_two(exponent_of(word)),
     )
 }
@@ -156,7 +156,7 @@ fn scaled_number(x: &Frac) -> i128
     ensures value { result ≡ x.now.num *ℤ pos (2 ^ 16) }
     ensures small { unsigned_abs result < 2 ^ 120 }
 {
-    product(x.num(), 1 << UNIT_PLACE)
+    product(x.short_num(), 1 << UNIT_PLACE)
 }
 
 // The unit of `place`, times the denominator of `x`.
@@ -166,7 +166,7 @@ fn place_unit(x: &Frac, place: u32) -> i128
     ensures positive { pos 0 <ℤ result }
     ensures small { unsigned_abs result < 2 ^ 120 }
 {
-    product(x.den(), power_of_two(place))
+    product(x.short_den(), power_of_two(place))
 }
 
 // The mantissa, at `place`, of the multiple of that place's unit that is nearest to `x`.

@@ -5,7 +5,7 @@ ghost use Rattle.pm_num.specs.Value.{upper, lower};
 ghost use Rattle.pm_num.specs.Formats.{IsExponent, IsDecimal};
 
 /// `2^n`.
-pub fn power_of_two(n: u32) -> i128
+pub fn power_of_two(n: u32) -> i64
     requires { n ≤ 31 }
     ensures value { result ≡ pos (2 ^ n) }
     ensures positive { pos 0 <ℤ result }
@@ -15,7 +15,7 @@ pub fn power_of_two(n: u32) -> i128
 }
 
 /// The numerator of `2^n`.
-pub fn upper_of_two(n: i8) -> i128
+pub fn upper_of_two(n: i8) -> i64
     requires { IsExponent n }
     ensures value { result ≡ pos (upper 2 n) }
     ensures positive { pos 0 <ℤ result }
@@ -25,7 +25,7 @@ pub fn upper_of_two(n: i8) -> i128
 }
 
 /// The denominator of `2^n`.
-pub fn lower_of_two(n: i8) -> i128
+pub fn lower_of_two(n: i8) -> i64
     requires { IsExponent n }
     ensures value { result ≡ pos (lower 2 n) }
     ensures positive { pos 0 <ℤ result }
@@ -35,7 +35,7 @@ pub fn lower_of_two(n: i8) -> i128
 }
 
 /// The numerator of `10^r`.
-pub fn upper_of_ten(r: i8) -> i128
+pub fn upper_of_ten(r: i8) -> i64
     requires { IsDecimal r }
     ensures value { result ≡ pos (upper 10 r) }
     ensures positive { pos 0 <ℤ result }
@@ -49,7 +49,7 @@ pub fn upper_of_ten(r: i8) -> i128
 }
 
 /// The denominator of `10^r`.
-pub fn lower_of_ten(r: i8) -> i128
+pub fn lower_of_ten(r: i8) -> i64
     requires { IsDecimal r }
     ensures value { result ≡ pos (lower 10 r) }
     ensures positive { pos 0 <ℤ result }
@@ -63,7 +63,7 @@ pub fn lower_of_ten(r: i8) -> i128
 }
 
 // `10^n`. Each value of DIRECT asks for one, so they stand here and aren't multiplied out.
-fn power_of_ten(n: u8) -> i128
+fn power_of_ten(n: u8) -> i64
     requires { n ≤ 12 }
     ensures value { result ≡ pos (10 ^ n) }
     ensures positive { pos 0 <ℤ result }

@@ -16,7 +16,7 @@ use crate::frac::Frac;
 use crate::grid::Grid;
 use crate::num_format::NumFormat;
 use crate::power::{lower_of_two, upper_of_two};
-use crate::whole::product;
+use crate::whole::short_product;
 
 /// ULINEAR16 of PMBus 1.3 Part II: a word `V`, unsigned, stands for `V * 2^N`. The exponent `N` comes from
 /// VOUT_MODE.
@@ -51,11 +51,11 @@ impl Ulinear16 {
     }
 
     // The numerator of the value of `word`.
-    fn numerator(&self, word: u16) -> i128
+    fn numerator(&self, word: u16) -> i64
         ensures value { result ≡ pos word *ℤ pos (upper 2 self.now.n) }
         ensures small { unsigned_abs result ≤ 2 ^ 55 }
     {
-        product(i128::from(word), upper_of_two(self.n))
+        short_product(i64::from(word), upper_of_two(self.n))
     }
 
     // The values of all words, evenly spaced.

@@ -6,8 +6,9 @@ use Rattle.std.specs.Ordering.{int_eq}
 use Rattle.std.specs.Result.{result_map_both}
 use Rattle.pm_num.specs.declared.any_format.AnyFormat.{AnyFormat}
 use Rattle.pm_num.specs.declared.fault.NumFault.{NumFault}
+use Rattle.pm_num.specs.declared.voltage_format.VoltageFormat.{VoltageFormat}
 use Rattle.pm_num.specs.declared.fault.NumFault.TheVariants.{ZeroSlope, ExponentRange}
-use Rattle.pm_num.specs.AnyFormat.{Shape, InUlinear16, InDirect, shape_of}
+use Rattle.pm_num.specs.AnyFormat.{Shape, InUlinear16, InDirect, shape_of, voltage_shape}
 use Rattle.pm_table.specs.declared.vout_mode.VoutMode.{VoutMode}
 use Rattle.pm_table.specs.declared.vout_mode.VoutMode.TheVariants.{Linear, Direct}
 use Rattle.pm_table.specs.declared.coefficients.Coefficients.{Coefficients}
@@ -27,3 +28,6 @@ shape_in Direct c =
 -- a format, or its refusal, seen as its shape
 abbrev pub shape_seen : Result AnyFormat NumFault → Result Shape NumFault
 shape_seen made = result_map_both shape_of (λ fault. fault) made
+
+abbrev pub voltage_shape_seen : Result VoltageFormat NumFault → Result Shape NumFault
+voltage_shape_seen made = result_map_both voltage_shape (λ fault. fault) made

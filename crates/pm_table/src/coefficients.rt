@@ -1,9 +1,9 @@
 ghost use Rattle.std.specs.Prelude.{◌≡◌};
 ghost use Rattle.pm_table.specs.VoutMode.{IsMode};
-ghost use Rattle.pm_table.specs.Format.{shape_in, shape_seen};
+ghost use Rattle.pm_table.specs.Format.{shape_in, shape_seen, voltage_shape_seen};
 
 use crate::vout_mode::VoutMode;
-use pm_num::{AnyFormat, Direct, NumFault, Ulinear16};
+use pm_num::{AnyFormat, Direct, NumFault, Ulinear16, VoltageFormat};
 
 /// The format of the voltages of an output with this VOUT_MODE, at a device with these coefficients (PMBus
 /// 1.3 Part II, VOUT_MODE and COEFFICIENTS). A `Linear` exponent is -16 to 15, as `VoutMode::read` gives it;
@@ -13,12 +13,23 @@ pub fn format_of(mode: VoutMode, c: Coefficients) -> Result<AnyFormat, NumFault>
     requires { IsMode mode }
     ensures { shape_seen result ≡ shape_in mode c }
 {
+    match voltage_format_of(mode, c) {
+        Ok(format) => Ok(format.any()),
+        Err(fault) => Err(fault),
+    }
+}
+
+/// The same, as one of the two formats that it may be.
+pub fn voltage_format_of(mode: VoutMode, c: Coefficients) -> Result<VoltageFormat, NumFault>
+    requires { IsMode mode }
+    ensures { voltage_shape_seen result ≡ shape_in mode c }
+{
     match mode {
         VoutMode::Linear(n) => match Ulinear16::new(n) {
-            Some(format) => Ok(AnyFormat::Ulinear16(format)),
+            Some(format) => Ok(VoltageFormat::Ulinear16(format)),
             None => unreachable!(),
         },
-        VoutMode::Direct => Ok(AnyFormat::Direct(Direct::new(c.m, c.b, c.r)?)),
+        VoutMode::Direct => Ok(VoltageFormat::Direct(Direct::new(c.m, c.b, c.r)?)),
     }
 }
 

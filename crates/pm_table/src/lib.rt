@@ -36,7 +36,7 @@ mod vout_mode;
 pub use address::address_ok;
 pub use cell::{Cell, cell_of};
 pub use cells::Cells;
-pub use coefficients::{Coefficients, format_of};
+pub use coefficients::{Coefficients, format_of, voltage_format_of};
 pub use commands::{Attributes, Code, Info, known};
 pub use fault::TableFault;
 pub use laws::{

@@ -70,8 +70,10 @@ class Board:
     formats: dict[str, Format] = field(default_factory=dict)
     # The step of each rail, and what was known behind it last.
     runs: dict[str, RailRun] = field(default_factory=dict)
-    # What each rail was seen to do last, after how many orders; STATUS_WORD before its first order; and what was said of its limits.
+    # What is told of what each rail does. What it was seen to do last, and after how many orders; STATUS_WORD before its first order; and what was
+    # said of its limits.
     delivered: dict[str, Delivered] = field(default_factory=dict)
+    last_look: dict[str, Delivered] = field(default_factory=dict)
     looked_at: dict[str, int] = field(default_factory=dict)
     befores: dict[str, Heard] = field(default_factory=dict)
     notes: dict[str, list[str]] = field(default_factory=dict)
@@ -194,12 +196,12 @@ class Board:
         told = self.notes.setdefault(rail.name, [])
         told += [note for note in run.notes if note not in told]
         if run.delivered is not None:
-            self.see(rail, run.delivered)
+            self.last_look[rail.name], self.looked_at[rail.name] = run.delivered, self.orders
 
     def see(self, rail: Rail, found: Delivered) -> None:
-        """A rail was looked at."""
+        """A rail was looked at, which is told."""
         found.notes = [*self.notes.get(rail.name, [])]
-        self.delivered[rail.name], self.looked_at[rail.name] = found, self.orders
+        self.delivered[rail.name], self.last_look[rail.name], self.looked_at[rail.name] = found, found, self.orders
 
     def setting(self, rail: Rail, register: str) -> Setting:
         """The setting of a rail that has this register."""
@@ -297,6 +299,18 @@ class Board:
             if self.read_at[rail.name] != self.orders:
                 self.look_at(rail)
         self.finish()
+        self.read_again()
+
+    def read_again(self) -> None:
+        """Reads each register that was ordered once more, since a part that restarts behind the looks has its stored words. Stopped."""
+        for it in self.settings:
+            part = self.on(it.rail)
+            if it.is_ordered:
+                part.host.check(it.rail.output, it.register)
+                if part.run().kind != "done":
+                    raise Stopped(f"{it.name}: whether it still holds its word isn't known: {part.transfers.why() or 'no good answer'}", it.rail.part,
+                                  it.rail.output)
+                self.look(it.rail)
 
     def verify(self) -> None:
         """Reads each rail, goes on if a part or a rail gives no good answer, and orders nothing. Stopped."""
@@ -323,7 +337,7 @@ class Board:
         wrong = [it.name for it in self.settings if it.state not in AS_WANTED and it.rail in read]
         unsure = [f"{rail.name}: {why}" for rail in read if not wrong and (why := self.why_not_well(rail))]
         silent = [*dict.fromkeys(self.faults.values())]
-        dead = [why for rail in read if self.looked_at.get(rail.name) != self.orders and (why := self.why_dead(rail)) and why not in unsure]
+        dead = [why for rail in read if (why := self.why_dead(rail)) and why not in unsure]
         faults = [f"not as wanted: {', '.join(wrong)}"] * bool(wrong) + [str(each) for each in silent] + unsure + dead
         if len(faults) == len(silent) == 1:
             raise silent[0]

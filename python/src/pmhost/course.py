@@ -21,6 +21,8 @@ REFERENCE = ctypes.byref
 # How many jobs a course begins at most, where a caller says nothing.
 SURVEY_TRIES = 32
 TRIES = 64
+# An output is turned off in so many at most: each has its passes, and each write waits for a part that doesn't answer.
+OFF_TRIES = 4
 
 ENDED = 0x95
 JOBS = ("none", "learn", "check", "order")

@@ -6,7 +6,7 @@ import threading
 from dataclasses import replace
 from typing import Callable, Iterable, Mapping, ParamSpec, TypeVar
 
-from .course import SURVEY_TRIES, TRIES, Job, Wanted, end_fault, wanted_image
+from .course import OFF_TRIES, SURVEY_TRIES, TRIES, Job, Wanted, end_fault, wanted_image
 from .delivered import Delivered, NotDelivered, beyond_of
 from .errors import Differs, HostRefused, NotDone, PmhostError, Refused, Unknown, refusal
 from .host import Host
@@ -273,7 +273,7 @@ class Device:
         """Brings OPERATION to 80h, once what the output will command then is known. L8, L2, L5 by its limits, P7 by WRITE_PROTECT."""
         return self.deliver(SequenceStep.turns(0, output, ON), tries, job=f"on {output}")
 
-    def turn_off(self, output: int, tries: int = TRIES) -> RailState:
+    def turn_off(self, output: int, tries: int = OFF_TRIES) -> RailState:
         """Orders OPERATION 00h at once, before anything is read. No limit refuses it."""
         return self.deliver(SequenceStep.turns(0, output, OFF), tries, job=f"off {output}")
 

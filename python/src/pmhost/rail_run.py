@@ -13,7 +13,7 @@ from .rounded import near_word
 from .sequence import Said, SequenceStep
 from .states import Step
 from .step_run import StepRun, look_at
-from .survey import FORMAT, TRIES, behind, commanded, only_word
+from .survey import FORMAT, TRIES, behind, commanded, only_word, why_not_off
 from .transfers import Transfers
 from .voltages import of_microvolts
 from .zeros import NotBelieved
@@ -166,9 +166,12 @@ class RailRun:
         board, rail = self.board, self.rail
         if board.looks is None:
             return ""
-        if board.looked_at.get(rail.name) != board.orders:
-            board.see(rail, look_at(self.part, rail.output, board.looks, board.before(rail)))
-        found = board.delivered[rail.name]
+        is_seen = board.looked_at.get(rail.name) == board.orders
+        found = board.last_look[rail.name] if is_seen else look_at(self.part, rail.output, board.looks, board.before(rail))
+        board.see(rail, found)
+        if not rail.is_on and found.verdict.kind == "commanded off":
+            why = why_not_off(self.part, rail.output)
+            return f"{rail.name}: {why}" if why else ""
         is_outside = found.verdict.kind == "outside" and board.state(rail).limits_state == "outside"
         return f"{rail.name}: {OUTSIDE if is_outside else found.why_told}" if found.is_bad else ""
 

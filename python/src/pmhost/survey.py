@@ -4,7 +4,7 @@ from __future__ import annotations
 import contextlib
 from dataclasses import dataclass, field
 
-from . import probe
+from . import probe, readings
 from .delivered import Delivered
 from .device import Device
 from .errors import LimitRefused
@@ -26,8 +26,6 @@ FORMAT = "format"
 SURVEY_TRIES = 2 * 7
 # A course to words reads them twice and has five orders.
 TRIES = 40
-# To turn an output off is tried so often: each has its passes, and each write waits for a part that doesn't answer.
-OFF_TRIES = 4
 
 
 @dataclass
@@ -155,3 +153,13 @@ def read(part: Device, output: int, register: str) -> None:
     with contextlib.suppress(LimitRefused):
         part.host.check(output, register)
         part.run()
+
+
+def why_not_off(part: Device, output: int) -> str:
+    """Why a rail that is commanded off isn't known to be off, by STATUS_WORD; nothing if it is, or the part lacks that."""
+    if "STATUS_WORD" in part.lacks:
+        return ""
+    found = readings.read(part.bus, part.host.address, output, "STATUS_WORD", None)
+    if found.word is None:
+        return f"whether the rail is off isn't known: STATUS_WORD: {found.why or 'no good answer'}"
+    return "" if "OFF" in found.bits else "the part says that it is on: `why` says more"

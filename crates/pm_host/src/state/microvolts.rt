@@ -2,36 +2,36 @@
 
 ghost use Rattle.std.specs.Prelude.{◌≡◌, ◌<◌, Some, None, IfOk};
 ghost use Rattle.std.specs.Result.{result_err};
-ghost use Rattle.pm_num.specs.AnyFormat.{shape_of, shape_value, shape_rank};
+ghost use Rattle.pm_num.specs.AnyFormat.{voltage_shape};
 ghost use Rattle.pm_num.specs.Nearest.{IsNearest};
 ghost use Rattle.pm_num.specs.NearestWord.{nearest_word as spec_nearest_word};
 ghost use Rattle.pm_num.specs.Ratio.{micros};
 ghost use Rattle.pm_table.specs.Cell.{output_of};
 ghost use Rattle.pm_host.specs.Image.{held, format_held};
-ghost use Rattle.pm_host.specs.Refusals.{range_fault, outside_fault, voltage_fault};
+ghost use Rattle.pm_host.specs.Refusals.{range_fault_in, outside_fault, voltage_fault};
 ghost use Rattle.pm_host.specs.Sound.{IsSound};
 ghost use Rattle.pm_host.specs.Summary.{format_at};
 
 use crate::fault::HostFault;
 use crate::format_image::FormatImage;
 use crate::state::State;
-use pm_num::{AnyFormat, Frac, NumFault, NumFormat, micro, nearest_words_hold};
+use pm_num::{Frac, NumFault, NumFormat, VoltageFormat, micro, nearest_words_hold};
 use pm_table::Cell;
 
 impl State {
     /// The format of the cell's output, if the cell is a voltage that may be ordered now.
     // It isn't inlined: it would weigh on each order of a word.
     #[inline(never)]
-    pub(super) fn voltage_format(&self, cell: Cell) -> Result<AnyFormat, HostFault>
+    pub(super) fn voltage_format(&self, cell: Cell) -> Result<VoltageFormat, HostFault>
         requires { IsSound (held None self.now) }
         ensures fault { result_err result ≡ voltage_fault (held None self.now) cell }
         ensures format { IfOk result (λ format.
-            format_at (held None self.now) (output_of cell) ≡ Some (shape_of format)) }
+            format_at (held None self.now) (output_of cell) ≡ Some (voltage_shape format)) }
     {
         self.refuse_cell(cell)?;
         match cell {
             Cell::Out(output, register) if register.is_voltage() => {
-                self.format(output).format().ok_or(HostFault::FormatUnknown)
+                self.format(output).voltage_format().ok_or(HostFault::FormatUnknown)
             }
             _ => Err(HostFault::BadWord),
         }
@@ -49,13 +49,11 @@ impl State {
 
 /// The word of a format that is nearest to a number of microvolts. N5 if the number is beyond
 /// 10^15 in size, N3 and N4 if it lies outside the format's least and greatest value.
-pub fn nearest_word(format: &AnyFormat, x: i64) -> Result<u16, HostFault>
-    ensures fault { result_err result ≡ range_fault (shape_of format.now) x }
-    ensures nearest { let shape = shape_of format.now in
-        IfOk result (IsNearest (shape_value shape) (shape_rank shape) (micros x)) }
-    ensures found { let shape = shape_of format.now in
-        IfOk result (λ word. spec_nearest_word (shape_value shape) (shape_rank shape) (micros x)
-        ≡ Some word) }
+pub fn nearest_word<F: NumFormat>(format: &F, x: i64) -> Result<u16, HostFault>
+    ensures fault { result_err result ≡ range_fault_in (F.lowest format.now) (F.highest format.now) x }
+    ensures nearest { IfOk result (IsNearest (F.value format.now) (F.rank format.now) (micros x)) }
+    ensures found { IfOk result
+        (λ word. spec_nearest_word (F.value format.now) (F.rank format.now) (micros x) ≡ Some word) }
 {
     let micros = match micro(x) {
         Ok(micros) => micros,

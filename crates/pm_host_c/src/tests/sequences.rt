@@ -201,7 +201,13 @@ static VERDICTS: [(Verdict, u8, u8, u8, u8); 14] = [
     (Verdict::Beyond, 7, 0x8B, 0, 0),
     (Verdict::PowerGoodAlone, 8, 0x79, 0, 0),
     (Verdict::NoPowerGood, 9, 0x79, 0, 0),
-    (Verdict::NotKnown(Question::StatusIout, 0x35), 10, 0x7B, 0, 0x35),
+    (
+        Verdict::NotKnown(Question::StatusIout, 0x35),
+        10,
+        0x7B,
+        0,
+        0x35,
+    ),
     (Verdict::WentOff, 11, 0, 0, 0),
     (Verdict::StillOn, 12, 0x79, 0, 0),
     (Verdict::DeliversByVoltage, 14, 0, 0, 0),
@@ -235,5 +241,10 @@ fn a_reading_is_told_in_microvolts(rt: HostRuntime) {
     let said = next(&mut sequence, &mut image, &steps, &mut []);
     equal(&rt, &said, &(0x9A, 0, 0), &1);
     let said = sequence.said;
-    equal(&rt, &(said.has_microvolts, said.microvolts), &(1, 1_500_000), &2);
+    equal(
+        &rt,
+        &(said.has_microvolts, said.microvolts),
+        &(1, 1_500_000),
+        &2,
+    );
 }

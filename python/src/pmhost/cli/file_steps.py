@@ -5,13 +5,14 @@ import argparse
 import functools
 from dataclasses import replace
 
+from ..course import OFF_TRIES
 from ..delivered import Delivered
 from ..device import Device
 from ..looks import Looks
 from ..rails import Rail
-from ..sequence import Heard, Rules, SequenceStep
+from ..sequence import WHY, Heard, Rules, SequenceStep
 from ..step_run import StepLists, StepRun
-from ..survey import OFF_TRIES, TRIES
+from ..survey import TRIES
 from .call import Call
 from .way import StairsFile
 
@@ -62,12 +63,14 @@ class FileSteps:
         self.call.begin(one)
         return one
 
-    def fallen(self, place: str, file: StairsFile) -> tuple[Rail, Delivered] | None:
-        """Looks at the rails that stand before a place: the first that doesn't do what it is to any more."""
+    def fallen(self, place: str, file: StairsFile) -> tuple[Rail, Delivered | str] | None:
+        """Looks at the rails that stand before a place: the first that doesn't do what it is to any more, and what it does, or why nothing is
+        known of that."""
         for at, each in self.looked[place]:
             run = StepRun(*self.steps[at], TRIES, lists=self.lists, place=at)
             end = run.carry_out()
-            assert run.delivered is not None
+            if run.delivered is None:
+                return each, WHY.get(end.kind, end.kind)
             file.measure(each, run.delivered.verdict.microvolts)
             if end.kind == "fails":
                 return each, run.delivered

@@ -7,7 +7,7 @@ import contextlib
 from dataclasses import dataclass, replace
 from typing import Any, Iterator
 
-from .. import rails, readings, voltages
+from .. import rails, voltages
 from ..apply import AS_WANTED, Board
 from ..back import OPERATION, Held
 from ..course import CourseEnd, in_hexadecimal
@@ -23,7 +23,7 @@ from ..rails import Rail
 from ..rehearsal import first_not_reached, unprotected
 from ..sequence import UP, WHY, Heard, Said, Sequence, SequenceStep
 from ..step_run import StepRun, look_at
-from ..survey import TRIES, Commanded, commanded, only_word, read, survey
+from ..survey import TRIES, Commanded, commanded, only_word, read, survey, why_not_off
 from ..transfers import Transfers
 from ..zeros import NotBelieved, believed
 from .about import described
@@ -273,16 +273,6 @@ class RailTest:
 
     def stopped(self, why: str) -> Stopped:
         return Stopped(f"{self.rail.name}: {why}")
-
-
-def why_not_off(part: Device, output: int) -> str:
-    """Why a rail that is to be off isn't known to be, by STATUS_WORD; nothing if it is, or the part lacks that."""
-    if "STATUS_WORD" in part.lacks:
-        return ""
-    found = readings.read(part.bus, part.host.address, output, "STATUS_WORD", None)
-    if found.word is None:
-        return f"whether the rail is off isn't known: STATUS_WORD: {found.why or 'no good answer'}"
-    return "" if "OFF" in found.bits else "the part says that it is on: `why` says more"
 
 
 def judge_board(board: Board) -> None:

@@ -10,7 +10,7 @@ from typing import Any, Callable
 from .. import probe, voltages
 from ..back import Held
 from ..codes import CODES, code_of
-from ..course import Job
+from ..course import OFF_TRIES, Job
 from ..device import Device
 from ..errors import MarginRefused, Refused, name_of
 from ..models import why_another_model
@@ -20,7 +20,7 @@ from ..sequence import Said, SequenceStep
 from ..states import Step
 from ..step_run import StepRun
 from ..stores import too_hot
-from ..survey import OFF_TRIES, TRIES, holds_zeros, looked_at, survey
+from ..survey import TRIES, holds_zeros, looked_at, survey
 from ..transfers import Transfers
 from ..zeros import NotBelieved, guard
 from . import readings, way

@@ -3,6 +3,7 @@ up that fails goes down again."""
 from __future__ import annotations
 
 import argparse
+import copy
 from dataclasses import replace
 from typing import Callable
 
@@ -38,7 +39,7 @@ class WayUp:
         self.arguments, self.rails, self.file, self.turn_off = arguments, rails, file, turn_off
         self.call: Call = arguments.call
         self.turned, self.turned_off, self.was_on, self.ended = list[Rail](), list[Rail](), list[Rail](), dict[str, int]()
-        self.befores = dict[str, Heard]()
+        self.befores, self.down = dict[str, Heard](), file
         self.had_restarted = {rail.part for rail in rails if self.part(rail).restart_seen}
 
     def part(self, rail: Rail) -> Device:
@@ -64,6 +65,8 @@ class WayUp:
         except BaseException:
             with Later():
                 self.go_down()
+                self.call.begin(self.arguments)
+                self.call.settled = "; ".join(self.stands())
             raise
         return max(status, self.stop()) if status else 0
 
@@ -132,10 +135,23 @@ class WayUp:
             self.file.ended(rail, status)
             self.ended[rail.name] = status
             if status:
-                return status
+                return self.caused(rail, status)
         self.call.begin(self.arguments)
         fallen = steps.fallen(AT_THE_END, self.file)
         return self.fell(*fallen) if fallen else self.call.ordered.look(self.call)
+
+    def caused(self, rail: Rail, status: int) -> int:
+        """RESTARTED if a restart of a rail's part is behind a bad end, as OPERATION shows that is read once more."""
+        part = self.part(rail)
+        if status == 1 and rail in self.turned:
+            part.host.check(rail.output, "OPERATION")
+            part.run()
+        return RESTARTED if self.restarted() else status
+
+    def restarted(self) -> list[str]:
+        """The parts that were seen to restart meanwhile."""
+        return [name for name in dict.fromkeys(rail.part for rail in self.rails)
+                if name not in self.had_restarted and self.call.places()[name].pmbus().restart_seen]
 
     def watch(self, one: argparse.Namespace, rail: Rail) -> None:
         """Notes an order that turns a rail on which was known to be off."""
@@ -149,22 +165,26 @@ class WayUp:
 
         one.ordered = ordered
 
-    def why_fallen(self, rail: Rail, found: Delivered) -> tuple[str, int]:
+    def why_fallen(self, rail: Rail, found: Delivered | str) -> tuple[str, int]:
         """Why a rail doesn't deliver that did, and the status: RESTARTED if its part restarted."""
         part = self.part(rail)
         part.host.check(rail.output, "OPERATION")
         part.run()
-        if part.restart_seen and rail.part not in self.had_restarted:
-            return f"{rail.part or 'the part'} restarted after {rail.name} delivered", RESTARTED
+        if rail.part in self.restarted():
+            return f"{rail.name} went off after it delivered: {rail.part or 'the part'} restarted, or another one orders beside this call", RESTARTED
+        if isinstance(found, str):
+            return f"{rail.name}: {found}", 1
+        if found.is_missing:
+            return why_not_before(rail.name, found), 1
         went = "went off after it delivered: " if found.verdict.kind == "off" else "doesn't deliver any more: "
         return f"{rail.name} {went}{found.said}", 1
 
-    def not_begun(self, one: argparse.Namespace, rail: Rail, fallen: Rail, found: Delivered) -> int:
+    def not_begun(self, one: argparse.Namespace, rail: Rail, fallen: Rail, found: Delivered | str) -> int:
         """A rail isn't begun, since one before it fell or isn't known to deliver."""
-        why, status = (why_not_before(fallen.name, found), 1) if found.is_missing else self.why_fallen(fallen, found)
+        why, status = self.why_fallen(fallen, found)
         return self.call.say(Answer(one.said, "not begun", "not begun, nothing was ordered", status, why, rail.output))
 
-    def fell(self, rail: Rail, found: Delivered) -> int:
+    def fell(self, rail: Rail, found: Delivered | str) -> int:
         """A rail fell while the ones behind it were turned on."""
         why, status = self.why_fallen(rail, found)
         return self.call.say(Answer(said(self.arguments), "fell", "", status, why))
@@ -173,16 +193,21 @@ class WayUp:
 
     def stop(self) -> int:
         """The way up has failed: goes down, and says how each rail stands. The status of the way down."""
+        restarted = self.restarted()
         status = self.go_down()
+        self.call.begin(self.arguments)
+        why = "; ".join([*self.stands(), *(f"{name or 'the part'} restarted" for name in restarted)])
+        return max(status, self.call.say(Answer(said(self.arguments), "stopped", "", 1, why)))
+
+    def stands(self) -> list[str]:
+        """How each rail stands behind a way up that failed."""
         untouched = [it for it in self.rails if it not in self.turned and it not in self.was_on]
-        named = [("turned off again: {}", [it for it in self.turned_off if self.file.status.get(it.name) == 0]),
-                 ("may be on: {}", [it for it in self.turned_off if self.file.status.get(it.name) != 0]),
+        named = [("turned off again: {}", [it for it in self.turned_off if self.down.status.get(it.name) == 0]),
+                 ("may be on: {}", [it for it in self.turned_off if self.down.status.get(it.name) != 0]),
                  ("left on: {}", [it for it in self.turned if it not in self.turned_off]), ("on before, and left: {}", self.was_on),
                  ("came on by itself: {}", [it for it in untouched if self.is_on(it)]),
                  ("nothing was ordered of {}", [it for it in untouched if not self.is_on(it)])]
-        why = "; ".join(words.format(", ".join(it.name for it in rails)) for words, rails in named if rails)
-        self.call.begin(self.arguments)
-        return max(status, self.call.say(Answer(said(self.arguments), "stopped", "", 1, why)))
+        return [words.format(", ".join(it.name for it in rails)) for words, rails in named if rails]
 
     def go_down(self) -> int:
         """Turns off what was turned on, the last one first; with --leave-on only what doesn't deliver. The status."""
@@ -192,4 +217,12 @@ class WayUp:
             return 0
         down = argparse.Namespace(**{**vars(self.arguments), "command": "off", "byte": OFF, "said": f"off {self.arguments.said.partition(' ')[2]}"})
         self.call.begin(down)
-        return self.turn_off(down, self.turned_off, self.file)
+        self.down = replace_status(self.file)
+        return self.turn_off(down, self.turned_off, self.down)
+
+
+def replace_status(file: StairsFile) -> StairsFile:
+    """The same file, into which the way down is drawn, with statuses of its own."""
+    found = copy.copy(file)
+    found.status = {}
+    return found

@@ -1,6 +1,6 @@
 use Rattle.std.proofs.Common.{◌≡◌, ◌∙◌, Option, Some, None, Ok, Err, true, false, ap, refl, rules, subst, sym}
 use Rattle.std.specs.Prelude.{ℕ, ℤ, Result, option_map}
-use Rattle.pm_num.specs.AnyFormat.{Shape, shape_of, shape_value}
+use Rattle.pm_num.specs.AnyFormat.{Shape, voltage_shape, shape_value}
 use Rattle.pm_num.specs.Ratio.{Ratio}
 use Rattle.pm_table.specs.declared.reg.Reg.{Reg}
 use Rattle.pm_host.specs.Image.{held}
@@ -34,18 +34,18 @@ returns-in_default-taken_of c =
     (sym c.nothing_near-in_default-taken_of.ensures)
     (no_wish c.in-Some.words idle c.in-Some.is (sym c.taken_of.ensures ∙ c.in_default-taken_of.is))
 
-pub returns-in_default-format : goal.returns-in_default-format
-returns-in_default-format c =
+pub returns-in_default-voltage_format : goal.returns-in_default-voltage_format
+returns-in_default-voltage_format c =
     let s = held c.args.stage c.args.host.now in
     let idle : is_busy s ≡ false = sym c.is_some.ensures ∙ c.if-is_some.false in
     let none : format_at s c.args.self.now.course.survey.output ≡ None = search rules in
-    subst (λ (r : Refusal). Takes c.args.limits.now s c.args.self.now c.args.tolerance (Err r)) (sym c.of_plan-in_default-format.ensures)
+    subst (λ (r : Refusal). Takes c.args.limits.now s c.args.self.now c.args.tolerance (Err r)) (sym c.of_plan-in_default-voltage_format.ensures)
     (no_format c.in-Some.words c.in-Some-taken_of.register idle c.in-Some.is (sym c.taken_of.ensures ∙ c.in-Some-taken_of.is) none)
 
 pub returns-in_default-sole_at : goal.returns-in_default-sole_at
 returns-in_default-sole_at c =
     let s = held c.args.stage c.args.host.now in
-    let shape = shape_of c.in-Some-format.format in
+    let shape = voltage_shape c.in-Some-voltage_format.format in
     let register = c.in-Some-taken_of.register in
     let idle : is_busy s ≡ false = sym c.is_some.ensures ∙ c.if-is_some.false in
     let formed : format_at s c.args.self.now.course.survey.output ≡ Some shape = search rules in
@@ -56,7 +56,7 @@ returns-in_default-sole_at c =
 pub returns-in-Some-near_fault : goal.returns-in-Some-near_fault
 returns-in-Some-near_fault c =
     let s = held c.args.stage c.args.host.now in
-    let shape = shape_of c.in-Some-format.format in
+    let shape = voltage_shape c.in-Some-voltage_format.format in
     let register = c.in-Some-taken_of.register in
     let word = c.in-Some-sole_at.word in
     let aim = c.aim-aim.result in
@@ -72,7 +72,7 @@ returns-in-Some-near_fault c =
 pub returns-in-None : goal.returns-in-None
 returns-in-None c =
     let s = held c.args.stage c.args.host.now in
-    let shape = shape_of c.in-Some-format.format in
+    let shape = voltage_shape c.in-Some-voltage_format.format in
     let register = c.in-Some-taken_of.register in
     let word = c.in-Some-sole_at.word in
     let aim = c.aim-aim.result in

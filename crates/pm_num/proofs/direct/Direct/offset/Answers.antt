@@ -1,25 +1,19 @@
 -- Spares the search: it finds these too, in 13 seconds.
 use Rattle.std.proofs.Common.{◌≡◌, ◌^◌, pos, to_z, of_z, unsigned_abs, arith}
-use mir.Syntax.{w128}
+use mir.Syntax.{w64}
 use Rattle.std.proofs.lemmas.Int.{ints}
 use Rattle.std.proofs.lemmas.Nat.{mul-le}
 use Rattle.pm_num.specs.Value.{upper}
 use Rattle.pm_num.proofs.Nearest.{product_at, product_size, coefficient_times_ten, kept_power}
 use Rattle.pm_num.proofs.direct.Direct.offset.Goals as goal
 
-pub product-requires-clause-left : goal.product-requires-clause-left
-product-requires-clause-left c = omega (arith, ints)
-
-pub product-requires-clause-right : goal.product-requires-clause-right
-product-requires-clause-right c = omega (arith, ints)
-
 pub returns-clause-value : goal.returns-clause-value
 returns-clause-value c =
     let f = c.args.self.now in
     let u = kept_power f.r (omega (arith, ints)) c.upper_of_ten.ensures.value in
-    let is_left : to_z w128 (of_z w128 c.from.result) ≡ f.b = omega (arith, ints) in
-    let is_right : to_z w128 (of_z w128 c.upper_of_ten.result) ≡ pos (upper 10 f.r) = omega (arith, ints) in
-    product_at f.b (pos (upper 10 f.r)) c.product.ensures.value is_left is_right (omega (arith, ints))
+    let is_left : to_z w64 (of_z w64 c.from.result) ≡ f.b = omega (arith, ints) in
+    let is_right : to_z w64 (of_z w64 c.upper_of_ten.result) ≡ pos (upper 10 f.r) = omega (arith, ints) in
+    product_at f.b (pos (upper 10 f.r)) c.short_product.ensures.value is_left is_right (omega (arith, ints))
 
 pub returns-clause-size : goal.returns-clause-size
 returns-clause-size c =

@@ -7,4 +7,4 @@ pub returns-clause-greatest : goal.returns-clause-greatest
 returns-clause-greatest c = λ k le.
     let x = c.args.self.now in
     greatest_from_floor (x.num *ℤ pos 1000000) k x.den c.floor.ensures
-    (omega (arith, ints, c.num.ensures.bounds)) (omega (arith, ints, c.num.ensures.bounds)) (omega (arith, ints)) le
+    (omega (arith, ints, c.short_num.ensures.bounds)) (omega (arith, ints, c.short_num.ensures.bounds)) (omega (arith, ints)) le

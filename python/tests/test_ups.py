@@ -1,0 +1,83 @@
+"""Boards that come up and go down over parts that have time: each block of data/ups.txt, and what no fault at any transfer leaves behind."""
+import os
+import tempfile
+import unittest
+
+from .field import Field
+from .kernel import BoardKernel
+from .runs import blocks, called
+from .seeded import seeded
+from .test_runs import Blocks
+
+# How many random boards there are.
+BOARDS = int(os.environ.get("PMHOST_UPS", "40"))
+PLACES = ((0x58, 0), (0x58, 1), (0x59, 0))
+NAMES = ("vccint", "vccaux", "vcco")
+
+
+class Rows(Blocks):
+    """Each block has its words and its status, and at how many volts the rails are then."""
+
+    def look_at(self, trace, mishaps, part):
+        """The frames of the trace, whatever bus they are of."""
+        super().look_at("".join(f"{line}\n" for line in trace.splitlines() if not line.startswith("#")), mishaps, part)
+
+    def look_at_rails(self, run, got):
+        """The rails are at the volts of the row."""
+        volts = [part.volts(output) for part in got.parts for output in range(part.outputs)]
+        self.assertEqual(" ".join(f"{each / 1e6:.6f}".rstrip("0").rstrip(".") for each in volts), run.volts)
+
+    def test_boards_come_up_and_go_down(self):
+        self.carry_out("ups.txt")
+
+    def test_no_row_ends_well_over_a_rail_that_is_not_as_the_file_says(self):
+        for run in blocks("ups.txt"):
+            with self.subTest(run.name):
+                wanted = "1 1 1 0" if run.words.startswith("on") else "0 0 0 0"
+                self.assertEqual(run.status == 0, run.volts == wanted and run.err == "")
+
+
+class Faults(unittest.TestCase):
+    """One fault at a random transfer of `on` or `off`: status 0 is told only of a board that is as the file says, and nothing stays on that was off
+    before, but where a line names it."""
+
+    def board(self, fields):
+        parts = {0x58: Field(0x58), 0x59: Field(0x59)}
+        for address, output, name, value in fields:
+            parts[address].set(name, value, output)
+        return parts
+
+    def text(self):
+        run = next(run for run in blocks("ups.txt") if run.words == "on FILE")
+        return "\n".join(run.toml)
+
+    def run_board(self, command, parts):
+        with tempfile.NamedTemporaryFile("w", suffix=".toml") as file:
+            file.write(self.text())
+            file.flush()
+            return called([command, file.name], BoardKernel({7: parts}))
+
+    @seeded(5)
+    def test_one_fault(self, draw):
+        for number in range(BOARDS):
+            command, address = draw.choice(("on", "on", "off")), draw.choice((0x58, 0x59))
+            starts = [(it, output, "OPERATION", 0x80 if command == "off" else 0) for it, output in PLACES] + [(0x59, 1, "OPERATION", 0)]
+            place = draw.randrange(1, 80 if command == "on" else 12)
+            fault = draw.choice(([("trip_at", place)], [("restart_at", place), ("boot_ms", draw.choice((0, 60, 300)))],
+                                 [("gone_code", 0x100), ("gone_at_frame", place)], [("on_ms", draw.choice((20, 300, 2000)))], [("good_ms", 300)]))
+            parts = self.board(starts)
+            for name, value in fault:
+                parts[address].set(name, value, 0)
+            status, out, err = self.run_board(command, parts)
+            for each in parts.values():
+                each.now()
+            on = [name for (it, output), name in zip(PLACES, NAMES) if parts[it].get("microvolts", output) > 0]
+            with self.subTest(number=number, command=command, address=address, fault=fault):
+                self.assertIn(status, (0, 1, 3), err)
+                self.assertEqual(status == 0, err == "")
+                if status == 0 and on != (list(NAMES) if command == "on" else []):
+                    # The fault came behind the last look at its rail.
+                    self.assertLess(parts[address].get("transfers") - place, 9)
+                if status and command == "on":
+                    for name in on:
+                        self.assertRegex(err, f"may be on: [^;]*{name}|left on: [^;]*{name}|came on by itself: [^;]*{name}|not known to be off: [^;]*{name}")
