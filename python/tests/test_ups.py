@@ -60,9 +60,11 @@ class Faults(unittest.TestCase):
     @seeded(5)
     def test_one_fault(self, draw):
         for number in range(BOARDS):
-            command, address = draw.choice(("on", "on", "off")), draw.choice((0x58, 0x59))
+            command, address = draw.choice(("on", "up", "off")), draw.choice((0x58, 0x59))
             starts = [(it, output, "OPERATION", 0x80 if command == "off" else 0) for it, output in PLACES] + [(0x59, 1, "OPERATION", 0)]
-            place = draw.randrange(1, 80 if command == "on" else 12)
+            if command == "up":
+                starts += [(it, output, "VOUT_COMMAND", draw.choice((0x0C00, 0x1000, 0x1800))) for it, output in PLACES]
+            place = draw.randrange(1, 12 if command == "off" else 110)
             fault = draw.choice(([("trip_at", place)], [("restart_at", place), ("boot_ms", draw.choice((0, 60, 300)))],
                                  [("gone_code", 0x100), ("gone_at_frame", place)], [("on_ms", draw.choice((20, 300, 2000)))], [("good_ms", 300)]))
             parts = self.board(starts)
@@ -75,9 +77,9 @@ class Faults(unittest.TestCase):
             with self.subTest(number=number, command=command, address=address, fault=fault):
                 self.assertIn(status, (0, 1, 3), err)
                 self.assertEqual(status == 0, err == "")
-                if status == 0 and on != (list(NAMES) if command == "on" else []):
+                if status == 0 and on != ([] if command == "off" else list(NAMES)):
                     # The fault came behind the last look at its rail.
                     self.assertLess(parts[address].get("transfers") - place, 9)
-                if status and command == "on":
+                if status and command != "off":
                     for name in on:
                         self.assertRegex(err, f"may be on: [^;]*{name}|left on: [^;]*{name}|came on by itself: [^;]*{name}|not known to be off: [^;]*{name}")

@@ -45,6 +45,10 @@ RESTORES = f"{', '.join(REGISTERS)} of every output may hold the old or the stor
 # ---- Words of the command line ----
 
 OUTPUT = whole(0, 7, "output")
+# The option of a way up.
+LEAVE_ON = "--leave-on"
+LEAVING: dict[str, Any] = {"action": "store_true",
+                           "help": "of a board file: a way up that fails turns off what doesn't deliver; all that it turned on if left out"}
 # The option of commands that store.
 CLEAR_FIRST = "--clear-first"
 CLEARING: dict[str, Any] = {"action": "store_true", "help": "clears DATA and MEMORY of STATUS_CML before; where they stand nothing is stored if left out"}
@@ -153,8 +157,7 @@ def add(commands: Any) -> None:
         found.set_defaults(byte=byte)
         way.add(found, way.STAIRS[name])
         if name == "on":
-            found.add_argument("--leave-on", action="store_true",
-                               help="of a board file: a way up that fails turns off what doesn't deliver; all that it turned on if left out")
+            found.add_argument(LEAVE_ON, **LEAVING)
         bus_options(found)
     found = command("margin", margin, judge_margin)
     found.add_argument("output", **output)

@@ -128,7 +128,7 @@ class WayUp:
             with self.file.step(one, rail):
                 self.watch(one, rail)
                 fallen = steps.fallen(rail.name, self.file)
-                status = self.not_begun(one, rail, *fallen) if fallen else orders.operate(one)
+                status = self.not_begun(one, rail, *fallen) if fallen else self.move(one, rail) or orders.operate(one)
                 if rail in self.turned and not self.part(rail).transfers.has_written:
                     # The order was refused as it came next.
                     self.turned.remove(rail)
@@ -139,6 +139,10 @@ class WayUp:
         self.call.begin(self.arguments)
         fallen = steps.fallen(AT_THE_END, self.file)
         return self.fell(*fallen) if fallen else self.call.ordered.look(self.call)
+
+    def move(self, one: argparse.Namespace, rail: Rail) -> int:
+        """What comes before a rail is turned on: nothing. The status if it isn't to be."""
+        return 0
 
     def caused(self, rail: Rail, status: int) -> int:
         """RESTARTED if a restart of a rail's part is behind a bad end, as OPERATION shows that is read once more."""
