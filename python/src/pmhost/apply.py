@@ -189,7 +189,7 @@ class Board:
         return self.befores.get(rail.name, Heard())
 
     def look_at(self, rail: Rail) -> None:
-        """Reads all that a rail's step needs before its first order; where nothing is due, what the rail does, too."""
+        """Reads all that a rail's step needs before its first order, or, if nothing is due, what the rail does."""
         self.runs[rail.name] = RailRun(self, rail)
         self.runs[rail.name].go(False)
 
@@ -202,7 +202,7 @@ class Board:
             self.last_look[rail.name], self.looked_at[rail.name] = run.delivered, self.orders
 
     def see(self, rail: Rail, found: Delivered) -> None:
-        """A rail was looked at, which is told."""
+        """A rail was looked at, and its line says so."""
         found.notes = [*self.notes.get(rail.name, [])]
         self.delivered[rail.name], self.last_look[rail.name], self.looked_at[rail.name] = found, found, self.orders
 
@@ -308,7 +308,7 @@ class Board:
         self.read_again()
 
     def read_again(self) -> None:
-        """Reads each register that was ordered once more, since a part that restarts behind the looks has its stored words. Stopped."""
+        """Reads each register that was ordered once more, since a part that restarts after the looks has its stored words. Stopped."""
         for it in self.settings:
             part = self.on(it.rail)
             if it.is_ordered:

@@ -122,8 +122,8 @@ margin 0: OPERATION A8 on, margin high confirmed; the output commands 3.399902V,
     "clear": About("clears the latched faults of an output", f"{ORDER} clear 0"),
     "store": About(
         "has the part store its settings", f"{ORDER} store",
-        """It is sent once, since it wears the part's memory, and refused above 85 C by READ_TEMPERATURE_1. STATUS_CML is read before and behind it:
-where DATA or MEMORY stands nothing is stored, and where one of these or another bit comes with the store the status is 1."""),
+        """It is sent once, since it wears the part's memory, and refused above 85 C by READ_TEMPERATURE_1. STATUS_CML is read before it and after it:
+if DATA or MEMORY stands nothing is stored, and if one of these or another bit comes with the store the status is 1."""),
     "restore": About(
         "has the part load its stored settings", f"{ORDER} restore --outputs-may-go-off",
         """On some parts it is a reset, and the outputs go off."""),
@@ -136,11 +136,11 @@ where DATA or MEMORY stands nothing is stored, and where one of these or another
     "apply": About(
         "brings a part, or the parts of a board, to the settings of a file", "pmhost apply board.toml",
         """Without -b and -a the file has a table for each part."""),
+    "verify": About("compares a part, or the parts of a board, with a file, and orders nothing", "pmhost verify board.toml"),
     "up": About(
         "gives each rail of a file its words and turns it on, one after another", "pmhost up board.toml",
         """It is for a board in any state, one that was never programmed, too. All is read and judged first, as by `apply`, and what holds of `on` with
 a board file holds of it. A rail that is to be off has to be off; it gets its words, and stays off."""),
-    "verify": About("compares a part, or the parts of a board, with a file, and orders nothing", "pmhost verify board.toml"),
     "margin-test": About(
         "measures rails of a file at their margins, one after another, and brings each back to its voltage", "pmhost margin-test board.toml core",
         """The board has to be as the file describes it, with OPERATION 80 of each rail that is to be on. All its rails are looked at at each margin."""),

@@ -51,7 +51,7 @@ LEAVING: dict[str, Any] = {"action": "store_true",
                            "help": "of a board file: a way up that fails turns off what doesn't deliver; all that it turned on if left out"}
 # The option of commands that store.
 CLEAR_FIRST = "--clear-first"
-CLEARING: dict[str, Any] = {"action": "store_true", "help": "clears DATA and MEMORY of STATUS_CML before; where they stand nothing is stored if left out"}
+CLEARING: dict[str, Any] = {"action": "store_true", "help": "clears DATA and MEMORY of STATUS_CML before; nothing is stored while they stand if left out"}
 
 
 def register_of(names: tuple[str, ...]) -> Callable[[str], str]:
@@ -429,8 +429,8 @@ def operate(arguments: argparse.Namespace) -> int:
 
 
 def turn_off(arguments: argparse.Namespace) -> int:
-    """Turns an output off, whatever its part is. Where MFR_MODEL says that it is another one than the file's, OPERATION has to answer first, and
-    the line behind it says so."""
+    """Turns an output off, whatever its part is. If MFR_MODEL says that it is another one than the file's, OPERATION has to answer first, and a
+    line after it says so."""
     call: Call = arguments.call
     why = "" if call.named is None else why_another_model(call.part(), call.only().part)
     if why:

@@ -145,7 +145,7 @@ class WayUp:
         return 0
 
     def caused(self, rail: Rail, status: int) -> int:
-        """RESTARTED if a restart of a rail's part is behind a bad end, as OPERATION shows that is read once more."""
+        """RESTARTED if a part restarted meanwhile, as OPERATION shows that is read once more; otherwise the status of a rail."""
         part = self.part(rail)
         if status == 1 and rail in self.turned:
             part.host.check(rail.output, "OPERATION")
@@ -204,7 +204,7 @@ class WayUp:
         return max(status, self.call.say(Answer(said(self.arguments), "stopped", "", 1, why)))
 
     def stands(self) -> list[str]:
-        """How each rail stands behind a way up that failed."""
+        """How each rail stands after a way up that failed."""
         untouched = [it for it in self.rails if it not in self.turned and it not in self.was_on]
         named = [("turned off again: {}", [it for it in self.turned_off if self.down.status.get(it.name) == 0]),
                  ("may be on: {}", [it for it in self.turned_off if self.down.status.get(it.name) != 0]),
