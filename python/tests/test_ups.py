@@ -83,3 +83,29 @@ class Faults(unittest.TestCase):
                 if status and command != "off":
                     for name in on:
                         self.assertRegex(err, f"may be on: [^;]*{name}|left on: [^;]*{name}|came on by itself: [^;]*{name}|not known to be off: [^;]*{name}")
+
+
+class Streams(unittest.TestCase):
+    """What can't be written ends neither a way up nor a way down: it is said once, and the status is 2."""
+
+    def run_board(self, *words):
+        starts = [(it, output, "OPERATION", 0 if words[0] in ("on", "up") else 0x80) for it, output in PLACES] + [(0x59, 1, "OPERATION", 0)]
+        parts = {0x58: Field(0x58), 0x59: Field(0x59)}
+        for address, output, name, value in starts:
+            parts[address].set(name, value, output)
+        with tempfile.NamedTemporaryFile("w", suffix=".toml") as file:
+            file.write("\n".join(next(run for run in blocks("ups.txt") if run.words == "on FILE").toml))
+            file.flush()
+            status, out, err = called([file.name if word == "FILE" else word for word in words], BoardKernel({7: parts}))
+        return status, len(out.splitlines()), err, [parts[it].get("OPERATION", output) for it, output in PLACES]
+
+    @unittest.skipUnless(os.path.exists("/dev/full"), "no /dev/full here")
+    def test_a_full_disk(self):
+        full = "pmhost: /dev/full: No space left on device\n"
+        for words, held in ((("on", "FILE"), [0x80] * 3), (("up", "FILE"), [0x80] * 3), (("off", "FILE"), [0] * 3)):
+            for option in "--trace", "--log":
+                with self.subTest(words=words, option=option):
+                    self.assertEqual(self.run_board(*words, option, "/dev/full"), (2, 3, full, held))
+        for words in ("verify", "FILE"), ("survey", "FILE", "vccint"), ("set", "FILE", "vccint", "1V"):
+            with self.subTest(words=words):
+                self.assertEqual(self.run_board(*words, "--log", "/dev/full")[::2], (2, full))
