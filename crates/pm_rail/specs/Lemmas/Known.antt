@@ -169,7 +169,7 @@ only-listed held [] listed some = cc
 only-listed held (word ∷ []) listed some = grind (arith, nat_tests)
 only-listed held (word ∷ other ∷ words) listed some = cc
 
-only-possible : (held : ℕ) (possible : Possible) → is_possible held possible ≡ true → is_none (sole possible) ≡ false →
+pub only-possible : (held : ℕ) (possible : Possible) → is_possible held possible ≡ true → is_none (sole possible) ≡ false →
     unwrap_or (sole possible) 0 ≡ held
 only-possible held Any is some = cc
 only-possible held (Words words) is some = only-listed held words.items is some
