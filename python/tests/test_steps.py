@@ -3,14 +3,14 @@ import unittest
 from types import SimpleNamespace
 from unittest import mock
 
-from pmhost import back, clock, steps
-from pmhost.delivery import VERDICTS, Verdict
-from pmhost.look import Delivered, Looks
+from pmhost import Heard, Looks, back, clock, steps
+from pmhost.delivered import Delivered, why_not_before
 from pmhost.rail_run import Stopped
+from pmhost.sequence import VERDICTS, SequenceStep, Verdict
 
 
 def delivered(kind):
-    return Delivered(0, Verdict(kind), Looks())
+    return Delivered(0, Verdict(kind), not kind.startswith("delivers"), Looks())
 
 
 def rail(name, **more):
@@ -22,17 +22,23 @@ class Board:
 
     def __init__(self, rails, kinds=(), words=(0x1000,)):
         self.rails, self.kinds, self.looked, self.delivered, self.noted = rails, dict(kinds), [], {}, []
-        self.note = self.noted.append
+        self.note, self.looks = self.noted.append, None
         self.words = words
 
-    def look_of(self, each):
-        def after():
-            self.looked.append(each.name)
-            return delivered(self.kinds[each.name])
-        return SimpleNamespace(after=after)
+    def look_at(self, part, output, looks, before, must):
+        """In the place of step_run.look_at: each has to deliver, by what stood before its own first order."""
+        assert (output, looks, before.word, must) == (0, Looks(), 0x40, True), (output, looks, before, must)
+        self.looked.append(part.name)
+        return delivered(self.kinds[part.name])
 
-    def on(self, _):
-        return SimpleNamespace(host=SimpleNamespace(possible_words=lambda *_: self.words))
+    def before(self, _):
+        return Heard(1, 0x40)
+
+    def see(self, each, found):
+        self.delivered[each.name] = found
+
+    def on(self, each):
+        return SimpleNamespace(name=each.name, host=SimpleNamespace(possible_words=lambda *_: self.words))
 
     def of(self, _):
         return [SimpleNamespace(register="VOUT_COMMAND")]
@@ -43,14 +49,14 @@ class Board:
 
 class Begins(unittest.TestCase):
     def begin(self, board, one):
-        with mock.patch.object(clock, "wait") as waited:
+        with mock.patch.object(clock, "wait") as waited, mock.patch.object(steps, "look_at", board.look_at):
             steps.begin(board, one)
         return [each.args[0] for each in waited.call_args_list]
 
     def test_which_rails_hold_the_next_one_up(self):
         for kind in VERDICTS:
             with self.subTest(kind=kind):
-                self.assertEqual(steps.why_not_before("core", delivered(kind)) == "", kind.startswith("delivers"))
+                self.assertEqual(why_not_before("core", delivered(kind)) == "", kind.startswith("delivers"))
 
     def test_a_rail_waits_and_looks_at_those_that_it_names(self):
         core, aux = rail("core"), rail("aux")
@@ -99,9 +105,8 @@ class BroughtBack(unittest.TestCase):
         self.assertEqual((said, round(seconds)), ("no good answer", 5))
         self.assertIn(tries, (100, 101, 102))
 
-    def test_the_course_back_is_that_of_its_own_output(self):
+    def test_the_step_back_is_that_of_its_own_output(self):
         held = back.Held("core", "u1", 1, {"OPERATION": 0xA8})
-        self.assertEqual((held.course().output, held.said), (1, "OPERATION A8"))
-        self.assertFalse(held.course().turns_off)
-        self.assertTrue(back.Held("core", "u1", 1, {"OPERATION": 0x00}).course().turns_off)
-        self.assertEqual(back.Held("core", "u1", 3, {"VOUT_COMMAND": 0x1000, "VOUT_MAX": 0x2000}).course().output, 3)
+        self.assertEqual((held.step(), held.said), (SequenceStep.turns(0, 1, 0xA8), "OPERATION A8"))
+        words = {"VOUT_COMMAND": 0x1000, "VOUT_MAX": 0x2000}
+        self.assertEqual(back.Held("core", "u1", 3, words).step(), SequenceStep.sets(0, 3, words))
