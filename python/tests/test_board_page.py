@@ -105,7 +105,7 @@ class CommandLine(unittest.TestCase):
             words = shlex.split(about.example.partition(" <")[0])[1:]
             with self.subTest(name):
                 # What names a file or a program is only read.
-                found = cli.commands_of(words) if name in ("apply", "verify", "margin-test", "torture") else cli.judged(words, None).commands
+                found = cli.commands_of(words) if name in ("apply", "verify", "up", "margin-test", "torture") else cli.judged(words, None).commands
                 self.assertEqual([it.command for it in found][-1:], [name])
 
     def test_each_word_and_option_has_its_help(self):

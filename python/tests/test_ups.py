@@ -31,7 +31,7 @@ class Rows(Blocks):
         self.carry_out("ups.txt")
 
     def test_no_row_ends_well_over_a_rail_that_is_not_as_the_file_says(self):
-        for run in blocks("ups.txt"):
+        for run in (each for each in blocks("ups.txt") if each.words.split()[0] in ("on", "off")):
             with self.subTest(run.name):
                 wanted = "1 1 1 0" if run.words.startswith("on") else "0 0 0 0"
                 self.assertEqual(run.status == 0, run.volts == wanted and run.err == "")
@@ -60,9 +60,11 @@ class Faults(unittest.TestCase):
     @seeded(5)
     def test_one_fault(self, draw):
         for number in range(BOARDS):
-            command, address = draw.choice(("on", "on", "off")), draw.choice((0x58, 0x59))
+            command, address = draw.choice(("on", "up", "off")), draw.choice((0x58, 0x59))
             starts = [(it, output, "OPERATION", 0x80 if command == "off" else 0) for it, output in PLACES] + [(0x59, 1, "OPERATION", 0)]
-            place = draw.randrange(1, 80 if command == "on" else 12)
+            if command == "up":
+                starts += [(it, output, "VOUT_COMMAND", draw.choice((0x0C00, 0x1000, 0x1800))) for it, output in PLACES]
+            place = draw.randrange(1, 12 if command == "off" else 110)
             fault = draw.choice(([("trip_at", place)], [("restart_at", place), ("boot_ms", draw.choice((0, 60, 300)))],
                                  [("gone_code", 0x100), ("gone_at_frame", place)], [("on_ms", draw.choice((20, 300, 2000)))], [("good_ms", 300)]))
             parts = self.board(starts)
@@ -75,9 +77,35 @@ class Faults(unittest.TestCase):
             with self.subTest(number=number, command=command, address=address, fault=fault):
                 self.assertIn(status, (0, 1, 3), err)
                 self.assertEqual(status == 0, err == "")
-                if status == 0 and on != (list(NAMES) if command == "on" else []):
+                if status == 0 and on != ([] if command == "off" else list(NAMES)):
                     # The fault came behind the last look at its rail.
                     self.assertLess(parts[address].get("transfers") - place, 9)
-                if status and command == "on":
+                if status and command != "off":
                     for name in on:
                         self.assertRegex(err, f"may be on: [^;]*{name}|left on: [^;]*{name}|came on by itself: [^;]*{name}|not known to be off: [^;]*{name}")
+
+
+class Streams(unittest.TestCase):
+    """What can't be written ends neither a way up nor a way down: it is said once, and the status is 2."""
+
+    def run_board(self, *words):
+        starts = [(it, output, "OPERATION", 0 if words[0] in ("on", "up") else 0x80) for it, output in PLACES] + [(0x59, 1, "OPERATION", 0)]
+        parts = {0x58: Field(0x58), 0x59: Field(0x59)}
+        for address, output, name, value in starts:
+            parts[address].set(name, value, output)
+        with tempfile.NamedTemporaryFile("w", suffix=".toml") as file:
+            file.write("\n".join(next(run for run in blocks("ups.txt") if run.words == "on FILE").toml))
+            file.flush()
+            status, out, err = called([file.name if word == "FILE" else word for word in words], BoardKernel({7: parts}))
+        return status, len(out.splitlines()), err, [parts[it].get("OPERATION", output) for it, output in PLACES]
+
+    @unittest.skipUnless(os.path.exists("/dev/full"), "no /dev/full here")
+    def test_a_full_disk(self):
+        full = "pmhost: /dev/full: No space left on device\n"
+        for words, held in ((("on", "FILE"), [0x80] * 3), (("up", "FILE"), [0x80] * 3), (("off", "FILE"), [0] * 3)):
+            for option in "--trace", "--log":
+                with self.subTest(words=words, option=option):
+                    self.assertEqual(self.run_board(*words, option, "/dev/full"), (2, 3, full, held))
+        for words in ("verify", "FILE"), ("survey", "FILE", "vccint"), ("set", "FILE", "vccint", "1V"):
+            with self.subTest(words=words):
+                self.assertEqual(self.run_board(*words, "--log", "/dev/full")[::2], (2, full))

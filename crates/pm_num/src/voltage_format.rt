@@ -22,7 +22,7 @@ pub enum VoltageFormat {
 }
 
 impl VoltageFormat {
-    /// The same format among all three.
+    /// This format among all three.
     pub fn any(self) -> AnyFormat
         ensures { result ≡ any_of self }
     {

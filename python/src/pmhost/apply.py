@@ -26,6 +26,7 @@ from .sequence import Heard
 from .states import Step
 from .step_run import StepRun
 from .steps import begin, judge_way_back
+from .stores import has_failed
 from .survey import Commanded, answers, commanded, only_word, read
 from .values import Format
 
@@ -56,6 +57,8 @@ class Board:
     accept: int | None = None
     looks: Looks | None = None
     wants_store: bool = False
+    # Whether STATUS_CML is cleared before a store.
+    clears: bool = False
     # What notes of a rail what it held before its first order, where there is to be a way back.
     note: Callable[[Held], None] | None = None
     # Whether a part holds just the WRITE_PROTECT of its file, and what lifts that; a dry run lifts nothing.
@@ -186,7 +189,7 @@ class Board:
         return self.befores.get(rail.name, Heard())
 
     def look_at(self, rail: Rail) -> None:
-        """Reads all that a rail's step needs before its first order; where nothing is due, what the rail does, too."""
+        """Reads all that a rail's step needs before its first order, or, if nothing is due, what the rail does."""
         self.runs[rail.name] = RailRun(self, rail)
         self.runs[rail.name].go(False)
 
@@ -199,7 +202,7 @@ class Board:
             self.last_look[rail.name], self.looked_at[rail.name] = run.delivered, self.orders
 
     def see(self, rail: Rail, found: Delivered) -> None:
-        """A rail was looked at, which is told."""
+        """A rail was looked at, and its line says so."""
         found.notes = [*self.notes.get(rail.name, [])]
         self.delivered[rail.name], self.last_look[rail.name], self.looked_at[rail.name] = found, found, self.orders
 
@@ -251,6 +254,9 @@ class Board:
 
     def prepare(self) -> None:
         """Reads and judges everything, and writes nothing."""
+        for name, part in self.having_rails().items() if self.wants_store else ():
+            if why := has_failed(part, self.clears and not self.is_dry):
+                raise Stopped(f"{f'{name}: ' * bool(name)}{why}")
         self.may_write = True
         self.read()
         for rail in self.rails:
@@ -302,7 +308,7 @@ class Board:
         self.read_again()
 
     def read_again(self) -> None:
-        """Reads each register that was ordered once more, since a part that restarts behind the looks has its stored words. Stopped."""
+        """Reads each register that was ordered once more, since a part that restarts after the looks has its stored words. Stopped."""
         for it in self.settings:
             part = self.on(it.rail)
             if it.is_ordered:

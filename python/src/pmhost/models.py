@@ -13,7 +13,7 @@ def why_other_model(device: Device, part: BoardPart) -> str:
 
 
 def why_another_model(device: Device, part: BoardPart) -> str:
-    """The same, by a good answer alone: one that gives none may be the part."""
+    """The same, by a good answer only: one that gives none may be the part."""
     return why_not_model(device, part, False)
 
 

@@ -1,12 +1,15 @@
-"""When a part's settings aren't stored: if it is too hot for its memory, or a rail doesn't command the word that would be stored."""
+"""When a part's settings aren't stored: if it is too hot for its memory, or says that this failed; and what it says of a store."""
 from __future__ import annotations
 
 from decimal import Decimal
 
 from .device import Device
 from .readings import read
+from .status import names_of
 
-TEMPERATURE, MOST = "READ_TEMPERATURE_1", 85
+TEMPERATURE, MOST, CML = "READ_TEMPERATURE_1", 85, "STATUS_CML"
+# The bits of STATUS_CML by which what is stored isn't what was to be: DATA and MEMORY.
+FAILED = 0x50
 
 
 def too_hot(part: Device) -> str:
@@ -23,3 +26,41 @@ def too_hot(part: Device) -> str:
         if found.value is not None:
             return f"{TEMPERATURE} is {found.value.normalize():f}C, above {MOST}C" if found.value > Decimal(MOST) else ""
     return ""
+
+
+def cml(part: Device) -> int | None:
+    """STATUS_CML of a part, None if it gives no good answer: then it isn't judged."""
+    return read(part.bus, part.host.address, None, CML, None).word
+
+
+def cml_words(word: int) -> str:
+    """STATUS_CML with the names of its bits."""
+    return f"{CML} {word:02X}{' ' * bool(word)}{', '.join(names_of(CML, word))}"
+
+
+def has_failed(part: Device, clears: bool) -> str:
+    """Why a part isn't to store, nothing if it may: by the bits of STATUS_CML that stand before a call has read anything else. They are cleared
+    first if it `clears`."""
+    word = cml(part)
+    if clears and word is not None and word & FAILED:
+        for output in range(part.host.outputs):
+            part.host.clear(output)
+            part.run()
+        word = cml(part)
+    return f"{cml_words(word)} stands: --clear-first clears it" if word is not None and word & FAILED else ""
+
+
+def why_failed(part: Device, before: int | None) -> str:
+    """What a part says of a store that it acknowledged, nothing if all is well; `before` is STATUS_CML directly before it."""
+    word = cml(part)
+    if word is None:
+        return ""
+    if word & FAILED:
+        return f"{cml_words(word)}: the part says that {'its memory failed' if word & 0x10 else 'it refused the data'}"
+    new = word & ~(before or 0)
+    return f"{cml_words(new)} came with the store" if before is not None and new else ""
+
+
+def stood_before(before: int | None) -> str:
+    """That STATUS_CML stood before a store, for the end of a line."""
+    return f"; {cml_words(before)} stood before it" if before else ""

@@ -19,7 +19,7 @@ from .._version import __version__
 from ..bus import NoBus
 from ..bus.linux import Calls
 from ..errors import PmhostError
-from . import capture, faults, known, margins, names, orders, probe, rails, sequence, streams, torture, why
+from . import capture, faults, known, margins, names, orders, probe, rails, sequence, streams, torture, up, why
 from .about import WHOLE
 from .again import are_several
 from .answer import Answer
@@ -29,7 +29,7 @@ from .parser import OF_A_BUS, BadCall, Parser, bus_options, flag_of, own_options
 from .signals import Interrupted, interruptible
 
 # The modules of the commands, in the order of the help.
-MODULES: list[ModuleType] = [probe, orders, why, known, rails, margins, faults, torture, capture]
+MODULES: list[ModuleType] = [probe, orders, why, known, rails, up, margins, faults, torture, capture]
 # The commands that have jobs of their own, between which a + stands: the call has no other command.
 OWN_JOBS = ("faults", "torture")
 

@@ -98,10 +98,15 @@ An order needs --outputs, and --limit for its output or --no-limit. A good `set`
     "word": About(
         "orders a register's word in hexadecimal digits, as `set` does", f"{LIMITED} word 0 VOUT_COMMAND 34CD",
         "With - in the place of O it orders WRITE_PROTECT, the device's own register."),
-    "on": About("turns an output on by OPERATION 80, as `set` does", f"{LIMITED} on 0"),
+    "on": About(
+        "turns an output on by OPERATION 80, as `set` does", f"{LIMITED} on 0",
+        """With a board file all its rails that are to be on are turned on in order. Before the first order each part is asked, and each rail judged:
+if one would be refused, nothing is ordered. Before each further rail, and at the end, the rails that are on are looked at. A way up that
+fails turns off what it turned on, the last one first, and says how each rail stands."""),
     "off": About(
         "turns an output off at once by OPERATION 00", f"{ORDER} off 0",
-        """It is ordered before anything is read. What the output would command is printed only if the call read it before."""),
+        """It is ordered before anything is read but the `model` of a board file, and whatever that says. What the output would command is printed
+only if the call read it before."""),
     "margin": About(
         "has an output command a margin, by OPERATION A8 or 98, as `set` does", f"{LIMITED} set 0 3.4V VOUT_MARGIN_HIGH + margin 0 high",
         """It is refused (L5) if the margin isn't known to lie within the limits. Test the load, and then give `on 0`, which goes back
@@ -117,7 +122,8 @@ margin 0: OPERATION A8 on, margin high confirmed; the output commands 3.399902V,
     "clear": About("clears the latched faults of an output", f"{ORDER} clear 0"),
     "store": About(
         "has the part store its settings", f"{ORDER} store",
-        """It is sent once, since it wears the part's memory, and refused above 85 C by READ_TEMPERATURE_1."""),
+        """It is sent once, since it wears the part's memory, and refused above 85 C by READ_TEMPERATURE_1. STATUS_CML is read before it and after it:
+if DATA or MEMORY stands nothing is stored, and if one of these or another bit comes with the store the status is 1."""),
     "restore": About(
         "has the part load its stored settings", f"{ORDER} restore --outputs-may-go-off",
         """On some parts it is a reset, and the outputs go off."""),
@@ -131,6 +137,10 @@ margin 0: OPERATION A8 on, margin high confirmed; the output commands 3.399902V,
         "brings a part, or the parts of a board, to the settings of a file", "pmhost apply board.toml",
         """Without -b and -a the file has a table for each part."""),
     "verify": About("compares a part, or the parts of a board, with a file, and orders nothing", "pmhost verify board.toml"),
+    "up": About(
+        "gives each rail of a file its words and turns it on, one after another", "pmhost up board.toml",
+        """It is for a board in any state, one that was never programmed, too. All is read and judged first, as by `apply`, and what holds of `on` with
+a board file holds of it. A rail that is to be off has to be off; it gets its words, and stays off."""),
     "margin-test": About(
         "measures rails of a file at their margins, one after another, and brings each back to its voltage", "pmhost margin-test board.toml core",
         """The board has to be as the file describes it, with OPERATION 80 of each rail that is to be on. All its rails are looked at at each margin."""),

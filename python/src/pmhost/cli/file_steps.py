@@ -22,8 +22,8 @@ AT_THE_END = ""
 
 
 class FileSteps:
-    """The steps of the rails of a file. Before that of a rail, and behind the last one, stand looks at the rails that were turned on before it: they
-    have to deliver where its file says so. `looked` has the places of these by the rail's name; `befores` what was heard of STATUS_WORD of each
+    """The steps of the rails of a file. Before that of a rail, and after the last one, stand looks at the rails that were turned on before it: they
+    have to deliver if the file says so. `looked` has the places of these by the rail's name; `befores` what was heard of STATUS_WORD of each
     before the first order."""
 
     def __init__(self, arguments: argparse.Namespace, is_down: bool, befores: dict[str, Heard] | None = None) -> None:

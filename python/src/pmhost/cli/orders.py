@@ -19,7 +19,7 @@ from ..readings import KINDS
 from ..sequence import Said, SequenceStep
 from ..states import Step
 from ..step_run import StepRun
-from ..stores import too_hot
+from ..stores import cml, has_failed, stood_before, too_hot, why_failed
 from ..survey import TRIES, holds_zeros, looked_at, survey
 from ..transfers import Transfers
 from ..zeros import NotBelieved, guard
@@ -45,6 +45,14 @@ RESTORES = f"{', '.join(REGISTERS)} of every output may hold the old or the stor
 # ---- Words of the command line ----
 
 OUTPUT = whole(0, 7, "output")
+# The option of a way up.
+LEAVE_ON = "--leave-on"
+LEAVING: dict[str, Any] = {"action": "store_true",
+                           "help": "of a board file: a way up that fails turns off what doesn't deliver; all that it turned on if left out"}
+# The option of commands that store.
+CLEAR_FIRST = "--clear-first"
+CLEARING: dict[str, Any] = {"action": "store_true", "help": "clears DATA and MEMORY of STATUS_CML before; nothing is stored while they stand if left out"}
+
 
 def register_of(names: tuple[str, ...]) -> Callable[[str], str]:
     """The judge of a register's name."""
@@ -149,8 +157,7 @@ def add(commands: Any) -> None:
         found.set_defaults(byte=byte)
         way.add(found, way.STAIRS[name])
         if name == "on":
-            found.add_argument("--leave-on", action="store_true",
-                               help="of a board file: a way up that fails turns off what doesn't deliver; all that it turned on if left out")
+            found.add_argument(LEAVE_ON, **LEAVING)
         bus_options(found)
     found = command("margin", margin, judge_margin)
     found.add_argument("output", **output)
@@ -165,6 +172,8 @@ def add(commands: Any) -> None:
     for name in "store", "restore":
         found = command(name, send_command, judge_restore if name == "restore" else judge_write)
         found.set_defaults(output=None)
+        if name == "store":
+            found.add_argument(CLEAR_FIRST, **CLEARING)
         if name == "restore":
             found.add_argument(GO_OFF, action="store_true", help="says that the board tolerates it if the outputs go off; needed")
         bus_options(found)
@@ -420,8 +429,8 @@ def operate(arguments: argparse.Namespace) -> int:
 
 
 def turn_off(arguments: argparse.Namespace) -> int:
-    """Turns an output off, whatever its part is. Where MFR_MODEL says that it is another one than the file's, OPERATION has to answer first, and
-    the line behind it says so."""
+    """Turns an output off, whatever its part is. If MFR_MODEL says that it is another one than the file's, OPERATION has to answer first, and a
+    line after it says so."""
     call: Call = arguments.call
     why = "" if call.named is None else why_another_model(call.part(), call.only().part)
     if why:
@@ -468,13 +477,13 @@ def turn(arguments: argparse.Namespace, byte: int, is_guarded: bool = True) -> i
 def send_command(arguments: argparse.Namespace) -> int:
     """A command that nothing reads back: clear, store, restore. It is acknowledged if the part answers after it, too."""
     call: Call = arguments.call
-    part, output = call.part(), arguments.output
-    hot = too_hot(part) if arguments.command == "store" and not call.is_forced else ""
-    if hot:
-        return call.say(answer_of(arguments, part, None, "refused", status=1, text="nothing is stored", why=f"{hot}: --force stores all the same"))
+    part, output, is_store = call.part(), arguments.output, arguments.command == "store"
+    if why := why_not_stored(call, part, arguments.clear_first) if is_store else "":
+        return call.say(answer_of(arguments, part, None, "refused", status=1, text="nothing is stored", why=why))
     call.protection.touch(call.part_name)
     call.protection.read(call.part_name)
     call.protection.lift(call.part_name)
+    before = cml(part) if is_store else None
     {"clear": lambda: part.host.clear(output), "store": part.host.store, "restore": part.host.restore}[arguments.command]()
     call.maybe = {"clear": f"the faults of output {output} may be cleared or not", "store": STORES,
                   "restore": RESTORES}[arguments.command]
@@ -487,6 +496,14 @@ def send_command(arguments: argparse.Namespace) -> int:
         found.why = (part.transfers.why() or "no good answer") + readings.read_notes(part, output)
         return call.say(found)
     status, why = call.only().unsure_of_last(arguments.command)
+    if is_store and not status and (why := why_failed(part, before)):
+        return call.say(answer_of(arguments, part, None, "failed", status=1, text="acknowledged, and failed", why=why))
     found = answer_of(arguments, part, None, "unknown" if status else "acknowledged", status=status, why=why)
-    found.text = found.end
+    found.text = f"{found.end}{stood_before(before) if not status else ''}"
     return call.say(found)
+
+
+def why_not_stored(call: Call, part: Device, clears: bool) -> str:
+    """Why a part isn't to store."""
+    why, hot = has_failed(part, clears), "" if call.is_forced else too_hot(part)
+    return why or (f"{hot}: --force stores all the same" if hot else "")

@@ -9,7 +9,7 @@ from ..apply import AS_WANTED, Board
 from ..parts import BadRails
 from ..rail_run import Restarted, Setting, Stopped
 from ..rails import Rail
-from ..stores import too_hot
+from ..stores import cml, stood_before, too_hot, why_failed
 from . import way
 from .about import described
 from .again import RESTARTED
@@ -17,7 +17,7 @@ from .answer import Answer, delivery_of, in_digits, number
 from .back import words_of
 from .call import Call, said
 from .completion import FILES, completed_by
-from .orders import ACCEPT, STORES
+from .orders import ACCEPT, CLEAR_FIRST, CLEARING, STORES
 from .outcome import rail_words
 from .parser import BadCall, bus_options, file_of
 from .readings import read_notes
@@ -38,6 +38,7 @@ def add(commands: Any) -> None:
             found.add_argument("--store", action="store_true", dest="wants_store",
                                help="has each part of which something was ordered store its settings, once all rails are as the file has them. One above "
                                     "85 C, or with a rail that is cut, isn't stored; none is if left out")
+            found.add_argument(CLEAR_FIRST, **CLEARING)
             found.add_argument(STORE_ALL, action="store_true", dest="stores_all",
                                help="the same of all parts, ordered or not; --store=always is the same")
             found.add_argument("--back-on-failure", action="store_true", dest="goes_back",
@@ -61,7 +62,7 @@ def judge_file(arguments: argparse.Namespace) -> None:
 def apply(arguments: argparse.Namespace) -> int:
     """Applies a file, or says what would be ordered."""
     board = board_of(arguments)
-    board.wants_store = arguments.wants_store or arguments.stores_all
+    board.wants_store, board.clears = arguments.wants_store or arguments.stores_all, arguments.clear_first
     return run_board(arguments, board, board.prepare if arguments.dry_run else board.apply)
 
 
@@ -155,7 +156,7 @@ def why_not_stored(call: Call, board: Board, name: str) -> str:
 
 def store(call: Call, board: Board, found: Answer, stores_all: bool) -> None:
     """Has each part of which something was ordered store its settings, or all that have rails: acknowledged, and no more than that."""
-    stored: list[str] = []
+    stored, stood = list[str](), ""
     parts = [name for name in board.having_rails() if stores_all or any(it.is_ordered and it.rail.part == name for it in board.settings)]
     if not parts:
         found.end, found.text = "done", f"nothing was ordered, and nothing is stored: --store=always stores all the same"
@@ -168,17 +169,21 @@ def store(call: Call, board: Board, found: Answer, stores_all: bool) -> None:
         call.protection.lift(name)
         call.maybe = f"{f'{name}: ' * bool(name)}{STORES}{f'; stored before: ' * bool(stored)}{', '.join(stored)}"
         try:
+            before = cml(board.parts[name])
             board.store(name)
             found.status, found.why = call.places()[name].unsure_of_last("store")
+            if not found.status and (why := why_failed(board.parts[name], before)):
+                found.status, found.end, found.why = 1, "failed", f"{f'{name}: ' * bool(name)}{why}"
+            stood += f"{f'; {name}' * bool(name)}{stood_before(before)}" if before else ""
         except Stopped as stopped:
             found.status, found.why = 1, told_of(board, stopped)
         if found.status:
             break
         stored.append(name)
-    found.end = "unknown" if found.status else "acknowledged"
+    found.end = "acknowledged" if not found.status else "failed" if found.end == "failed" else "unknown"
     named = f" of {', '.join(stored)}" if any(stored) else ""
     found.text = f"store {found.end}" if found.status else (f"store{named} acknowledged; a restart loads what was stored, if no pin overrides "
-                                                            "it, which `verify` shows after a power cycle")
+                                                            f"it, which `verify` shows after a power cycle{stood}")
     if found.status and stored:
         found.why += f"; stored before: {', '.join(stored)}"
 

@@ -24,7 +24,7 @@ from .signals import Interrupted
 
 HELP = ("draws into this file (SVG) what each rail commands, order by order, by what the host knows; with --dry-run what the plan would "
         "order")
-STAIRS = {"on": "draws into this file (SVG) step by step what the rails of a board file command, and READ_VOUT", "off": "draws as `on` does"}
+STAIRS = {"on": "draws into this file (SVG) step by step what the rails of a board file command, and READ_VOUT", "off": "draws as `on` does", "up": "draws as `on` does"}
 MEASURED = f"Nothing is measured: it is {COMMANDED}."
 UNWRITTEN = "Nothing was written: these are the plan's orders, if each is confirmed."
 

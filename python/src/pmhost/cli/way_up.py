@@ -128,7 +128,7 @@ class WayUp:
             with self.file.step(one, rail):
                 self.watch(one, rail)
                 fallen = steps.fallen(rail.name, self.file)
-                status = self.not_begun(one, rail, *fallen) if fallen else orders.operate(one)
+                status = self.not_begun(one, rail, *fallen) if fallen else self.move(one, rail) or orders.operate(one)
                 if rail in self.turned and not self.part(rail).transfers.has_written:
                     # The order was refused as it came next.
                     self.turned.remove(rail)
@@ -140,8 +140,12 @@ class WayUp:
         fallen = steps.fallen(AT_THE_END, self.file)
         return self.fell(*fallen) if fallen else self.call.ordered.look(self.call)
 
+    def move(self, one: argparse.Namespace, rail: Rail) -> int:
+        """What comes before a rail is turned on: nothing. The status if it isn't to be."""
+        return 0
+
     def caused(self, rail: Rail, status: int) -> int:
-        """RESTARTED if a restart of a rail's part is behind a bad end, as OPERATION shows that is read once more."""
+        """RESTARTED if a part restarted meanwhile, as OPERATION shows that is read once more; otherwise the status of a rail."""
         part = self.part(rail)
         if status == 1 and rail in self.turned:
             part.host.check(rail.output, "OPERATION")
@@ -200,7 +204,7 @@ class WayUp:
         return max(status, self.call.say(Answer(said(self.arguments), "stopped", "", 1, why)))
 
     def stands(self) -> list[str]:
-        """How each rail stands behind a way up that failed."""
+        """How each rail stands after a way up that failed."""
         untouched = [it for it in self.rails if it not in self.turned and it not in self.was_on]
         named = [("turned off again: {}", [it for it in self.turned_off if self.down.status.get(it.name) == 0]),
                  ("may be on: {}", [it for it in self.turned_off if self.down.status.get(it.name) != 0]),

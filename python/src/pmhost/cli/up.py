@@ -1,0 +1,103 @@
+"""`up board.toml`: each rail of a file gets its words and is turned on then, in order, from any state of the board. What holds of the way up holds of
+it, too."""
+from __future__ import annotations
+
+import argparse
+from typing import Any
+
+from ..apply import Board
+from ..operation import ON
+from ..rail_run import Restarted, Setting, Stopped
+from ..rails import Rail
+from . import way
+from .about import described
+from .again import RESTARTED
+from .answer import Answer
+from .call import Call, said
+from .completion import FILES, completed_by
+from .orders import ACCEPT, LEAVE_ON, LEAVING
+from .parser import bus_options, file_of
+from .rails import board_of, judge_file, told_of
+from .sequence import turn_off
+from .way import StairsFile
+from .way_up import WayUp
+
+
+def add(commands: Any) -> None:
+    """Adds the subparser."""
+    found = commands.add_parser("up", **described("up"))
+    completed_by(found.add_argument("file", metavar="FILE", type=file_of, help="settings of a board's rails, in TOML"), FILES)
+    found.set_defaults(run=up, judge_file=judge_file, judge=way.judge, dry_run=False, goes_back=False, is_order=True, byte=ON, output=None)
+    way.add(found, way.STAIRS["up"])
+    found.add_argument(LEAVE_ON, **LEAVING)
+    found.add_argument("--accept", **ACCEPT)
+    bus_options(found)
+
+
+def up(arguments: argparse.Namespace) -> int:
+    """Brings a board up. The status."""
+    call, rails = arguments.call, [rail for rail in arguments.rails.rails if rail.is_on]
+    file = StairsFile(arguments, rails)
+    with call.going_on(), file.drawn():
+        return BoardUp(arguments, rails, file, board_of(arguments)).go()
+
+
+class BoardUp(WayUp):
+    """The rails of a file that are to be on, and the board whose words they get."""
+
+    def __init__(self, arguments: argparse.Namespace, rails: list[Rail], file: StairsFile, board: Board) -> None:
+        super().__init__(arguments, rails, file, turn_off)
+        self.board, note = board, board.after_order
+        board.after_order = lambda it, is_confirmed: self.moved(it, is_confirmed, note)
+
+    def judge(self) -> int:
+        """Reads and judges the whole file, and orders nothing: each part answers and is the model that it says, no order would be refused, and a rail
+        that is to be off is off."""
+        call, board = self.call, self.board
+        for name in board.having_rails():
+            call.protection.touch(name)
+        try:
+            board.prepare()
+            for rail in board.rails:
+                if not rail.is_on and self.is_on(rail) is not False:
+                    raise Stopped(f"{rail.name}: the output is to be off, and isn't known to be: order `off` first")
+        except Stopped as stopped:
+            status = RESTARTED if isinstance(stopped, Restarted) else 1
+            return call.say(Answer(said(self.arguments), "refused", "", status, f"{told_of(board, stopped)}: nothing was ordered"))
+        self.befores = {**board.befores}
+        for rail in self.rails:
+            # A rail that holds its words already is judged as `on` judges it.
+            if not board.runs[rail.name].is_due and (status := self.judge_rail(self.of_rail(rail), rail)):
+                call.begin(self.arguments)
+                return max(status, call.say(Answer(said(self.arguments), "refused", "", status, "nothing was ordered")))
+        self.was_on = [rail for rail in self.rails if self.is_on(rail)]
+        return 0
+
+    def climb(self) -> int:
+        """The words of rails that stay off come first: they move nothing."""
+        for rail in self.board.rails:
+            if not rail.is_on and (status := self.move(self.of_rail(rail), rail)):
+                return status
+        return super().climb()
+
+    def move(self, one: argparse.Namespace, rail: Rail) -> int:
+        """Orders the words of a rail that differ."""
+        call, board, run = self.call, self.board, self.board.runs[rail.name]
+        try:
+            if run.is_due:
+                run.go(True)
+                board.judge_refused(rail)
+            if why := board.why_dead(rail) if self.is_on(rail) else "":
+                raise Stopped(why)
+        except Stopped as stopped:
+            status = RESTARTED if isinstance(stopped, Restarted) else 1
+            return call.say(Answer(one.said, "stopped", "", status, told_of(board, stopped), rail.output))
+        call.begin(one)
+        return 0
+
+    def moved(self, it: Setting, is_confirmed: bool, note: Any) -> None:
+        """An order of a word has ended: its line."""
+        note(it, is_confirmed)
+        if is_confirmed:
+            self.call.say(Answer(f"up {it.rail.name}", "done", f"{it.register} {self.board.shown(it, it.wanted)} confirmed", output=it.rail.output,
+                                 register=it.register, word=it.wanted, name=it.rail.name))
