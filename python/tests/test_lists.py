@@ -118,7 +118,7 @@ class Lists(unittest.TestCase):
                 told.append(it.register)
 
             self.assertTrue(board.run(STEPS, Rules(asks=True), said, lambda order, step, told=told: told.append((order.register, step.kind)))[1].is_well)
-            orders = [*(("VOUT_COMMAND", kind) for kind in first), ("OPERATION", "done"), ("VOUT_COMMAND", "done"), ("OPERATION", "done"), ("OPERATION", "done")]
+            orders = [*(("VOUT_COMMAND", kind) for kind in first), *((it, "done") for it in ("OPERATION", "VOUT_COMMAND", "OPERATION", "OPERATION"))]
             self.assertEqual(told, [it for order in orders for it in (order[0], order)])
 
     def test_a_hook_after_an_order_ends_the_loop_by_false(self):
@@ -188,16 +188,10 @@ class Lists(unittest.TestCase):
         board.run(STEPS)
         self.assertEqual((len(heard), set(heard)), (board.count, {bool, bytes}))
 
-    def test_wrong_calls(self):
+    def test_an_output_that_the_host_lacks(self):
         host = Host(0x40, 1)
-        for wrong in (SequenceStep.turns(1, 0, 0x80), SequenceStep.turns(0, 8, 0x80), SequenceStep.sets(0, 0, {"OPERATION": 0x80}), SequenceStep.turns(0, 0, 256),
-                      SequenceStep.sets(0, 0, {"VOUT_COMMAND": 0x10000}), SequenceStep.sets(0, 0, {"VOUT_COMMAND": 1, 0x21: 1}), SequenceStep(0, 0, "rests", wait=-1)):
-            with self.assertRaises((TypeError, ValueError)):
-                Sequence([host], [wrong])
         said = Sequence([host], [SequenceStep.turns(0, 1, 0x80)]).next()
         self.assertEqual((said.kind, said.number), ("refused", 4))
-        with self.assertRaises(TypeError):
-            Sequence([host], []).write_ended(1)
 
 
 WORDS = (0x0E80, 0x1000, 0x1080, 0x1199)
