@@ -81,8 +81,9 @@ class Page(unittest.TestCase):
             with open(path, "w", encoding="utf-8") as file:
                 file.write(blocks(page, "toml")[0])
             run = [line.partition("#")[0].replace("fpga.toml", path).split()[1:] for block in blocks(page, "sh") for line in block.splitlines()]
-            on, apply, off, margin_test, back = run
+            up, on, apply, off, margin_test, back = run
             self.assertEqual(called(on, BoardKernel({1: parts})), (0, printed, ""))
+            self.assertEqual(called(up, BoardKernel({1: parts}))[::2], (0, ""))
             self.assertEqual(called(apply, BoardKernel({1: parts}))[::2], (0, ""))
             self.assertEqual(called(margin_test, BoardKernel({1: parts})), (0, margins, ""))
             self.assertEqual(called([*back[:-1], "READ_VOUT"], BoardKernel({1: parts}))[::2], (0, ""))

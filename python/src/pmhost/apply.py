@@ -17,6 +17,7 @@ from .cuts import Cut, cuts
 from .delivered import Delivered
 from .device import Device
 from .errors import SAYINGS, Refused
+from .held import begin, judge_way_back
 from .looks import Looks
 from .models import why_other_model
 from .parts import BoardPart
@@ -25,7 +26,6 @@ from .rails import BOUNDS, MARGINS, SETTINGS, WORDS, Rail
 from .sequence import Heard
 from .states import Step
 from .step_run import StepRun
-from .steps import begin, judge_way_back
 from .stores import has_failed
 from .survey import Commanded, answers, commanded, only_word, read
 from .values import Format

@@ -1,5 +1,5 @@
-"""What stands between the steps of a board: how long is waited before a rail's first order, whether the rails before it deliver, and
-whether a way back of it would be accepted."""
+"""What a rail holds before its first order under `apply`: how long is waited for that, whether the rails before it deliver, and whether its way back
+would be accepted."""
 from __future__ import annotations
 
 from typing import TYPE_CHECKING
