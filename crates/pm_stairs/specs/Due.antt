@@ -15,7 +15,7 @@ use Rattle.pm_limits.specs.declared.output_limits.OutputLimits.{OutputLimits}
 use Rattle.pm_rail.specs.declared.fault.PlanFault.{PlanFault}
 use Rattle.pm_rail.specs.declared.orders.PlanOrder.{PlanOrder}
 use Rattle.pm_rail.specs.Course.{is_last, is_operation_known}
-use Rattle.pm_rail.specs.Known.{known_word}
+use Rattle.pm_rail.specs.Known.{known_word, sole}
 use Rattle.pm_rail.specs.Orders.{plan_of}
 use Rattle.pm_rail.specs.Registers.{wants_of}
 use Rattle.pm_course.specs.declared.course_end.CourseEnd.{CourseEnd}
@@ -36,8 +36,8 @@ plan_order (Ok order) = order
 plan_order (Err fault) = None
 
 -- A step to words: the next order of the plan, and that none is left. A step to a byte of OPERATION: its order while no job is open, and
--- that OPERATION is known to hold it. Before a step to a byte begins OPERATION has to be known, so that the step can be undone. A step that
--- orders nothing: no order, and that no job is open.
+-- that OPERATION is known to hold it. Before a step to a byte begins one byte alone has to be possible of OPERATION, one that can't be ordered,
+-- too, so that the step can be undone. A step that orders nothing: no order, and that no job is open.
 abbrev pub due_words : Result (Option PlanOrder) PlanFault → Due
 due_words answer = record { order = plan_order answer; over = is_last answer; lacks = None }
 
@@ -45,7 +45,7 @@ abbrev pub due_byte : Summary → ℕ → ℕ → Due
 due_byte s output byte = record {
   order = rule (not (is_busy s)) (record { register = Operation; word = byte });
   over = not (is_busy s) && is_operation_known s output byte;
-  lacks = rule (is_none (known_word (Out output Operation) (possible_at s (Out output Operation)))) (Out output Operation);
+  lacks = rule (is_none (sole (possible_at s (Out output Operation)))) (Out output Operation);
 }
 
 abbrev pub due_of : PartRegisters → OutputLimits → Summary → ℕ → WordAct → Due

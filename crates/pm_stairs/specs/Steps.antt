@@ -5,7 +5,7 @@ use Rattle.pm_table.specs.declared.reg.Reg.{Reg}
 use Rattle.pm_table.specs.declared.reg.Reg.TheVariants.{Operation, VoutCommand, VoutMax, MarginHigh, MarginLow, VoutMin}
 use Rattle.pm_host.specs.Summary.{Summary, possible_at}
 use Rattle.pm_rail.specs.declared.wanted.Wanted.{Wanted}
-use Rattle.pm_rail.specs.Known.{known_word}
+use Rattle.pm_rail.specs.Known.{known_word, sole}
 use Rattle.pm_course.specs.declared.course_end.CourseEnd.TheVariants.{Reached}
 use Rattle.pm_course.specs.declared.frame_course.FrameCourse.{FrameCourse}
 use Rattle.pm_course.specs.declared.wish.Wish.{Wish}
@@ -73,9 +73,9 @@ words_back s output wanted = record {
   min = back_word s output VoutMin wanted.min;
 }
 
--- the byte of OPERATION that is known; 0 where none is
+-- the only byte that OPERATION may hold; 0 where there is none
 abbrev pub byte_back : Summary → ℕ → ℕ
-byte_back s output = unwrap_or (known_word (Out output Operation) (possible_at s (Out output Operation))) 0
+byte_back s output = unwrap_or (sole (possible_at s (Out output Operation))) 0
 
 -- the step that undoes a step which begins now
 abbrev pub act_back : Summary → ℕ → WordAct → WordAct

@@ -5,7 +5,7 @@ ghost use Rattle.std.specs.Option.{option_map_or};
 ghost use Rattle.pm_host.specs.Image.{held};
 ghost use Rattle.pm_stairs.specs.Due.{due_byte as spec_due_byte, due_now, due_words as spec_due_words};
 
-use crate::step::{WordAct, WordStep, known_in};
+use crate::step::{WordAct, WordStep, known_in, only_in};
 use pm_host::{Stage, State};
 use pm_limits::{OutputLimits, PartRegisters};
 use pm_rail::{Plan, PlanFault, PlanOrder, next_order_in};
@@ -81,7 +81,7 @@ fn due_byte(host: &State, stage: Option<Stage>, output: u8, byte: u16) -> Due
     Due {
         order: if idle { Some(order) } else { None },
         over: idle && is_word(known, byte),
-        lacks: if known.is_none() { Some(cell) } else { None },
+        lacks: if only_in(host, cell).is_none() { Some(cell) } else { None },
     }
 }
 

@@ -3,7 +3,7 @@
 ghost use Rattle.std.specs.Prelude.{◌≡◌, ◌<◌};
 ghost use Rattle.pm_host.specs.Image.{held};
 ghost use Rattle.pm_host.specs.Summary.{possible_at};
-ghost use Rattle.pm_rail.specs.Known.{known_word};
+ghost use Rattle.pm_rail.specs.Known.{known_word, sole};
 ghost use Rattle.pm_table.specs.Cell.{IsCell};
 ghost use Rattle.pm_stairs.specs.Steps.{back_word, byte_back, noted as spec_noted, step_course, step_of, step_with, to_rest, wish_of as spec_wish_of, wishes_of as spec_wishes_of, words_back as spec_words_back};
 ghost use Rattle.std.specs.Prelude.{None};
@@ -180,9 +180,20 @@ fn byte_known(host: &State, output: u8) -> u16
     requires { output < 8 }
     ensures { result ≡ byte_back (held None host.now) output }
 {
-    match known_in(host, Cell::Out(output, Reg::Operation)) {
+    match only_in(host, Cell::Out(output, Reg::Operation)) {
         Some(byte) => byte,
         None => 0,
+    }
+}
+
+// The only word that a cell may hold.
+pub(crate) fn only_in(host: &State, cell: Cell) -> Option<u16>
+    requires { IsCell 8 cell }
+    ensures { result ≡ sole (possible_at (held None host.now) cell) }
+{
+    match host.known.possible(cell).listed() {
+        Some([word]) => Some(*word),
+        _ => None,
     }
 }
 

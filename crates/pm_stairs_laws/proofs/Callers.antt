@@ -5,7 +5,7 @@ use Rattle.std.proofs.{Math.Path.fun_ext, lemmas.Bool.eqb-true, lemmas.Bool.not-
 use Rattle.std.proofs.Common.{◌≡◌, ℕ, Bool, true, false, cond, Option, Some, None, refl, sym, ◌∙◌, ap, subst, not, List, [], ◌∷◌, Ok, Err}
 use Rattle.std.proofs.Common.{◌⊎◌, inl, inr, ◌<◌, ◌++◌}
 use Rattle.std.proofs.lemmas.List.{append-nil, append_assoc}
-use Rattle.pm_table.specs.{Cell.same_cell, Laws.CellsAreToldApart, Rules.rule, declared.cell.Cell.Cell, declared.reg.Reg.Reg}
+use Rattle.pm_table.specs.{Cell.same_cell, Cell.cell_accepts, Laws.CellsAreToldApart, Rules.rule, declared.cell.Cell.Cell, declared.reg.Reg.Reg}
 use Rattle.pm_table.specs.declared.cell.Cell.TheVariants.{Out, Protect}
 use Rattle.pm_table.specs.declared.reg.Reg.TheVariants.{Operation, VoutCommand, VoutMax, MarginHigh, MarginLow, VoutMin}
 use Rattle.pm_device.specs.declared.config.Config.{Config}
@@ -16,7 +16,7 @@ use Rattle.pm_host.specs.Transcript as host
 use Rattle.pm_host.specs.declared.job.Job.TheVariants.{Order, Check, Learn, OrderMicro, Send}
 use Rattle.pm_limits.specs.{declared.output_limits.OutputLimits.OutputLimits, declared.part_registers.PartRegisters.PartRegisters}
 use Rattle.pm_limits.specs.Guard.{Guarded, limits_at, LetsBegin}
-use Rattle.pm_rail.specs.{Known.known_word, Lemmas.Known.is-planned, Orders.plan_of, declared.fault.PlanFault.PlanFault}
+use Rattle.pm_rail.specs.{Known.known_word, Known.sole, Lemmas.Known.is-planned, Orders.plan_of, declared.fault.PlanFault.PlanFault}
 use Rattle.pm_rail.specs.{declared.orders.PlanOrder.PlanOrder, declared.wanted.Wanted.Wanted}
 use Rattle.pm_rail.specs.Lemmas.Steps.{first-of, second-of}
 use Rattle.pm_rail.specs.Registers.{Held, Wants, wants_of}
@@ -251,6 +251,16 @@ byte-over true known byte is = cc
 byte-over false None byte is = cc
 byte-over false (Some word) byte is = (refl, ap (λ (w : ℕ). Some w) (eqb-true word byte is))
 
+-- a word that is known is the only one that is possible
+accepted-word : (accepts : Bool) (word byte : ℕ) → rule accepts word ≡ Some byte → ◌≡◌ {A = Option ℕ} (Some word) (Some byte)
+accepted-word true word byte is = is
+accepted-word false word byte is = cc
+
+sole-of-known : (cell : Cell) (only : Option ℕ) (byte : ℕ) → option_and_then (λ word. rule (cell_accepts cell word) word) only ≡ Some byte →
+    only ≡ Some byte
+sole-of-known cell None byte is = cc
+sole-of-known cell (Some word) byte is = accepted-word (cell_accepts cell word) word byte is
+
 known-some : (known : Option ℕ) (cell : Cell) → rule (is_none known) cell ≡ None → known ≡ Some (unwrap_or known 0)
 known-some None cell is = cc
 known-some (Some word) cell is = refl
@@ -288,8 +298,7 @@ module _ (config : Config) (passes : ℕ) (part : PartRegisters) (events : List 
   IsAnswered : OutputLimits → ℕ → WordAct → Type 0
   IsAnswered limits output (word.Sets words) = (order : Option PlanOrder) × (plan_of part s limits output (wants_of words) ≡ Ok order)
   IsAnswered limits output (word.Turns byte) = (is_busy s ≡ false)
-      × (known_word (Out output Operation) (possible_at s (Out output Operation))
-      ≡ Some (unwrap_or (known_word (Out output Operation) (possible_at s (Out output Operation))) 0))
+      × (sole (possible_at s (Out output Operation)) ≡ Some (unwrap_or (sole (possible_at s (Out output Operation))) 0))
   IsAnswered limits output word.Nothing = is_busy s ≡ false
 
   answered-order : (limits lacking : OutputLimits) (output : ℕ) (a : WordAct) (order : PlanOrder) →
@@ -299,7 +308,7 @@ module _ (config : Config) (passes : ℕ) (part : PartRegisters) (events : List 
       (Some order, plan-some (plan_of part s limits output (wants_of words)) order is)
   answered-order limits lacking output (word.Turns byte) order is lacks = (
     (byte-order (is_busy s) byte order is).0,
-    known-some (known_word (Out output Operation) (possible_at s (Out output Operation))) (Out output Operation) lacks,
+    known-some (sole (possible_at s (Out output Operation))) (Out output Operation) lacks,
   )
   answered-order limits lacking output word.Nothing order is lacks = cc
 
@@ -309,7 +318,8 @@ module _ (config : Config) (passes : ℕ) (part : PartRegisters) (events : List 
   answered-over limits output (word.Sets words) is = (None, last-none (plan_of part s limits output (wants_of words)) is)
   answered-over limits output (word.Turns byte) is =
       let over = byte-over (is_busy s) (known_word (Out output Operation) (possible_at s (Out output Operation))) byte is in
-      (over.0, over.1 ∙ ap (λ (o : Option ℕ). Some (unwrap_or o 0)) (sym over.1))
+      let one = sole-of-known (Out output Operation) (sole (possible_at s (Out output Operation))) byte over.1 in
+      (over.0, one ∙ ap (λ (o : Option ℕ). Some (unwrap_or o 0)) (sym one))
   answered-over limits output word.Nothing is = not-true (is_busy s) is
 
   answered-idle : (limits : OutputLimits) (output : ℕ) (a : WordAct) → IsAnswered limits output a → is_busy s ≡ false
@@ -353,7 +363,7 @@ module _ (config : Config) (passes : ℕ) (part : PartRegisters) (events : List 
     each MarginLow = one MarginLow
     each VoutMin = one VoutMin
   noted-back before done limits output (word.Turns byte) is known = ap (λ (w : ℕ). Turns w)
-      (known (unwrap_or (known_word (Out output Operation) (possible_at s (Out output Operation))) 0) is.1)
+      (known (unwrap_or (sole (possible_at s (Out output Operation))) 0) is.1)
   noted-back before done limits output word.Nothing is known = refl
 
 -- ---- Events ----

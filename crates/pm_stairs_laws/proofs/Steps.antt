@@ -19,7 +19,7 @@ use Rattle.pm_model.specs.declared.order_machine.PendingJob.TheVariants as pendi
 use Rattle.pm_device.specs.declared.config.Config.{Config}
 use Rattle.pm_device.specs.Held.{shape_for, value_for}
 use Rattle.pm_host.specs.{Ended.stage_job, Laws.EndsAreTold, Possible.only as possible_only, Refusals.is_busy}
-use Rattle.pm_host.specs.{declared.job.Job.Job as Asked, declared.knowledge.Possible.Possible, declared.knowledge.Possible.TheVariants.Any}
+use Rattle.pm_host.specs.{declared.job.Job.Job as Asked, declared.knowledge.Possible.Possible, declared.knowledge.Possible.TheVariants.Any, declared.knowledge.Possible.TheVariants.Words}
 use Rattle.pm_host.specs.{declared.stage.Stage.Stage}
 use Rattle.pm_host.specs.Summary.{possible_at, Summary}
 use Rattle.pm_host.specs.Transcript as host
@@ -28,7 +28,8 @@ use Rattle.pm_limits.specs.{Guard.Guarded, Part.missing_word, declared.output_li
 use Rattle.pm_limits.specs.{declared.part_registers.PartRegisters.PartRegisters}
 use Rattle.pm_rail.specs.{Lemmas.Steps.goal-operation, Lemmas.Surveyed.has-none, declared.fault.PlanFault.PlanFault}
 use Rattle.pm_rail.specs.{declared.orders.PlanOrder.PlanOrder}
-use Rattle.pm_rail.specs.Known.{known_word, Cells, cells_of, known_of}
+use Rattle.pm_rail.specs.Known.{known_word, Cells, cells_of, known_of, sole, sole_of}
+use Rattle.pm_host.specs.Possible.{is_listed, is_possible}
 use Rattle.pm_rail.specs.Lemmas.Known.{is-planned, known-held, IsPlanned, known-all, wanted-needed}
 use Rattle.pm_rail.specs.Orders.{is_needed, plan_of}
 use Rattle.pm_rail.specs.Plan.{goal_of, put}
@@ -1181,6 +1182,21 @@ module _ (config : Config) (passes : ℕ) (part : PartRegisters) where
       IsStairs config passes part before [] (event ∷ events)
   rests event (stands later idle rest) steady may = stands (event ∷ later) idle (steady, may, rest)
 
+one-listed : (is : Bool) → (is || false) ≡ true → is ≡ true
+one-listed true e = refl
+one-listed false e = cc
+
+-- a word that is the only one of a list which another one is in
+sole-listed : (held word : ℕ) (words : List ℕ) → is_listed held words ≡ true → sole_of words ≡ Some word → word ≡ held
+sole-listed held word [] listed is = cc
+sole-listed held word (other ∷ []) listed is =
+    sym (ap (λ (o : Option ℕ). unwrap_or o 0) is) ∙ eqb-true other held (one-listed (other == held) listed)
+sole-listed held word (other ∷ next ∷ words) listed is = cc
+
+sole-possible : (held word : ℕ) (possible : Possible) → is_possible held possible ≡ true → sole possible ≡ Some word → word ≡ held
+sole-possible held word Any possible is = cc
+sole-possible held word (Words words) possible is = sole-listed held word words.items possible is
+
 module _ (laws : SegmentsBelow) (config : Config) (passes : ℕ) (part : PartRegisters) (output : ℕ) (events : List Event)
     (lived : IsLived config passes events) (here : output < config.count) where
   abbrev s : Summary
@@ -1202,6 +1218,20 @@ module _ (laws : SegmentsBelow) (config : Config) (passes : ℕ) (part : PartReg
 
       listed : possible_at s cell ≡ Any → ⊥
       listed any = let bad = sym (ap (λ (p : Possible). is_none (known_word cell p)) any) ∙ some in cc
+
+  -- the only word that a cell may hold is the one that it holds
+  sole-held-at : (register : Reg) (word : ℕ) →
+      (has_read config passes (Out output register) events ≡ true → restarted_since config passes (Out output register) events ≡ false) →
+      sole (possible_at s (Out output register)) ≡ Some word → word ≡ held_at config passes events output register
+  sole-held-at register word since is = sole-possible (held_at config passes events output register) word (possible_at s cell)
+      ((laws.possible.held config passes events lived).held cell here
+      (since ((laws.possible.held config passes events lived).found cell here listed))) is
+    where
+      cell : Cell
+      cell = Out output register
+
+      listed : possible_at s cell ≡ Any → ⊥
+      listed any = let bad = sym (ap (λ (p : Possible). sole p) any) ∙ is in cc
 
   known-plan : (limits : OutputLimits) (order : Option PlanOrder) (wants : Wants) (register : Reg) (word : ℕ) →
       IsReadFor config passes output (Sets wants) (held_at config passes events output) events →
@@ -1233,9 +1263,7 @@ module _ (laws : SegmentsBelow) (config : Config) (passes : ℕ) (part : PartReg
       IsKnownFrom config passes part before done output deed events
   known-deed (Sets wants) before done read words = λ limits order register word is wanted.
       known-plan limits order wants register word read is wanted ∙ ap (λ (w : ℕ). Some w) (words register)
-  known-deed (Turns byte) before done read words = λ word is.
-      ap (λ (o : Option ℕ). unwrap_or o 0) (sym is ∙ known-held-at Operation read (ap (λ (o : Option ℕ). is_none o) is))
-      ∙ words Operation
+  known-deed (Turns byte) before done read words = λ word is. sole-held-at Operation word read is ∙ words Operation
   known-deed Nothing before done read words = tt
 
 pub stairs-are-followed : SegmentsBelow → StairsAreFollowed

@@ -12,7 +12,7 @@ use Rattle.pm_host.specs.Transcript as host
 use Rattle.pm_limits.specs.declared.part_registers.PartRegisters.{PartRegisters}
 use Rattle.pm_limits.specs.declared.output_limits.OutputLimits.{OutputLimits}
 use Rattle.pm_rail.specs.declared.orders.PlanOrder.{PlanOrder}
-use Rattle.pm_rail.specs.Known.{known_word}
+use Rattle.pm_rail.specs.Known.{known_word, sole}
 use Rattle.pm_rail.specs.Orders.{plan_of}
 use Rattle.pm_world.specs.declared.event.Event.{Event}
 use Rattle.pm_world.specs.Confirmed.{restarts_converter}
@@ -44,7 +44,7 @@ IsKnownFrom config passes part before done output (Sets wants) events =
     known_word (Out output register) (possible_at (now config passes events).host (Out output register))
     ≡ Some (stair_of (start_of config passes before) done output register)
 IsKnownFrom config passes part before done output (Turns byte) events = (word : ℕ) →
-    known_word (Out output Operation) (possible_at (now config passes events).host (Out output Operation)) ≡ Some word →
+    sole (possible_at (now config passes events).host (Out output Operation)) ≡ Some word →
     word ≡ stair_of (start_of config passes before) done output Operation
 IsKnownFrom config passes part before done output Nothing events = Unit {0}
 
