@@ -8,7 +8,7 @@ import re
 import unittest
 from unittest import mock
 
-from pmhost import Course, Host, ModelBus, Packet, Voltage, cli, pec
+from pmhost import Course, Device, Host, Looks, ModelBus, ModelPart, Output, Packet, Voltage, cli, pec
 from pmhost._library import CALLS, library
 from pmhost.cli import orders
 from pmhost.cli.again import Ordered
@@ -18,7 +18,7 @@ from pmhost.errors import HostRefused, name_of
 from pmhost.step_run import StepRun
 
 from . import running
-from .fixtures import free
+from .fixtures import Recorded, free
 from .running import ROOT
 
 ROWS = os.path.join(ROOT, "trials", "course", "rows.txt")
@@ -291,6 +291,26 @@ class Costs(unittest.TestCase):
             written = next(at for at, frame in enumerate(frames) if frame[1] == 0x05)
             self.assertEqual([frame[4] for frame in frames[-2:]], [0x79, 0x8B])
             self.assertEqual([frame[4] for frame in frames[written - (wanted - 16):written]], [0x79, 0x40, 0x42, 0x43, 0x44][:wanted - 16])
+
+    def test_what_other_commands_cost_in_transfers(self):
+        """A survey and a word that is held take STATUS_WORD and READ_VOUT with what they read; nothing is read before an output goes off."""
+        for words, codes in ((["survey", "0"], "20 01 21 24 2B 79 8B"), (["word", "0", "VOUT_COMMAND", "1000"], "20 01 21 24 2B 10 79 8B"),
+                             (["set", "0", "1V"], "20 01 21 24 2B 10 79 8B"), (["off", "0"], "01 01 79")):
+            frames = []
+            with contextlib.ExitStack() as stack:
+                for name in ("write", "read"):
+                    call = getattr(ModelBus, name)
+                    stack.enter_context(mock.patch.object(ModelBus, name, lambda *words, call=call: frames.append(words[1]) or call(*words)))
+                with contextlib.redirect_stdout(io.StringIO()) as out:
+                    status = cli.main(["-b", "model", "--outputs", "2", "--no-limit", *words])
+            self.assertEqual((status, " ".join(f"{frame[4] if len(frame) > 4 else frame[1]:02X}" for frame in frames)), (0, codes), out.getvalue())
+
+    def test_a_device_takes_as_many(self):
+        for more, call, wanted in (({}, lambda it: it.set_voltage(0, "3.3V"), 21), ({"looks": Looks(fault_limits="skip")}, lambda it: it.set_voltage(0, "3.3V"), 17),
+                                   ({}, lambda it: it.survey(0), 7), ({}, lambda it: it.set_voltage(0, "1V"), 8), ({}, lambda it: it.turn_off(0), 3)):
+            bus = Recorded(ModelPart(0x58, [Output()]))
+            call(Device(bus, 0x58, limits={0: None}, **more))
+            self.assertEqual(len(bus.frames), wanted)
 
     def test_what_a_voltage_costs_in_calls_of_the_library(self):
         """Of the library's calls those of the model part are its transfers but for five of limits, which it answers by itself. A list takes two

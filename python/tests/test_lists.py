@@ -1,14 +1,20 @@
 """Lists of steps: in order, cut at each transfer, undone, left, and told; over many parts; and any list that ended well holds what was asked for."""
+import asyncio
+import contextlib
+import os
 import unittest
+from io import StringIO
 from types import SimpleNamespace
 from unittest import mock
 
-from pmhost import Device, Host, Looks, ModelPart, Output, Rules, Said, Sequence, SequenceStep, clock, pec
+from pmhost import Device, Host, Looks, ModelPart, ModelPartBus, Output, Rules, Said, Sequence, SequenceStep, clock, pec
 from pmhost.operation import ON
 from pmhost.step_run import MOST_HOSTS, StepLists, StepRun
 
 from .fixtures import Faulty, free
+from .running import ROOT, stored
 from .seeded import seeded
+from .test_board_page import blocks
 
 # Three rails of two parts: the voltage of each, and on.
 STEPS = (SequenceStep.sets(0, 0, {"VOUT_COMMAND": "1.05V"}), SequenceStep.turns(0, 0, 0x80), SequenceStep.sets(1, 0, {"VOUT_COMMAND": 0x1080}),
@@ -118,7 +124,7 @@ class Lists(unittest.TestCase):
                 told.append(it.register)
 
             self.assertTrue(board.run(STEPS, Rules(asks=True), said, lambda order, step, told=told: told.append((order.register, step.kind)))[1].is_well)
-            orders = [*(("VOUT_COMMAND", kind) for kind in first), ("OPERATION", "done"), ("VOUT_COMMAND", "done"), ("OPERATION", "done"), ("OPERATION", "done")]
+            orders = [*(("VOUT_COMMAND", kind) for kind in first), *((it, "done") for it in ("OPERATION", "VOUT_COMMAND", "OPERATION", "OPERATION"))]
             self.assertEqual(told, [it for order in orders for it in (order[0], order)])
 
     def test_a_hook_after_an_order_ends_the_loop_by_false(self):
@@ -188,16 +194,10 @@ class Lists(unittest.TestCase):
         board.run(STEPS)
         self.assertEqual((len(heard), set(heard)), (board.count, {bool, bytes}))
 
-    def test_wrong_calls(self):
+    def test_an_output_that_the_host_lacks(self):
         host = Host(0x40, 1)
-        for wrong in (SequenceStep.turns(1, 0, 0x80), SequenceStep.turns(0, 8, 0x80), SequenceStep.sets(0, 0, {"OPERATION": 0x80}), SequenceStep.turns(0, 0, 256),
-                      SequenceStep.sets(0, 0, {"VOUT_COMMAND": 0x10000}), SequenceStep.sets(0, 0, {"VOUT_COMMAND": 1, 0x21: 1}), SequenceStep(0, 0, "rests", wait=-1)):
-            with self.assertRaises((TypeError, ValueError)):
-                Sequence([host], [wrong])
         said = Sequence([host], [SequenceStep.turns(0, 1, 0x80)]).next()
         self.assertEqual((said.kind, said.number), ("refused", 4))
-        with self.assertRaises(TypeError):
-            Sequence([host], []).write_ended(1)
 
 
 WORDS = (0x0E80, 0x1000, 0x1080, 0x1199)
@@ -318,6 +318,40 @@ class Runs(unittest.TestCase):
             with self.subTest(why=why):
                 self.assertEqual((end.kind, end.fault, asked), ("nobody" if why else "reached", why, [why]))
                 self.assertEqual(part.bus.part.word(0, "OPERATION"), 0x80 if why else 0xA4)
+
+
+PAGE = os.path.join(ROOT, "docs", "python.md")
+
+
+@unittest.skipUnless(os.path.exists(PAGE), "the package stands alone")
+class Page(unittest.TestCase):
+    """What docs/python.md shows of lists."""
+
+    def test_the_loop_and_one_of_an_event_loop(self):
+        device, loop, by_events, _ = blocks(stored(PAGE), "python")
+        core, io = (free(Device(ModelPartBus(ModelPart(address, [Output(operation=0)] * 2)), address, 2)) for address in (0x40, 0x41))
+        names, out = {"core": core, "io": io, "asyncio": asyncio}, StringIO()
+        with contextlib.redirect_stdout(out):
+            exec(device, names)  # pylint: disable=exec-used
+            exec(loop, names)  # pylint: disable=exec-used
+            exec(by_events, names)  # pylint: disable=exec-used
+        self.assertEqual((out.getvalue().split()[:2], out.getvalue().split()[-1], core.voltage(0).microvolts), (["True", "within"], "True", 3_300_048))
+
+        class Over:
+            """A bus whose calls are awaited."""
+
+            def __init__(self, part):
+                self.bus = part.bus
+
+            async def write(self, frame):
+                return self.bus.write(frame)
+
+            async def read(self, frame, count):
+                return bytes([frame[0] | 1]) + self.bus.read(frame, count)
+
+        made = Sequence([core.host, io.host], STEPS[:4])
+        self.assertTrue(asyncio.run(names["carried_out"](made, [Over(core), Over(io)])).is_well)
+        self.assertEqual((core.voltage(0).microvolts, io.rail(0).is_on), (1_050_048, True))
 
 
 if __name__ == "__main__":

@@ -216,7 +216,7 @@ class Said:
     rail. A step stopped, which ends the list or leaves the step, if it is `fails`; `beyond`, with the fault limit that the goal is at or beyond
     and its word; `unjudged`, since no format is known; `changed`; `restarted`; or an end of a course, as CourseEnd has it. The list ended
     well if it is `reached`, and `left` with how many steps were left. `step` is the place of the step; of `reached` and `left` how many there
-    are. `is_end` says that the list ended."""
+    are. `is_end` says that the list ended. Two kinds are of the loop: `stopped` by `after_order`, and `nobody` answers, with why in `fault`."""
 
     kind: str
     step: int
