@@ -13,7 +13,6 @@ from ..rails import Rail
 from ..sequence import WHY, Heard, Rules, SequenceStep
 from ..step_run import StepLists, StepRun
 from ..survey import TRIES
-from .call import Call
 from .way import StairsFile
 
 UP, DOWN = Rules(ends_at_restart=True, asks=True), Rules(leaves=True, asks=True)

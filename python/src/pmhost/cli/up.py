@@ -13,7 +13,7 @@ from . import way
 from .about import described
 from .again import RESTARTED
 from .answer import Answer
-from .call import Call, said
+from .call import said
 from .completion import FILES, completed_by
 from .orders import ACCEPT, LEAVE_ON, LEAVING
 from .parser import bus_options, file_of
