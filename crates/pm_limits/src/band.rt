@@ -11,7 +11,7 @@ ghost use Rattle.pm_limits.specs.Band.{band_at, band_on as spec_band_on, band_wi
 use crate::ends::{OutputEnds, Side, format_in};
 use crate::part_registers::PartRegisters;
 use pm_host::{Host, State};
-use pm_num::{VoltageFormat, Frac};
+use pm_num::{Frac, VoltageFormat};
 use pm_table::{Cell, Reg};
 
 // What stands for the bytes of an OPERATION that may be any: on, on with margin high, and on with margin low.

@@ -13,7 +13,7 @@ ghost use Rattle.pm_limits.specs.declared.ends.Side.{Side};
 
 use crate::part_registers::PartRegisters;
 use pm_host::State;
-use pm_num::{VoltageFormat, Frac, NumFormat};
+use pm_num::{Frac, NumFormat, VoltageFormat};
 use pm_table::{Cell, Operation, Reg};
 
 /// A side of a band.

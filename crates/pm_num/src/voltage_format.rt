@@ -23,7 +23,7 @@ pub enum VoltageFormat {
 }
 
 impl VoltageFormat {
-    /// The same format among all three.
+    /// This format as one of all three.
     pub fn any(self) -> AnyFormat
         ensures { result ≡ any_of self }
     {

@@ -17,7 +17,7 @@ use crate::registers::Registers;
 use crate::wanted::Wanted;
 use pm_host::State;
 use pm_limits::{Limits, OutputLimits, PartRegisters};
-use pm_num::{VoltageFormat, Frac, NumFormat, micro};
+use pm_num::{Frac, NumFormat, VoltageFormat, micro};
 use pm_table::{Cell, Operation, Reg, is_allowed};
 use std::cmp::Ordering;
 
@@ -63,7 +63,11 @@ pub(crate) fn refuse(
 }
 
 // L8, L3 and L4.
-fn refuse_limits(limits: &OutputLimits, format: &VoltageFormat, wanted: &Wanted) -> Option<PlanFault>
+fn refuse_limits(
+    limits: &OutputLimits,
+    format: &VoltageFormat,
+    wanted: &Wanted,
+) -> Option<PlanFault>
     ensures { result ≡ limits_fault limits.now (voltage_value format.now) (wants_of wanted.now) }
 {
     match limits {
