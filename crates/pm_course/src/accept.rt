@@ -18,7 +18,7 @@ use crate::wish::Wishes;
 use crate::words::word_for;
 use pm_host::{Stage, State};
 use pm_limits::{Guard, OutputLimits};
-use pm_num::{VoltageFormat, Frac, NumFault, NumFormat, micro};
+use pm_num::{Frac, NumFault, NumFormat, VoltageFormat, micro};
 use pm_rail::{PlanFault, Wanted};
 use pm_table::{Cell, Reg};
 use std::cmp::Ordering;

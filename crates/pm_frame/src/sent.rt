@@ -46,7 +46,6 @@ pub fn answer(addr: u8, request: &Message, payload: &[u8]) -> Frame
 }
 
 /// The bytes of a message before its PEC, or before its repeated start.
-#[inline(always)]
 pub(crate) fn sent(addr: u8, m: &Message) -> Frame
     requires { IsAddress addr }
     ensures bytes { result.items ≡ sent_bytes addr m.now }

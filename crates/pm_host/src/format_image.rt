@@ -61,7 +61,7 @@ impl FormatImage {
         self.voltage_format().map(VoltageFormat::any)
     }
 
-    /// This format, as one of the two that it may be.
+    /// What the bytes mean, as one of the two formats that an output may have.
     pub fn voltage_format(&self) -> Option<VoltageFormat>
         ensures { option_map voltage_shape result ≡ format_held self.now }
     {

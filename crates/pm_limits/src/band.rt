@@ -2,7 +2,7 @@ ghost use Rattle.std.specs.Prelude.{◌≡◌, ◌<◌, None, MatchOption};
 ghost use Rattle.std.specs.List.{list_any};
 ghost use Rattle.pm_host.specs.declared.knowledge.Possible.TheVariants.{Any};
 ghost use Rattle.pm_host.specs.Image.{held, listing};
-ghost use Rattle.pm_num.specs.AnyFormat.{shape_of};
+ghost use Rattle.pm_num.specs.AnyFormat.{voltage_shape};
 ghost use Rattle.pm_table.specs.declared.cell.Cell.TheVariants.{Out};
 ghost use Rattle.pm_table.specs.declared.reg.Reg.TheVariants.{Operation};
 ghost use Rattle.pm_host.specs.Summary.{possible_at};
@@ -11,7 +11,7 @@ ghost use Rattle.pm_limits.specs.Band.{band_at, band_on as spec_band_on, band_wi
 use crate::ends::{OutputEnds, Side, format_in};
 use crate::part_registers::PartRegisters;
 use pm_host::{Host, State};
-use pm_num::{AnyFormat, Frac};
+use pm_num::{Frac, VoltageFormat};
 use pm_table::{Cell, Reg};
 
 // What stands for the bytes of an OPERATION that may be any: on, on with margin high, and on with margin low.
@@ -69,14 +69,14 @@ pub(crate) fn band_on(host: &State, registers: PartRegisters, output: u8, byte: 
 
 // The band with one of these bytes in OPERATION.
 fn band_by(
-    format: &AnyFormat,
+    format: &VoltageFormat,
     host: &State,
     registers: PartRegisters,
     output: u8,
     bytes: &[u16],
 ) -> Band
     requires { output < 8 }
-    ensures { result ≡ band_with (shape_of format.now) (known_of registers (shape_of format.now) (held None host.now) output) bytes.now }
+    ensures { result ≡ band_with (voltage_shape format.now) (known_of registers (voltage_shape format.now) (held None host.now) output) bytes.now }
 {
     let ends = OutputEnds::of(format, host, registers, output);
     Band {

@@ -1,7 +1,7 @@
 //! The words of an output's registers whose values lie farthest out on a side.
 ghost use Rattle.std.specs.Prelude.{◌≡◌, ◌<◌, ℕ, None, option_map};
 ghost use Rattle.pm_host.specs.Image.{held};
-ghost use Rattle.pm_num.specs.AnyFormat.{any_value, shape_of};
+ghost use Rattle.pm_num.specs.AnyFormat.{voltage_value, voltage_shape};
 ghost use Rattle.pm_table.specs.declared.reg.Reg.TheVariants.{VoutMax, VoutMin};
 ghost use Rattle.pm_table.specs.Cell.{IsCell};
 ghost use Rattle.pm_host.specs.Summary.{format_at, possible_at};
@@ -13,7 +13,7 @@ ghost use Rattle.pm_limits.specs.declared.ends.Side.{Side};
 
 use crate::part_registers::PartRegisters;
 use pm_host::State;
-use pm_num::{AnyFormat, Frac, NumFormat};
+use pm_num::{Frac, NumFormat, VoltageFormat};
 use pm_table::{Cell, Operation, Reg};
 
 /// A side of a band.
@@ -27,8 +27,8 @@ pub enum Side {
 
 impl Side {
     /// Whether the value of the other word lies farther out on this side.
-    pub(crate) fn is_farther(self, format: &AnyFormat, word: u16, other: u16) -> bool
-        ensures { result ≡ spec_is_farther self (any_value format.now word) (any_value format.now other) }
+    pub(crate) fn is_farther(self, format: &VoltageFormat, word: u16, other: u16) -> bool
+        ensures { result ≡ spec_is_farther self (voltage_value format.now word) (voltage_value format.now other) }
     {
         match self {
             Side::Lowest => format.is_above(word, other),
@@ -38,8 +38,6 @@ impl Side {
 }
 
 // The words of the ends of each format, in one order or the other.
-static LINEAR11_ENDS: [u16; 2] = [0x7C00, 0x7BFF];
-
 static ULINEAR16_ENDS: [u16; 2] = [0x0000, 0xFFFF];
 
 static DIRECT_ENDS: [u16; 2] = [0x7FFF, 0x8000];
@@ -77,7 +75,7 @@ impl WordEnds {
 impl OutputEnds {
     /// The ends of what an output's registers may hold. The output's number is below 8.
     pub(crate) fn of(
-        format: &AnyFormat,
+        format: &VoltageFormat,
         host: &State,
         registers: PartRegisters,
         output: u8,
@@ -85,11 +83,11 @@ impl OutputEnds {
         requires { output < 8 }
         ensures selected { (side : Side) (byte : ℕ) →
             word_on side (end_in result (selected_register byte))
-            ≡ word_end side (shape_of format.now) (known_of registers (shape_of format.now) (held None host.now) output) (selected_register byte) }
+            ≡ word_end side (voltage_shape format.now) (known_of registers (voltage_shape format.now) (held None host.now) output) (selected_register byte) }
         ensures least { (side : Side) → word_on side result.min
-            ≡ word_end side (shape_of format.now) (known_of registers (shape_of format.now) (held None host.now) output) VoutMin }
+            ≡ word_end side (voltage_shape format.now) (known_of registers (voltage_shape format.now) (held None host.now) output) VoutMin }
         ensures greatest { (side : Side) → word_on side result.max
-            ≡ word_end side (shape_of format.now) (known_of registers (shape_of format.now) (held None host.now) output) VoutMax }
+            ≡ word_end side (voltage_shape format.now) (known_of registers (voltage_shape format.now) (held None host.now) output) VoutMax }
     {
         OutputEnds {
             command: ends_at(format, host, registers, output, Reg::VoutCommand),
@@ -101,8 +99,8 @@ impl OutputEnds {
     }
 
     /// How far out on a side the output may command, with one of these bytes in OPERATION.
-    pub(crate) fn reached(&self, side: Side, format: &AnyFormat, bytes: &[u16]) -> Frac
-        ensures { let value = any_value format.now in
+    pub(crate) fn reached(&self, side: Side, format: &VoltageFormat, bytes: &[u16]) -> Frac
+        ensures { let value = voltage_value format.now in
             let selected = selected_value side value self.now in
             result ≡ spec_limited (selected (spec_farthest_of side selected bytes.now))
             (value (word_on side self.now.min)) (value (word_on side self.now.max)) }
@@ -125,17 +123,17 @@ impl OutputEnds {
 
     // Whether the register that the other byte selects has the farther end.
     #[tactic(auto, unfolding(crate::specs::OutputEnds::selected_value))]
-    fn is_farther(&self, side: Side, format: &AnyFormat, byte: u16, other: u16) -> bool
-        ensures { let value = selected_value side (any_value format.now) self.now in
+    fn is_farther(&self, side: Side, format: &VoltageFormat, byte: u16, other: u16) -> bool
+        ensures { let value = selected_value side (voltage_value format.now) self.now in
             result ≡ spec_is_farther side (value byte) (value other) }
     {
         side.is_farther(format, self.word(side, byte), self.word(side, other))
     }
 
     // The byte of several whose selected register has the farthest end; 0 if there is none.
-    fn farthest(&self, side: Side, format: &AnyFormat, bytes: &[u16]) -> u16
+    fn farthest(&self, side: Side, format: &VoltageFormat, bytes: &[u16]) -> u16
         ensures { result
-            ≡ spec_farthest_of side (selected_value side (any_value format.now) self.now) bytes.now }
+            ≡ spec_farthest_of side (selected_value side (voltage_value format.now) self.now) bytes.now }
     {
         match bytes.split_first() {
             Some((first, rest)) => self.farthest_from(side, format, *first, rest),
@@ -144,9 +142,9 @@ impl OutputEnds {
     }
 
     // The byte of a first one and others whose selected register has the farthest end.
-    fn farthest_from(&self, side: Side, format: &AnyFormat, first: u16, others: &[u16]) -> u16
+    fn farthest_from(&self, side: Side, format: &VoltageFormat, first: u16, others: &[u16]) -> u16
         ensures { result
-            ≡ spec_farthest side (selected_value side (any_value format.now) self.now) first others.now }
+            ≡ spec_farthest side (selected_value side (voltage_value format.now) self.now) first others.now }
     {
         let mut farthest = first;
         for byte in others {
@@ -160,16 +158,16 @@ impl OutputEnds {
 
 /// The format of an output's voltages, as far as it is known.
 #[inline(always)]
-pub(crate) fn format_in(host: &State, output: u8) -> Option<AnyFormat>
+pub(crate) fn format_in(host: &State, output: u8) -> Option<VoltageFormat>
     requires { output < 8 }
-    ensures { option_map shape_of result ≡ format_at (held None host.now) output }
+    ensures { option_map voltage_shape result ≡ format_at (held None host.now) output }
 {
-    host.format(output).format()
+    host.format(output).voltage_format()
 }
 
 // The words of an output's voltage, of those that it may hold, whose values lie farthest out.
 fn ends_at(
-    format: &AnyFormat,
+    format: &VoltageFormat,
     host: &State,
     registers: PartRegisters,
     output: u8,
@@ -177,7 +175,7 @@ fn ends_at(
 ) -> WordEnds
     requires { output < 8 }
     ensures { (side : Side) → word_on side result
-        ≡ word_end side (shape_of format.now) (known_of registers (shape_of format.now) (held None host.now) output) register }
+        ≡ word_end side (voltage_shape format.now) (known_of registers (voltage_shape format.now) (held None host.now) output) register }
 {
     match registers.missing_word(format, register) {
         Some(word) => WordEnds {
@@ -189,10 +187,10 @@ fn ends_at(
 }
 
 // The ends of a cell, by what the host knows.
-fn ends_in(format: &AnyFormat, host: &State, cell: Cell) -> WordEnds
+fn ends_in(format: &VoltageFormat, host: &State, cell: Cell) -> WordEnds
     requires { IsCell 8 cell }
     ensures { (side : Side) → word_on side result
-        ≡ end_of side (shape_of format.now) (any_value format.now) (possible_at (held None host.now) cell) }
+        ≡ end_of side (voltage_shape format.now) (voltage_value format.now) (possible_at (held None host.now) cell) }
 {
     let words = candidates(format, host, cell);
     WordEnds {
@@ -202,26 +200,25 @@ fn ends_in(format: &AnyFormat, host: &State, cell: Cell) -> WordEnds
 }
 
 /// The word of a format's least value, or of its greatest.
-pub(crate) fn format_end(side: Side, format: &AnyFormat) -> u16
-    ensures { result ≡ spec_format_end side (shape_of format.now) }
+pub(crate) fn format_end(side: Side, format: &VoltageFormat) -> u16
+    ensures { result ≡ spec_format_end side (voltage_shape format.now) }
 {
     farthest(side, format, format_ends(format))
 }
 
 // The words of the ends of a format.
-fn format_ends(format: &AnyFormat) -> &'static [u16]
-    ensures { result.now ≡ shape_ends (shape_of format.now) }
+fn format_ends(format: &VoltageFormat) -> &'static [u16]
+    ensures { result.now ≡ shape_ends (voltage_shape format.now) }
 {
     match format {
-        AnyFormat::Linear11 => &LINEAR11_ENDS,
-        AnyFormat::Ulinear16(_) => &ULINEAR16_ENDS,
-        AnyFormat::Direct(_) => &DIRECT_ENDS,
+        VoltageFormat::Ulinear16(_) => &ULINEAR16_ENDS,
+        VoltageFormat::Direct(_) => &DIRECT_ENDS,
     }
 }
 
 // The value of a word, cut to the values of two others. The upper limit wins if the lower one is above it.
-fn limited(format: &AnyFormat, selected: u16, least: u16, greatest: u16) -> Frac
-    ensures { let value = any_value format.now in
+fn limited(format: &VoltageFormat, selected: u16, least: u16, greatest: u16) -> Frac
+    ensures { let value = voltage_value format.now in
         result ≡ spec_limited (value selected) (value least) (value greatest) }
 {
     if format.is_above(selected, greatest)
@@ -236,9 +233,9 @@ fn limited(format: &AnyFormat, selected: u16, least: u16, greatest: u16) -> Frac
 }
 
 // The words among which those that a voltage may hold reach farthest.
-fn candidates<'a>(format: &AnyFormat, host: &'a State, cell: Cell) -> &'a [u16]
+fn candidates<'a>(format: &VoltageFormat, host: &'a State, cell: Cell) -> &'a [u16]
     requires { IsCell 8 cell }
-    ensures { result.now ≡ spec_candidates (shape_of format.now) (possible_at (held None host.now) cell) }
+    ensures { result.now ≡ spec_candidates (voltage_shape format.now) (possible_at (held None host.now) cell) }
 {
     match host.known.possible(cell).listed() {
         Some(words) => words,
@@ -247,8 +244,8 @@ fn candidates<'a>(format: &AnyFormat, host: &'a State, cell: Cell) -> &'a [u16]
 }
 
 // The word of several whose value lies farthest out; 0 if there is none.
-fn farthest(side: Side, format: &AnyFormat, words: &[u16]) -> u16
-    ensures { result ≡ spec_farthest_of side (any_value format.now) words.now }
+fn farthest(side: Side, format: &VoltageFormat, words: &[u16]) -> u16
+    ensures { result ≡ spec_farthest_of side (voltage_value format.now) words.now }
 {
     match words.split_first() {
         Some((first, rest)) => farthest_from(side, format, *first, rest),
@@ -257,8 +254,8 @@ fn farthest(side: Side, format: &AnyFormat, words: &[u16]) -> u16
 }
 
 // The word of a first one and others whose value lies farthest out.
-fn farthest_from(side: Side, format: &AnyFormat, first: u16, others: &[u16]) -> u16
-    ensures { result ≡ spec_farthest side (any_value format.now) first others.now }
+fn farthest_from(side: Side, format: &VoltageFormat, first: u16, others: &[u16]) -> u16
+    ensures { result ≡ spec_farthest side (voltage_value format.now) first others.now }
 {
     let mut farthest = first;
     for word in others {

@@ -1,9 +1,9 @@
 ghost use Rattle.std.specs.Prelude.{◌≡◌};
-ghost use Rattle.pm_num.specs.AnyFormat.{shape_of};
+ghost use Rattle.pm_num.specs.AnyFormat.{voltage_shape};
 ghost use Rattle.pm_limits.specs.Part.{all_registers, has_register, missing_word};
 
 use crate::ends::{Side, format_end};
-use pm_num::AnyFormat;
+use pm_num::VoltageFormat;
 use pm_table::Reg;
 
 /// Which registers of an output a part has, beside OPERATION and VOUT_COMMAND, which are always there. The data sheet
@@ -49,8 +49,8 @@ impl PartRegisters {
 
     /// The word at which a missing VOUT_MAX or VOUT_MIN stands in this format, so that it cuts nothing; `None` of every
     /// other register.
-    pub fn missing_word(self, format: &AnyFormat, register: Reg) -> Option<u16>
-        ensures { result ≡ missing_word self (shape_of format.now) register }
+    pub fn missing_word(self, format: &VoltageFormat, register: Reg) -> Option<u16>
+        ensures { result ≡ missing_word self (voltage_shape format.now) register }
     {
         match register {
             Reg::VoutMax if !self.vout_max => Some(format_end(Side::Highest, format)),

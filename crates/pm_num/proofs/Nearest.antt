@@ -7,7 +7,7 @@ use Rattle.std.proofs.Math.Nat.{le_of_mul-le-mul_right, pow-le-pow_right, mul-po
 use Rattle.std.proofs.lemmas.Int.{ints, by_lt_z, to_z-of_z, unsigned_abs-mul}
 use Rattle.std.proofs.lemmas.Nat.{mul-le, pow-add, pow_pos}
 use borrow.Author.Differences.{product_is}
-use mir.Syntax.{w128, w64, w8}
+use mir.Syntax.{w64, w8}
 use mir.Val.{SFits, to_z, of_z}
 use Rattle.pm_num.specs.{Lemmas.OneWord.at_most_both, Lemmas.Unsigned.lower-positive}
 use Rattle.pm_num.specs.Bounds.{IsAtMost, IsAtLeast}

@@ -61,3 +61,6 @@ any_of (voltage.Direct f) = Direct f
 
 abbrev pub voltage_shape : VoltageFormat → Shape
 voltage_shape f = shape_of (any_of f)
+
+abbrev pub voltage_value : VoltageFormat → ℕ → Ratio
+voltage_value f = shape_value (voltage_shape f)

@@ -1,7 +1,8 @@
 //! A format of an output's voltages.
 
 ghost use Rattle.std.specs.Prelude.{◌≡◌};
-ghost use Rattle.pm_num.specs.AnyFormat.{any_of};
+ghost use Rattle.pm_num.specs.AnyFormat.{any_of, voltage_value};
+ghost use Rattle.pm_num.specs.Ratio.{is_above};
 
 use crate::any_format::AnyFormat;
 use crate::bounds::BoundFormat;
@@ -22,13 +23,25 @@ pub enum VoltageFormat {
 }
 
 impl VoltageFormat {
-    /// This format among all three.
+    /// This format as one of all three.
     pub fn any(self) -> AnyFormat
         ensures { result ≡ any_of self }
     {
         match self {
             VoltageFormat::Ulinear16(format) => AnyFormat::Ulinear16(format),
             VoltageFormat::Direct(format) => AnyFormat::Direct(format),
+        }
+    }
+
+    /// Whether the value of `word` is greater than that of `other`.
+    // It isn't inlined: judging an output asks it many times.
+    #[inline(never)]
+    pub fn is_above(&self, word: u16, other: u16) -> bool
+        ensures { result ≡ is_above (voltage_value self.now word) (voltage_value self.now other) }
+    {
+        match self {
+            VoltageFormat::Ulinear16(format) => format.is_above(word, other),
+            VoltageFormat::Direct(format) => format.is_above(word, other),
         }
     }
 }
@@ -71,6 +84,7 @@ impl NumFormat for VoltageFormat {
         }
     }
 
+    #[inline(never)]
     fn value_of(&self, word: u16) -> Frac {
         match self {
             VoltageFormat::Ulinear16(format) => format.value_of(word),

@@ -3,7 +3,7 @@
 ghost use Rattle.std.specs.Prelude.{◌≡◌, ◌<◌, None};
 ghost use Rattle.pm_table.specs.Cell.{IsCell, cell_accepts};
 ghost use Rattle.pm_host.specs.Image.{held};
-ghost use Rattle.pm_num.specs.AnyFormat.{shape_of};
+ghost use Rattle.pm_num.specs.AnyFormat.{voltage_shape};
 ghost use Rattle.pm_rail.specs.Known.{cells_of, known_at as spec_known_at, known_of as spec_known_of, known_or as spec_known_or, known_word};
 ghost use Rattle.pm_table.specs.Rules.{rule};
 ghost use Rattle.pm_host.specs.Summary.{possible_at};
@@ -12,7 +12,7 @@ ghost use Rattle.pm_rail.specs.Registers.{held_by};
 use crate::registers::Registers;
 use pm_host::State;
 use pm_limits::PartRegisters;
-use pm_num::AnyFormat;
+use pm_num::VoltageFormat;
 use pm_table::{Cell, Reg};
 
 /// The form of an output: which registers its part has, and the format of its voltages.
@@ -21,13 +21,13 @@ pub(crate) struct OutputForm {
     /// Which registers the part has.
     pub registers: PartRegisters,
     /// The format of the output's voltages.
-    pub format: AnyFormat,
+    pub format: VoltageFormat,
 }
 
 /// The word that a cell is known to hold: the only one that it may hold, if it is one that the cell takes.
 pub(crate) fn known_at(host: &State, form: &OutputForm, cell: Cell) -> Option<u16>
     requires { IsCell 8 cell }
-    ensures { result ≡ spec_known_at (cells_of form.now.registers (shape_of form.now.format) (held None host.now)) cell }
+    ensures { result ≡ spec_known_at (cells_of form.now.registers (voltage_shape form.now.format) (held None host.now)) cell }
 {
     match cell {
         Cell::Out(_, register) if form.registers.has(register) => known_in(host, cell),
@@ -60,7 +60,7 @@ fn accepted(cell: Cell, word: u16) -> Option<u16>
 /// The word of a cell, or 0 if it isn't known.
 pub(crate) fn known_or(host: &State, form: &OutputForm, cell: Cell) -> u16
     requires { IsCell 8 cell }
-    ensures { result ≡ spec_known_or (cells_of form.now.registers (shape_of form.now.format) (held None host.now)) cell }
+    ensures { result ≡ spec_known_or (cells_of form.now.registers (voltage_shape form.now.format) (held None host.now)) cell }
 {
     match known_at(host, form, cell) {
         Some(word) => word,
@@ -71,7 +71,7 @@ pub(crate) fn known_or(host: &State, form: &OutputForm, cell: Cell) -> u16
 /// The words that an output's registers are known to hold; 0 for those that aren't known.
 pub(crate) fn known_of(host: &State, form: &OutputForm, output: u8) -> Registers
     requires { output < 8 }
-    ensures { held_by result ≡ spec_known_of (cells_of form.now.registers (shape_of form.now.format) (held None host.now)) output }
+    ensures { held_by result ≡ spec_known_of (cells_of form.now.registers (voltage_shape form.now.format) (held None host.now)) output }
 {
     Registers {
         operation: known_or(host, form, Cell::Out(output, Reg::Operation)),

@@ -1,7 +1,7 @@
 //! Which needed registers a survey may still read, and which the part doesn't have.
 
 ghost use Rattle.std.specs.Prelude.{◌≡◌, ◌<◌, None, find};
-ghost use Rattle.pm_num.specs.AnyFormat.{shape_of};
+ghost use Rattle.pm_num.specs.AnyFormat.{voltage_shape};
 ghost use Rattle.pm_table.specs.Cell.{registers};
 ghost use Rattle.pm_host.specs.Image.{held as state_held};
 ghost use Rattle.pm_rail.specs.Known.{cells_of};
@@ -16,7 +16,7 @@ use pm_table::Reg;
 /// The first register that the part has, that is needed and that isn't known.
 pub(crate) fn first_unsure(host: &State, form: &OutputForm, settings: &Settings) -> Option<Reg>
     requires { settings.now.output < 8 }
-    ensures { let cells = cells_of form.now.registers (shape_of form.now.format) (state_held None host.now) in
+    ensures { let cells = cells_of form.now.registers (voltage_shape form.now.format) (state_held None host.now) in
         result ≡ find (spec_is_unsure form.now.registers cells settings.now.output (held_by settings.now.held) (wants_of settings.now.wanted)) registers }
 {
     if is_unsure(host, form, settings, Reg::Operation) {
@@ -39,7 +39,7 @@ pub(crate) fn first_unsure(host: &State, form: &OutputForm, settings: &Settings)
 // Whether the part has a register, and it is needed and isn't known.
 fn is_unsure(host: &State, form: &OutputForm, settings: &Settings, register: Reg) -> bool
     requires { settings.now.output < 8 }
-    ensures { let cells = cells_of form.now.registers (shape_of form.now.format) (state_held None host.now) in
+    ensures { let cells = cells_of form.now.registers (voltage_shape form.now.format) (state_held None host.now) in
         result ≡ spec_is_unsure form.now.registers cells settings.now.output (held_by settings.now.held) (wants_of settings.now.wanted) register }
 {
     form.registers.has(register) && is_unknown(host, form, settings, register)
@@ -48,7 +48,7 @@ fn is_unsure(host: &State, form: &OutputForm, settings: &Settings, register: Reg
 /// Whether a register is needed that isn't known and that the part doesn't have.
 pub(crate) fn is_stuck_in(host: &State, form: &OutputForm, settings: &Settings) -> bool
     requires { settings.now.output < 8 }
-    ensures { let cells = cells_of form.now.registers (shape_of form.now.format) (state_held None host.now) in
+    ensures { let cells = cells_of form.now.registers (voltage_shape form.now.format) (state_held None host.now) in
         result ≡ spec_is_stuck_in form.now.registers settings.now.output cells (held_by settings.now.held) (wants_of settings.now.wanted) }
 {
     is_lacking(host, form, settings, Reg::VoutMax)
@@ -60,7 +60,7 @@ pub(crate) fn is_stuck_in(host: &State, form: &OutputForm, settings: &Settings) 
 // Whether a register is needed that isn't known and that the part doesn't have.
 fn is_lacking(host: &State, form: &OutputForm, settings: &Settings, register: Reg) -> bool
     requires { settings.now.output < 8 }
-    ensures { let cells = cells_of form.now.registers (shape_of form.now.format) (state_held None host.now) in
+    ensures { let cells = cells_of form.now.registers (voltage_shape form.now.format) (state_held None host.now) in
         result ≡ spec_is_lacking form.now.registers cells settings.now.output (held_by settings.now.held) (wants_of settings.now.wanted) register }
 {
     !form.registers.has(register) && is_unknown(host, form, settings, register)

@@ -1,5 +1,5 @@
 ghost use Rattle.std.specs.Prelude.{◌≡◌, ◌<◌, Some, None, IfOk, OnErr};
-ghost use Rattle.pm_num.specs.AnyFormat.{any_value, shape_of};
+ghost use Rattle.pm_num.specs.AnyFormat.{voltage_value, voltage_shape};
 ghost use Rattle.pm_host.specs.Image.{held as state_held};
 ghost use Rattle.pm_host.specs.Summary.{format_at};
 ghost use Rattle.pm_limits.specs.Guard.{limits_at};
@@ -104,7 +104,7 @@ fn planned_in(
     ensures { let s = state_held None host.now in
         result ≡ spec_planned_in part s limits.now plan.now.output (wants_of plan.now.wanted) (format_at s plan.now.output) }
 {
-    match host.format(plan.output).format() {
+    match host.format(plan.output).voltage_format() {
         Some(format) => {
             let form = OutputForm {
                 registers: part,
@@ -126,7 +126,7 @@ fn planned_by(
     requires { plan.now.output < 8 }
     ensures { let s = state_held None host.now in
         result ≡ spec_planned_in form.now.registers s limits.now plan.now.output (wants_of plan.now.wanted)
-        (Some (shape_of form.now.format)) }
+        (Some (voltage_shape form.now.format)) }
 {
     let held = known_of(host, form, plan.output);
     let settings = Settings {
@@ -145,9 +145,9 @@ fn planned(
     settings: &Settings,
 ) -> Result<Option<PlanOrder>, PlanFault>
     requires { settings.now.output < 8 }
-    ensures { let cells = cells_of form.now.registers (shape_of form.now.format) (state_held None host.now) in
+    ensures { let cells = cells_of form.now.registers (voltage_shape form.now.format) (state_held None host.now) in
         result ≡ spec_planned cells limits.now settings.now.output (held_by settings.now.held) (wants_of settings.now.wanted)
-        (any_value form.now.format) }
+        (voltage_value form.now.format) }
 {
     let next = next_register(&form.format, &settings.held, &settings.wanted);
     if let Some(fault) = refuse(host, form, limits, settings, next) {

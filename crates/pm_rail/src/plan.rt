@@ -1,16 +1,16 @@
 ghost use Rattle.std.specs.Prelude.{◌≡◌};
-ghost use Rattle.pm_num.specs.AnyFormat.{any_value};
+ghost use Rattle.pm_num.specs.AnyFormat.{voltage_value};
 ghost use Rattle.pm_rail.specs.Plan.{goal_of, next_register as spec_next_register};
 ghost use Rattle.pm_rail.specs.Registers.{held_by, wants_of};
 
 use crate::registers::Registers;
 use crate::wanted::Wanted;
-use pm_num::AnyFormat;
+use pm_num::VoltageFormat;
 use pm_table::{Operation, Reg};
 
 /// The register that is ordered next; `None` if each has its wanted word.
-pub fn next_register(format: &AnyFormat, held: &Registers, wanted: &Wanted) -> Option<Reg>
-    ensures { result ≡ spec_next_register (any_value format.now) (held_by held.now) (wants_of wanted.now) }
+pub fn next_register(format: &VoltageFormat, held: &Registers, wanted: &Wanted) -> Option<Reg>
+    ensures { result ≡ spec_next_register (voltage_value format.now) (held_by held.now) (wants_of wanted.now) }
 {
     let selected = held.word(Operation::selected_register(held.operation));
     let max = goal(held, wanted, Reg::VoutMax);

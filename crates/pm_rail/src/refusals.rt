@@ -1,7 +1,7 @@
 //! Why no order of a plan is given.
 
 ghost use Rattle.std.specs.Prelude.{◌≡◌, ◌<◌, ◌≤◌, ◌^◌, None, find, unsigned_abs};
-ghost use Rattle.pm_num.specs.AnyFormat.{any_value, shape_of};
+ghost use Rattle.pm_num.specs.AnyFormat.{voltage_value, voltage_shape};
 ghost use Rattle.pm_num.specs.Ratio.{is_above as spec_is_above, micros};
 ghost use Rattle.pm_table.specs.Cell.{registers};
 ghost use Rattle.pm_host.specs.Image.{held as state_held};
@@ -17,7 +17,7 @@ use crate::registers::Registers;
 use crate::wanted::Wanted;
 use pm_host::State;
 use pm_limits::{Limits, OutputLimits, PartRegisters};
-use pm_num::{AnyFormat, Frac, NumFormat, micro};
+use pm_num::{Frac, NumFormat, VoltageFormat, micro};
 use pm_table::{Cell, Operation, Reg, is_allowed};
 use std::cmp::Ordering;
 
@@ -41,10 +41,10 @@ pub(crate) fn refuse(
     next: Option<Reg>,
 ) -> Option<PlanFault>
     requires output { settings.now.output < 8 }
-    requires next { next ≡ next_register (any_value form.now.format) (held_by settings.now.held) (wants_of settings.now.wanted) }
-    ensures { let cells = cells_of form.now.registers (shape_of form.now.format) (state_held None host.now) in
+    requires next { next ≡ next_register (voltage_value form.now.format) (held_by settings.now.held) (wants_of settings.now.wanted) }
+    ensures { let cells = cells_of form.now.registers (voltage_shape form.now.format) (state_held None host.now) in
         result ≡ planned_fault cells limits.now settings.now.output (held_by settings.now.held) (wants_of settings.now.wanted)
-        (any_value form.now.format) }
+        (voltage_value form.now.format) }
 {
     let (held, wanted) = (&settings.held, &settings.wanted);
     if let Some(fault) = refuse_limits(limits, &form.format, wanted) {
@@ -63,8 +63,12 @@ pub(crate) fn refuse(
 }
 
 // L8, L3 and L4.
-fn refuse_limits(limits: &OutputLimits, format: &AnyFormat, wanted: &Wanted) -> Option<PlanFault>
-    ensures { result ≡ limits_fault limits.now (any_value format.now) (wants_of wanted.now) }
+fn refuse_limits(
+    limits: &OutputLimits,
+    format: &VoltageFormat,
+    wanted: &Wanted,
+) -> Option<PlanFault>
+    ensures { result ≡ limits_fault limits.now (voltage_value format.now) (wants_of wanted.now) }
 {
     match limits {
         OutputLimits::Between(limits) => {
@@ -103,8 +107,8 @@ fn is_wanted(wanted: &Wanted, register: Reg) -> bool
 }
 
 // L3: the first register of which a lower word is wanted.
-fn refuse_below(least: &Frac, format: &AnyFormat, wanted: &Wanted) -> Option<PlanFault>
-    ensures { result ≡ below_fault least.now (any_value format.now) (wants_of wanted.now) }
+fn refuse_below(least: &Frac, format: &VoltageFormat, wanted: &Wanted) -> Option<PlanFault>
+    ensures { result ≡ below_fault least.now (voltage_value format.now) (wants_of wanted.now) }
 {
     if is_wanted_below(least, format, wanted, Reg::VoutCommand) {
         Some(PlanFault::BelowLimit(Reg::VoutCommand))
@@ -122,8 +126,8 @@ fn refuse_below(least: &Frac, format: &AnyFormat, wanted: &Wanted) -> Option<Pla
 }
 
 // L4: the first register of which a higher word is wanted.
-fn refuse_above(most: &Frac, format: &AnyFormat, wanted: &Wanted) -> Option<PlanFault>
-    ensures { result ≡ above_fault most.now (any_value format.now) (wants_of wanted.now) }
+fn refuse_above(most: &Frac, format: &VoltageFormat, wanted: &Wanted) -> Option<PlanFault>
+    ensures { result ≡ above_fault most.now (voltage_value format.now) (wants_of wanted.now) }
 {
     if is_wanted_above(most, format, wanted, Reg::VoutCommand) {
         Some(PlanFault::AboveLimit(Reg::VoutCommand))
@@ -176,8 +180,8 @@ fn is_above(p: &Frac, q: &Frac) -> bool
 }
 
 // Whether a word is wanted of the register and lies below.
-fn is_wanted_below(least: &Frac, format: &AnyFormat, wanted: &Wanted, register: Reg) -> bool
-    ensures { result ≡ spec_is_wanted_below least.now (any_value format.now) (wants_of wanted.now) register }
+fn is_wanted_below(least: &Frac, format: &VoltageFormat, wanted: &Wanted, register: Reg) -> bool
+    ensures { result ≡ spec_is_wanted_below least.now (voltage_value format.now) (wants_of wanted.now) register }
 {
     match wanted.word(register) {
         Some(word) => is_above(least, &format.value_of(word)),
@@ -186,8 +190,8 @@ fn is_wanted_below(least: &Frac, format: &AnyFormat, wanted: &Wanted, register: 
 }
 
 // Whether a word is wanted of the register and lies above.
-fn is_wanted_above(most: &Frac, format: &AnyFormat, wanted: &Wanted, register: Reg) -> bool
-    ensures { result ≡ spec_is_wanted_above most.now (any_value format.now) (wants_of wanted.now) register }
+fn is_wanted_above(most: &Frac, format: &VoltageFormat, wanted: &Wanted, register: Reg) -> bool
+    ensures { result ≡ spec_is_wanted_above most.now (voltage_value format.now) (wants_of wanted.now) register }
 {
     match wanted.word(register) {
         Some(word) => is_above(&format.value_of(word), most),
@@ -198,7 +202,7 @@ fn is_wanted_above(most: &Frac, format: &AnyFormat, wanted: &Wanted, register: R
 // P4 for a register.
 fn refuse_unknown(host: &State, form: &OutputForm, settings: &Settings) -> Option<PlanFault>
     requires { settings.now.output < 8 }
-    ensures { let cells = cells_of form.now.registers (shape_of form.now.format) (state_held None host.now) in
+    ensures { let cells = cells_of form.now.registers (voltage_shape form.now.format) (state_held None host.now) in
         result ≡ unknown_fault cells settings.now.output (held_by settings.now.held) (wants_of settings.now.wanted) }
 {
     match first_unknown(host, form, settings) {
@@ -210,7 +214,7 @@ fn refuse_unknown(host: &State, form: &OutputForm, settings: &Settings) -> Optio
 // The first register that is needed and isn't known.
 fn first_unknown(host: &State, form: &OutputForm, settings: &Settings) -> Option<Reg>
     requires { settings.now.output < 8 }
-    ensures { let cells = cells_of form.now.registers (shape_of form.now.format) (state_held None host.now) in
+    ensures { let cells = cells_of form.now.registers (voltage_shape form.now.format) (state_held None host.now) in
         result ≡ find (spec_is_unknown cells settings.now.output (held_by settings.now.held) (wants_of settings.now.wanted)) registers }
 {
     if is_unknown(host, form, settings, Reg::Operation) {
@@ -238,7 +242,7 @@ pub(crate) fn is_unknown(
     register: Reg,
 ) -> bool
     requires { settings.now.output < 8 }
-    ensures { let cells = cells_of form.now.registers (shape_of form.now.format) (state_held None host.now) in
+    ensures { let cells = cells_of form.now.registers (voltage_shape form.now.format) (state_held None host.now) in
         result ≡ spec_is_unknown cells settings.now.output (held_by settings.now.held) (wants_of settings.now.wanted) register }
 {
     is_needed(&settings.held, &settings.wanted, register)
@@ -290,8 +294,8 @@ fn is_meant(held: &Registers, wanted: &Wanted, register: Reg) -> bool
 }
 
 // P5 and P6.
-fn refuse_words(format: &AnyFormat, held: &Registers, wanted: &Wanted) -> Option<PlanFault>
-    ensures { result ≡ words_fault (any_value format.now) (held_by held.now) (wants_of wanted.now) }
+fn refuse_words(format: &VoltageFormat, held: &Registers, wanted: &Wanted) -> Option<PlanFault>
+    ensures { result ≡ words_fault (voltage_value format.now) (held_by held.now) (wants_of wanted.now) }
 {
     if is_below_min(format, held, wanted, Reg::VoutCommand) {
         Some(PlanFault::BelowMin(Reg::VoutCommand))
@@ -311,16 +315,16 @@ fn refuse_words(format: &AnyFormat, held: &Registers, wanted: &Wanted) -> Option
 }
 
 // Whether a register is meant and is to be below VOUT_MIN.
-fn is_below_min(format: &AnyFormat, held: &Registers, wanted: &Wanted, register: Reg) -> bool
-    ensures { result ≡ spec_is_below_min (any_value format.now) (held_by held.now) (wants_of wanted.now) register }
+fn is_below_min(format: &VoltageFormat, held: &Registers, wanted: &Wanted, register: Reg) -> bool
+    ensures { result ≡ spec_is_below_min (voltage_value format.now) (held_by held.now) (wants_of wanted.now) register }
 {
     let word = goal(held, wanted, register);
     is_meant(held, wanted, register) && format.is_above(goal(held, wanted, Reg::VoutMin), word)
 }
 
 // Whether a register is meant and is to be above VOUT_MAX.
-fn is_above_max(format: &AnyFormat, held: &Registers, wanted: &Wanted, register: Reg) -> bool
-    ensures { result ≡ spec_is_above_max (any_value format.now) (held_by held.now) (wants_of wanted.now) register }
+fn is_above_max(format: &VoltageFormat, held: &Registers, wanted: &Wanted, register: Reg) -> bool
+    ensures { result ≡ spec_is_above_max (voltage_value format.now) (held_by held.now) (wants_of wanted.now) register }
 {
     let word = goal(held, wanted, register);
     is_meant(held, wanted, register) && format.is_above(word, goal(held, wanted, Reg::VoutMax))

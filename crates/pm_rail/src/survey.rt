@@ -1,5 +1,5 @@
 ghost use Rattle.std.specs.Prelude.{◌≡◌, ◌<◌, None, Some, find};
-ghost use Rattle.pm_num.specs.AnyFormat.{shape_of};
+ghost use Rattle.pm_num.specs.AnyFormat.{voltage_shape};
 ghost use Rattle.pm_table.specs.Cell.{registers};
 ghost use Rattle.pm_host.specs.Image.{held};
 ghost use Rattle.pm_rail.specs.Known.{cells_of, known_or as spec_known_or};
@@ -223,7 +223,7 @@ impl Survey {
         requires { self.now.output < 8 }
         ensures { result ≡ due_job part self.now (held None host.now) }
     {
-        match host.format(self.output).format() {
+        match host.format(self.output).voltage_format() {
             Some(format) => {
                 let registers = part;
                 self.due_by(host, &OutputForm { registers, format })
@@ -235,7 +235,7 @@ impl Survey {
     // What is still to be asked for, in the output's format.
     fn due_by(&self, host: &State, form: &OutputForm) -> Option<Job>
         requires { self.now.output < 8 }
-        ensures { result ≡ spec_due_by form.now.registers self.now (held None host.now) (Some (shape_of form.now.format)) }
+        ensures { result ≡ spec_due_by form.now.registers self.now (held None host.now) (Some (voltage_shape form.now.format)) }
     {
         self.due_in(host, form, &self.settings(host, form))
     }
@@ -244,7 +244,7 @@ impl Survey {
     fn due_in(&self, host: &State, form: &OutputForm, settings: &Settings) -> Option<Job>
         requires there { self.now.output < 8 }
         requires own { settings.now.output ≡ self.now.output }
-        ensures { let cells = cells_of form.now.registers (shape_of form.now.format) (held None host.now) in
+        ensures { let cells = cells_of form.now.registers (voltage_shape form.now.format) (held None host.now) in
             result ≡ spec_due_in form.now.registers self.now cells (held_by settings.now.held) (wants_of settings.now.wanted) }
     {
         if !self.learned {
@@ -273,7 +273,7 @@ impl Survey {
         requires { self.now.output < 8 }
         ensures { result ≡ spec_is_stuck part self.now (held None host.now) }
     {
-        match host.format(self.output).format() {
+        match host.format(self.output).voltage_format() {
             Some(format) => {
                 let registers = part;
                 self.is_stuck_by(host, &OutputForm { registers, format })
@@ -285,7 +285,7 @@ impl Survey {
     // Whether a register is needed that isn't known and that the part doesn't have, in the output's format.
     fn is_stuck_by(&self, host: &State, form: &OutputForm) -> bool
         requires { self.now.output < 8 }
-        ensures { result ≡ spec_is_stuck_by form.now.registers self.now (held None host.now) (Some (shape_of form.now.format)) }
+        ensures { result ≡ spec_is_stuck_by form.now.registers self.now (held None host.now) (Some (voltage_shape form.now.format)) }
     {
         is_stuck_in(host, form, &self.settings(host, form))
     }
@@ -295,7 +295,7 @@ impl Survey {
         requires { self.now.output < 8 }
         ensures output { result.output ≡ self.now.output }
         ensures operation { result.held.operation
-            ≡ spec_known_or (cells_of form.now.registers (shape_of form.now.format) (held None host.now)) (Cell.Out self.now.output Reg.Operation) }
+            ≡ spec_known_or (cells_of form.now.registers (voltage_shape form.now.format) (held None host.now)) (Cell.Out self.now.output Reg.Operation) }
         ensures wanted { result.wanted ≡ wanted_in self.now.plan }
     {
         let operation = known_or(host, form, Cell::Out(self.output, Reg::Operation));

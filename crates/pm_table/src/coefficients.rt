@@ -19,7 +19,7 @@ pub fn format_of(mode: VoutMode, c: Coefficients) -> Result<AnyFormat, NumFault>
     }
 }
 
-/// This format, as one of the two that it may be.
+/// The format that [`format_of`] gives, as one of the two that an output may have. It refuses what that refuses.
 pub fn voltage_format_of(mode: VoutMode, c: Coefficients) -> Result<VoltageFormat, NumFault>
     requires { IsMode mode }
     ensures { voltage_shape_seen result ≡ shape_in mode c }

@@ -31,7 +31,9 @@ impl State {
         self.refuse_cell(cell)?;
         match cell {
             Cell::Out(output, register) if register.is_voltage() => {
-                self.format(output).voltage_format().ok_or(HostFault::FormatUnknown)
+                self.format(output)
+                    .voltage_format()
+                    .ok_or(HostFault::FormatUnknown)
             }
             _ => Err(HostFault::BadWord),
         }

@@ -1,6 +1,6 @@
 use Rattle.std.proofs.Common.{◌≡◌, ◌∙◌, ℕ, None, ap, ap₂}
 use Rattle.std.proofs.Math.Path.{fun_ext}
-use Rattle.pm_num.specs.AnyFormat.{any_value, shape_of}
+use Rattle.pm_num.specs.AnyFormat.{voltage_value, voltage_shape}
 use Rattle.pm_num.specs.Ratio.{Ratio}
 use Rattle.pm_table.specs.declared.reg.Reg.TheVariants.{VoutMin}
 use Rattle.pm_model.specs.Commanded.{limited}
@@ -15,8 +15,8 @@ use Rattle.pm_limits.proofs.band.band_by.Goals as goal
 pub returns : goal.returns
 unfolding end_with selected_value
 returns c =
-    let value = any_value c.args.format.now in
-    let shape = shape_of c.args.format.now in
+    let value = voltage_value c.args.format.now in
+    let shape = voltage_shape c.args.format.now in
     let known = known_of c.args.registers shape (held None c.args.host.now) c.args.output in
     let bytes = c.args.bytes.now in
     let ends = c.of-ends.result in

@@ -4,7 +4,7 @@ use Rattle.pm_host.specs.Image.{held}
 use Rattle.pm_table.specs.declared.reg.Reg.{Reg}
 use Rattle.pm_table.specs.declared.reg.Reg.TheVariants.{Operation, VoutCommand, VoutMax, MarginHigh, MarginLow, VoutMin}
 use Rattle.pm_rail.specs.declared.registers.Registers.{Registers}
-use Rattle.pm_num.specs.AnyFormat.{shape_of}
+use Rattle.pm_num.specs.AnyFormat.{voltage_shape}
 use Rattle.pm_rail.specs.Known.{cells_of, known_of}
 use Rattle.pm_rail.specs.Registers.{held_by}
 use Rattle.pm_rail.proofs.known.known_of.Goals as goal
@@ -21,7 +21,7 @@ returns c =
     } in
     fun_ext (λ (r : Reg). elim r as
     (λ q. held_by registers q
-    ≡ known_of (cells_of c.args.form.now.registers (shape_of c.args.form.now.format) (held None c.args.host.now)) c.args.output q) [
+    ≡ known_of (cells_of c.args.form.now.registers (voltage_shape c.args.form.now.format) (held None c.args.host.now)) c.args.output q) [
       | Operation ↦ c.known_or.ensures
       | VoutCommand ↦ c.known_or-2.ensures
       | VoutMax ↦ c.known_or-3.ensures

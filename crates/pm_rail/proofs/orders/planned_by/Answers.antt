@@ -1,5 +1,5 @@
 use Rattle.std.proofs.Common.{◌∙◌, None, ap}
-use Rattle.pm_num.specs.AnyFormat.{any_value, shape_of}
+use Rattle.pm_num.specs.AnyFormat.{voltage_value, voltage_shape}
 use Rattle.pm_host.specs.Image.{held}
 use Rattle.pm_rail.specs.Known.{cells_of}
 use Rattle.pm_rail.specs.Orders.{planned}
@@ -10,7 +10,7 @@ pub returns : goal.returns
 returns c =
     let plan = c.args.plan.now in
     let form = c.args.form.now in
-    let cells = cells_of form.registers (shape_of form.format) (held None c.args.host.now) in
+    let cells = cells_of form.registers (voltage_shape form.format) (held None c.args.host.now) in
     c.planned.ensures
-    ∙ ap (λ (h : Held). planned cells c.args.limits.now plan.output h (wants_of plan.wanted) (any_value form.format))
+    ∙ ap (λ (h : Held). planned cells c.args.limits.now plan.output h (wants_of plan.wanted) (voltage_value form.format))
     c.known_of-held.ensures

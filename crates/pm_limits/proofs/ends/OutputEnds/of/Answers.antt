@@ -1,6 +1,6 @@
 use Rattle.std.proofs.Common.{◌≡◌, None}
 use Rattle.pm_host.specs.Image.{held}
-use Rattle.pm_num.specs.AnyFormat.{shape_of}
+use Rattle.pm_num.specs.AnyFormat.{voltage_shape}
 use Rattle.pm_table.specs.declared.reg.Reg.{Reg}
 use Rattle.pm_limits.specs.declared.ends.OutputEnds.{OutputEnds}
 use Rattle.pm_limits.specs.Band.{known_of, word_end}
@@ -19,6 +19,6 @@ returns-clause-selected c =
     } in
     λ side. each-selected
     (λ (r : Reg). word_on side (end_in ends r)
-    ≡ word_end side (shape_of c.args.format.now)
-    (known_of c.args.registers (shape_of c.args.format.now) (held None c.args.host.now) c.args.output) r)
+    ≡ word_end side (voltage_shape c.args.format.now)
+    (known_of c.args.registers (voltage_shape c.args.format.now) (held None c.args.host.now) c.args.output) r)
     (c.ends_at.ensures side) (c.ends_at-2.ensures side) (c.ends_at-3.ensures side)

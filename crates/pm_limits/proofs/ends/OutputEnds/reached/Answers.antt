@@ -1,5 +1,5 @@
 use Rattle.std.proofs.Common.{◌∙◌, ℕ, ap}
-use Rattle.pm_num.specs.AnyFormat.{any_value}
+use Rattle.pm_num.specs.AnyFormat.{voltage_value}
 use Rattle.pm_model.specs.Commanded.{limited, selected_register}
 use Rattle.pm_limits.specs.Ends.{farthest_of}
 use Rattle.pm_limits.specs.OutputEnds.{end_in, selected_value, word_on}
@@ -9,7 +9,7 @@ pub returns : goal.returns
 unfolding selected_value
 returns c =
     let side = c.args.side in
-    let value = any_value c.args.format.now in
+    let value = voltage_value c.args.format.now in
     let ends = c.args.self.now in
     let selected = selected_value side value ends (farthest_of side (selected_value side value ends) c.args.bytes.now) in
     c.limited.ensures
