@@ -15,8 +15,6 @@ def rail(name, **more):
 class Board:
     """Rails that hold these words in VOUT_COMMAND, None for one that isn't known."""
 
-    looks = None
-
     def __init__(self, rails, words=(0x1000,)):
         self.rails, self.noted, self.seen, self.words = rails, [], [], words
         self.note = self.noted.append
@@ -29,6 +27,9 @@ class Board:
 
     def before(self, _):
         return None
+
+    def looks_of(self, _):
+        return Looks()
 
     def see(self, each, _):
         self.seen.append(each.name)

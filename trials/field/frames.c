@@ -68,7 +68,7 @@ static uint16_t status_word_of(const field_part *part, uint8_t at) {
     if (out->temperature) word |= BYTE_TEMPERATURE;
     if (part->cml) word |= BYTE_CML;
     if (part->was_busy) word |= BYTE_BUSY;
-    if (field_voltage(part, out) <= 0) word |= BYTE_OFF;
+    if (field_voltage(part, out) <= 0 || (out->is_off_early && out->to == 0)) word |= BYTE_OFF;
     if (!out->has_been_good || out->is_good_low) word |= WORD_NOT_GOOD;
     return word;
 }

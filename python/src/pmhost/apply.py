@@ -184,6 +184,10 @@ class Board:
 
     # ---- Frames ----
 
+    def looks_of(self, rail: Rail) -> Looks:
+        """How a rail is looked at, by a call that looks."""
+        return rail.looks(self.looks or Looks())
+
     def before(self, rail: Rail) -> Heard:
         """STATUS_WORD before the first order of a rail."""
         return self.befores.get(rail.name, Heard())

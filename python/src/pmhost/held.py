@@ -9,7 +9,6 @@ from .back import Held
 from .course import Course
 from .delivered import why_not_before
 from .errors import SAYINGS, refusal
-from .looks import Looks
 from .rail_run import Stopped
 from .rails import Rail
 from .rehearsal import is_reached, modelled
@@ -25,7 +24,7 @@ def begin(board: Board, rail: Rail) -> None:
     clock.wait(rail.wait / 1000)
     for each in board.rails if rail.delivers else ():
         if each.name in rail.after:
-            found = look_at(board.on(each), each.output, board.looks or Looks(), board.before(each), True)
+            found = look_at(board.on(each), each.output, board.looks_of(each), board.before(each), True)
             board.see(each, found)
             if found.is_bad:
                 raise Stopped(f"{rail.name} isn't begun: {why_not_before(each.name, found)}")

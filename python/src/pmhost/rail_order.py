@@ -20,8 +20,8 @@ if TYPE_CHECKING:
 TIME = re.compile("([0-9]{1,9}) ?(ms|s)")
 MILLISECONDS = {"ms": 1, "s": 1000}
 MOST_WAIT = 60_000
-# The keys of a rail that say its place.
-KEYS = ("after", "wait", "delivers")
+# The keys of a rail that say its place; and those of how long it takes to come up and to go down.
+KEYS, TIMES = ("after", "wait", "delivers"), ("settle", "settle_off")
 
 
 def milliseconds(text: str) -> int | None:
@@ -45,6 +45,18 @@ def place_of(at: str, table: dict[str, object]) -> tuple[tuple[str, ...], int, b
         if table.get(key) and not after:
             raise BadRails(f'{at}.{key}: after which rails? give `after`, too, as ["core"]')
     return tuple(after), found, delivers
+
+
+def times_of(at: str, table: dict[str, object]) -> list[int | None]:
+    """How many milliseconds a rail takes to come up and to go down, None of what its table doesn't say. BadRails."""
+    found: list[int | None] = []
+    for key in TIMES:
+        text = table.get(key)
+        time = milliseconds(text) if isinstance(text, str) else None
+        if text is not None and (time is None or time > MOST_WAIT):
+            raise BadRails(f'{at}.{key}: give a time of at most 60s with its unit, as "3s"')
+        found.append(time)
+    return found
 
 
 def in_order(rails: list[Rail], faults: list[str]) -> list[Rail]:

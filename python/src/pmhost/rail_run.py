@@ -66,7 +66,7 @@ class RailRun:
     def __init__(self, board: Board, rail: Rail) -> None:
         self.board, self.rail, self.part = board, rail, board.on(rail)
         self.may_order, self.is_judged = False, self.accept is None
-        step = SequenceStep.sets(0, rail.output, board.wanted(rail), board.looks if board.may_write else None)
+        step = SequenceStep.sets(0, rail.output, board.wanted(rail), board.looks_of(rail) if board.may_write and board.looks else None)
         self.run = StepRun(self.part, replace(step, before=board.before(rail)), TRIES, self.before)
         self.end: Said | None = None
 
@@ -167,7 +167,7 @@ class RailRun:
         if board.looks is None:
             return ""
         is_seen = board.looked_at.get(rail.name) == board.orders
-        found = board.last_look[rail.name] if is_seen else look_at(self.part, rail.output, board.looks, board.before(rail))
+        found = board.last_look[rail.name] if is_seen else look_at(self.part, rail.output, board.looks_of(rail), board.before(rail))
         board.see(rail, found)
         if not rail.is_on and found.verdict.kind == "commanded off":
             why = why_not_off(self.part, rail.output)

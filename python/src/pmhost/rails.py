@@ -13,7 +13,8 @@
 
 A rail has an output, its volts and its limits; margins, min and max (VOUT_MIN, VOUT_MAX) only if they are to be set. It is on,
 unless `on = false` says that it is off. `accept` is for a part that rounds: a held word that is this near is as wanted. Voltages are texts with their unit, exactly as they are written, to a whole microvolt.
-`after`, `wait` and `delivers` say a rail's place among the others (`rail_order`).
+`after`, `wait` and `delivers` say a rail's place among the others (`rail_order`), `settle` and `settle_off` how long it takes to come up and to go
+down.
 
 A board with several parts has a table for each (`parts`), and `part = "u12"` in each rail. Without them the file is of one part, whose
 place is given on the command line: `lacks = ["VOUT_MIN"]` above the first rail names registers that it doesn't have, and without
@@ -22,11 +23,12 @@ place is given on the command line: `lacks = ["VOUT_MIN"]` above the first rail 
 from __future__ import annotations
 
 import tomllib
-from dataclasses import dataclass, field
+from dataclasses import dataclass, field, replace
 from decimal import Decimal
 from typing import Callable, TypeVar
 
 from . import rail_order, voltages
+from .looks import Looks
 from .parts import MOST_OUTPUTS, NAME, BadRails, BoardPart, is_whole, lacks_of, part_of, protect_of
 
 # The settings of a rail, by their registers.
@@ -35,7 +37,7 @@ SETTINGS = {"volts": "VOUT_COMMAND", "margin_high": "VOUT_MARGIN_HIGH", "margin_
 WORDS = ("volts", "margin_low", "margin_high")
 MARGINS = (SETTINGS["margin_high"], SETTINGS["margin_low"])
 BOUNDS = (SETTINGS["min"], SETTINGS["max"])
-KEYS = ("output", "limits", "on", "accept", *SETTINGS, *rail_order.KEYS)
+KEYS = ("output", "limits", "on", "accept", *SETTINGS, *rail_order.KEYS, *rail_order.TIMES)
 MOST_BYTES = 1 << 20
 LIMITS_EXAMPLE = '["0.85V", "0.95V"]'
 # What a file without a table of parts says of its one part.
@@ -49,7 +51,8 @@ Made = TypeVar("Made")
 @dataclass
 class Rail:
     """A rail: its output of a part, its limits and its settings in whole microvolts, by their names, whether it is on, and how near a held
-    word has to be to a setting, in microvolts. It comes after other rails, so many milliseconds later, and these may have to deliver."""
+    word has to be to a setting, in microvolts. It comes after other rails, so many milliseconds later, and these may have to deliver. It takes
+    so many milliseconds to come up and to go down; None is what the call says."""
 
     name: str
     output: int
@@ -61,6 +64,12 @@ class Rail:
     after: tuple[str, ...] = ()
     wait: int = 0
     delivers: bool = False
+    settle: int | None = None
+    settle_off: int | None = None
+
+    def looks(self, looks: Looks) -> Looks:
+        """How it is looked at."""
+        return looks if self.settle is None else replace(looks, settle=self.settle)
 
 
 @dataclass
@@ -213,7 +222,8 @@ def rail_of(name: str, table: object, has_parts: bool) -> Rail:
     accept = microvolts(f"{at}.accept", table["accept"]) if "accept" in table else None
     if accept is not None and accept < 0:
         raise BadRails(f'{at}.accept: give how near is near enough, as "3mV"')
-    rail = Rail(name, output, (least, most), settings, is_on, part, accept, *rail_order.place_of(at, table))
+    rail = Rail(name, output, (least, most), settings, is_on, part, accept, *rail_order.place_of(at, table),
+                *rail_order.times_of(at, table))
     judge(at, rail)
     return rail
 

@@ -77,7 +77,7 @@ class Call:
         self.busy_timeout: int | None = self._one("busy_timeout")
         self.is_unlimited, self.is_json, self.is_forced, self.is_shared = (
             bool(self._all(name)) for name in ("no_limit", "json", "force", "share_bus"))
-        self.looks: Looks | None = Looks(self._one("fault_limits") or "refuse", self._one("power_good") or "judge",
+        self.looks = Looks(self._one("fault_limits") or "refuse", self._one("power_good") or "judge",
                                          LOOKS.within if self._one("within") is None else self._one("within"),
                                          LOOKS.settle if self._one("settle") is None else self._one("settle"))
         self.limits: dict[int, tuple[int, int]] = {}
@@ -85,6 +85,10 @@ class Call:
             if output in self.limits:
                 raise BadCall(f"--limit: output {output} has limits already: give one --limit for each output")
             self.limits[output] = least, most
+
+    def looks_of(self, rail: Rail | None) -> Looks:
+        """How a rail is looked at: as its file says, unless the call says how long."""
+        return self.looks if rail is None or self._one("settle") is not None else rail.looks(self.looks)
 
     # ---- Options ----
 

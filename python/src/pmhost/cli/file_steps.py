@@ -8,7 +8,6 @@ from dataclasses import replace
 from ..course import OFF_TRIES
 from ..delivered import Delivered
 from ..device import Device
-from ..looks import Looks
 from ..rails import Rail
 from ..sequence import WHY, Heard, Rules, SequenceStep
 from ..step_run import StepLists, StepRun
@@ -33,7 +32,7 @@ class FileSteps:
         """The step of a rail, which begins so many milliseconds after the one before, of which these rails were turned on."""
         self.look_at(rail.name, before, {each.name for each in before if rail.delivers and each.name in rail.after}, wait)
         self.places[rail.name] = len(self.steps)
-        step = SequenceStep.turns(0, rail.output, self.arguments.byte, self.call.looks)
+        step = SequenceStep.turns(0, rail.output, self.arguments.byte, self.call.looks_of(rail))
         self._append(rail, replace(step, wait=0 if before else wait))
 
     def look_at(self, place: str, rails: list[Rail], having_to: set[str] = frozenset(), wait: int = 0) -> None:  # type: ignore[assignment]
@@ -41,8 +40,7 @@ class FileSteps:
         self.looked[place] = []
         for each in rails:
             self.looked[place].append((len(self.steps), each))
-            looks = self.call.looks or Looks()
-            self._append(each, replace(SequenceStep.rests(0, each.output, looks), wait=wait, must=each.name in having_to))
+            self._append(each, replace(SequenceStep.rests(0, each.output, self.call.looks_of(each)), wait=wait, must=each.name in having_to))
             wait = 0
 
     def _append(self, rail: Rail, step: SequenceStep) -> None:

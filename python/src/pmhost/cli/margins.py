@@ -134,7 +134,7 @@ class RailTest:
     def step_to(self, point: str) -> SequenceStep:
         """The step by which the rail is at a point."""
         before = self.befores.get(self.rail.name, Heard())
-        return replace(SequenceStep.turns(0, self.rail.output, self.byte_at(point), self.how), before=before)
+        return replace(SequenceStep.turns(0, self.rail.output, self.byte_at(point), self.rail.looks(self.how)), before=before)
 
     def plan(self, point: str) -> None:
         """Goes up to the order by which the rail is at a point. Stopped if that would be refused, but for WRITE_PROTECT of the file: it is
@@ -194,7 +194,7 @@ class RailTest:
 
     def looked(self) -> Delivered:
         """What the rail does."""
-        return look_at(self.part, self.rail.output, self.how, self.befores.get(self.rail.name, Heard()))
+        return look_at(self.part, self.rail.output, self.rail.looks(self.how), self.befores.get(self.rail.name, Heard()))
 
     def ended(self, point: str, end: Said, at: str = "") -> Stopped:
         """Why the rail isn't at a point."""
@@ -230,7 +230,7 @@ class RailTest:
         part = self.board.on(rail)
         if not rail.is_on:
             return why_not_off(part, rail.output)
-        found = look_at(part, rail.output, self.how, self.befores.get(rail.name, Heard()))
+        found = look_at(part, rail.output, rail.looks(self.how), self.befores.get(rail.name, Heard()))
         return found.why_told if found.is_bad else ""
 
     def read_again(self, point: str, byte: int) -> str:
@@ -296,12 +296,12 @@ def margin_test(arguments: argparse.Namespace) -> int:
     call: Call = arguments.call
     places, file, rows, begun = call.places(), arguments.rails, list[Row](), list[RailTest]()
     board = Board({name: place.pmbus() for name, place in places.items()}, file.rails, file.parts if file.is_board else {},
-                  lambda name: places[name].ask_operation(), looks=call.looks or Looks())
+                  lambda name: places[name].ask_operation(), looks=call.looks)
     why, status = "", 0
     try:
         judge_board(board)
         befores = {name: Heard(1, found.status) for name, found in board.delivered.items() if found.status is not None}
-        tests = [RailTest(call, board, rail, call.looks or Looks(), befores, rows, arguments.ignore_faults) for rail in arguments.chosen]
+        tests = [RailTest(call, board, rail, call.looks, befores, rows, arguments.ignore_faults) for rail in arguments.chosen]
         for each in tests:
             each.judge()
         for each in tests:

@@ -156,6 +156,10 @@ def add(commands: Any) -> None:
         found.add_argument("output", **output)
         found.set_defaults(byte=byte)
         way.add(found, way.STAIRS[name])
+        if name == "off":
+            found.add_argument("--now", action="store_true", dest="is_now",
+                               help="of a board file: turns every rail off in reverse order and waits for none; for READ_VOUT of those that have to "
+                                    "deliver before another one if left out")
         if name == "on":
             found.add_argument(LEAVE_ON, **LEAVING)
         bus_options(found)
@@ -294,7 +298,7 @@ def read(arguments: argparse.Namespace) -> int:
 def survey_output(arguments: argparse.Namespace) -> int:
     """What an output commands. The status is 0 if that is known, and lies within its limits."""
     call: Call = arguments.call
-    state, delivered = looked_at(call.part(), arguments.output, call.looks)
+    state, delivered = looked_at(call.part(), arguments.output, call.looks_of(call.named))
     found = answer_of(arguments, call.part(), None, "told", text=rail_words(state))
     found.commanded = state
     if not state.is_well:
@@ -349,7 +353,7 @@ def run_step(arguments: argparse.Namespace, register: str, step: SequenceStep, t
     if step.turns_off:
         protection.read(call.part_name)
         protection.lift(call.part_name)
-    run: StepRun = getattr(arguments, "step_run", StepRun)(part, replace(step, looks=call.looks), tries, getattr(arguments, "ordered", None))
+    run: StepRun = getattr(arguments, "step_run", StepRun)(part, replace(step, looks=call.looks_of(call.named)), tries, getattr(arguments, "ordered", None))
     arguments.begun = run
     if not is_guarded:
         run.guarded = None

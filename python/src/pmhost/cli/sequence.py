@@ -3,8 +3,10 @@ from __future__ import annotations
 
 import argparse
 
+from .. import clock, readings
 from ..bus import NoBus
 from ..errors import PmhostError
+from ..looks import FIRST_WAIT
 from ..rails import Rail
 from . import orders, way
 from .answer import Answer
@@ -41,16 +43,42 @@ def turn_off(arguments: argparse.Namespace, rails: list[Rail], file: StairsFile)
     for place, rail in enumerate(rails):
         if is_open(call, rail):
             steps.add(rail, max([0, *(it.wait for it in rails[:place] if rail.name in it.after)]), [])
-    for rail in rails:
+    for place, rail in enumerate(rails):
         one = steps.of_rail(rail)
+        above = [it for it in rails[:place] if it.delivers and rail.name in it.after and it.name not in silent]
+        silent += [it.name for it in above if not arguments.is_now and not is_low(call, it)]
         with file.step(one, rail):
             found = turn_one_off(call, one)
         file.ended(rail, found)
         if found:
             silent.append(rail.name)
         status = max(status, found)
+    silent = [it.name for it in rails if it.name in silent]
     call.begin(arguments)
     return call.say(Answer(said(arguments), "unknown", "", 1, f"not known to be off: {', '.join(silent)}")) if silent else status
+
+
+def is_low(call: Call, rail: Rail) -> bool:
+    """Whether a rail that was turned off is below an eighth of its voltage, as READ_VOUT says; a while is given for that. One that gives no good
+    answer is low: STATUS_WORD said that it is off. A line says what isn't."""
+    part, looks = call.places()[rail.part].pmbus(), call.looks_of(rail)
+    deadline, wait = clock.until() + (looks.settle if rail.settle_off is None else rail.settle_off) / 1000, FIRST_WAIT / 1000
+    form = part.host.format(rail.output)
+    if form is None:
+        # (by a copy of the host: its line says what was known as it was turned off)
+        host = part.host.copy()
+        host.learn(rail.output)
+        host.run(part.bus)
+        form = host.format(rail.output)
+    while True:
+        found = readings.read(part.bus, part.host.address, rail.output, "READ_VOUT", form)
+        if found.value is None or found.value * 8_000_000 < rail.settings["volts"]:
+            return True
+        if clock.until() >= deadline:
+            why = f"READ_VOUT still {found.value.normalize():f}V: `settle_off` of the rail gives it longer"
+            return bool(call.say(Answer(f"off {rail.name}", "still on", "", 1, why, rail.output)) == 0)
+        clock.wait(wait)
+        wait *= 2
 
 
 def is_open(call: Call, rail: Rail) -> bool:

@@ -63,6 +63,8 @@ def judge(arguments: argparse.Namespace) -> None:
 
 def judge_none(arguments: argparse.Namespace) -> None:
     """No picture of one output is drawn, and none is left on. BadCall."""
+    if getattr(arguments, "is_now", False):
+        raise BadCall(f"{arguments.said}: --now is for the rails of a board file: give one, without the name of a rail")
     if getattr(arguments, "leave_on", False):
         raise BadCall(f"{arguments.said}: --leave-on is for the rails of a board file: give one, without the name of a rail")
     if getattr(arguments, "picture", None) is not None:

@@ -11,7 +11,6 @@ from ..course import Job
 from ..delivered import Delivered, why_not_before
 from ..device import Device
 from ..errors import Refused, refusal
-from ..looks import Looks
 from ..models import why_other_model
 from ..operation import OFF, ON
 from ..rails import Rail
@@ -92,7 +91,7 @@ class WayUp:
 
     def judge_rail(self, one: argparse.Namespace, rail: Rail) -> int:
         """Reads all that a rail's order needs, up to the order. The status if it would be refused, but for WRITE_PROTECT of the file."""
-        part, looks = self.part(rail), replace(self.call.looks or Looks(), settle=0)
+        part, looks = self.part(rail), replace(self.call.looks_of(rail), settle=0)
         run = one.begun = StepRun(part, SequenceStep.turns(0, rail.output, self.arguments.byte, looks), TRIES, lambda _: False)
         part.transfers = Transfers()
         try:
@@ -219,7 +218,7 @@ class WayUp:
         self.turned_off = [it for it in self.turned[::-1] if it not in kept]
         if not self.turned_off:
             return 0
-        down = argparse.Namespace(**{**vars(self.arguments), "command": "off", "byte": OFF, "said": f"off {self.arguments.said.partition(' ')[2]}"})
+        down = argparse.Namespace(**{**vars(self.arguments), "command": "off", "byte": OFF, "is_now": True, "said": f"off {self.arguments.said.partition(' ')[2]}"})
         self.call.begin(down)
         self.down = replace_status(self.file)
         return self.turn_off(down, self.turned_off, self.down)

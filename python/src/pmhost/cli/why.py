@@ -28,7 +28,7 @@ def add(commands: Any) -> None:
 def why(arguments: argparse.Namespace) -> int:
     """Says what the registers say, and the cause. The status is 0 if the rail does what its file says, or without a file what it is commanded."""
     call: Call = arguments.call
-    seen = findings(call.part(), arguments.output, call.looks, place_of(arguments))
+    seen = findings(call.part(), arguments.output, call.looks_of(call.named), place_of(arguments))
     because = cause(seen)
     found = Answer(said(arguments), "fault" if because else "told", because or well(seen), 1 if because else 0, output=arguments.output,
                    commanded=seen.state, rows=[row_of(it) for it in seen.found.values()], restart_seen=call.part().host.restart_seen)
