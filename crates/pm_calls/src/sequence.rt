@@ -268,7 +268,7 @@ pub fn next(
         }
     };
     let mut is = sequence.held();
-    let (at, act) = is.hand_out(host, stage, under, ahead);
+    let (at, act) = is.hand_out(host, stage, &under, &ahead);
     put(host, &is, at, act, sending);
     keep(records, sequence, &is, act);
     let said = said_after(host, &is, act, sequence.said);
@@ -317,9 +317,9 @@ fn hear(
     if !at.awaits(&told) {
         return no_step(OTHER_FRAME);
     }
-    let Some(_course) = is.list.course_open() else {
+    if !is.list.has_course() {
         return no_step(OTHER_FRAME);
-    };
+    }
     let address = host.host.state.address;
     let heard = is.hear_by(host, at, told);
     let said = sequence.said;

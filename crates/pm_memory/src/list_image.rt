@@ -156,7 +156,7 @@ fn write_under(image: &mut CourseImage, under: &Option<Under>)
 {
     match under {
         Some(under) => image.write(&under.course),
-        None => image.write(&FrameCourse::survey(0, 0)),
+        None => *image = CourseImage::NOTHING,
     }
 }
 
@@ -166,7 +166,7 @@ fn write_course(image: &mut CourseImage, course: &Option<FrameCourse>)
 {
     match course {
         Some(course) => image.write(course),
-        None => image.write(&FrameCourse::survey(0, 0)),
+        None => *image = CourseImage::NOTHING,
     }
 }
 
