@@ -161,7 +161,7 @@ static void draw_wish(pm_sequence_wish *wish, uint16_t from, uint16_t to) {
     if (kind == PM_WORD)
         wish->word = (uint16_t)(from + draw((unsigned)(to - from)));
     if (kind == PM_MICROVOLTS)
-        wish->microvolts = ((int64_t)from + draw((unsigned)(to - from))) * 1000000 / 4096 + draw(200);
+        wish->microvolts = (int32_t)(((int64_t)from + draw((unsigned)(to - from))) * 1000000 / 4096 + draw(200));
 }
 
 static void draw_step(pm_sequence_step *step, int parts) {
