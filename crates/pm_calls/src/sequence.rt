@@ -267,7 +267,8 @@ pub fn next(
             return number;
         }
     };
-    let mut is = sequence.held();
+    let mut is = Sequence::new(0, rules_of(0));
+    sequence.hold(&mut is);
     let (at, act) = is.hand_out(host, stage, &under, &ahead);
     put(host, &is, at, act, sending);
     keep(records, sequence, &is, act);
@@ -294,7 +295,8 @@ pub fn tell(sequence: &mut SequenceImage, host: &mut GuardImage, told: Told<'_>)
         Ok(stage) => stage,
         Err(number) => return no_step(number),
     };
-    let mut is = sequence.held();
+    let mut is = Sequence::new(0, rules_of(0));
+    sequence.hold(&mut is);
     hear(sequence, host, &mut is, stage, told)
 }
 
@@ -348,7 +350,8 @@ pub fn read_ended(sequence: &mut SequenceImage, host: &mut GuardImage, bytes: &[
         Ok(stage) => stage,
         Err(number) => return no_step(number),
     };
-    let mut is = sequence.held();
+    let mut is = Sequence::new(0, rules_of(0));
+    sequence.hold(&mut is);
     if !is_look(&is, stage) {
         return hear(sequence, host, &mut is, stage, Told::Got(bytes));
     }
