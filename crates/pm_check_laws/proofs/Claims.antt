@@ -832,7 +832,7 @@ claims-beside alike lists accepted stays voltages = record {
             (Out output (selected_register (word_at (now c passes (at held passes all before)).device.words
             (Out output Operation)))) later before is.may
             (subst (λ (w : Settings). CheckedBesideLeavesCell held passes
-                (Out output (selected_register (word_at w (Out output Operation)))) later before)
+            (Out output (selected_register (word_at w (Out output Operation)))) later before)
             (sym (all.like before may-before).words) leaves.selected);
         most = leaves-like held passes all _ later before is.may leaves.most;
         least = leaves-like held passes all _ later before is.may leaves.least;

@@ -454,7 +454,7 @@ call-carries laws gives held restarts call g new c is old after busy may called 
         IsLife config passes (later ++ before) g.host (held old) →
         IsFrameCourse config passes g.registers begun' before c true later →
         IsFrameCourse config passes g.registers begun' before told_is (is_busy (host_next g.host (acts_told_of call)))
-            ((e.newest ∷ e.older) ++ later)
+        ((e.newest ∷ e.older) ++ later)
     steps config passes begun' later before life was =
         let told = subst (λ (es : List Event). ((now config passes es).host ≡ g.host)
         × ((share_of (now config passes es) e.newest).told ≡ Some (acts_told_of call)))
@@ -464,7 +464,7 @@ call-carries laws gives held restarts call g new c is old after busy may called 
         (still-busy g.host call busy)
         (subst (λ (x : Summary). IsFrameCourse config passes g.registers begun' before
         (heard_by c x.setup.addr heard'.stage (acts_told_of call) (surprises x heard'.stage (acts_told_of call))
-            (step_of x (acts_told_of call)))
+        (step_of x (acts_told_of call)))
         (still (step_of x (acts_told_of call))) (e.newest ∷ (e.older ++ later))) told.0
         (hears c (e.older ++ later) e.newest heard'.stage (acts_told_of call) (beside-all c later e.older e.of_bus was) e.alone
         (ap (λ (x : Summary). x.stage) told.0 ∙ heard'.open_at) told.1))

@@ -1235,7 +1235,7 @@ guard-begun g middle asked begins = record {
 -- a job that is carried out, which nothing refused and which its guard began
 runs-by : EndsAreTrue → {B : Type 0} (gives : B → Call → B → Type 0) (held : B → Held) (restarts : B → ℕ) →
     JobsLead gives held restarts → LeadsCompose gives held restarts
-        → (asked : HostJob) (end : JobEnd) (old new : Driving B) (middle : Guarded)
+    → (asked : HostJob) (end : JobEnd) (old new : Driving B) (middle : Guarded)
     →
     HasLife old.guard.host (held old.bus) → guard_fault old.guard asked ≡ None → IsBegun old.guard.host asked middle.host →
     Leads gives held restarts [] (Some end) (record { host = middle.host; bus = old.bus }) (driven new) → frames_left new.guard.host ≡ 0 →
@@ -1269,7 +1269,7 @@ runs-by law gives held restarts jobs compose asked end old new middle has free b
 -- one that its guard let begin
 pub runs-so : EndsAreTrue → {B : Type 0} (gives : B → Call → B → Type 0) (held : B → Held) (restarts : B → ℕ) →
     JobsLead gives held restarts → LeadsCompose gives held restarts
-        → (asked : HostJob) (end : JobEnd) (old new : Driving B) (middle : Guarded)
+    → (asked : HostJob) (end : JobEnd) (old new : Driving B) (middle : Guarded)
     →
     HasLife old.guard.host (held old.bus) → LetsBegin old.guard asked (Ok tt) middle →
     Leads gives held restarts [] (Some end) (record { host = middle.host; bus = old.bus }) (driven new) → frames_left new.guard.host ≡ 0 →
