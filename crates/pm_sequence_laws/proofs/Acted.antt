@@ -84,17 +84,17 @@ module _ (steps : Places) (was : Sequence) where
   stop-kind q why other begun shows looks lefts on = stop-by q why other begun shows looks lefts on (q.leaves && may_leave why)
 
   module _ (on : was.end ≡ None) where
-    look-kind : (list : List_) (begins : Bool) (step : Option Step) → Kind steps was (look_before (asked_of was list begins) step) []
-    look-kind list begins None = quiet refl (λ e. e) (λ e. e) refl (λ e. e)
-    look-kind list begins (Some step) = quiet refl (λ e. e) (λ e. e) refl (λ e. e)
+    look-kind : (list : List_) (first : Bool) (step : Option Step) → Kind steps was (look_before (asked_of was list first) step) []
+    look-kind list first None = quiet refl (λ e. e) (λ e. e) refl (λ e. e)
+    look-kind list first (Some step) = quiet refl (λ e. e) (λ e. e) refl (λ e. e)
 
     -- an order is told, or begins
-    tell-by : (list : List_) (begins : Bool) (job : Job) (after : Sequence) (x : Act) → Kind steps was after (marks_of after.list.begun x)
+    tell-by : (list : List_) (first : Bool) (job : Job) (after : Sequence) (x : Act) → Kind steps was after (marks_of after.list.begun x)
         → (b : Bool)
-        → Kind steps was (cond b (told_with (asked_of was list begins) job) after)
-        (marks_of (cond b (told_with (asked_of was list begins) job) after).list.begun (cond b (act.Order job) x))
-    tell-by list begins job after x goes true = quiet refl (λ e. e) (λ e. e) refl (λ e. e)
-    tell-by list begins job after x goes false = goes
+        → Kind steps was (cond b (told_with (asked_of was list first) job) after)
+        (marks_of (cond b (told_with (asked_of was list first) job) after).list.begun (cond b (act.Order job) x))
+    tell-by list first job after x goes true = quiet refl (λ e. e) (λ e. e) refl (λ e. e)
+    tell-by list first job after x goes false = goes
 
     -- a job, where as many have begun
     abbrev order-after : List_ → Sequence

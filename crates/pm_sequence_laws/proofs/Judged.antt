@@ -1,7 +1,7 @@
 -- Which orders a sequence begins, case by case.
 use Rattle.std.proofs.Common.{◌≡◌, ℕ, Bool, true, false, cond, Option, Some, None, is_some, refl, sym, ◌∙◌, ap, subst}
 use Rattle.std.specs.Ordering.{int_eq}
-use Rattle.std.specs.Prelude.{◌&&◌, ◌==◌, not}
+use Rattle.std.specs.Prelude.{◌&&◌, ◌==◌, ◌-◌, nat_lt, not}
 use Rattle.std.proofs.lemmas.Bool.{and_parts, eqb-true}
 use Rattle.std.proofs.lemmas.Bool.Decides.{Decides-int_eq}
 use Rattle.pm_table.specs.Cell.{same_cell}
@@ -120,9 +120,9 @@ data NamesSo (g : Guarded) (under ahead : Option Step) (q new : Sequence) : Act 
       → new.told ≡ Some job → NamesSo g under ahead q new (act.Order job)
   none : (said : Act) → is_named said ≡ false → NamesSo g under ahead q new said
 
-never-begun : (b : Bool) → (b && false) ≡ false
-never-begun true = refl
-never-begun false = refl
+next-named : (b c : Bool) (x y : ℕ) → cond ((b && false) && c) x y ≡ y
+next-named true c x y = refl
+next-named false c x y = refl
 
 -- an order that may begin is told, or begins
 job-goes : (g : Guarded) (under ahead : Option Step) (q : Sequence) (job : Job) (list : List)
@@ -136,7 +136,9 @@ begin-goes : (g : Guarded) (under ahead : Option Step) (q : Sequence) (job : Job
     → NamesSo g under ahead q (cond b (told_with (asked_of q list true) job) (does.begun_with q list))
     (cond b (act.Order job) (act.Begins job back))
 begin-goes g under ahead q job back list says judged true told =
-    an-order job told (due.begins list back says judged refl (never-begun (is_some q.list.stairs.under))) refl refl
+    an-order job told
+    (due.begins list back says judged refl
+    (next-named (is_some q.list.stairs.under) (nat_lt 0 q.list.begun) (q.list.begun - 1) q.list.begun)) refl refl
 begin-goes g under ahead q job back list says judged false told = a-begin job back list says refl judged told
 
 job-so : (g : Guarded) (under ahead : Option Step) (q : Sequence) (job : Job) (list : List) → Turns g (shown q ahead) q.list (turn.Job job) list
