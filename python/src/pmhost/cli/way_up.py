@@ -10,7 +10,7 @@ from typing import Callable
 from ..course import Job
 from ..delivered import Delivered, why_not_before
 from ..device import Device
-from ..errors import Refused, refusal
+from ..errors import Refused, TrimRefused, refusal
 from ..models import why_other_model
 from ..operation import OFF, ON
 from ..rails import Rail
@@ -24,7 +24,7 @@ from .again import RESTARTED
 from .answer import Answer
 from .call import Call, said
 from .file_steps import AT_THE_END, FileSteps
-from .outcome import refused, step_answer
+from .outcome import refused, step_answer, unordered_rail
 from .signals import Later
 from .way import StairsFile
 
@@ -98,6 +98,8 @@ class WayUp:
             end = run.carry_out(ask=self.call.only().ask_operation)
         except NotBelieved as doubt:
             return self.call.say(orders.not_told(one, part, doubt))
+        except TrimRefused as fault:
+            return self.call.say(unordered_rail(one, part, "OPERATION", fault))
         if end.kind == "nobody":
             return self.call.say(self.call.nobody(one, end.fault))
         self.call.has_answered.add(rail.part)
