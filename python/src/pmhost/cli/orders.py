@@ -12,7 +12,8 @@ from ..back import Held
 from ..codes import CODES, code_of
 from ..course import OFF_TRIES, Job
 from ..device import Device
-from ..errors import RailRefused, Refused, name_of
+from ..errors import RailRefused, Refused, TrimRefused, name_of
+from ..looks import Looks
 from ..models import why_another_model
 from ..operation import ANOTHER, MARGINS, OFF, ON, margin_byte
 from ..readings import KINDS
@@ -467,6 +468,12 @@ def note_way_back(arguments: argparse.Namespace) -> int:
     if byte & ON and not state.is_well:
         return call.say(answer_of(arguments, part, "OPERATION", "refused", status=1, text="refused, nothing was ordered",
                                   why=f"no way back: {why_not(state)}"))
+    if byte & ON and part.trims is not None:
+        try:
+            part.trims.judge(SequenceStep.turns(0, output, byte), part.host, Looks())
+        except TrimRefused as fault:
+            return call.say(answer_of(arguments, part, "OPERATION", "refused", status=1, text="refused, nothing was ordered",
+                                      why=f"no way back: {fault.said}"))
     call.back.note(Held(str(output) if call.named is None else call.named.name, call.part_name, output, {"OPERATION": byte}))
     return 0
 
