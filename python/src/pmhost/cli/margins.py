@@ -179,8 +179,6 @@ class RailTest:
             if said.kind == "order":
                 while len(points) - len(left) < said.step:
                     self.measure(left.pop(0))
-                if self.part.trims is not None:
-                    self.part.trims.judge(steps[said.step], self.part.host, self.how)
                 self.call.maybe = f"{self.rail.name} may be on a margin"
 
         self.part.transfers = Transfers()
