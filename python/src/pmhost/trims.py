@@ -1,5 +1,5 @@
 """VOUT_TRIM and VOUT_CAL_OFFSET of a part that has them. The trim counts: what an output commands and its trim together have to lie within its
-limits, unless READ_VOUT shows that the trim corrects. The offset is told, and not judged. Both are asked for once an output, each in one try,
+limits, unless READ_VOUT shows that the trim corrects. The offset is said, and not judged. Both are asked for once an output, each in one try,
 and again after a restart that was seen."""
 from __future__ import annotations
 
@@ -72,7 +72,7 @@ class Trims:
         return output in self._correcting
 
     def notes(self, step: SequenceStep, host: Host, measured: int | None) -> list[str]:
-        """What is told of the output of a step, whose READ_VOUT was measured: nothing of what is 0."""
+        """What is said of the output of a step, whose READ_VOUT was measured: nothing of what is 0."""
         form, found = host.format(step.output), list[str]()
         for name, word in self.ask(step.output).items():
             micro = microvolts(form, word)

@@ -44,7 +44,7 @@ class Place:
 @dataclass
 class Findings:
     """What the registers of an output say, by their names, what it commands, and what it delivers if it is commanded on. `differs` says that
-    VOUT_COMMAND holds another word than the file's, and none that its `accept` takes; `trims` is what is told of VOUT_TRIM and VOUT_CAL_OFFSET."""
+    VOUT_COMMAND holds another word than the file's, and none that its `accept` takes; `trims` is what is said of VOUT_TRIM and VOUT_CAL_OFFSET."""
 
     place: Place
     state: Commanded
