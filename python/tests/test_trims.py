@@ -6,7 +6,8 @@ import tempfile
 import unittest
 
 from pmhost import Device, Format, Looks, ModelPart, ModelPartBus, NotDelivered, Output, SequenceStep, TrimRefused
-from pmhost.trims import beyond, microvolts, signed
+from pmhost.trims import beyond, microvolts
+from pmhost.voltages import signed
 
 from .field import ADDRESS, Field, FieldBus
 from .kernel import FakeKernel

@@ -73,8 +73,8 @@ class Device:
         self.delivered: Delivered | None = None
         # Whether it was said that limits gave no good answer.
         self.is_silence_told = False
-        self.trims = Trims(self) if trims else None
         self.lacks = frozenset(str(it) if it in LOOKED_AT else NAMES[code_of(it)] for it in lacks)
+        self.trims = Trims(bus, self.host, self.lacks) if trims else None
         for output, pair in dict(limits or {}).items():
             if pair is None:
                 self.no_limits(output)

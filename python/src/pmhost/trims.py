@@ -4,7 +4,7 @@ and again after a restart that was seen."""
 from __future__ import annotations
 
 from dataclasses import replace
-from typing import TYPE_CHECKING
+from typing import Container
 
 from . import clock
 from .cuts import cut
@@ -15,33 +15,29 @@ from .operation import selected_by
 from .readings import KINDS
 from .reads import Reads
 from .sequence import SequenceStep
+from .states import Bus
 from .values import CODES, NAMES, Format, code_of
-from .voltages import given_microvolts, shown
-
-if TYPE_CHECKING:
-    from .device import Device
+from .voltages import given_microvolts, shown, signed
 
 TRIM = "VOUT_TRIM"
 REGISTERS = {TRIM: 0x22, "VOUT_CAL_OFFSET": 0x23}
-# A trim corrects if READ_VOUT is nearer to what is commanded than this part of it.
-QUARTER = 4
 
 
 class Trims:
-    """Those of a part, by output."""
+    """Those of a part that lacks these registers, by output: the words that were read, None of one without a good answer, and whether a restart had
+    been seen then."""
 
-    def __init__(self, part: Device) -> None:
-        self.part = part
+    def __init__(self, bus: Bus, host: Host, lacks: Container[str]) -> None:
+        self.bus, self.host, self.lacks = bus, host, lacks
         self.forget()
 
     def forget(self) -> None:
         """A call begins, in which they are asked for anew."""
-        # The words that were read, None of one without a good answer, and whether a restart had been seen then.
         self._words, self._correcting = dict[int, tuple[dict[str, int | None], bool]](), set[int]()
 
     def ask(self, output: int, is_begin: bool = False) -> dict[str, int | None]:
         """Their words. They are asked for if they weren't, and after a restart that was seen: then as each further step begins, too."""
-        has_restarted = self.part.host.restart_seen
+        has_restarted = self.host.restart_seen
         if output not in self._words or self._words[output][1] != has_restarted or has_restarted and is_begin:
             self._correcting.discard(output)
             self._words[output] = {name: self._read(output, code) for name, code in REGISTERS.items()}, has_restarted
@@ -49,12 +45,12 @@ class Trims:
 
     def _read(self, output: int, code: int) -> int | None:
         """A word of an output, in one try."""
-        came = Reads(self.part.bus, self.part.host.address, tries=1).code(code, 2, output).payload
+        came = Reads(self.bus, self.host.address, tries=1).code(code, 2, output).payload
         return None if came is None else int.from_bytes(came, "little")
 
     def judge(self, step: SequenceStep, host: Host, looks: Looks | None) -> None:
         """An order of a step comes next. TrimRefused if what is commanded at its end lies outside the limits by the trim, and this doesn't correct,
-        unless `looks` says to tell it only."""
+        unless `looks` only tells."""
         trim = microvolts(host.format(step.output), self.ask(step.output)[TRIM])
         why = beyond(step, host, trim)
         if why and (looks or Looks()).trim == "refuse" and not self._corrects(step.output, host, trim):
@@ -63,7 +59,7 @@ class Trims:
     def _corrects(self, output: int, host: Host, trim: int) -> bool:
         """Whether READ_VOUT of a rail that is on, read twice, shows that its trim corrects."""
         form, near = host.format(output), list[bool]()
-        for wait in (0, FIRST_WAIT) if output not in self._correcting and host.rail(output).is_on and "READ_VOUT" not in self.part.lacks else ():
+        for wait in (0, FIRST_WAIT) if output not in self._correcting and host.rail(output).is_on and "READ_VOUT" not in self.lacks else ():
             clock.wait(wait / 1000)
             word = self._read(output, KINDS["READ_VOUT"].code)
             near.append(form is not None and is_near(host, output, form.told(word), trim))
@@ -90,9 +86,8 @@ def microvolts(form: Format | None, word: int | None) -> int:
     """Of a word of two's complement, that of DIRECT without b; 0 if it isn't known."""
     if form is None or word is None:
         return 0
-    if form.kind == "DIRECT":
-        return replace(form, b=0).told(word) or 0
-    return (form.told(word) or 0) if word < 0x8000 else -(form.told(0x10000 - word) or 0)
+    plain, is_negative = replace(form, b=0), form.kind != "DIRECT" and word >= 0x8000
+    return -(plain.told(0x10000 - word) or 0) if is_negative else plain.told(word) or 0
 
 
 def beyond(step: SequenceStep, host: Host, trim: int) -> str:
@@ -102,17 +97,17 @@ def beyond(step: SequenceStep, host: Host, trim: int) -> str:
     if form is None or limits is None:
         return ""
     words = {name: found[0] for name in CODES if (found := host.possible_words(output, name)) is not None and len(found) == 1}
-    rounded = {"VOUT_MAX": form.at_most, "VOUT_MIN": form.at_least}
     for name, wanted in ((NAMES[code_of(register)], wanted) for register, wanted in step.wishes.items()):
-        words[name] = wanted if isinstance(wanted, int) else rounded.get(name, form.nearest)(given_microvolts(wanted))
+        nearest = {"VOUT_MAX": form.at_most, "VOUT_MIN": form.at_least}.get(name, form.nearest)
+        words[name] = wanted if isinstance(wanted, int) else nearest(given_microvolts(wanted))
     selected = selected_by(step.byte) if step.act == "turns" else host.rail(output).selected
     value = cut(form, words.get(selected or ""), words.get("VOUT_MIN"), words.get("VOUT_MAX"))
     least, most = limits.least.microvolts, limits.most.microvolts
     if value is None or not least <= value <= most or least <= value + trim <= most:
         return ""
-    both = value + trim
-    told = both if least <= round(both, -2) <= most else round(both, -2)
-    return f"command and trim are {shown(told)}, {f'above {shown(most)}' if both > most else f'below {shown(least)}'}"
+    both, tenths = value + trim, round(value + trim, -2)
+    return (f"command and trim are {shown(both if least <= tenths <= most else tenths)}, "
+            f"{f'above {shown(most)}' if both > most else f'below {shown(least)}'}")
 
 
 def is_near(host: Host, output: int, measured: int | None, trim: int) -> bool:
@@ -120,9 +115,4 @@ def is_near(host: Host, output: int, measured: int | None, trim: int) -> bool:
     state = host.rail(output)
     if measured is None or state.band is None or not state.is_on or state.band.greatest.microvolts - state.band.least.microvolts > 1:
         return False
-    return abs(measured - state.band.least.microvolts) * QUARTER < abs(trim)
-
-
-def signed(micro: int) -> str:
-    """A trim in millivolts, or if it is small in microvolts."""
-    return f"{micro / 1000:+.1f}mV" if abs(micro) >= 100 else f"{micro:+}uV"
+    return abs(measured - state.band.least.microvolts) * 4 < abs(trim)
