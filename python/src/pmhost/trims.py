@@ -50,7 +50,7 @@ class Trims:
 
     def judge(self, step: SequenceStep, host: Host, looks: Looks | None) -> None:
         """An order of a step comes next. TrimRefused if what is commanded at its end lies outside the limits by the trim, and this doesn't correct,
-        unless `looks` only tells."""
+        unless by `looks` it is only said."""
         trim = microvolts(host.format(step.output), self.ask(step.output)[TRIM])
         why = beyond(step, host, trim)
         if why and (looks or Looks()).trim == "refuse" and not self._corrects(step.output, host, trim):
