@@ -51,7 +51,8 @@ class Device:
 
     `limits` gives outputs a least and a most: no order beyond them leaves this host, and `set_limits` can narrow them. {1: None} says that
     output 1 has none; an output that isn't named is ordered no voltage (L8). `lacks` names registers that the part doesn't have, as
-    ("VOUT_MIN", "READ_VOUT"); `trims` says that each output has VOUT_TRIM and VOUT_CAL_OFFSET. A voltage is a text with its unit, as "3.3V" or "850mV", or a Voltage, which is what is given back.
+    ("VOUT_MIN", "READ_VOUT"); `trims` says that each output has VOUT_TRIM and VOUT_CAL_OFFSET. A voltage is a text with its unit, as "3.3V" or
+    "850mV", or a Voltage, which is what is given back.
 
     An order, a survey and a margin look at the rail after their end, and raise NotDelivered if it doesn't deliver what it is commanded
     to; `delivered` has what was read last. `looks` says how; None doesn't look.
@@ -222,8 +223,8 @@ class Device:
         `after_order` hears how it ended.
 
         Raises how it ended, after the words of a job, if it has not reached what is wanted: a Refused, Differs, NoFormat, OtherSource or
-        Spent; and NotDelivered, and TrimRefused of a part with trims. If an order differs and the held word is `accept` near, and within the limits, that is wanted instead. A
-        margin at which the part acts on faults is judged by its own fault limit, as `margin` says, if it `is_guarded`."""
+        Spent; and NotDelivered, and TrimRefused of a part with trims. If an order differs and the held word is `accept` near, and within the limits,
+        that is wanted instead. A margin at which the part acts on faults is judged by its own fault limit, as `margin` says, if it `is_guarded`."""
         self.transfers, self.delivered = Transfers(), None
         if self.trims is not None:
             self.trims.forget()

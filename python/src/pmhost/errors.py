@@ -163,7 +163,8 @@ class MarginRefused(RailRefused):
 
 
 class TrimRefused(RailRefused):
-    """A voltage that lies outside the limits together with VOUT_TRIM, which READ_VOUT doesn't show to correct: nothing was ordered."""
+    """A voltage that lies outside the limits together with VOUT_TRIM, which READ_VOUT doesn't show to correct, or that isn't known: nothing was
+    ordered."""
 
     words = 'Looks(trim="tell")'
 

@@ -49,11 +49,15 @@ class Trims:
         return None if came is None else int.from_bytes(came, "little")
 
     def judge(self, step: SequenceStep, host: Host, looks: Looks | None) -> None:
-        """An order of a step comes next. TrimRefused if what is commanded at its end lies outside the limits by the trim, and this doesn't correct,
-        unless by `looks` it is only said."""
-        trim = microvolts(host.format(step.output), self.ask(step.output)[TRIM])
-        why = beyond(step, host, trim)
-        if why and (looks or Looks()).trim == "refuse" and not self._corrects(step.output, host, trim):
+        """An order of a step comes next. TrimRefused if what is commanded at its end lies outside the limits by the trim, and this doesn't correct, or
+        isn't known; unless by `looks` it is only said."""
+        word = self.ask(step.output)[TRIM]
+        if (looks or Looks()).trim == "tell":
+            return
+        if word is None and host.limits(step.output) is not None:
+            raise TrimRefused(TRIM, f"{TRIM} gave no good answer: the rail may leave its limits", "ask again, or give {}")
+        trim = microvolts(host.format(step.output), word)
+        if (why := beyond(step, host, trim)) and not self._corrects(step.output, host, trim):
             raise TrimRefused(TRIM, f"{TRIM} is {signed(trim)}: {why}", "order another voltage or another trim, or give {}")
 
     def _corrects(self, output: int, host: Host, trim: int) -> bool:

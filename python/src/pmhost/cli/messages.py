@@ -125,10 +125,11 @@ commanded than a quarter of the trim, the trim corrects, and nothing is refused.
         Message("`..; VOUT_TRIM is +36.6mV`", "the trim counts, and command and trim lie within the limits"),
         Message("`VOUT_TRIM is +36.6mV: command and trim are 0.9067V, above 0.9V`",
                 "of an order: nothing was ordered, status 1; of `survey`, `verify` and `why`, and with `--trim=tell`, it is only said",
-                "order another voltage, or write another trim"),
+                "order another voltage, or write another trim; of a rail that is off, and whose trim corrects, `--trim=tell`"),
         Message("`..; VOUT_TRIM is +36.6mV, which corrects`", "command and trim lie outside the limits, and READ_VOUT shows that the rail doesn't"),
         Message("`..; VOUT_CAL_OFFSET is +0.5mV`", "an offset is said, and never judged"),
-        Message("`..; VOUT_TRIM gave no good answer`", "it isn't judged", "ask again; leave `--trims` out if the data sheet has none"),
+        Message("`VOUT_TRIM gave no good answer: the rail may leave its limits`", "the same, since the trim isn't known",
+                "ask again; leave `--trims` out if the data sheet has none"),
     )),
     Group("Standard error", """One line says why a command ended badly, as far as its transfers show it.""", (
         Message("`3 transfers failed, the last: No such device or address`",
