@@ -56,7 +56,7 @@ fn record() -> SequenceRecordImage {
     SequenceRecordImage {
         back: turns(0, 0, 0, 0),
         look: DeliveryImage::of(Delivery::new(7, 0, 0, 0, 0)),
-        unused: [0; 6],
+        unused: [0; 2],
     }
 }
 
@@ -81,8 +81,8 @@ fn next(
 fn sequences_have_their_sizes(rt: HostRuntime) {
     equal(&rt, &pm_sequence_size(), &376, &1);
     equal(&rt, &pm_sequence_version(), &1, &2);
-    equal(&rt, &size_of::<SequenceStepImage>(), &104, &3);
-    equal(&rt, &size_of::<SequenceRecordImage>(), &176, &4);
+    equal(&rt, &size_of::<SequenceStepImage>(), &64, &3);
+    equal(&rt, &size_of::<SequenceRecordImage>(), &132, &4);
     equal(&rt, &size_of::<SaidImage>(), &24, &5);
 }
 
