@@ -24,8 +24,7 @@ REGISTERS = {TRIM: 0x22, "VOUT_CAL_OFFSET": 0x23}
 
 
 class Trims:
-    """Those of a part that lacks these registers, by output: the words that were read, None of one without a good answer, and whether a restart had
-    been seen then."""
+    """Those of a part. Of an output it has the words that were read, None of one without a good answer, and whether a restart had been seen then."""
 
     def __init__(self, bus: Bus, host: Host, lacks: Container[str]) -> None:
         self.bus, self.host, self.lacks = bus, host, lacks
@@ -95,8 +94,7 @@ def microvolts(form: Format | None, word: int | None) -> int:
 
 
 def beyond(step: SequenceStep, host: Host, trim: int) -> str:
-    """How a voltage within the limits, which the output of a step commands at its end, cut by its bounds, lies outside them by the trim; nothing if
-    it doesn't."""
+    """How what the output of a step commands at its end lies outside the limits by the trim; nothing if it doesn't, or lies outside by itself."""
     output, form, limits = step.output, host.format(step.output), host.limits(step.output)
     if form is None or limits is None:
         return ""

@@ -141,8 +141,8 @@ class Call:
         too. BadCall."""
         for name in OF_ONE_PART if found.is_board else OF_ONE_PART[2:]:
             if self._all(name) and (name != "ready" or found.is_board):
-                what = {"lacks": "it stands", "trims": "it stands", "ready": "it stands", "bus": "buses and addresses stand", "address": "buses and addresses stand"}.get(
-                    name, "outputs and limits stand")
+                what = {"bus": "buses and addresses stand", "address": "buses and addresses stand", "lacks": "it stands", "trims": "it stands",
+                        "ready": "it stands"}.get(name, "outputs and limits stand")
                 raise BadCall(f"{OPTIONS[name][0][-1]}: {what} in the file of {arguments.command}")
         if self._rails is not None and found.made_for() != self._rails.made_for():
             raise BadCall(f"{said(arguments)}: another file of this call has other {'parts, ' * found.is_board}outputs or limits")
