@@ -9,7 +9,7 @@ from typing import TYPE_CHECKING, Any, Iterable, Mapping, Optional, Union
 from . import _library as at
 from ._library import library
 from .errors import Differs, NoFormat, OtherSource, PmhostError, Spent, accepted, name_of, refusal
-from .operation import ON, avsbus, margin_byte, selected_by
+from .operation import ON, avsbus, margin_byte
 from .values import CODES, NAMES, code_of, frame_bytes, whole
 from .voltages import GivenVoltage, given_microvolts
 
@@ -108,8 +108,6 @@ class Course:
         # Whether it brings OPERATION to a byte that turns the output off, and by which registers it may command a voltage.
         self.turns_off = False
         self.goals: tuple[str, ...] = GOALS
-        # The margin that it is to, if the part acts on faults there.
-        self.guarded: Optional[str] = None
 
     @classmethod
     def survey(cls, output: int, tries: int = SURVEY_TRIES) -> Course:
@@ -146,10 +144,7 @@ class Course:
     @classmethod
     def margin(cls, output: int, side: str, tries: int = TRIES, ignore_faults: bool = False) -> Course:
         """To the margin `high` or `low`, by OPERATION A8h or 98h, at which the part acts on faults; to A4h or 94h with `ignore_faults`."""
-        byte = margin_byte(side, ignore_faults)
-        made = cls.power(output, byte, tries)
-        made.guarded = None if ignore_faults else selected_by(byte)
-        return made
+        return cls.power(output, margin_byte(side, ignore_faults), tries)
 
     def _aims_at(self, registers: Iterable[str | int]) -> None:
         """It is to words or voltages of these registers only."""
@@ -245,7 +240,7 @@ class Course:
         """Another course, which stands if this one does."""
         other = Course(self.output, self.tries)
         other.load(self.save())
-        other.turns_off, other.goals, other.guarded = self.turns_off, self.goals, self.guarded
+        other.turns_off, other.goals = self.turns_off, self.goals
         return other
 
     # ---- Its end ----
