@@ -42,7 +42,7 @@ class Delivered:
     """What a rail does, by its last answers. `is_bad` says that it doesn't do what it is to, or isn't known to. `is_off` says that it was
     turned off; `lacks` which of STATUS_WORD and READ_VOUT the part doesn't have, as the caller says, and `found` which it was found to lack;
     `limits` are those that it is outside of; `status` is STATUS_WORD, `before` what it was before the first order; `registers` has the status
-    registers that were read, `notes` what is said of limits."""
+    registers that were read, `notes` what is said of limits, `trims` what of VOUT_TRIM and VOUT_CAL_OFFSET."""
 
     output: int
     verdict: Verdict
@@ -57,6 +57,7 @@ class Delivered:
     registers: dict[str, int] = field(default_factory=dict)
     power_good_on: Optional[int] = None
     notes: list[str] = field(default_factory=list)
+    trims: list[str] = field(default_factory=list)
 
     @property
     def _needed(self) -> tuple[str, ...]:
@@ -106,13 +107,13 @@ class Delivered:
     @property
     def said(self) -> str:
         """What it does, in words that stand by themselves."""
-        return "; ".join([self._verdict_words(), *self.notes])
+        return "; ".join([self._verdict_words(), *self.notes, *self.trims])
 
     @property
     def words(self) -> str:
         """The same for the end of a line that says what is commanded."""
         has_none = self.verdict.kind in ("commanded off", "not known to be on")
-        said = "; ".join(self.notes) if has_none else self.said
+        said = "; ".join([*self.notes, *self.trims]) if has_none else self.said
         return f"{', ' if self.verdict.kind.startswith('delivers') else '; '}{said}" if said else ""
 
     def _verdict_words(self) -> str:
