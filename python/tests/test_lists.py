@@ -60,7 +60,7 @@ class Left(unittest.TestCase):
         board = Board()
         made, how = board.run([SequenceStep.sets(0, 0, {"VOUT_COMMAND": "3.3V"}), SequenceStep.sets(1, 0, {"VOUT_COMMAND": 0x1080})],
                               Rules(keeps_back=True, leaves=True))
-        self.assertEqual((how.what, how.left), ("left", 1))
+        self.assertEqual(how.kind, "left")
         self.assertEqual([(back.host, back.act, back.wishes) for back in made.way_back()], [(1, "sets", {"VOUT_COMMAND": 0x1000})])
 
 
