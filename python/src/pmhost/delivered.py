@@ -20,6 +20,8 @@ STATUS = ("STATUS_VOUT", "STATUS_IOUT", "STATUS_INPUT", "STATUS_TEMPERATURE")
 LIMITS = ("VOUT_OV_FAULT_LIMIT", "VOUT_OV_WARN_LIMIT", "VOUT_UV_WARN_LIMIT", "VOUT_UV_FAULT_LIMIT")
 # The fault limit of a margin, and how near it may be to the margin, in thousandths of what is commanded.
 MARGIN_LIMITS, NEAR = {"VOUT_MARGIN_HIGH": "VOUT_OV_FAULT_LIMIT", "VOUT_MARGIN_LOW": "VOUT_UV_FAULT_LIMIT"}, 10
+# What a rail that is on its way may do, so that it is given its time.
+SLOW = ("no power good", "power good alone", "outside", "beyond")
 # Verdicts that are bad of a rail that has to deliver alone.
 NOT_ON = ("commanded off", "not known to be on", "went off")
 # The bits of STATUS_WORD that say a fault or point to one.
@@ -85,8 +87,11 @@ class Delivered:
 
     @property
     def why_told(self) -> str:
-        """The same for a line of the command, whose user has `why`."""
-        return f"{self.why}: `why` says more" if self.is_bad and self.verdict.kind != "not known" else self.why
+        """The same for a line of the command, whose user has `why`, and `--settle` where waiting may help."""
+        if not self.is_bad or self.verdict.kind == "not known":
+            return self.why
+        has_waited = self.how.settle and self.verdict.kind in SLOW
+        return f"{self.why}{f' after {self.how.settle / 1000:g}s, `--settle` gives it longer' if has_waited else ''}: `why` says more"
 
     @property
     def why(self) -> str:
