@@ -87,7 +87,7 @@ class Delivered:
 
     @property
     def why_told(self) -> str:
-        """The same for a line of the command, whose user has `why`, and `--settle` where waiting may help."""
+        """The same for a line of the command, whose user has `why`, and `--settle` if waiting may help."""
         if not self.is_bad or self.verdict.kind == "not known":
             return self.why
         has_waited = self.how.settle and self.verdict.kind in SLOW
