@@ -1,5 +1,5 @@
 """WRITE_PROTECT of the parts of a file that say what it is to be: it is lifted before an order if the part holds just that byte, and written
-last, however the call ends."""
+last, however the call ends. An output that is to go off has it lifted whatever the file says."""
 from __future__ import annotations
 
 import contextlib
@@ -15,7 +15,8 @@ from .answer import Answer
 if TYPE_CHECKING:
     from .call import Call
 
-PROTECT, OFF = "WRITE_PROTECT", 0
+# 80h forbids OPERATION, too.
+PROTECT, OFF, ALL = "WRITE_PROTECT", 0, 0x80
 
 
 class Protection:
@@ -23,7 +24,7 @@ class Protection:
 
     def __init__(self, call: Call) -> None:
         self.call, self.left = call, ""
-        self._lifted, self._touched = set[str](), set[str]()
+        self._lifted, self._touched, self._forced = set[str](), set[str](), set[str]()
 
     def of(self, name: str) -> int | None:
         """The byte of a part, None if its file has none."""
@@ -39,22 +40,38 @@ class Protection:
         return self.of(name) not in (None, OFF) and only_word(self.call.places()[name].pmbus(), 0, PROTECT) == self.of(name)
 
     def read(self, name: str) -> None:
-        """Reads it, if the file has a byte."""
-        if self.of(name) is not None:
+        """Reads it, if a byte is to be written last."""
+        if self.of(name) is not None or name in self._forced:
             part = self.call.places()[name].pmbus()
             part.host.check(0, PROTECT)
             part.run()
 
     def lift(self, name: str) -> bool:
         """Lifts it if that byte is in the way: whether the part takes orders now. The line says so."""
-        if not self.is_in_the_way(name):
+        return self.is_in_the_way(name) and self._lift(name)
+
+    def force(self, name: str) -> bool:
+        """Lifts it if it keeps an output on that is to go off, whatever the file says: whether the part takes orders now. The line says so."""
+        part = self.call.places()[name].pmbus()
+        part.host.check(0, PROTECT)
+        part.run()
+        if only_word(part, 0, PROTECT) != ALL:
             return False
+        self._forced.add(name)
+        return self._lift(name)
+
+    def _lift(self, name: str) -> bool:
+        """Lifts it, and says so."""
         self._touched.add(name)
         self._lifted.add(name)
         if self._order(name, OFF):
             return False
-        self._say(name, "lifted", f"{PROTECT} {OFF:02X} confirmed, and was {self.of(name):02X}")
+        self._say(name, "lifted", f"{PROTECT} {OFF:02X} confirmed, and was {self._last(name):02X}")
         return True
+
+    def _last(self, name: str) -> int:
+        """The byte that is written last."""
+        return ALL if name in self._forced else self.of(name) or OFF
 
     def lock(self) -> int:
         """Writes the byte of each part that was touched, if it holds 00 and answers. The status: 1 if that isn't confirmed."""
@@ -62,12 +79,12 @@ class Protection:
             self.read(name)
             held = only_word(self.call.places()[name].pmbus(), 0, PROTECT)
             why = "no good answer" if held is None and name in self._lifted else ""
-            if held == OFF and self.of(name) != OFF:
-                why = self._order(name, self.of(name) or OFF)
+            if held == OFF and self._last(name) != OFF:
+                why = self._order(name, self._last(name))
                 if not why:
-                    self._say(name, "protected", f"{PROTECT} {self.of(name):02X} confirmed")
+                    self._say(name, "protected", f"{PROTECT} {self._last(name):02X} confirmed")
             if why:
-                self.left += f"{'; ' * bool(self.left)}{name}{': ' * bool(name)}{PROTECT} is {OFF:02X}: {why}: order {self.of(name):02X} by word"
+                self.left += f"{'; ' * bool(self.left)}{name}{': ' * bool(name)}{PROTECT} is {OFF:02X}: {why}: order {self._last(name):02X} by word"
         return int(bool(self.left))
 
     def _order(self, name: str, byte: int) -> str:
