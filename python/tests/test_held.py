@@ -31,6 +31,9 @@ class Board:
     def looks_of(self, _):
         return Looks()
 
+    def state(self, _):
+        return SimpleNamespace(is_on=True)
+
     def see(self, each, _):
         self.seen.append(each.name)
 

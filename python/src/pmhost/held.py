@@ -13,16 +13,17 @@ from .rail_run import Stopped
 from .rails import Rail
 from .rehearsal import is_reached, modelled
 from .step_run import look_at
-from .survey import TRIES, only_word
+from .survey import TRIES, only_word, why_not_off
 
 if TYPE_CHECKING:
     from .apply import Board
 
 
 def begin(board: Board, rail: Rail) -> None:
-    """Before the first order of a rail: waits as its file has it, looks at the rails before it, and notes what it holds. Stopped."""
+    """Before the first order of a rail: waits as its file has it, looks at the rails before it, and notes what it holds. One that is off, as its
+    part says too, may have its words whatever those do. Stopped."""
     clock.wait(rail.wait / 1000)
-    for each in board.rails if rail.delivers else ():
+    for each in board.rails if rail.delivers and not is_off(board, rail) else ():
         if each.name in rail.after:
             found = look_at(board.on(each), each.output, board.looks_of(each), board.before(each), True)
             board.see(each, found)
@@ -30,6 +31,12 @@ def begin(board: Board, rail: Rail) -> None:
                 raise Stopped(f"{rail.name} isn't begun: {why_not_before(each.name, found)}")
     if board.note is not None:
         board.note(held_of(board, rail))
+
+
+def is_off(board: Board, rail: Rail) -> bool:
+    """Whether OPERATION has a rail off, and STATUS_WORD says so."""
+    part = board.on(rail)
+    return board.state(rail).is_on is False and "STATUS_WORD" not in part.lacks and not why_not_off(part, rail.output)
 
 
 def held_of(board: Board, rail: Rail) -> Held:
