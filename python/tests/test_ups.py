@@ -84,6 +84,19 @@ class Faults(unittest.TestCase):
                     for name in on:
                         self.assertRegex(err, f"may be on: [^;]*{name}|left on: [^;]*{name}|came on by itself: [^;]*{name}|not known to be off: [^;]*{name}")
 
+    def test_a_restart_leaves_no_rail_on_outside_its_limits(self):
+        """At each third transfer, with a boot time or none. Pins give each output 1.25 V at a start."""
+        starts = [(it, output, *each) for it, output in PLACES for each in (("OPERATION", 0), ("pin_command", 0x1400))] + [(0x59, 1, "OPERATION", 0)]
+        for command, address, boot in (("on", 0x58, 0), ("up", 0x58, 120), ("up", 0x59, 0), ("on", 0x59, 120)):
+            for place in range(1, 120, 3):
+                parts = self.board([*starts, (address, 0, "restart_at", place), (address, 0, "boot_ms", boot)])
+                status, _, err = self.run_board(command, parts)
+                for each in parts.values():
+                    each.now()
+                with self.subTest(command=command, address=address, boot=boot, place=place):
+                    self.assertLessEqual(max(parts[it].get("microvolts", output) for it, output in PLACES), 1_100_000)
+                    self.assertEqual((status == 0, status in (0, 1, 3)), (err == "", True))
+
     def test_an_apply_ends_well_only_over_words_that_are_held(self):
         """A restart at each transfer: one after the last look, too, at which the part has its stored words again."""
         text, ends = self.text().replace('volts = "1V"', 'volts = "1.05V"'), []
