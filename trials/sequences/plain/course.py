@@ -2,24 +2,22 @@
 import copy
 
 from tests.plain.converter import ALLOWED, OPERATION, PROTECT, accepts
+from tests.plain.limits import VOLTAGES, selected
 from tests.plain.rail import Survey, is_on
 
-from .part import VOLTAGES, chosen, word_for
-
-MODE = 0x20
+from .part import word_for
 
 
 def about(job):
-    """The code of the register that a job is about."""
-    return MODE if job[0] == "learn" else job[1][1]
+    """The code of the register that a job is about; VOUT_MODE of a learn."""
+    return 0x20 if job[0] == "learn" else job[1][1]
 
 
 class Course:
-    """Of a step, with so many jobs at most."""
+    """Of a step, with so many jobs at most. `fault` is what was wrong with the last answer."""
 
     def __init__(self, step, tries):
-        self.step, self.output = step, step.output
-        self.byte = step.byte if step.act == "turns" else None
+        self.step, self.output, self.byte = step, step.output, step.byte if step.act == "turns" else None
         self.survey = Survey(step.output, {} if step.act == "sets" else None, tries)
         self.has_ordered, self.is_done, self.differed, self.fault = False, False, set(), None
         self.end = ("reached",) if step.act == "rests" else None
@@ -45,17 +43,14 @@ class Course:
 
     def source(self, part):
         """A byte that OPERATION was read to hold, and that can't be ordered."""
-        byte = part.only_byte(self.output)
-        was_read = (self.output, OPERATION) in self.survey.read
+        byte, was_read = part.only(self.output, OPERATION), (self.output, OPERATION) in self.survey.read
         return byte if was_read and byte is not None and not accepts((self.output, OPERATION), byte) else None
 
     def says(self, part):
         """What it says next, a job or an end, and the course once it said so."""
-        if self.end:
-            return self.end, self
         lacking = [register for register in VOLTAGES if register in self.step.wishes and register in part.missing]
-        if lacking:
-            return ("refused", "L7", lacking[0]), self
+        if self.end or lacking:
+            return self.end or ("refused", "L7", lacking[0]), self
         if self.byte is None and self.source(part) is not None:
             return ("source", self.source(part)), self
         words, fault = self.words(part)
@@ -64,13 +59,9 @@ class Course:
         after = self.copied()
         after.survey.wanted = words if self.step.act == "sets" else None
         if after.is_carried_out(part):
-            after.survey = Survey(self.output, after.survey.wanted, after.survey.left)
-            after.has_ordered = False
-        said = after.way(part)
+            after.survey, after.has_ordered = Survey(self.output, after.survey.wanted, after.survey.left), False
+        said = self.turning(part, after.way(part))
         if said[0] not in ("learn", "check", "order"):
-            return said, self
-        said = self.turning(part, said)
-        if said[0] == "refused":
             return said, self
         after.survey.left -= 1
         after.has_ordered |= said[0] == "order"
@@ -82,34 +73,32 @@ class Course:
     def order(self, part):
         """The next order, None if none is left, or a refusal."""
         if self.byte is None:
-            if self.survey.wanted is None and self.is_surveyed(part):
-                return None
-            return part.plan(self.output, self.survey.wanted or {})
+            is_over = self.survey.wanted is None and self.is_surveyed(part)
+            return None if is_over else part.plan(self.output, self.survey.wanted or {})
         if part.known(self.output, OPERATION) == self.byte:
-            return None if self.is_surveyed(part) else ("refused", "P4", chosen(self.byte))
+            return None if self.is_surveyed(part) else ("refused", "P4", selected(self.byte))
         return OPERATION, self.byte
 
     def is_carried_out(self, part):
-        """Something was ordered, nothing is left to read or to order: all is read once more."""
+        """Something was ordered, and nothing is left to read or to order: all is read once more."""
         return self.has_ordered and self.is_surveyed(part) and self.order(part) is None
 
     def way(self, part):
         if self.byte is not None and not is_on(self.byte):
             return ("reached",) if self.is_done else self.trying(("order", (self.output, OPERATION), self.byte))
         job = self.survey.due(part, part.missing)
-        if job is not None:
-            return self.trying(job)
-        found = self.order(part)
-        if found is None:
-            return ("reached",)
-        return found if found[0] == "refused" else self.trying(("order", (self.output, found[0]), found[1]))
+        found = None if job else self.order(part)
+        if job or found and found[0] != "refused":
+            return self.trying(job or ("order", (self.output, found[0]), found[1]))
+        return found or ("reached",)
 
     def trying(self, job):
         return job if self.survey.left else ("spent", about(job), self.fault)
 
     def turning(self, part, job):
         """What comes in the place of an order that turns the output on: WRITE_PROTECT is read before it, and what its byte selects."""
-        reads_source = job == ("check", (self.output, OPERATION)) and self.source(part) is not None
+        cell = self.output, OPERATION
+        reads_source = job == ("check", cell) and self.source(part) is not None
         if self.byte is None or not is_on(self.byte) or not (job[0] == "order" or reads_source):
             return job
         protect = part.protection() if PROTECT in self.survey.read else None
@@ -117,8 +106,8 @@ class Course:
             return "check", PROTECT
         if protect and OPERATION not in ALLOWED[protect]:
             return "refused", "P7", OPERATION
-        cell = self.output, chosen(self.byte)
-        return ("order", (self.output, OPERATION), self.byte) if cell in self.survey.read else ("check", cell)
+        chosen = self.output, selected(self.byte)
+        return ("order", cell, self.byte) if chosen in self.survey.read else ("check", chosen)
 
     def told(self, job, end, mode):
         """How its job ended; `mode` is what a learn was answered that ended without a format."""

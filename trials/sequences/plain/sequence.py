@@ -1,14 +1,13 @@
 """A list of steps, carried out one after another. `lines` is a generator: it hands out frames, for which it is sent what came, and what is said."""
-from dataclasses import dataclass, field, replace
+from dataclasses import dataclass, field, replace  # noqa: F401
 
-from tests.plain.converter import OPERATION, PROTECT
-from tests.plain.limits import selected
+from tests.plain.converter import OPERATION
+from tests.plain.limits import VOLTAGES, selected
 from tests.plain.packets import answer_fault
-from tests.plain.rail import is_on
+from tests.plain.rail import WORDS, is_on
 
-from .course import VOLTAGES, Course
+from .course import Course, about
 from .look import ASKED, Look, asks_for, does, fault_of, request_of
-from .part import way_back_fault
 
 
 @dataclass(frozen=True)
@@ -51,32 +50,27 @@ class Stopped(Exception):
     """A step stops: its place, and why."""
 
 
-class Ended(Exception):
-    """The list ends."""
-
-
 class Sequence:
+    """`under` is the place of the step under way, which began with the words `wanted`; `coming` is the course of the first step ahead. `backs` has
+    the steps that undo others, by the places of these, and `heard` what was heard of their rails."""
+
     def __init__(self, parts, steps, rules, tries):
         self.parts, self.steps, self.rules, self.tries = parts, steps, rules, tries
-        # The place of the step under way, its course and the words that it had as it began; the course of the first step ahead.
         self.under, self.course, self.wanted, self.coming = None, None, {}, None
-        self.begun = self.left = 0
+        self.begun, self.left, self.look, self.told, self.backs, self.heard = 0, 0, None, None, {}, {}
         self.is_looked = self.is_waited = self.is_warned = self.has_restarted = False
-        self.look, self.told, self.backs = None, None, {}
 
     def part(self, step):
         return self.parts[step.host]
-
-    @property
-    def ahead(self):
-        return self.steps[self.begun] if self.begun < len(self.steps) else None
 
     # ---- The list ----
 
     def lines(self):
         while True:
             try:
-                yield from self.turn()
+                if (yield from self.turn()):
+                    yield ("ended", self.begun, "left", self.left) if self.left else ("ended", self.begun, "reached")
+                    return
             except Stopped as stopped:
                 place, *why = stopped.args
                 if not self.rules.leaves or why[0] == "restarted":
@@ -84,54 +78,51 @@ class Sequence:
                     return
                 self.leaves(place)
                 yield "told", place, *why
-            except Ended:
-                yield ("ended", self.begun, "left", self.left) if self.left else ("ended", self.begun, "reached")
-                return
 
     def leaves(self, place):
         if place == self.under:
             self.under = None
         else:
             self.begun += 1
-        self.left, self.coming = self.left + 1, None
-        self.is_waited, self.is_warned, self.is_looked, self.told = False, False, True, None
+        self.left, self.coming, self.told = self.left + 1, None, None
+        self.is_looked, self.is_waited, self.is_warned = True, False, False
 
     def turn(self):
-        """What comes next: of the step under way, and once that is over of the next one."""
+        """What comes next: of the step under way, and once that is over of the next one. True at the end of the list."""
         if self.under is not None:
             step = self.steps[self.under]
-            said, course = self.asked(step, self.course, self.wanted, True)
-            if said[0] == "job":
-                yield from self.goes_on(step, said[1], course)
-                return
-            self.stop_unless_over(said, self.under)
-            if step.looks and not self.is_looked:
+            job, course = self.asked(step, self.under, self.course, self.wanted)
+            if job is not None:
+                yield from self.goes_on(step, job, course)
+                return False
+            if self.needs_look(step):
                 yield from self.looks_after(step)
-                return
-        if self.ahead is None:
-            raise Ended
-        if self.ahead.wait and not self.is_waited:
+                return False
+        if self.begun == len(self.steps):
+            return True
+        if self.wait() and not self.is_waited:
             self.is_waited = True
-            yield "wait", self.begun, self.ahead.wait
-            return
-        yield from self.goes_ahead(self.ahead)
+            yield "wait", self.begun, self.wait()
+        else:
+            yield from self.goes_ahead(self.steps[self.begun])
+        return False
 
-    def stop_unless_over(self, said, place):
-        if said[0] == "stops":
-            raise Stopped(place, *said[1:])
+    def needs_look(self, step):
+        return step.looks and not self.is_looked
+
+    def wait(self):
+        return self.steps[self.begun].wait
 
     def goes_on(self, step, job, course):
         """The step under way does a job."""
-        if job[0] == "order":
-            if not (yield from self.may_begin(step, job, self.under, self.wanted)):
-                return
+        if job[0] == "order" and not (yield from self.may_begin(step, job, self.under, self.wanted)):
+            return
         self.begin(step, job, self.under)
-        self.course, self.told = course, None
-        if job[0] == "order":
-            self.is_looked = False
+        self.course, self.told, self.is_looked = course, None, self.is_looked and job[0] != "order"
         yield from self.carries_out(step, job, course)
 
     def goes_ahead(self, step):
+        """The first step ahead reads what it needs, and begins with its first order, or if there is nothing to order."""
         if self.is_at_once(step):
             self.begins(Course(step, self.tries), {})
             return
@@ -139,64 +130,59 @@ class Sequence:
         wanted, fault = course.words(self.part(step))
         if fault:
             raise Stopped(place, *fault)
-        said, course = self.asked(step, course, wanted, False)
-        self.stop_unless_over(said, place)
-        if said[0] == "job" and said[1][0] != "order":
-            self.begin(step, said[1], place)
+        job, course = self.asked(step, place, course, wanted)
+        if job is not None and job[0] != "order":
+            self.begin(step, job, place)
             self.coming, self.told = course, None
-            yield from self.carries_out(step, said[1], course)
+            yield from self.carries_out(step, job, course)
             return
         back = self.undoes(step, wanted)
-        if said[0] == "job":
+        if job is not None:
             if self.rules.keeps_back and not self.is_warned and (fault := self.why_no_way_back(step, back)):
                 self.is_warned = True
                 yield "no way back", place, *fault
                 return
-            if not (yield from self.may_begin(step, said[1], place, wanted)):
+            if not (yield from self.may_begin(step, job, place, wanted)):
                 return
-            self.begin(step, said[1], place)
+            self.begin(step, job, place)
         if self.rules.keeps_back:
             self.backs[place] = back
         self.begins(course, wanted)
-        if said[0] == "job":
-            yield from self.carries_out(step, said[1], course)
+        if job is not None:
+            yield from self.carries_out(step, job, course)
 
     def is_at_once(self, step):
         """A step that turns its output off begins with nothing read, if no way back is kept."""
         return step.turns_off and not self.rules.keeps_back
 
     def begins(self, course, wanted):
-        self.under, self.course, self.wanted, self.coming = self.begun, course, wanted, None
+        self.under, self.course, self.wanted, self.coming, self.told = self.begun, course, wanted, None, None
         self.begun += 1
         self.is_looked = self.is_waited = self.is_warned = False
-        self.told = None
 
     # ---- What a step asks for ----
 
-    def asked(self, step, course, wanted, has_begun):
-        """("job", it), ("over",) or ("stops", why), and the course then."""
+    def asked(self, step, place, course, wanted):
+        """A job, None of a step that is over, and the course then. It stops if it is neither."""
         part, cell = self.part(step), (step.output, OPERATION)
         said, after = course.says(part)
-        lacks = step.act == "turns" and part.only_byte(step.output) is None
+        is_unsure = step.act == "turns" and part.only(*cell) is None
         if said[0] in ("learn", "check"):
-            return ("job", said), after
-        if said[0] == "order":
-            if not self.is_due(step, wanted, said):
-                return ("stops", "changed"), after
-            if has_begun or not lacks:
-                return ("job", said), after
-        elif said[0] != "reached":
-            return ("stops", *said), after
-        elif self.is_over(step, wanted):
-            return ("over",), course
-        elif not lacks:
-            return ("stops", "changed"), after
-        # What OPERATION holds has to be known before it is ordered, so that it can be undone.
+            return said, after
+        if said[0] == "order" and self.is_due(step, wanted, said) and (place == self.under or not is_unsure):
+            return said, after
+        if said[0] == "reached" and self.is_over(step, wanted):
+            return None, course
+        if said[0] not in ("order", "reached"):
+            raise Stopped(place, *said)
+        if not is_unsure or said[0] == "order" and not self.is_due(step, wanted, said):
+            raise Stopped(place, "changed")
+        # What OPERATION holds is read before it is ordered, so that it can be undone.
         if not course.survey.left:
-            return ("stops", "spent", OPERATION, course.fault), course
+            raise Stopped(place, "spent", OPERATION, course.fault)
         after = course.copied()
         after.survey.left -= 1
-        return ("job", ("check", cell)), after
+        return ("check", cell), after
 
     def is_due(self, step, wanted, order):
         """An order is due by the words with which its step began."""
@@ -211,36 +197,31 @@ class Sequence:
 
     def undoes(self, step, wanted):
         """The step that undoes one that begins now."""
-        part, byte = self.part(step), self.part(step).only_byte(step.output)
+        part = self.part(step)
         if step.act == "turns":
-            return Step(step.host, step.output, "turns", byte=byte or 0)
-        if step.act != "sets":
-            return Step(step.host, step.output, "rests")
+            return Step(step.host, step.output, "turns", byte=part.only(step.output, OPERATION) or 0)
         held = {register: part.known(step.output, register) for register in VOLTAGES if register in wanted}
-        return Step(step.host, step.output, "sets", {register: ("word", word) for register, word in held.items() if word is not None})
+        held = {register: ("word", word) for register, word in held.items() if word is not None}
+        return Step(step.host, step.output, "sets" if step.act == "sets" else "rests", held)
 
     def why_no_way_back(self, step, back):
+        """Why the plan of the way back would be refused, by what is known: what isn't is no reason."""
         goal = self.goal(back, {register: word for register, (_, word) in back.wishes.items()})
-        return None if goal is None else way_back_fault(self.part(step), step.output, goal)
+        found = None if goal is None else self.part(step).plan(step.output, goal)
+        return found[1:] if found and found[0] == "refused" and found[1] not in ("P1", "P4") else None
 
     def goal(self, step, wanted):
         """The words that a step leads to: of a byte that leaves the output on, what that selects; None if there are none."""
-        if step.act == "sets":
-            return wanted
         if step.act != "turns" or not is_on(step.byte):
-            return None
-        register = selected(step.byte)
-        word = self.part(step).known(step.output, register)
-        return None if word is None else {register: word}
+            return wanted if step.act == "sets" else None
+        word = self.part(step).known(step.output, selected(step.byte))
+        return None if word is None else {selected(step.byte): word}
 
-    # ---- Orders ----
-
-    def is_judged(self, step, job):
-        return step.looks and (job[1][1] != OPERATION or is_on(job[2]))
+    # ---- Jobs ----
 
     def may_begin(self, step, job, place, wanted):
         """Whether an order may begin now; otherwise it was looked at what stands before it, or the order was told, and all is asked anew."""
-        if self.is_judged(step, job):
+        if step.looks and (job[1][1] != OPERATION or is_on(job[2])):
             if self.look is None or not self.look.is_read or self.look.of != asks_for(step):
                 yield from self.looks_before(step)
                 return False
@@ -252,19 +233,17 @@ class Sequence:
         return True
 
     def judge(self, step, place, wanted):
+        """The goal, by the fault limits that were read."""
         goal, part = self.goal(step, wanted), self.part(step)
-        if goal is None:
-            return
-        if part.format(step.output) is None:
+        if goal is not None and part.format(step.output) is None:
             raise Stopped(place, "unjudged")
-        words = [goal[register] for register in VOLTAGES if register in goal and register not in (0x24, 0x2B)]
-        if found := self.look.beyond(part, words):
+        if goal and (found := self.look.beyond(part, [goal[register] for register in WORDS if register in goal])):
+            self.heard[place] = dict(self.look.heard)
             raise Stopped(place, "beyond", *found)
 
     def begin(self, step, job, place):
-        fault = self.part(step).begin(job)
-        if fault:
-            raise Stopped(place, "refused", fault, 0x20 if job[0] == "learn" else job[1][1])
+        if fault := self.part(step).begin(job):
+            raise Stopped(place, "refused", fault, about(job))
 
     def carries_out(self, step, job, course):
         """A job, frame after frame."""
@@ -288,7 +267,7 @@ class Sequence:
             raise Stopped(self.begun if course is self.coming else self.under, "restarted")
 
     def sees_restart(self, course):
-        """An answer that couldn't come: the part restarted, or was exchanged. The format is learned anew."""
+        """An answer came that couldn't: the part restarted, or was exchanged. The format is learned anew."""
         course.survey.has_learned = False
         self.has_restarted |= self.rules.ends_at_restart
 
@@ -301,14 +280,14 @@ class Sequence:
         self.look.is_read, self.look.is_before = True, False
 
     def looks_after(self, step):
-        part, is_off = self.part(step), step.turns_off
+        part = self.part(step)
         if self.look is None or self.look.of != asks_for(step):
             self.look = Look(step)
         self.look.begins(0)
-        yield from self.looks(step, lambda: self.look.due(part, is_off))
-        word, *rest = self.look.verdict(part, is_off)
-        said = word, *rest, self.look.microvolts(part)
-        if not does(step, is_off, word):
+        yield from self.looks(step, lambda: self.look.due(part, step.turns_off))
+        word, *rest = self.look.verdict(part, step.turns_off)
+        said, self.heard[self.under] = (word, *rest, self.look.microvolts(part)), dict(self.look.heard)
+        if not does(step, word):
             raise Stopped(self.under, "fails", *said)
         self.is_looked = True
         yield "told", self.under, "does", *said
@@ -321,17 +300,16 @@ class Sequence:
             if found in ASKED:
                 yield from self.asks(step, found)
             elif self.look.silent() and not is_counted:
-                if not is_there and probes < part.passes:
-                    is_there = bool((yield "frame", step.host, request_of(part.address, step.output, OPERATION), True))
-                    probes += 1
+                if is_there or probes == part.passes:
+                    _ = is_there and self.look.counts()
+                    is_counted = True
                     continue
-                if is_there:
-                    self.look.counts()
-                is_counted = True
+                is_there = bool((yield "frame", step.host, request_of(part.address, step.output, OPERATION), True))
+                probes += 1
             elif found == "again":
                 self.look.begins(self.look.round + 1)
                 probes, is_there, is_counted = 0, False, False
-                yield "wait", max(self.begun - 1, 0), min(10 * 2 ** (self.look.round - 1), 5120)
+                yield "wait", self.under, min(10 * 2 ** (self.look.round - 1), 5120)
             else:
                 return
 
@@ -340,14 +318,4 @@ class Sequence:
         request = request_of(self.part(step).address, step.output, code)
         came = yield "frame", step.host, request, True
         fault = fault_of(request, size, came)
-        self.look.heard[question].hears(fault, 0 if fault else int.from_bytes(bytes(came[2:2 + size]), "little"))
-        if came:
-            self.look.answered.add("STATUS_WORD" if question == "before" else question)
-
-
-def way_back(sequence):
-    """The steps that undo those that have begun, the newest first; None of a place of which nothing was kept."""
-    return [sequence.backs.get(place) for place in reversed(range(sequence.begun))]
-
-
-__all__ = ["Looks", "PROTECT", "Rules", "Sequence", "Step", "replace", "way_back"]
+        self.look.hears(question, fault, 0 if fault else int.from_bytes(bytes(came[2:2 + size]), "little"), not came)
