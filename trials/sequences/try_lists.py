@@ -12,6 +12,7 @@ import collections
 import random
 import sys
 from pathlib import Path
+from unittest import mock
 
 sys.dont_write_bytecode = True
 sys.path.insert(1, str(Path(__file__).resolve().parents[1]))
@@ -33,7 +34,7 @@ CODE_OF = CODES | {name: code for name, (code, _) in plain.look.ASKED.items()}
 BYTES = (0x80,) * 8 + (0x00, 0x00, 0x40, 0xA8, 0xA4, 0x98, 0x94, 0x88, 0x90, 0xB0)
 # How many milliseconds a rail is given, by the rounds that these have.
 SETTLE = {1: 0, 2: 10, 3: 30, 5: 150, 11: 10230}
-FATES = "lost", "deaf", "acked", "bit", "cut", "long", "other"
+FAR = [("word", 0x4000), ("word", 0), ("microvolts", 3300000), ("microvolts", -100000)]
 ENDLESS = 4000
 
 # Ten bugs of the plain side: what is wrong, whose it is, its name, and what stands in its place.
@@ -46,7 +47,7 @@ PLANTS = [
     ("a way back that would be refused isn't said", MINE, "why_no_way_back", lambda self, step, back: None),
     ("a step that turns off reads first", MINE, "is_at_once", lambda self, step: False),
     ("a register is missing after one silent round", plain.look, "SILENT_ROUNDS", 1),
-    ("a rail that has to deliver needn't", plain_side, "does", lambda step, word: plain.look.does(plain_side.replace(step, must=False), word)),
+    ("a rail that has to deliver needn't", plain_side, "does", lambda step, word: plain.look.does(step._replace(must=False), word)),
     ("after orders all isn't read once more", Course, "is_carried_out", lambda self, part: False),
     ("WRITE_PROTECT isn't read before an output is turned on", Course, "turning", lambda self, part, job: job)]
 
@@ -100,7 +101,7 @@ class World:
     def transfer(self, place, frame, is_request):
         """Whether a write was acknowledged, or what came back, the read address first."""
         self.disturb()
-        fate = self.draw.choice(FATES) if self.draw.random() < self.rate else "ok"
+        fate = self.draw.choice(("lost", "deaf", "acked", "bit", "cut", "long", "other")) if self.draw.random() < self.rate else "ok"
         self.away, fate = max(self.away - 1, 0), "deaf" if self.away else fate
         if not is_request:
             return fate == "acked" if fate in ("deaf", "acked") else self.hear(place, frame, False) is not None and fate != "lost"
@@ -126,8 +127,6 @@ class World:
         return came + bytes([pec([*frame, *came])])
 
 
-# ---- What is drawn of hosts and lists, for both sides ----
-
 def drawn_hosts(draw, world):
     hosts, parts = [], []
     for part in world.parts:
@@ -144,16 +143,12 @@ def drawn_hosts(draw, world):
     return hosts, parts
 
 
-def drawn_wish(draw, world):
-    if draw.random() < 0.5:
-        return "word", world.near(0x180) if world.is_calm or draw.random() < 0.7 else draw.choice((0x4000, 0, 0x1000))
-    return "microvolts", 1000000 + draw.randint(-90000, 90000) if world.is_calm or draw.random() < 0.7 else draw.choice((3300000, -100000, 5000))
-
-
 def drawn_step(draw, world, looks):
     host = draw.randrange(len(world.parts))
     act = draw.choice(("sets", "sets", "sets", "turns", "turns", "turns", "surveys", "rests"))
-    wishes = {register: drawn_wish(draw, world) for register in VOLTAGES if act == "sets" and draw.random() < (0.7 if register == 0x21 else 0.12)}
+    near = [("word", world.near(0x180)), ("microvolts", 1000000 + draw.randint(-90000, 90000))] * 4
+    wishes = {register: draw.choice(near if world.is_calm else near + FAR) for register in VOLTAGES
+              if act == "sets" and draw.random() < (0.7 if register == 0x21 else 0.12)}
     how = plain_side.Looks(draw.choice(("refuse", "refuse", "tell", "skip")), draw.choice(("judge", "tell")), draw.choice((50, 0, 200, 1000)),
                            draw.choice([*SETTLE])) if draw.random() < looks else None
     before = draw.choice(((0, None, 0),) * 6 + ((1, None, 0x8000), (1, None, 0), (2, "no answer", 0)))
@@ -170,8 +165,6 @@ def step_of(step):
     return SequenceStep(step.host, step.output, step.act, wishes, step.byte, looks, step.must, frozenset(step.lacks), step.wait,
                         Heard(asked, None if fault else word, 1 if fault else 0))
 
-
-# ---- Both side by side ----
 
 def line_of(sequence):
     """What the library says next, as the plain sequence says it."""
@@ -191,35 +184,34 @@ def line_of(sequence):
 class Differs(Exception):
     """What the library says, and what the plain side says."""
 
-
-def same(found, wanted):
-    if found != wanted:
-        raise Differs(found, wanted)
+    @classmethod
+    def unless_same(cls, found, wanted):
+        if found != wanted:
+            raise cls(found, wanted)
 
 
 def carried_out(world, parts, mine, theirs, said, most):
     """A list by both, line by line, broken off after so many."""
     lines, came = mine.lines(), None
-    for place in range(ENDLESS):
+    for place in range(most):
         found = line_of(theirs)
         said.append((came, found))
-        same(found, lines.send(came))
-        if found[0] == "ended" or place >= most:
+        Differs.unless_same(found, lines.send(came))
+        if found[0] == "ended" or place == most - 1:
             break
         came = world.transfer(*found[1:]) if found[0] == "frame" else None
         if came is not None:
             _ = theirs.write_ended(came) if isinstance(came, bool) else theirs.read_ended(came)
-    same(found[0] == "ended" or place >= most, True)
     theirs.give_up()
     for part in parts:
         while part.sending():
             part.told(("got", []) if part.sending_reads() else ("finished", False))
     for place, heard in mine.heard.items():
         by_name = {name.lower().removeprefix("vout_"): (it.asked, it.word if it.is_good else None, it.fault or "") for name, it in heard.items()}
-        same({name: (it.asked, it.word, it.fault) for name, it in theirs.heard(place).heard.items()}, by_name)
+        Differs.unless_same({name: (it.asked, it.word, it.fault) for name, it in theirs.heard(place).heard.items()}, by_name)
     for place, step in mine.backs.items():
         back = SequenceStep.of(theirs._records[place].back)
-        same(back, SequenceStep(step.host, step.output, step.act, {register_of(code): word for code, (_, word) in step.wishes.items()}, step.byte))
+        Differs.unless_same(back, SequenceStep(step.host, step.output, step.act, {register_of(code): word for code, (_, word) in step.wishes.items()}, step.byte))
 
 
 def one_list(seed, number, counts):
@@ -253,13 +245,8 @@ def words(line):
 
 def finds(plant, seed, number):
     """Whether a list differs with a planted bug, and doesn't without it."""
-    _, owner, name, instead = plant
-    kept = getattr(owner, name)
-    setattr(owner, name, instead)
-    try:
+    with mock.patch.object(*plant[1:]):
         found = [*one_list(seed, number, collections.Counter())]
-    finally:
-        setattr(owner, name, kept)
     return found and not [*one_list(seed, number, collections.Counter())]
 
 
@@ -270,12 +257,14 @@ def main():
     given, tally, counts = options.read(), Tally(), collections.Counter()
     numbers = range(given.first, given.first + given.lists)
     if given.plant:
-        found = next((number for number in numbers if finds(PLANTS[given.plant - 1], given.seed, number)), None)
-        tally.tell(f"{PLANTS[given.plant - 1][0]}: found by list {found}", ["no list finds it"] if found is None else [])
+        plant = PLANTS[given.plant - 1]
+        found = next((number for number in numbers if finds(plant, given.seed, number)), None)
+        print(f"{plant[0]}: found by {'none' if found is None else f'list {found}'}")
+        tally.tell(plant[0], ["no list finds it"] * (found is None))
         return tally.end()
     for number in numbers:
         faults = [*one_list(given.seed, number, counts)]
-        tally.tell(f"list {number} of the seed {given.seed}", faults[:1 if tally.failed == 0 else 0] or [""] * len(faults))
+        tally.tell(f"list {number}", ["differs, too" for _ in faults] if tally.failed else faults)
     print(*(f"{name} {count}" for name, count in sorted(counts.items())), sep=", ")
     print(f"{given.lists} lists, {tally.failed} differ")
     return tally.end()

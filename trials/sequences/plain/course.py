@@ -3,7 +3,7 @@ import copy
 
 from tests.plain.converter import ALLOWED, OPERATION, PROTECT, accepts
 from tests.plain.limits import VOLTAGES, selected
-from tests.plain.rail import Survey, is_on
+from tests.plain.rail import Survey, is_on, known
 
 from .part import word_for
 
@@ -21,12 +21,6 @@ class Course:
         self.survey = Survey(step.output, {} if step.act == "sets" else None, tries)
         self.has_ordered, self.is_done, self.differed, self.fault = False, False, set(), None
         self.end = ("reached",) if step.act == "rests" else None
-
-    def copied(self):
-        other = copy.copy(self)
-        other.survey, other.differed = copy.copy(self.survey), set(self.differed)
-        other.survey.read = set(self.survey.read)
-        return other
 
     def words(self, part):
         """The words that are wanted, by the format once that was learned; or the refusal of a voltage that has none."""
@@ -56,7 +50,7 @@ class Course:
         words, fault = self.words(part)
         if fault:
             return fault, self
-        after = self.copied()
+        after = copy.deepcopy(self)
         after.survey.wanted = words if self.step.act == "sets" else None
         if after.is_carried_out(part):
             after.survey, after.has_ordered = Survey(self.output, after.survey.wanted, after.survey.left), False
@@ -101,7 +95,7 @@ class Course:
         reads_source = job == ("check", cell) and self.source(part) is not None
         if self.byte is None or not is_on(self.byte) or not (job[0] == "order" or reads_source):
             return job
-        protect = part.protection() if PROTECT in self.survey.read else None
+        protect = known(part, part.missing, PROTECT) if PROTECT in self.survey.read else None
         if protect is None:
             return "check", PROTECT
         if protect and OPERATION not in ALLOWED[protect]:

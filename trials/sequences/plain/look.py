@@ -1,7 +1,9 @@
 """A look at a rail: what is asked of it, which of its registers turn out to be missing, and what it does."""
 from fractions import Fraction
 
+from tests.plain.limits import band
 from tests.plain.packets import pec
+from tests.plain.rail import is_on
 
 # The registers of a look: code and bytes. `before` is STATUS_WORD before the first order.
 ASKED = {"before": (0x79, 2), "VOUT_OV_FAULT_LIMIT": (0x40, 2), "VOUT_OV_WARN_LIMIT": (0x42, 2), "VOUT_UV_WARN_LIMIT": (0x43, 2),
@@ -17,8 +19,8 @@ SILENCE = "no answer"
 SILENT_ROUNDS = 2
 
 
-def request_of(address, output, code):
-    return [2 * address, 0x06, 2, output, code]
+def turns_off(step):
+    return step.act == "turns" and not is_on(step.byte)
 
 
 def fault_of(request, size, came):
@@ -69,8 +71,6 @@ class Look:
         if not is_silent:
             self.answered.add("STATUS_WORD" if question == "before" else question)
 
-    # ---- Which registers are silent ----
-
     def has(self, register):
         return register not in self.step.lacks and register not in self.found
 
@@ -85,8 +85,6 @@ class Look:
             self.silences[name] += 1
         self.found |= {name for name, rounds in self.silences.items() if rounds >= SILENT_ROUNDS and name not in self.answered}
 
-    # ---- What is asked: a question, `again` for a further round, or None ----
-
     def first(self, passes, names):
         """The first of some questions that is to be asked still."""
         return next((name for name in names if not self.heard[name].is_good and self.heard[name].asked < passes), None)
@@ -95,6 +93,7 @@ class Look:
         return self.first(passes, FIRST[not self.has("STATUS_WORD"):1] + FIRST[1:] * (self.of[2] != "skip"))
 
     def due(self, part, is_off):
+        """A question, `again` for a further round, or None."""
         status, further = ["STATUS_WORD"] * self.has("STATUS_WORD"), "again" if self.round + 1 < self.of[5] else None
         if is_off:
             is_over = not status or self.heard["STATUS_WORD"].bit(OFF)
@@ -109,8 +108,6 @@ class Look:
             return question
         is_alone = self.on(part)[0] == "power good alone"
         return further or (self.first(part.passes, ["POWER_GOOD_ON", "POWER_GOOD_OFF"]) if is_alone else None)
-
-    # ---- What the rail does: a word, its register, a bit, and what was wrong ----
 
     def is_new(self, place):
         """A bit of STATUS_WORD that wasn't known to be 1 before the first order; none is new if nothing was asked before."""
@@ -127,6 +124,7 @@ class Look:
         return "not known", name, 0, self.heard[name].fault
 
     def verdict(self, part, is_off):
+        """What the rail does: a word, its register, a bit, and what was wrong."""
         status, is_on = self.heard["STATUS_WORD"], part.is_on(self.step.output)
         if not is_off:
             return self.on(part) if is_on else ("not known to be on" if is_on is None else "commanded off", None, 0, None)
@@ -156,7 +154,7 @@ class Look:
 
     def reading(self, part):
         """What speaks against the rail by READ_VOUT, None if nothing does."""
-        output, heard, commanded = self.step.output, self.heard["READ_VOUT"], part.band(self.step.output)
+        output, heard, commanded = self.step.output, self.heard["READ_VOUT"], band(part, self.step.output, missing=part.missing)
         if not heard.is_good or commanded is None:
             return self.unknown("READ_VOUT")
         found, own, share = part.value(output, heard.word), part.bounds[output], Fraction(min(self.of[4], 1000), 1000)
@@ -184,7 +182,7 @@ class Look:
 
 def does(step, word):
     """Whether a rail does what it is to."""
-    cant_be_read = "STATUS_WORD" in step.lacks and (step.turns_off or "READ_VOUT" in step.lacks)
+    cant_be_read = "STATUS_WORD" in step.lacks and (turns_off(step) or "READ_VOUT" in step.lacks)
     if word in ("commanded off", "not known to be on") or word == "not known" and cant_be_read:
         return not step.must
     return word in ("delivers", "delivers by READ_VOUT", "went off") or word == "power good alone" and step.looks.power_good == "tell"

@@ -3,9 +3,9 @@ from bisect import bisect_left, bisect_right
 from fractions import Fraction
 
 from tests.plain import rail
-from tests.plain.converter import MAX, MIN, OPERATION, PROTECT, accepts
+from tests.plain.converter import MAX, MIN, OPERATION, accepts
 from tests.plain.host import ANY, Host
-from tests.plain.limits import VOLTAGES, band, missing_refusal, order_refusal, value
+from tests.plain.limits import VOLTAGES, missing_refusal, order_refusal, value
 from tests.plain.numbers import all_values, nearest
 from tests.plain.packets import CODES
 
@@ -24,28 +24,25 @@ def word_for(form, register, micro):
     return (words[values[place]], None) if 0 <= place < len(values) else (None, "N3" if register == MAX else "N4")
 
 
+def kept(question):
+    """An answer of the host stays the same until it is told more."""
+    def answer(self, *of):
+        key = question.__name__, len(self.transcript), len(self.marks), of
+        if key not in self.answers:
+            self.answers[key] = question(self, *of)
+        return self.answers[key]
+    return answer
+
+
 class Part(Host):
-    """`limits` has UNKNOWN, None or a least and a most in microvolts of each output. An answer is kept until the host is told more."""
+    """`limits` has UNKNOWN, None or a least and a most in microvolts of each output."""
+
+    format, possible, sending = map(kept, (Host.format, Host.possible, Host.sending))
 
     def __init__(self, address, passes, limits, missing=()):
         super().__init__(address, len(limits), passes)
-        self.limits, self.missing, self.kept = limits, missing, {}
+        self.limits, self.missing, self.answers = limits, missing, {}
         self.bounds = [None if each == UNKNOWN else each for each in limits]
-
-    def answer(self, question, *of):
-        key = question.__name__, len(self.transcript), len(self.marks), of
-        if key not in self.kept:
-            self.kept[key] = question(*of)
-        return self.kept[key]
-
-    def format(self, output):
-        return self.answer(super().format, output)
-
-    def possible(self, cell):
-        return self.answer(super().possible, cell)
-
-    def sending(self):
-        return self.answer(super().sending)
 
     def only(self, output, register):
         """The only word that a register may hold, whether or not it may be ordered; None if there are more."""
@@ -57,9 +54,6 @@ class Part(Host):
         word = self.only(output, register)
         return word if word is not None and accepts((output, register), word) else None
 
-    def protection(self):
-        return rail.known(self, self.missing, PROTECT)
-
     def is_on(self, output):
         """Whether OPERATION has an output on, None if that isn't known."""
         words = self.possible((output, OPERATION))
@@ -68,9 +62,6 @@ class Part(Host):
 
     def value(self, output, word):
         return value(self.format(output), word)
-
-    def band(self, output):
-        return band(self, output, missing=self.missing)
 
     def plan(self, output, wanted):
         """The next order, None if none is left, or why none is given: "refused", a letter and a register."""

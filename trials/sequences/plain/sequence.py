@@ -1,5 +1,6 @@
 """A list of steps, carried out one after another. `lines` is a generator: it hands out frames, for which it is sent what came, and what is said."""
-from dataclasses import dataclass, field, replace  # noqa: F401
+import copy
+from collections import namedtuple
 
 from tests.plain.converter import OPERATION
 from tests.plain.limits import VOLTAGES, selected
@@ -7,43 +8,12 @@ from tests.plain.packets import answer_fault
 from tests.plain.rail import WORDS, is_on
 
 from .course import Course, about
-from .look import ASKED, Look, asks_for, does, fault_of, request_of
+from .look import ASKED, Look, asks_for, does, fault_of, turns_off
 
-
-@dataclass(frozen=True)
-class Looks:
-    fault_limits: str
-    power_good: str
-    within: int
-    rounds: int
-
-
-@dataclass(frozen=True)
-class Step:
-    """`wishes` has ("word", w) or ("microvolts", x) by codes; `before` how often STATUS_WORD was asked, what was wrong, and its word."""
-
-    host: int
-    output: int
-    act: str
-    wishes: dict = field(default_factory=dict)
-    byte: int = 0
-    looks: Looks = None
-    must: bool = False
-    lacks: tuple = ()
-    wait: int = 0
-    before: tuple = (0, None, 0)
-
-    @property
-    def turns_off(self):
-        return self.act == "turns" and not is_on(self.byte)
-
-
-@dataclass(frozen=True)
-class Rules:
-    keeps_back: bool = False
-    ends_at_restart: bool = False
-    leaves: bool = False
-    asks: bool = False
+Looks = namedtuple("Looks", "fault_limits power_good within rounds")
+Rules = namedtuple("Rules", "keeps_back ends_at_restart leaves asks")
+# `wishes` has ("word", w) or ("microvolts", x) by codes; `before` says how often STATUS_WORD was asked, what was wrong, and its word.
+Step = namedtuple("Step", "host output act wishes byte looks must lacks wait before", defaults=({}, 0, None, False, (), 0, (0, None, 0)))
 
 
 class Stopped(Exception):
@@ -62,8 +32,6 @@ class Sequence:
 
     def part(self, step):
         return self.parts[step.host]
-
-    # ---- The list ----
 
     def lines(self):
         while True:
@@ -153,14 +121,12 @@ class Sequence:
 
     def is_at_once(self, step):
         """A step that turns its output off begins with nothing read, if no way back is kept."""
-        return step.turns_off and not self.rules.keeps_back
+        return turns_off(step) and not self.rules.keeps_back
 
     def begins(self, course, wanted):
         self.under, self.course, self.wanted, self.coming, self.told = self.begun, course, wanted, None, None
         self.begun += 1
         self.is_looked = self.is_waited = self.is_warned = False
-
-    # ---- What a step asks for ----
 
     def asked(self, step, place, course, wanted):
         """A job, None of a step that is over, and the course then. It stops if it is neither."""
@@ -180,7 +146,7 @@ class Sequence:
         # What OPERATION holds is read before it is ordered, so that it can be undone.
         if not course.survey.left:
             raise Stopped(place, "spent", OPERATION, course.fault)
-        after = course.copied()
+        after = copy.deepcopy(course)
         after.survey.left -= 1
         return ("check", cell), after
 
@@ -216,8 +182,6 @@ class Sequence:
             return wanted if step.act == "sets" else None
         word = self.part(step).known(step.output, selected(step.byte))
         return None if word is None else {selected(step.byte): word}
-
-    # ---- Jobs ----
 
     def may_begin(self, step, job, place, wanted):
         """Whether an order may begin now; otherwise it was looked at what stands before it, or the order was told, and all is asked anew."""
@@ -271,8 +235,6 @@ class Sequence:
         course.survey.has_learned = False
         self.has_restarted |= self.rules.ends_at_restart
 
-    # ---- Looks ----
-
     def looks_before(self, step):
         self.look = Look(step)
         self.look.is_before = True
@@ -284,8 +246,8 @@ class Sequence:
         if self.look is None or self.look.of != asks_for(step):
             self.look = Look(step)
         self.look.begins(0)
-        yield from self.looks(step, lambda: self.look.due(part, step.turns_off))
-        word, *rest = self.look.verdict(part, step.turns_off)
+        yield from self.looks(step, lambda: self.look.due(part, turns_off(step)))
+        word, *rest = self.look.verdict(part, turns_off(step))
         said, self.heard[self.under] = (word, *rest, self.look.microvolts(part)), dict(self.look.heard)
         if not does(step, word):
             raise Stopped(self.under, "fails", *said)
@@ -304,7 +266,7 @@ class Sequence:
                     _ = is_there and self.look.counts()
                     is_counted = True
                     continue
-                is_there = bool((yield "frame", step.host, request_of(part.address, step.output, OPERATION), True))
+                is_there = bool((yield "frame", step.host, [2 * part.address, 0x06, 2, step.output, OPERATION], True))
                 probes += 1
             elif found == "again":
                 self.look.begins(self.look.round + 1)
@@ -315,7 +277,7 @@ class Sequence:
 
     def asks(self, step, question):
         code, size = ASKED[question]
-        request = request_of(self.part(step).address, step.output, code)
+        request = [2 * self.part(step).address, 0x06, 2, step.output, code]
         came = yield "frame", step.host, request, True
         fault = fault_of(request, size, came)
         self.look.hears(question, fault, 0 if fault else int.from_bytes(bytes(came[2:2 + size]), "little"), not came)
