@@ -32,20 +32,21 @@ from tests.plain.packets import CODES, name_of as register_of, pec  # noqa: E402
 
 CODE_OF = CODES | {name: code for name, (code, _) in plain.look.ASKED.items()}
 BYTES = (0x80,) * 8 + (0x00, 0x00, 0x40, 0xA8, 0xA4, 0x98, 0x94, 0x88, 0x90, 0xB0)
-# How many milliseconds a rail is given, by the rounds that these have.
+FATES = ("lost", "deaf", "acked", "bit", "cut", "long", "other")
+# How many milliseconds a rail is given, by the rounds that these have; wishes that are refused more often than not; how many lines a list has.
 SETTLE = {1: 0, 2: 10, 3: 30, 5: 150, 11: 10230}
 FAR = [("word", 0x4000), ("word", 0), ("microvolts", 3300000), ("microvolts", -100000)]
 ENDLESS = 4000
 
 # Ten bugs of the plain side: what is wrong, whose it is, its name, and what stands in its place.
-MINE = plain_side.Sequence
+MINE, BEGINS = plain_side.Sequence, plain_side.Sequence.begins
 PLANTS = [
-    ("a look at the end of a step is left out", MINE, "needs_look", lambda self, step: False),
-    ("the wait of the step before counts", MINE, "wait", lambda self: self.steps[self.begun - 1].wait),
+    ("a look at the end of a step is left out", MINE, "looks_after", lambda self, step: setattr(self, "is_looked", True) or []),
+    ("the wait before a step counts for the next one too", MINE, "begins", lambda self, *it: BEGINS(self, *it) or setattr(self, "is_waited", True)),
     ("a restart isn't seen", MINE, "sees_restart", lambda self, course: None),
     ("orders aren't judged by the fault limits", MINE, "judge", lambda self, step, place, wanted: None),
     ("a way back that would be refused isn't said", MINE, "why_no_way_back", lambda self, step, back: None),
-    ("a step that turns off reads first", MINE, "is_at_once", lambda self, step: False),
+    ("a step that turns off reads first", plain_side, "turns_off", lambda step: False),
     ("a register is missing after one silent round", plain.look, "SILENT_ROUNDS", 1),
     ("a rail that has to deliver needn't", plain_side, "does", lambda step, word: plain.look.does(step._replace(must=False), word)),
     ("after orders all isn't read once more", Course, "is_carried_out", lambda self, part: False),
@@ -62,26 +63,24 @@ class World:
                                 0 if self.is_calm else draw.choice((0,) * 6 + (0x80, 0x40, 0x20))) for place in range(draw.choice((1, 1, 2, 2, 3, 4)))]
         for place, part in enumerate(self.parts):
             for output in range(part.outputs):
-                self.furnish(place, output)
-
-    def output(self):
-        near = sorted(self.near(0x180) for _ in range(3))
-        most, least = (0x4000, 0) if self.is_calm else self.draw.choice(((0x4000, 0), (0x1180, 0x0E80), (self.near(0x200), 0)))
-        operation, mode = self.draw.choice((0, 0x80, 0x80, 0xA8, 0x98)), self.draw.choice((0x14, 0x14, 0x14, 0x17, 0x40))
-        return Output(mode, operation, near[1], most, near[2], near[0], least)
+                self.answers |= {(place, output, code): answer for code, answer in self.rail().items()}
 
     def near(self, far):
         return 0x1000 + self.draw.randint(-far, far)
 
-    def furnish(self, place, output):
+    def output(self):
+        low, command, high = sorted(self.near(0x180) for _ in range(3))
+        most, least = (0x4000, 0) if self.is_calm else self.draw.choice(((0x4000, 0), (0x1180, 0x0E80), (self.near(0x200), 0)))
+        operation, mode = self.draw.choice((0, 0x80, 0x80, 0xA8, 0x98)), self.draw.choice((0x14, 0x14, 0x14, 0x17, 0x40))
+        return Output(mode, operation, command, most, high, low, least)
+
+    def rail(self):
         """What a rail answers beside its registers: limits, power good, and the status registers to which STATUS_WORD points."""
-        draw, kind = self.draw, self.draw.random()
-        words = {code: far if kind < 0.6 else self.near(0x200) for code, far in ((0x40, 0x7FFF), (0x42, 0x7FFF), (0x43, 0), (0x44, 0))}
-        words |= {0x5E: 0x0F00, 0x5F: 0x0E00}
-        found = {code: None if draw.random() < 0.1 else word.to_bytes(2, "little") for code, word in words.items()}
+        draw, is_wide = self.draw, self.draw.random() < 0.6
+        words = {code: far if is_wide else self.near(0x200) for code, far in ((0x40, 0x7FFF), (0x42, 0x7FFF), (0x43, 0), (0x44, 0))}
+        found = {code: None if draw.random() < 0.1 else word.to_bytes(2, "little") for code, word in {**words, 0x5E: 0x0F00, 0x5F: 0x0E00}.items()}
         found |= {code: draw.choice((None, b"\0", b"\x10", b"\x82", b"\x20", b"\x44")) for code in (0x7A, 0x7B, 0x7C, 0x7D)}
-        found |= dict.fromkeys(draw.choice(((),) * 6 + ((0x79,), (0x8B,), (0x79, 0x8B))))
-        self.answers |= {(place, output, code): answer for code, answer in found.items()}
+        return found | dict.fromkeys(draw.choice(((),) * 6 + ((0x79,), (0x8B,), (0x79, 0x8B))))
 
     def disturb(self):
         """Now and then a part restarts or is away, or a register answers otherwise from now on."""
@@ -92,16 +91,15 @@ class World:
         if draw.random() < self.rate / 10:
             self.away = draw.randint(1, 40)
         if draw.random() < self.rate / 5:
-            code, word = draw.choice([(0x79, draw.choice((0x0040, 0x0800, 0x8000, 0x4020, 0x2008, 0x0004)))] * 2 + [(0x20, draw.choice((0x21, 0x14, 0x40)))]
-                                     + [(0x01, draw.choice((0xB0, 0x80, 0x00, 0x9C)))] + [(code, self.near(900)) for code in (0x8B, 0x21, 0x24)])
-            kept = self.answers.pop((place, output, code), b"")
-            if kept == b"":
-                self.answers[place, output, code] = word.to_bytes(1 if code in (0x20, 0x01) else 2, "little")
+            code, some = draw.choice([(0x79, (0x0040, 0x0800, 0x8000, 0x4020, 0x2008, 0x0004))] * 2 + [(0x20, (0x21, 0x14, 0x40))]
+                                     + [(0x01, (0xB0, 0x80, 0x00, 0x9C))] + [(code, (self.near(900),)) for code in (0x8B, 0x21, 0x24)])
+            if self.answers.pop((place, output, code), b"") == b"":
+                self.answers[place, output, code] = draw.choice(some).to_bytes(1 if code in (0x20, 0x01) else 2, "little")
 
     def transfer(self, place, frame, is_request):
         """Whether a write was acknowledged, or what came back, the read address first."""
         self.disturb()
-        fate = self.draw.choice(("lost", "deaf", "acked", "bit", "cut", "long", "other")) if self.draw.random() < self.rate else "ok"
+        fate = self.draw.choice(FATES) if self.draw.random() < self.rate else "ok"
         self.away, fate = max(self.away - 1, 0), "deaf" if self.away else fate
         if not is_request:
             return fate == "acked" if fate in ("deaf", "acked") else self.hear(place, frame, False) is not None and fate != "lost"
@@ -128,6 +126,7 @@ class World:
 
 
 def drawn_hosts(draw, world):
+    """The host of each part, for both sides."""
     hosts, parts = [], []
     for part in world.parts:
         some = (None, (500000, 4000000)) if world.is_calm else (None, (500000, 4000000), (800000, 1200000), (950000, 1050000), UNKNOWN)
@@ -144,8 +143,7 @@ def drawn_hosts(draw, world):
 
 
 def drawn_step(draw, world, looks):
-    host = draw.randrange(len(world.parts))
-    act = draw.choice(("sets", "sets", "sets", "turns", "turns", "turns", "surveys", "rests"))
+    host, act = draw.randrange(len(world.parts)), draw.choice(("sets", "sets", "sets", "turns", "turns", "turns", "surveys", "rests"))
     near = [("word", world.near(0x180)), ("microvolts", 1000000 + draw.randint(-90000, 90000))] * 4
     wishes = {register: draw.choice(near if world.is_calm else near + FAR) for register in VOLTAGES
               if act == "sets" and draw.random() < (0.7 if register == 0x21 else 0.12)}
@@ -160,8 +158,7 @@ def drawn_step(draw, world, looks):
 def step_of(step):
     """The same step for the library."""
     wishes = {register_of(code): wanted if kind == "word" else of_microvolts(wanted) for code, (kind, wanted) in step.wishes.items()}
-    looks = step.looks and Looks(step.looks.fault_limits, step.looks.power_good, step.looks.within, SETTLE[step.looks.rounds])
-    asked, fault, word = step.before
+    looks, (asked, fault, word) = step.looks and Looks(*step.looks[:3], SETTLE[step.looks.rounds]), step.before
     return SequenceStep(step.host, step.output, step.act, wishes, step.byte, looks, step.must, frozenset(step.lacks), step.wait,
                         Heard(asked, None if fault else word, 1 if fault else 0))
 
@@ -171,14 +168,12 @@ def line_of(sequence):
     found = sequence.next()
     if not isinstance(found, Said):
         return "frame", sequence.place, list(found.frame), found.is_request
-    code, letter = CODE_OF.get(found.register), name_of(found.number)[:2] if found.number else None
+    code, letter, it = CODE_OF.get(found.register), name_of(found.number)[:2] if found.number else None, found.verdict
     said = {"wait": (found.milliseconds,), "order": (code, found.word), "no way back": (letter, code), "refused": (letter, code), "left": (found.word,),
             "differs": (code, found.word), "spent": (code, found.fault or None), "format": (found.word,), "source": (found.word,),
             "beyond": (found.register, found.word)}.get(found.kind, ())
-    if it := found.verdict:
-        said = it.kind, it.register, it.bit, it.fault or None, it.microvolts
-    is_own = found.kind in ("wait", "order", "no way back")
-    return (found.kind, found.step, *said) if is_own else ("ended" if found.is_end else "told", found.step, found.kind, *said)
+    said = (it.kind, it.register, it.bit, it.fault or None, it.microvolts) if it else said
+    return "ended" if found.is_end else "told", found.step, found.kind, *said
 
 
 class Differs(Exception):
@@ -194,8 +189,7 @@ def carried_out(world, parts, mine, theirs, said, most):
     """A list by both, line by line, broken off after so many."""
     lines, came = mine.lines(), None
     for place in range(most):
-        found = line_of(theirs)
-        said.append((came, found))
+        said.append((came, found := line_of(theirs)))
         Differs.unless_same(found, lines.send(came))
         if found[0] == "ended" or place == most - 1:
             break
@@ -210,34 +204,34 @@ def carried_out(world, parts, mine, theirs, said, most):
         by_name = {name.lower().removeprefix("vout_"): (it.asked, it.word if it.is_good else None, it.fault or "") for name, it in heard.items()}
         Differs.unless_same({name: (it.asked, it.word, it.fault) for name, it in theirs.heard(place).heard.items()}, by_name)
     for place, step in mine.backs.items():
-        back = SequenceStep.of(theirs._records[place].back)
-        Differs.unless_same(back, SequenceStep(step.host, step.output, step.act, {register_of(code): word for code, (_, word) in step.wishes.items()}, step.byte))
+        wishes = {register_of(code): word for code, (_, word) in step.wishes.items()}
+        Differs.unless_same(SequenceStep.of(theirs._records[place].back), SequenceStep(step.host, step.output, step.act, wishes, step.byte))
 
 
 def one_list(seed, number, counts):
     """Nothing, or what differs in a list and those that follow it."""
     draw = random.Random(f"list {seed} {number}")
     world, looks, tries = World(draw), draw.choice((0, 0.5, 0.9)), draw.choice((40, 40, 40, 12, 6, 1))
-    (hosts, parts), rules = drawn_hosts(draw, world), plain_side.Rules(*(draw.random() < 0.4 for _ in range(4)))
+    (hosts, parts), rules = drawn_hosts(draw, world), [draw.random() < 0.4 for _ in range(4)]
     steps, said = [drawn_step(draw, world, looks) for _ in range(draw.randint(1, 8))], []
     if draw.random() < 0.4:
         steps.sort(key=lambda step: (step.host, step.output))
     try:
         while steps:
-            mine = plain_side.Sequence(parts, steps, rules, tries)
-            theirs = Sequence(hosts, [step_of(step) for step in steps], Rules(rules.keeps_back, rules.ends_at_restart, rules.leaves, rules.asks), tries)
+            mine = plain_side.Sequence(parts, steps, plain_side.Rules(*rules), tries)
+            theirs = Sequence(hosts, [step_of(step) for step in steps], Rules(*rules), tries)
             carried_out(world, parts, mine, theirs, said, draw.randint(1, 150) if draw.random() < 0.15 else ENDLESS)
             steps = [mine.backs[place] for place in sorted(mine.backs, reverse=True)] if draw.random() < 0.5 else []
-            rules = plain_side.Rules(False, draw.random() < 0.3, draw.random() < 0.5, False)
+            rules = [False, draw.random() < 0.3, draw.random() < 0.5, False]
     except Differs as found:
-        yield f"{rules}, {tries} tries\n" + "\n".join(
-            [f"  part {place}: passes {it.passes}, limits {it.limits}, lacks {[*map(register_of, it.missing)]}" for place, it in enumerate(parts)]
-            + [f"  step {place}: {step}" for place, step in enumerate(steps)] + [f"    came {words(came)}; {words(line)}" for came, line in said[-30:]]
-            + [f"  the library: {words(found.args[0])}", f"  plain:       {words(found.args[1])}"])
-    counts.update(line[2] if line[0] in ("told", "ended") else line[0] for _, line in said)
+        lines = [f"{plain_side.Rules(*rules)}, {tries} tries"]
+        lines += [f"part {place}: passes {it.passes}, limits {it.limits}, lacks {[*map(register_of, it.missing)]}" for place, it in enumerate(parts)]
+        lines += [f"step {place}: {step}" for place, step in enumerate(steps)] + [f"{shown(came)} came; {shown(line)}" for came, line in said[-30:]]
+        yield "\n    ".join([*lines, f"the library: {shown(found.args[0])}", f"plain:       {shown(found.args[1])}"])
+    counts.update(line[2] for _, line in said if line[0] != "frame")
 
 
-def words(line):
+def shown(line):
     if isinstance(line, bytes):
         return line.hex(" ") or "nothing"
     return f"part {line[1]} {'reads' if line[3] else 'writes'} {bytes(line[2]).hex(' ')}" if isinstance(line, tuple) and line[0] == "frame" else str(line)
@@ -258,9 +252,9 @@ def main():
     numbers = range(given.first, given.first + given.lists)
     if given.plant:
         plant = PLANTS[given.plant - 1]
-        found = next((number for number in numbers if finds(plant, given.seed, number)), None)
-        print(f"{plant[0]}: found by {'none' if found is None else f'list {found}'}")
-        tally.tell(plant[0], ["no list finds it"] * (found is None))
+        found = next((number for number in numbers if finds(plant, given.seed, number)), "none")
+        print(f"{plant[0]}: found by list {found}")
+        tally.tell("planted", ["no list finds it"] * (found == "none"))
         return tally.end()
     for number in numbers:
         faults = [*one_list(given.seed, number, counts)]

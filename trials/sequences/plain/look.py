@@ -25,15 +25,9 @@ def turns_off(step):
 
 def fault_of(request, size, came):
     """What is wrong with the answer to a request of that many bytes, or None."""
-    if not came:
-        return SILENCE
-    if came[0] != request[0] + 1:
-        return "F1 NotOurs"
-    if len(came) != size + 3:
-        return "F2 Short" if len(came) < size + 3 else "F3 Long"
-    if came[1] != size:
-        return "F4 WrongCount"
-    return None if came[-1] == pec([*request, *came[:-1]]) else "F5 WrongPec"
+    faults = {SILENCE: not came, "F1 NotOurs": came[:1] != bytes([request[0] + 1]), "F2 Short": len(came) < size + 3, "F3 Long": len(came) > size + 3,
+              "F4 WrongCount": came[1:2] != bytes([size]), "F5 WrongPec": came[-1:] != bytes([pec([*request, *came[:-1]])])}
+    return next((fault for fault, is_so in faults.items() if is_so), None)
 
 
 class Heard:
@@ -57,7 +51,7 @@ class Look:
     """At the rail of a step, of which nothing was asked."""
 
     def __init__(self, step):
-        self.of, self.step, self.is_read, self.is_before, self.round = asks_for(step), step, False, False, 0
+        self.of, self.step, self.is_off, self.is_read, self.is_before, self.round = asks_for(step), step, turns_off(step), False, False, 0
         self.heard = {name: Heard() for name in ASKED} | {"before": Heard(*step.before)}
         self.silences, self.answered, self.found = {"STATUS_WORD": 0, "READ_VOUT": 0}, set(), set()
 
@@ -92,18 +86,17 @@ class Look:
     def due_before(self, passes):
         return self.first(passes, FIRST[not self.has("STATUS_WORD"):1] + FIRST[1:] * (self.of[2] != "skip"))
 
-    def due(self, part, is_off):
+    def due(self, part):
         """A question, `again` for a further round, or None."""
         status, further = ["STATUS_WORD"] * self.has("STATUS_WORD"), "again" if self.round + 1 < self.of[5] else None
-        if is_off:
+        if self.is_off:
             is_over = not status or self.heard["STATUS_WORD"].bit(OFF)
             return self.first(part.passes, status) or (None if is_over else further)
         if not part.is_on(self.step.output) or not status and not self.has("READ_VOUT"):
             return None
-        question = self.first(part.passes, status + [name for name, (summary, _) in FAULTS.items() if self.is_new(summary)])
         is_sound = not status or self.heard["STATUS_WORD"].is_good and not self.heard["STATUS_WORD"].bit(OFF) and not self.fault()
-        if question is None and self.has("READ_VOUT") and is_sound:
-            question = self.first(part.passes, ["READ_VOUT"])
+        names = status + [name for name, (summary, _) in FAULTS.items() if self.is_new(summary)]
+        question = self.first(part.passes, names + ["READ_VOUT"] * (self.has("READ_VOUT") and is_sound))
         if question or self.fault() or self.on(part)[0].startswith("delivers"):
             return question
         is_alone = self.on(part)[0] == "power good alone"
@@ -115,6 +108,7 @@ class Look:
         return self.heard["STATUS_WORD"].bit(place) and before.asked > 0 and not before.bit(place)
 
     def fault(self):
+        """The first fault that is new."""
         found = [("fault", "STATUS_WORD", place, None) for place in WORD_FAULTS if self.is_new(place)]
         for name, (summary, places) in FAULTS.items():
             found += [("fault", name, place, None) for place in places if self.is_new(summary) and self.heard[name].bit(place)]
@@ -123,14 +117,13 @@ class Look:
     def unknown(self, name):
         return "not known", name, 0, self.heard[name].fault
 
-    def verdict(self, part, is_off):
+    def verdict(self, part):
         """What the rail does: a word, its register, a bit, and what was wrong."""
         status, is_on = self.heard["STATUS_WORD"], part.is_on(self.step.output)
-        if not is_off:
+        if not self.is_off:
             return self.on(part) if is_on else ("not known to be on" if is_on is None else "commanded off", None, 0, None)
-        if not status.is_good:
-            return self.unknown("STATUS_WORD")
-        return ("went off", None, 0, None) if status.bit(OFF) else ("still on", "STATUS_WORD", 0, None)
+        found = ("went off", None, 0, None) if status.bit(OFF) else ("still on", "STATUS_WORD", 0, None)
+        return found if status.is_good else self.unknown("STATUS_WORD")
 
     def on(self, part):
         """What a rail does that is commanded on."""
@@ -166,9 +159,8 @@ class Look:
 
     def microvolts(self, part):
         """READ_VOUT, rounded down, if it is known."""
-        if not self.heard["READ_VOUT"].is_good or part.format(self.step.output) is None:
-            return None
-        return part.value(self.step.output, self.heard["READ_VOUT"].word) * 10**6 // 1
+        is_known = self.heard["READ_VOUT"].is_good and part.format(self.step.output) is not None
+        return part.value(self.step.output, self.heard["READ_VOUT"].word) * 10**6 // 1 if is_known else None
 
     def beyond(self, part, words):
         """The fault limit that one of some words is at or beyond, with what it holds; None if there is none."""

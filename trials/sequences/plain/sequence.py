@@ -60,26 +60,18 @@ class Sequence:
         if self.under is not None:
             step = self.steps[self.under]
             job, course = self.asked(step, self.under, self.course, self.wanted)
-            if job is not None:
-                yield from self.goes_on(step, job, course)
-                return False
-            if self.needs_look(step):
-                yield from self.looks_after(step)
+            if job is not None or step.looks and not self.is_looked:
+                yield from self.goes_on(step, job, course) if job else self.looks_after(step)
                 return False
         if self.begun == len(self.steps):
             return True
-        if self.wait() and not self.is_waited:
+        step = self.steps[self.begun]
+        if step.wait and not self.is_waited:
             self.is_waited = True
-            yield "wait", self.begun, self.wait()
+            yield "told", self.begun, "wait", step.wait
         else:
-            yield from self.goes_ahead(self.steps[self.begun])
+            yield from self.goes_ahead(step)
         return False
-
-    def needs_look(self, step):
-        return step.looks and not self.is_looked
-
-    def wait(self):
-        return self.steps[self.begun].wait
 
     def goes_on(self, step, job, course):
         """The step under way does a job."""
@@ -90,8 +82,9 @@ class Sequence:
         yield from self.carries_out(step, job, course)
 
     def goes_ahead(self, step):
-        """The first step ahead reads what it needs, and begins with its first order, or if there is nothing to order."""
-        if self.is_at_once(step):
+        """The first step ahead reads what it needs, and begins with its first order, or if there is nothing to order; a step that turns its output off
+        at once, with nothing read, if no way back is kept."""
+        if turns_off(step) and not self.rules.keeps_back:
             self.begins(Course(step, self.tries), {})
             return
         place, course = self.begun, self.coming or Course(step, self.tries)
@@ -106,11 +99,11 @@ class Sequence:
             return
         back = self.undoes(step, wanted)
         if job is not None:
-            if self.rules.keeps_back and not self.is_warned and (fault := self.why_no_way_back(step, back)):
+            fault = self.rules.keeps_back and not self.is_warned and self.why_no_way_back(step, back)
+            if fault:
                 self.is_warned = True
-                yield "no way back", place, *fault
-                return
-            if not (yield from self.may_begin(step, job, place, wanted)):
+                yield "told", place, "no way back", *fault
+            if fault or not (yield from self.may_begin(step, job, place, wanted)):
                 return
             self.begin(step, job, place)
         if self.rules.keeps_back:
@@ -119,10 +112,6 @@ class Sequence:
         if job is not None:
             yield from self.carries_out(step, job, course)
 
-    def is_at_once(self, step):
-        """A step that turns its output off begins with nothing read, if no way back is kept."""
-        return turns_off(step) and not self.rules.keeps_back
-
     def begins(self, course, wanted):
         self.under, self.course, self.wanted, self.coming, self.told = self.begun, course, wanted, None, None
         self.begun += 1
@@ -130,25 +119,23 @@ class Sequence:
 
     def asked(self, step, place, course, wanted):
         """A job, None of a step that is over, and the course then. It stops if it is neither."""
-        part, cell = self.part(step), (step.output, OPERATION)
-        said, after = course.says(part)
-        is_unsure = step.act == "turns" and part.only(*cell) is None
-        if said[0] in ("learn", "check"):
-            return said, after
-        if said[0] == "order" and self.is_due(step, wanted, said) and (place == self.under or not is_unsure):
+        said, after = course.says(self.part(step))
+        is_unsure = step.act == "turns" and self.part(step).only(step.output, OPERATION) is None
+        is_right = said[0] == "order" and self.is_due(step, wanted, said)
+        if said[0] in ("learn", "check") or is_right and (place == self.under or not is_unsure):
             return said, after
         if said[0] == "reached" and self.is_over(step, wanted):
             return None, course
         if said[0] not in ("order", "reached"):
             raise Stopped(place, *said)
-        if not is_unsure or said[0] == "order" and not self.is_due(step, wanted, said):
+        if not is_unsure or said[0] == "order" and not is_right:
             raise Stopped(place, "changed")
         # What OPERATION holds is read before it is ordered, so that it can be undone.
         if not course.survey.left:
             raise Stopped(place, "spent", OPERATION, course.fault)
         after = copy.deepcopy(course)
         after.survey.left -= 1
-        return ("check", cell), after
+        return ("check", (step.output, OPERATION)), after
 
     def is_due(self, step, wanted, order):
         """An order is due by the words with which its step began."""
@@ -192,7 +179,7 @@ class Sequence:
             self.judge(step, place, wanted)
         if self.rules.asks and self.told != job:
             self.told = job
-            yield "order", place, job[1][1], job[2]
+            yield "told", place, "order", job[1][1], job[2]
             return False
         return True
 
@@ -246,8 +233,8 @@ class Sequence:
         if self.look is None or self.look.of != asks_for(step):
             self.look = Look(step)
         self.look.begins(0)
-        yield from self.looks(step, lambda: self.look.due(part, turns_off(step)))
-        word, *rest = self.look.verdict(part, turns_off(step))
+        yield from self.looks(step, lambda: self.look.due(part))
+        word, *rest = self.look.verdict(part)
         said, self.heard[self.under] = (word, *rest, self.look.microvolts(part)), dict(self.look.heard)
         if not does(step, word):
             raise Stopped(self.under, "fails", *said)
@@ -257,27 +244,24 @@ class Sequence:
     def looks(self, step, due):
         """Asks what is due, and in each round with a silence whether the part answers otherwise."""
         part, probes, is_there, is_counted = self.part(step), 0, False, False
+        request = [2 * part.address, 0x06, 2, step.output]
         while True:
             found = due()
             if found in ASKED:
-                yield from self.asks(step, found)
+                code, size = ASKED[found]
+                came = yield "frame", step.host, [*request, code], True
+                fault = fault_of([*request, code], size, came)
+                self.look.hears(found, fault, 0 if fault else int.from_bytes(bytes(came[2:2 + size]), "little"), not came)
             elif self.look.silent() and not is_counted:
                 if is_there or probes == part.passes:
                     _ = is_there and self.look.counts()
                     is_counted = True
                     continue
-                is_there = bool((yield "frame", step.host, [2 * part.address, 0x06, 2, step.output, OPERATION], True))
+                is_there = bool((yield "frame", step.host, [*request, OPERATION], True))
                 probes += 1
             elif found == "again":
                 self.look.begins(self.look.round + 1)
                 probes, is_there, is_counted = 0, False, False
-                yield "wait", self.under, min(10 * 2 ** (self.look.round - 1), 5120)
+                yield "told", self.under, "wait", min(10 * 2 ** (self.look.round - 1), 5120)
             else:
                 return
-
-    def asks(self, step, question):
-        code, size = ASKED[question]
-        request = [2 * self.part(step).address, 0x06, 2, step.output, code]
-        came = yield "frame", step.host, request, True
-        fault = fault_of(request, size, came)
-        self.look.hears(question, fault, 0 if fault else int.from_bytes(bytes(came[2:2 + size]), "little"), not came)
