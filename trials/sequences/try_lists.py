@@ -4,9 +4,9 @@ the same frames, waits, orders that come next, verdicts and ends, to hear the sa
 
     trials/sequences/try_lists.py [--lists N] [--seed N] [--first N] [--plant N]
 
-A list has one to eight steps over one to four parts. Transfers are lost, damaged and falsely acknowledged; parts restart, are silent, lack registers
-and answer what nobody would expect. Some lists are broken off, and some are followed by their way back. The first difference is printed with its
-list and its last 30 frames. `--plant` plants one of ten bugs in the plain side, and ends where a list differs that doesn't differ without it.
+Transfers are lost, damaged and falsely acknowledged; parts restart, are silent, lack registers and answer what nobody would expect. Some lists are
+broken off, and some are followed by their way back. The first difference is printed with its list and its last 30 frames. `--plant` plants one of
+ten bugs in the plain side, and ends where a list differs that doesn't differ without it.
 """
 import collections
 import random
@@ -32,11 +32,9 @@ from tests.plain.packets import CODES, name_of as register_of, pec  # noqa: E402
 
 CODE_OF = CODES | {name: code for name, (code, _) in plain.look.ASKED.items()}
 BYTES = (0x80,) * 8 + (0x00, 0x00, 0x40, 0xA8, 0xA4, 0x98, 0x94, 0x88, 0x90, 0xB0)
-FATES = ("lost", "deaf", "acked", "bit", "cut", "long", "other")
-# How many milliseconds a rail is given, by the rounds that these have; wishes that are refused more often than not; how many lines a list has.
+# How many milliseconds a rail is given, by the rounds that these have; wishes that are refused more often than not.
 SETTLE = {1: 0, 2: 10, 3: 30, 5: 150, 11: 10230}
 FAR = [("word", 0x4000), ("word", 0), ("microvolts", 3300000), ("microvolts", -100000)]
-ENDLESS = 4000
 
 # Ten bugs of the plain side: what is wrong, whose it is, its name, and what stands in its place.
 MINE, BEGINS = plain_side.Sequence, plain_side.Sequence.begins
@@ -57,13 +55,12 @@ class World:
     """Model parts under faults. `answers` has what is answered otherwise than a part would, by part, output and code: bytes, or None for silence."""
 
     def __init__(self, draw):
-        self.draw, self.answers, self.away = draw, {}, 0
+        self.draw, self.away = draw, 0
         self.is_calm, self.rate, self.restarts = draw.random() < 0.5, draw.choice((0, 0, 0.01, 0.05, 0.2)), draw.choice((0, 0, 0, 0.01, 0.03))
         self.parts = [ModelPart(0x40 + place, [self.output() for _ in range(draw.randint(1, 3))], draw.choice(((1, 0, 3), (100, -5, 1), (-2, 7, 2))),
                                 0 if self.is_calm else draw.choice((0,) * 6 + (0x80, 0x40, 0x20))) for place in range(draw.choice((1, 1, 2, 2, 3, 4)))]
-        for place, part in enumerate(self.parts):
-            for output in range(part.outputs):
-                self.answers |= {(place, output, code): answer for code, answer in self.rail().items()}
+        self.answers = {(place, output, code): answer for place, part in enumerate(self.parts) for output in range(part.outputs)
+                        for code, answer in self.rail().items()}
 
     def near(self, far):
         return 0x1000 + self.draw.randint(-far, far)
@@ -99,7 +96,7 @@ class World:
     def transfer(self, place, frame, is_request):
         """Whether a write was acknowledged, or what came back, the read address first."""
         self.disturb()
-        fate = self.draw.choice(FATES) if self.draw.random() < self.rate else "ok"
+        fate = self.draw.choice(("lost", "deaf", "acked", "bit", "cut", "long", "other")) if self.draw.random() < self.rate else "ok"
         self.away, fate = max(self.away - 1, 0), "deaf" if self.away else fate
         if not is_request:
             return fate == "acked" if fate in ("deaf", "acked") else self.hear(place, frame, False) is not None and fate != "lost"
@@ -135,10 +132,8 @@ def drawn_hosts(draw, world):
         hosts.append(Host(part.address, part.outputs, passes, map(register_of, missing)))
         parts.append(Part(part.address, passes, limits, missing))
         for output, own in enumerate(limits):
-            if own is None:
-                hosts[-1].no_limits(output)
-            elif own != UNKNOWN:
-                hosts[-1].set_limits(output, *map(of_microvolts, own))
+            if own != UNKNOWN:
+                _ = hosts[-1].set_limits(output, *map(of_microvolts, own)) if own else hosts[-1].no_limits(output)
     return hosts, parts
 
 
@@ -160,7 +155,7 @@ def step_of(step):
     wishes = {register_of(code): wanted if kind == "word" else of_microvolts(wanted) for code, (kind, wanted) in step.wishes.items()}
     looks, (asked, fault, word) = step.looks and Looks(*step.looks[:3], SETTLE[step.looks.rounds]), step.before
     return SequenceStep(step.host, step.output, step.act, wishes, step.byte, looks, step.must, frozenset(step.lacks), step.wait,
-                        Heard(asked, None if fault else word, 1 if fault else 0))
+                        Heard(asked, word if asked and not fault else None, 1 if fault else 0))
 
 
 def line_of(sequence):
@@ -204,8 +199,7 @@ def carried_out(world, parts, mine, theirs, said, most):
         by_name = {name.lower().removeprefix("vout_"): (it.asked, it.word if it.is_good else None, it.fault or "") for name, it in heard.items()}
         Differs.unless_same({name: (it.asked, it.word, it.fault) for name, it in theirs.heard(place).heard.items()}, by_name)
     for place, step in mine.backs.items():
-        wishes = {register_of(code): word for code, (_, word) in step.wishes.items()}
-        Differs.unless_same(SequenceStep.of(theirs._records[place].back), SequenceStep(step.host, step.output, step.act, wishes, step.byte))
+        Differs.unless_same(SequenceStep.of(theirs._records[place].back), step_of(step))
 
 
 def one_list(seed, number, counts):
@@ -214,13 +208,12 @@ def one_list(seed, number, counts):
     world, looks, tries = World(draw), draw.choice((0, 0.5, 0.9)), draw.choice((40, 40, 40, 12, 6, 1))
     (hosts, parts), rules = drawn_hosts(draw, world), [draw.random() < 0.4 for _ in range(4)]
     steps, said = [drawn_step(draw, world, looks) for _ in range(draw.randint(1, 8))], []
-    if draw.random() < 0.4:
-        steps.sort(key=lambda step: (step.host, step.output))
+    steps = sorted(steps, key=lambda step: (step.host, step.output)) if draw.random() < 0.4 else steps
     try:
         while steps:
             mine = plain_side.Sequence(parts, steps, plain_side.Rules(*rules), tries)
             theirs = Sequence(hosts, [step_of(step) for step in steps], Rules(*rules), tries)
-            carried_out(world, parts, mine, theirs, said, draw.randint(1, 150) if draw.random() < 0.15 else ENDLESS)
+            carried_out(world, parts, mine, theirs, said, draw.randint(1, 150) if draw.random() < 0.15 else 4000)
             steps = [mine.backs[place] for place in sorted(mine.backs, reverse=True)] if draw.random() < 0.5 else []
             rules = [False, draw.random() < 0.3, draw.random() < 0.5, False]
     except Differs as found:
@@ -253,8 +246,7 @@ def main():
     if given.plant:
         plant = PLANTS[given.plant - 1]
         found = next((number for number in numbers if finds(plant, given.seed, number)), "none")
-        print(f"{plant[0]}: found by list {found}")
-        tally.tell("planted", ["no list finds it"] * (found == "none"))
+        tally.add(f"{plant[0]}, found by list {found}", int(found != "none"), int(found == "none"))
         return tally.end()
     for number in numbers:
         faults = [*one_list(given.seed, number, counts)]

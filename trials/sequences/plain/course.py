@@ -69,6 +69,8 @@ class Course:
         if self.byte is None:
             is_over = self.survey.wanted is None and self.is_surveyed(part)
             return None if is_over else part.plan(self.output, self.survey.wanted or {})
+        if not is_on(self.byte):
+            return None if self.is_done else (OPERATION, self.byte)
         if part.known(self.output, OPERATION) == self.byte:
             return None if self.is_surveyed(part) else ("refused", "P4", selected(self.byte))
         return OPERATION, self.byte
@@ -78,15 +80,12 @@ class Course:
         return self.has_ordered and self.is_surveyed(part) and self.order(part) is None
 
     def way(self, part):
-        if self.byte is not None and not is_on(self.byte):
-            return ("reached",) if self.is_done else self.trying(("order", (self.output, OPERATION), self.byte))
-        job = self.survey.due(part, part.missing)
+        """What the survey reads, of which an output that is turned off needs nothing, and then the next order. Each job takes a try."""
+        job = self.survey.due(part, part.missing) if self.byte is None or is_on(self.byte) else None
         found = None if job else self.order(part)
-        if job or found and found[0] != "refused":
-            return self.trying(job or ("order", (self.output, found[0]), found[1]))
-        return found or ("reached",)
-
-    def trying(self, job):
+        if not job and (found is None or found[0] == "refused"):
+            return found or ("reached",)
+        job = job or ("order", (self.output, found[0]), found[1])
         return job if self.survey.left else ("spent", about(job), self.fault)
 
     def turning(self, part, job):

@@ -83,11 +83,10 @@ class Look:
         """The first of some questions that is to be asked still."""
         return next((name for name in names if not self.heard[name].is_good and self.heard[name].asked < passes), None)
 
-    def due_before(self, passes):
-        return self.first(passes, FIRST[not self.has("STATUS_WORD"):1] + FIRST[1:] * (self.of[2] != "skip"))
-
     def due(self, part):
         """A question, `again` for a further round, or None."""
+        if self.is_before:
+            return self.first(part.passes, FIRST[not self.has("STATUS_WORD"):1] + FIRST[1:] * (self.of[2] != "skip"))
         status, further = ["STATUS_WORD"] * self.has("STATUS_WORD"), "again" if self.round + 1 < self.of[5] else None
         if self.is_off:
             is_over = not status or self.heard["STATUS_WORD"].bit(OFF)
@@ -132,10 +131,8 @@ class Look:
             return self.reading(part) or ("delivers by READ_VOUT", None, 0, None)
         if not self.has("STATUS_WORD") or not status.is_good:
             return self.unknown("STATUS_WORD")
-        if status.bit(OFF):
-            return "off", "STATUS_WORD", 0, None
-        if self.fault():
-            return self.fault()
+        if status.bit(OFF) or self.fault():
+            return ("off", "STATUS_WORD", 0, None) if status.bit(OFF) else self.fault()
         for name, (summary, _) in FAULTS.items():
             if self.is_new(summary) and not self.heard[name].is_good:
                 return self.unknown(name)

@@ -28,24 +28,18 @@ class Sequence:
         self.parts, self.steps, self.rules, self.tries = parts, steps, rules, tries
         self.under, self.course, self.wanted, self.coming = None, None, {}, None
         self.begun, self.left, self.look, self.told, self.backs, self.heard = 0, 0, None, None, {}, {}
-        self.is_looked = self.is_waited = self.is_warned = self.has_restarted = False
-
-    def part(self, step):
-        return self.parts[step.host]
+        self.is_looked = self.is_waited = self.is_warned = self.has_restarted = self.is_over = False
 
     def lines(self):
-        while True:
+        while not self.is_over:
             try:
-                if (yield from self.turn()):
-                    yield ("ended", self.begun, "left", self.left) if self.left else ("ended", self.begun, "reached")
-                    return
+                yield from self.turn()
             except Stopped as stopped:
                 place, *why = stopped.args
-                if not self.rules.leaves or why[0] == "restarted":
-                    yield "ended", place, *why
-                    return
-                self.leaves(place)
-                yield "told", place, *why
+                self.is_over = not self.rules.leaves or why[0] == "restarted"
+                if not self.is_over:
+                    self.leaves(place)
+                yield "ended" if self.is_over else "told", place, *why
 
     def leaves(self, place):
         if place == self.under:
@@ -56,22 +50,22 @@ class Sequence:
         self.is_looked, self.is_waited, self.is_warned = True, False, False
 
     def turn(self):
-        """What comes next: of the step under way, and once that is over of the next one. True at the end of the list."""
+        """What comes next: of the step under way, and once that is over of the next one."""
         if self.under is not None:
             step = self.steps[self.under]
             job, course = self.asked(step, self.under, self.course, self.wanted)
             if job is not None or step.looks and not self.is_looked:
                 yield from self.goes_on(step, job, course) if job else self.looks_after(step)
-                return False
-        if self.begun == len(self.steps):
-            return True
-        step = self.steps[self.begun]
-        if step.wait and not self.is_waited:
+                return
+        ahead = self.steps[self.begun] if self.begun < len(self.steps) else None
+        if ahead is None:
+            self.is_over = True
+            yield ("ended", self.begun, "left", self.left) if self.left else ("ended", self.begun, "reached")
+        elif ahead.wait and not self.is_waited:
             self.is_waited = True
-            yield "told", self.begun, "wait", step.wait
+            yield "told", self.begun, "wait", ahead.wait
         else:
-            yield from self.goes_ahead(step)
-        return False
+            yield from self.goes_ahead(ahead)
 
     def goes_on(self, step, job, course):
         """The step under way does a job."""
@@ -88,7 +82,7 @@ class Sequence:
             self.begins(Course(step, self.tries), {})
             return
         place, course = self.begun, self.coming or Course(step, self.tries)
-        wanted, fault = course.words(self.part(step))
+        wanted, fault = course.words(self.parts[step.host])
         if fault:
             raise Stopped(place, *fault)
         job, course = self.asked(step, place, course, wanted)
@@ -119,12 +113,12 @@ class Sequence:
 
     def asked(self, step, place, course, wanted):
         """A job, None of a step that is over, and the course then. It stops if it is neither."""
-        said, after = course.says(self.part(step))
-        is_unsure = step.act == "turns" and self.part(step).only(step.output, OPERATION) is None
+        said, after = course.says(self.parts[step.host])
+        is_unsure = step.act == "turns" and self.parts[step.host].only(step.output, OPERATION) is None
         is_right = said[0] == "order" and self.is_due(step, wanted, said)
         if said[0] in ("learn", "check") or is_right and (place == self.under or not is_unsure):
             return said, after
-        if said[0] == "reached" and self.is_over(step, wanted):
+        if said[0] == "reached" and self.has_all(step, wanted):
             return None, course
         if said[0] not in ("order", "reached"):
             raise Stopped(place, *said)
@@ -141,33 +135,32 @@ class Sequence:
         """An order is due by the words with which its step began."""
         if step.act == "turns":
             return order[1:] == ((step.output, OPERATION), step.byte)
-        return step.act == "sets" and self.part(step).plan(step.output, wanted) == (order[1][1], order[2])
+        return step.act == "sets" and self.parts[step.host].plan(step.output, wanted) == (order[1][1], order[2])
 
-    def is_over(self, step, wanted):
+    def has_all(self, step, wanted):
         if step.act == "turns":
-            return self.part(step).known(step.output, OPERATION) == step.byte
-        return step.act != "sets" or self.part(step).plan(step.output, wanted) is None
+            return self.parts[step.host].known(step.output, OPERATION) == step.byte
+        return step.act != "sets" or self.parts[step.host].plan(step.output, wanted) is None
 
     def undoes(self, step, wanted):
         """The step that undoes one that begins now."""
-        part = self.part(step)
+        part = self.parts[step.host]
         if step.act == "turns":
             return Step(step.host, step.output, "turns", byte=part.only(step.output, OPERATION) or 0)
-        held = {register: part.known(step.output, register) for register in VOLTAGES if register in wanted}
-        held = {register: ("word", word) for register, word in held.items() if word is not None}
+        held = {register: ("word", word) for register in VOLTAGES if register in wanted and (word := part.known(step.output, register)) is not None}
         return Step(step.host, step.output, "sets" if step.act == "sets" else "rests", held)
 
     def why_no_way_back(self, step, back):
         """Why the plan of the way back would be refused, by what is known: what isn't is no reason."""
         goal = self.goal(back, {register: word for register, (_, word) in back.wishes.items()})
-        found = None if goal is None else self.part(step).plan(step.output, goal)
+        found = None if goal is None else self.parts[step.host].plan(step.output, goal)
         return found[1:] if found and found[0] == "refused" and found[1] not in ("P1", "P4") else None
 
     def goal(self, step, wanted):
         """The words that a step leads to: of a byte that leaves the output on, what that selects; None if there are none."""
         if step.act != "turns" or not is_on(step.byte):
             return wanted if step.act == "sets" else None
-        word = self.part(step).known(step.output, selected(step.byte))
+        word = self.parts[step.host].known(step.output, selected(step.byte))
         return None if word is None else {selected(step.byte): word}
 
     def may_begin(self, step, job, place, wanted):
@@ -185,7 +178,7 @@ class Sequence:
 
     def judge(self, step, place, wanted):
         """The goal, by the fault limits that were read."""
-        goal, part = self.goal(step, wanted), self.part(step)
+        goal, part = self.goal(step, wanted), self.parts[step.host]
         if goal is not None and part.format(step.output) is None:
             raise Stopped(place, "unjudged")
         if goal and (found := self.look.beyond(part, [goal[register] for register in WORDS if register in goal])):
@@ -193,12 +186,12 @@ class Sequence:
             raise Stopped(place, "beyond", *found)
 
     def begin(self, step, job, place):
-        if fault := self.part(step).begin(job):
+        if fault := self.parts[step.host].begin(job):
             raise Stopped(place, "refused", fault, about(job))
 
     def carries_out(self, step, job, course):
         """A job, frame after frame."""
-        part, mode = self.part(step), None
+        part, mode = self.parts[step.host], None
         while (message := part.sending()) is not None:
             is_read, marks = message[0] != "write", len(part.marks)
             came = yield "frame", step.host, part.sending_frame(), is_read
@@ -225,15 +218,15 @@ class Sequence:
     def looks_before(self, step):
         self.look = Look(step)
         self.look.is_before = True
-        yield from self.looks(step, lambda: self.look.due_before(self.part(step).passes))
+        yield from self.looks(step)
         self.look.is_read, self.look.is_before = True, False
 
     def looks_after(self, step):
-        part = self.part(step)
+        part = self.parts[step.host]
         if self.look is None or self.look.of != asks_for(step):
             self.look = Look(step)
         self.look.begins(0)
-        yield from self.looks(step, lambda: self.look.due(part))
+        yield from self.looks(step)
         word, *rest = self.look.verdict(part)
         said, self.heard[self.under] = (word, *rest, self.look.microvolts(part)), dict(self.look.heard)
         if not does(step, word):
@@ -241,12 +234,12 @@ class Sequence:
         self.is_looked = True
         yield "told", self.under, "does", *said
 
-    def looks(self, step, due):
+    def looks(self, step):
         """Asks what is due, and in each round with a silence whether the part answers otherwise."""
-        part, probes, is_there, is_counted = self.part(step), 0, False, False
+        part, probes, is_there, is_counted = self.parts[step.host], 0, False, False
         request = [2 * part.address, 0x06, 2, step.output]
         while True:
-            found = due()
+            found = self.look.due(part)
             if found in ASKED:
                 code, size = ASKED[found]
                 came = yield "frame", step.host, [*request, code], True
