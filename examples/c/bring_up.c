@@ -56,7 +56,7 @@ static const struct {
     const char *name;
     uint8_t part, output;
     uint16_t stored;
-    int64_t volts, least, most;
+    int32_t volts, least, most;
 } rails[] = {
     {"VCCINT", 0, 0, 0x0D80, 850000, 825000, 876000},
     {"VCCAUX", 0, 1, 0x1C00, 1800000, 1710000, 1890000},

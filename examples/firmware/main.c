@@ -11,7 +11,7 @@ enum { ADDRESS = 0x58, PASSES = 3, ROUNDS = 24, RAILS = 2, TRIES = 60 };
 typedef struct {
     const char *name;
     uint8_t output;
-    int64_t microvolts, least, most; /* nothing outside these is ever ordered */
+    int32_t microvolts, least, most; /* nothing outside these is ever ordered */
 } rail;
 
 static const rail rails[RAILS] = {{"core", 0, 900000, 850000, 950000}, {"io", 1, 3300000, 3135000, 3465000}};

@@ -84,6 +84,21 @@ class Faults(unittest.TestCase):
                     for name in on:
                         self.assertRegex(err, f"may be on: [^;]*{name}|left on: [^;]*{name}|came on by itself: [^;]*{name}|not known to be off: [^;]*{name}")
 
+    def test_an_apply_ends_well_only_over_words_that_are_held(self):
+        """A restart at each transfer: one after the last look, too, at which the part has its stored words again."""
+        text, ends = self.text().replace('volts = "1V"', 'volts = "1.05V"'), []
+        for place in range(1, 90):
+            parts = self.board([(0x58, 0, "restart_at", place), (0x59, 1, "OPERATION", 0)])
+            with tempfile.NamedTemporaryFile("w", suffix=".toml") as file:
+                file.write(text)
+                file.flush()
+                status, _, err = called(["apply", file.name], BoardKernel({7: parts}))
+            held = [parts[it].get("VOUT_COMMAND", output) for it, output in PLACES]
+            with self.subTest(place=place):
+                self.assertEqual((status == 0, status in (0, 1, 3)), (held == [0x10CD] * 3 and err == "", True))
+            ends.append(status)
+        self.assertEqual(set(ends), {0, 3})
+
 
 class Streams(unittest.TestCase):
     """What can't be written ends neither a way up nor a way down: it is said once, and the status is 2."""

@@ -9,8 +9,8 @@ pub const COURSE_SIZE: usize = 104;
 pub const DELIVERY_SIZE: usize = 66;
 pub const SEQUENCE_VERSION: u16 = 1;
 pub const SEQUENCE_SIZE: usize = 376;
-pub const SEQUENCE_STEP_SIZE: usize = 104;
-pub const SEQUENCE_RECORD_SIZE: usize = 176;
+pub const SEQUENCE_STEP_SIZE: usize = 64;
+pub const SEQUENCE_RECORD_SIZE: usize = 132;
 pub const CELLS: usize = 49;
 pub const PART_SIZE: usize = 372;
 
@@ -201,8 +201,7 @@ pub struct JudgementImage {
 pub struct SequenceWishImage {
     pub kind: u16,
     pub word: u16,
-    pub unused: u32,
-    pub microvolts: i64,
+    pub microvolts: i32,
 }
 
 #[repr(C)]
@@ -233,7 +232,7 @@ pub struct SequenceStepImage {
 pub struct SequenceRecordImage {
     pub back: SequenceStepImage,
     pub look: DeliveryImage,
-    pub unused: [u8; 6],
+    pub unused: [u8; 2],
 }
 
 #[repr(C)]

@@ -92,7 +92,7 @@ pub enum Wish {
     /// This word.
     Word(u16),
     /// The word of this many microvolts, which is formed as the step begins, as [`Course::voltage`](crate::Course::voltage) forms it.
-    Microvolts(i64),
+    Microvolts(i32),
 }
 
 /// What a step asks for of the registers of its output.
@@ -113,7 +113,7 @@ pub struct Wishes {
 impl Wishes {
     /// A voltage of VOUT_COMMAND, in microvolts.
     #[must_use]
-    pub fn microvolts(microvolts: i64) -> Wishes {
+    pub fn microvolts(microvolts: i32) -> Wishes {
         Wishes { command: Wish::Microvolts(microvolts), ..Wishes::default() }
     }
 
@@ -277,7 +277,7 @@ impl SequenceStep {
             Act::Sets(wishes) => match wishes.of(register) {
                 Wish::Stay => None,
                 Wish::Word(word) => Some(word),
-                Wish::Microvolts(microvolts) => host.format(self.output()).ok()??.nearest_word(microvolts).ok(),
+                Wish::Microvolts(microvolts) => host.format(self.output()).ok()??.nearest_word(microvolts.into()).ok(),
             },
             Act::Turns(byte) => {
                 let selected = match byte & 0xB0 {
@@ -388,7 +388,7 @@ fn wish_image(wish: Wish) -> ffi::SequenceWishImage {
         Wish::Word(word) => (WORD, word, 0),
         Wish::Microvolts(microvolts) => (MICROVOLTS, 0, microvolts),
     };
-    ffi::SequenceWishImage { kind, word, unused: 0, microvolts }
+    ffi::SequenceWishImage { kind, word, microvolts }
 }
 
 fn wish_of(image: ffi::SequenceWishImage) -> Wish {

@@ -422,7 +422,7 @@ static pm_sequence_wish draw_wish(void) {
     memset(&wish, 0, sizeof wish);
     wish.kind = (uint16_t)(draw(16) ? draw(3) : draw(65536));
     wish.word = draw_word();
-    wish.microvolts = draw_microvolts();
+    wish.microvolts = (int32_t)draw_microvolts();
     return wish;
 }
 

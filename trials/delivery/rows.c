@@ -216,7 +216,7 @@ static int told(void *context, const pm_sequence *sequence, uint8_t answer) {
     return 1;
 }
 
-static pm_sequence_step sets_both(int64_t microvolts, int64_t margin) {
+static pm_sequence_step sets_both(int32_t microvolts, int32_t margin) {
     pm_sequence_step step = pm_sets(0, 0, microvolts);
     step.margin_high.kind = PM_MICROVOLTS;
     step.margin_high.microvolts = margin;

@@ -130,7 +130,7 @@ static pm_sequence_step make_step(const chain *it, const char *call, uint8_t *co
     *code = (uint8_t)strtoul(!strcmp(kind, "word") ? first : second[0] ? second : "21", NULL, 16);
     wish = *code == PM_VOUT_MAX ? &step.max : *code == PM_VOUT_MARGIN_HIGH ? &step.margin_high : *code == PM_VOUT_MARGIN_LOW ? &step.margin_low
          : *code == PM_VOUT_MIN ? &step.min : &step.command;
-    if (!strcmp(kind, "set")) return wish->kind = PM_MICROVOLTS, wish->microvolts = strtoll(first, NULL, 10), step;
+    if (!strcmp(kind, "set")) return wish->kind = PM_MICROVOLTS, wish->microvolts = (int32_t)strtol(first, NULL, 10), step;
     return wish->kind = PM_WORD, wish->word = (uint16_t)strtoul(second, NULL, 16), step;
 }
 

@@ -6,25 +6,25 @@ are the counts, where a trace has them, one with `?` what standard error says; a
 VALUES = """
 B0 88 / B1 00 D3 *                        58 READ_VIN read D300
 B0 20 / B1 14 *                           58 VOUT_MODE read 14 ULINEAR16 -12
-B0 88 / B1 00 D3 *                        58 READ_VIN read D300 12 V
-B0 88 / B1 00 80 *                        58 READ_VIN read 8000 0 V
-B0 88 / B1 FF 87 *                        58 READ_VIN read 87FF -0.000016 V
-B0 88 / B1 01 80 *                        58 READ_VIN read 8001 0.000015 V
-B0 06 02 00 88 / B1 02 00 D3 *            58 page 0 READ_VIN read D300 12 V
-B0 8C / B1 FB FF *                        58 READ_IOUT read FFFB -2.5 A
-B0 8C / B1 FF 7B *                        58 READ_IOUT read 7BFF 33521664 A
-B0 8C / B1 00 7C *                        58 READ_IOUT read 7C00 -33554432 A
-B0 06 02 01 8C / B1 02 00 84 *            58 page 1 READ_IOUT read 8400 -0.015625 A
-B0 8D / B1 19 00 *                        58 READ_TEMPERATURE_1 read 0019 25 C
-B0 8D / B1 64 F0 *                        58 READ_TEMPERATURE_1 read F064 25 C
-B0 8D / B1 D8 07 *                        58 READ_TEMPERATURE_1 read 07D8 -40 C
+B0 88 / B1 00 D3 *                        58 READ_VIN read D300 12 V?
+B0 88 / B1 00 80 *                        58 READ_VIN read 8000 0 V?
+B0 88 / B1 FF 87 *                        58 READ_VIN read 87FF -0.000016 V?
+B0 88 / B1 01 80 *                        58 READ_VIN read 8001 0.000015 V?
+B0 06 02 00 88 / B1 02 00 D3 *            58 page 0 READ_VIN read D300 12 V?
+B0 8C / B1 FB FF *                        58 READ_IOUT read FFFB -2.5 A?
+B0 8C / B1 FF 7B *                        58 READ_IOUT read 7BFF 33521664 A?
+B0 8C / B1 00 7C *                        58 READ_IOUT read 7C00 -33554432 A?
+B0 06 02 01 8C / B1 02 00 84 *            58 page 1 READ_IOUT read 8400 -0.015625 A?
+B0 8D / B1 19 00 *                        58 READ_TEMPERATURE_1 read 0019 25 C?
+B0 8D / B1 64 F0 *                        58 READ_TEMPERATURE_1 read F064 25 C?
+B0 8D / B1 D8 07 *                        58 READ_TEMPERATURE_1 read 07D8 -40 C?
 B2 88 / B3 00 D3 *                        59 READ_VIN read D300
 
 # One ULINEAR16 is enough, of whatever page; no other mode is.
 B0 06 02 07 20 / B1 01 1F *               58 page 7 VOUT_MODE read 1F ULINEAR16 -1
-B0 8D / B1 19 00 *                        58 READ_TEMPERATURE_1 read 0019 25 C
+B0 8D / B1 19 00 *                        58 READ_TEMPERATURE_1 read 0019 25 C?
 B0 06 02 00 20 / B1 01 40 *               58 page 0 VOUT_MODE read 40 DIRECT
-B0 8D / B1 19 00 *                        58 READ_TEMPERATURE_1 read 0019 25 C
+B0 8D / B1 19 00 *                        58 READ_TEMPERATURE_1 read 0019 25 C?
 B2 20 / B3 40 *                           59 VOUT_MODE read 40 DIRECT
 B2 30 02 88 01 / B3 05 01 00 00 00 00 *   59 COEFFICIENTS of 88 side 1 read m 1 b 0 r 0
 B2 88 / B3 00 D3 *                        59 READ_VIN read D300
@@ -100,6 +100,7 @@ B0 30 02 21 00 / B1 05 01 00 00 00 03 *   58 COEFFICIENTS of 21 side 0 read m 1 
 = count VOUT_COMMAND 2
 = count COEFFICIENTS 1
 = lines 9 accepted 9 faults 0 bad 0
+? line 1 writes PAGE: --pages shows which output each packet reaches
 
 B0 98 / B1 00 *                           58 PMBUS_REVISION read 00 Part I 1.0, Part II 1.0
 B0 98 / B1 12 *                           58 PMBUS_REVISION read 12 Part I 1.1, Part II 1.2
@@ -271,6 +272,7 @@ B4 21 00 10 *                             5A VOUT_COMMAND write 1000
 B6 20 / B7 17 *                           5B VOUT_MODE read 17 ULINEAR16 -9
 B6 06 02 00 78 / B7 01 00 *               5B page 0 STATUS_BYTE read 00 none
 B6 21 00 10 *                             5B VOUT_COMMAND write 1000
+? line 13 writes PAGE: --pages shows which output each packet reaches
 """),
     ("--values --pages --all", """
 B0 20 / B1 17                             58 VOUT_MODE read 17 ULINEAR16 -9, no PEC
@@ -278,8 +280,8 @@ B0 8B / B1 66 02                          58 READ_VOUT read 0266 1.199218 V, no 
 # failed (-6): B2 00 / B3
 B0 8B / B1 66 02                          58 READ_VOUT read 0266 1.199218 V, no PEC
 # failed (-121): B0 00 01 ED
-B0 20 / B1 17                             58 VOUT_MODE read 17 ULINEAR16 -9, no PEC WRONG PAGE? lines 5 and 6
-B0 8B / B1 66 02                          58 READ_VOUT read 0266, no PEC WRONG PAGE? lines 5 and 7
+B0 20 / B1 17                             58 VOUT_MODE read 17 ULINEAR16 -9, no PEC
+B0 8B / B1 66 02                          58 READ_VOUT read 0266, no PEC
 """),
     # A relative mode: margins have no value, and a format that is given wins.
     ("--values --pages", """
@@ -370,7 +372,7 @@ B0 05 04 00 21 E4 0C *                    58 page 0 VOUT_COMMAND write 0CE4 3.3 
 B0 05 04 00 24 E4 0C *                    58 page 0 VOUT_MAX write 0CE4
 B0 30 02 21 00 / B1 05 00 00 00 00 03 *   58 COEFFICIENTS of 21 side 0 read m 0 b 0 r 3
 B0 05 04 00 21 E4 0C *                    58 page 0 VOUT_COMMAND write 0CE4
-B0 88 / B1 00 D3 *                        58 READ_VIN read D300 12 V
+B0 88 / B1 00 D3 *                        58 READ_VIN read D300 12 V?
 """),
     ("--values --vout=direct:2:0:3", """
 B0 05 04 00 21 E4 0C *                    58 page 0 VOUT_COMMAND write 0CE4 1.65 V
@@ -737,7 +739,7 @@ B0 05 03 00 02 18 *                       58 page 0 code 02 ON_OFF_CONFIG write 
 B0 7B / B1 00                             58 code 7B STATUS_IOUT read 00 none, no PEC
 B0 7B / B1 A1 *                           58 code 7B STATUS_IOUT read A1 IOUT_OC_FAULT, IOUT_OC_WARNING, POUT_OP_WARNING, PEC right
 B0 7B / B1 80 00                          58 code 7B STATUS_IOUT read 80 00, no PEC
-B0 7D / B1 FF                             58 code 7D STATUS_TEMPERATURE read FF OT_FAULT, OT_WARNING, UT_WARNING, UT_FAULT, bit 3, bit 2, bit 1, bit 0, all ones: nobody answered
+B0 7D / B1 FF                             58 code 7D STATUS_TEMPERATURE read FF OT_FAULT, OT_WARNING, UT_WARNING, UT_FAULT, bit 3, bit 2, bit 1, bit 0, all ones: nobody answered?
 B0 06 02 01 7C / B1 01 88 *               58 page 1 code 7C STATUS_INPUT read 88 VIN_OV_FAULT, UNIT_OFF_LOW_VIN, PEC right
 B0 78 20 *                                58 code 78 STATUS_BYTE write 20, PEC right
 B0 7A / B1 80 00 *                        58 code 7A STATUS_VOUT read 80 00, PEC right
@@ -745,8 +747,8 @@ B0 79 / B1 02 20                          58 STATUS_WORD read 2002 INPUT, CML, n
 B0 19 / B1 B0                             58 CAPABILITY read B0 PEC, 400 kHz, SMBALERT#, no PEC
 B0 20 14                                  58 code 20 VOUT_MODE write 14, no PEC
 B0 20 / B1 14                             58 VOUT_MODE read 14 ULINEAR16 -12, no PEC
-B0 88 / B1 00 D3                          58 READ_VIN read D300 12 V, no PEC
-B0 88 / B1 FF FF                          58 code 88 READ_VIN read FF FF, all ones: nobody answered
+B0 88 / B1 00 D3                          58 READ_VIN read D300 12 V?, no PEC
+B0 88 / B1 FF FF                          58 READ_VIN read FFFF -0.5 V?, all ones: nobody answered?
 B0 06 02 01 20 / B1 01 17                 58 page 1 VOUT_MODE read 17 ULINEAR16 -9, no PEC
 B0 06 02 01 8B / B1 02 00 02              58 page 1 READ_VOUT read 0200 1 V, no PEC
 """
@@ -861,9 +863,9 @@ B0 96 / B1 34 12           {"line":11,"address":"58","code":"96","direction":"wr
     ("--json --values", """
 B0 06 02 00 20 / B1 01 14 *   {"line":1,"address":"58","page":0,"code":"20","name":"VOUT_MODE","direction":"read","payload":"14","value":"ULINEAR16 -12"}
 B0 05 04 00 21 CD 34 5A    {"line":2,"address":"58","page":0,"code":"21","name":"VOUT_COMMAND","direction":"write","payload":"CD 34","numerator":13517,"denominator":4096,"volts":3.300048}
-B0 88 / B1 00 D3 *         {"line":3,"address":"58","code":"88","name":"READ_VIN","direction":"read","payload":"00 D3","numerator":768,"denominator":64,"volts":12}
-B0 8C / B1 FB FF *         {"line":4,"address":"58","code":"8C","name":"READ_IOUT","direction":"read","payload":"FB FF","numerator":-5,"denominator":2,"amperes":-2.5}
-B0 8D / B1 19 00 *         {"line":5,"address":"58","code":"8D","name":"READ_TEMPERATURE_1","direction":"read","payload":"19 00","numerator":25,"denominator":1,"celsius":25}
+B0 88 / B1 00 D3 *         {"line":3,"address":"58","code":"88","name":"READ_VIN","direction":"read","payload":"00 D3","numerator":768,"denominator":64,"volts":12,"assumed":true}
+B0 8C / B1 FB FF *         {"line":4,"address":"58","code":"8C","name":"READ_IOUT","direction":"read","payload":"FB FF","numerator":-5,"denominator":2,"amperes":-2.5,"assumed":true}
+B0 8D / B1 19 00 *         {"line":5,"address":"58","code":"8D","name":"READ_TEMPERATURE_1","direction":"read","payload":"19 00","numerator":25,"denominator":1,"celsius":25,"assumed":true}
 B0 01 94 *                 {"line":6,"address":"58","code":"01","name":"OPERATION","direction":"write","payload":"94","value":"on, margin low"}
 B0 01 FF *                 {"line":7,"address":"58","code":"01","name":"OPERATION","direction":"write","payload":"FF"}
 B0 10 80 34                {"line":8,"address":"58","code":"10","name":"WRITE_PROTECT","direction":"write","payload":"80","value":"writes of WRITE_PROTECT"}
@@ -875,7 +877,7 @@ B0 06 02 00 21 / B1 02 CD  {"line":13,"address":"58","code":"06","direction":"re
 B0 21 CD 34 *              {"line":14,"address":"58","code":"21","name":"VOUT_COMMAND","direction":"write","payload":"CD 34"}
 B0 19 / B1 B0 *            {"line":15,"address":"58","code":"19","name":"CAPABILITY","direction":"read","payload":"B0","value":"PEC, 400 kHz, SMBALERT#"}
 /                          {"line":16,"direction":"write","packet":"/","fault":"F1 NotOurs"}
-B0 88 / B1 FF 87 *         {"line":17,"address":"58","code":"88","name":"READ_VIN","direction":"read","payload":"FF 87","numerator":-1,"denominator":65536,"volts":-0.000016}
+B0 88 / B1 FF 87 *         {"line":17,"address":"58","code":"88","name":"READ_VIN","direction":"read","payload":"FF 87","numerator":-1,"denominator":65536,"volts":-0.000016,"assumed":true}
 B0 05 04 00 21 00 00 *     {"line":18,"address":"58","page":0,"code":"21","name":"VOUT_COMMAND","direction":"write","payload":"00 00","numerator":0,"denominator":4096,"volts":0}
 B0 06 02 01 20 / B1 01 40 *   {"line":19,"address":"58","page":1,"code":"20","name":"VOUT_MODE","direction":"read","payload":"40","value":"DIRECT"}
 B0 30 02 21 00 / B1 05 01 00 00 00 03 6B    {"line":20,"address":"58","code":"30","name":"COEFFICIENTS","of":"21","side":0,"direction":"read","payload":"01 00 00 00 03","m":1,"b":0,"r":3}
@@ -907,7 +909,7 @@ B0 FF                      {"line":9,"address":"58","code":"FF","name":"PMBUS_CO
 B0 06 02 00 EF / B1 01 60 *   {"line":10,"address":"58","page":0,"code":"EF","direction":"read","payload":"60","pec":true}
 B0 05 03 01 D4 07          {"line":11,"address":"58","page":1,"code":"D4","direction":"write","payload":"07","pec":false}
 B0 05 02 01 D4 *           {"line":12,"address":"58","page":1,"code":"D4","direction":"send","pec":true}
-B0 06 02 00 21 / B1 FF FF FF FF    {"line":13,"address":"58","code":"06","name":"PAGE_PLUS_READ","direction":"read","written":"02 00 21","payload":"FF FF FF FF","pec":false,"answered":false}
+B0 06 02 00 21 / B1 FF FF FF FF    {"line":13,"address":"58","code":"06","name":"PAGE_PLUS_READ","direction":"read","written":"02 00 21","payload":"FF FF FF FF","pec":false,"answered":null}
 B0 30 02 21 00 / B1 05 01 00 00 00 03    {"line":14,"address":"58","code":"30","name":"COEFFICIENTS","of":"21","side":0,"direction":"read","payload":"01 00 00 00 03","m":1,"b":0,"r":3,"pec":false}
 B0 99 / B1 03 4C 54 43     {"line":15,"address":"58","code":"99","name":"MFR_ID","direction":"read","payload":"03 4C 54 43","pec":false}
 = {"count":"VOUT_COMMAND","lines":1}
@@ -928,9 +930,9 @@ B0 7B / B1 81 *            {"line":2,"address":"58","code":"7B","name":"STATUS_I
 B0 7C 00 *                 {"line":3,"address":"58","code":"7C","name":"STATUS_INPUT","direction":"write","payload":"00","flags":[],"pec":true}
 B0 06 02 01 02 / B1 01 1C  {"line":4,"address":"58","page":1,"code":"02","name":"ON_OFF_CONFIG","direction":"read","payload":"1C","value":"by OPERATION and CONTROL, CONTROL active low, off with delay","pec":false}
 B0 79 / B1 02 20           {"line":5,"address":"58","code":"79","name":"STATUS_WORD","direction":"read","payload":"02 20","flags":["INPUT","CML"],"pec":false}
-B0 7D / B1 FF              {"line":6,"address":"58","code":"7D","name":"STATUS_TEMPERATURE","direction":"read","payload":"FF","flags":["OT_FAULT","OT_WARNING","UT_WARNING","UT_FAULT","bit 3","bit 2","bit 1","bit 0"],"pec":false,"answered":false}
+B0 7D / B1 FF              {"line":6,"address":"58","code":"7D","name":"STATUS_TEMPERATURE","direction":"read","payload":"FF","flags":["OT_FAULT","OT_WARNING","UT_WARNING","UT_FAULT","bit 3","bit 2","bit 1","bit 0"],"pec":false,"answered":null}
 B0 20 / B1 14              {"line":7,"address":"58","code":"20","name":"VOUT_MODE","direction":"read","payload":"14","value":"ULINEAR16 -12","pec":false}
-B0 88 / B1 00 D3           {"line":8,"address":"58","code":"88","name":"READ_VIN","direction":"read","payload":"00 D3","numerator":768,"denominator":64,"volts":12,"pec":false}
+B0 88 / B1 00 D3           {"line":8,"address":"58","code":"88","name":"READ_VIN","direction":"read","payload":"00 D3","numerator":768,"denominator":64,"volts":12,"assumed":true,"pec":false}
 B0 20 14                   {"line":9,"address":"58","code":"20","name":"VOUT_MODE","direction":"write","payload":"14","pec":false}
 """),
     ("--times --json", """
@@ -969,7 +971,7 @@ B0 88 / B1 19 00 *                        58 READ_VIN read 0019
 B0 8C / B1 19 00 *                        58 READ_IOUT read 0019
 B0 20 / B1 14 *                           58 VOUT_MODE read 14 ULINEAR16 -12
 B0 8D / B1 00 D3 *                        58 READ_TEMPERATURE_1 read D300 -11520 C
-B0 88 / B1 00 D3 *                        58 READ_VIN read D300 12 V
+B0 88 / B1 00 D3 *                        58 READ_VIN read D300 12 V?
 """),
     ("--values --readings=58:88:direct:1:0:2,88:linear11,58:8C:linear11,direct:1:0:1", """
 B0 88 / B1 B0 04 *                        58 READ_VIN read 04B0 12 V
@@ -1007,9 +1009,9 @@ B0 78 / B1 00 *                           58 page 1? STATUS_BYTE read 00 none
 B0 79 / B1 00 00 *                        58 page 1? STATUS_WORD read 0000 none
 B0 7A / B1 00 *                           58 page 1? STATUS_VOUT read 00 none
 B0 8B / B1 CD 34 *                        58 page 1? READ_VOUT read 34CD 3.300048 V
-B0 8C / B1 00 D3 *                        58 page 1? READ_IOUT read D300 12 A
-B0 88 / B1 00 D3 *                        58 page 1? READ_VIN read D300 12 V
-B0 8D / B1 00 D3 *                        58 page 1? READ_TEMPERATURE_1 read D300 12 C
+B0 8C / B1 00 D3 *                        58 page 1? READ_IOUT read D300 12 A?
+B0 88 / B1 00 D3 *                        58 page 1? READ_VIN read D300 12 V?
+B0 8D / B1 00 D3 *                        58 page 1? READ_TEMPERATURE_1 read D300 12 C?
 B0 7E / B1 00 *                           58 page 1? STATUS_CML read 00 none
 B0 10 / B1 00 *                           58 WRITE_PROTECT read 00 all writes
 B0 15 *                                   58 STORE_USER_ALL send
@@ -1053,7 +1055,7 @@ B0 21 CD 34 *                             58 page 255? VOUT_COMMAND write 34CD
 B0 00 / B1 03 *                           58 PAGE read 03
 B0 21 CD 34 *                             58 page 3? VOUT_COMMAND write 34CD
 B0 88 / B1 00                             58 read F2 Short 2
-B0 21 CD 34 *                             58 VOUT_COMMAND write 34CD
+B0 21 CD 34 *                             58 page 3? VOUT_COMMAND write 34CD
 B0 00 03 *                                58 PAGE write 03
 B2 03 47                                  59 write F5 WrongPec 2
 0E 03                                     -- write F1 NotOurs
@@ -1101,7 +1103,7 @@ B0 21 CD 34 *                             58 page 0? VOUT_COMMAND write 34CD
     ("--pages", """
 B0 00 01 *                                58 PAGE write 01
 B0 16 *                                   58 RESTORE_USER_ALL send
-B0 21 CD 34 *                             58 page 1? VOUT_COMMAND write 34CD
+B0 21 CD 34 *                             58 VOUT_COMMAND write 34CD
 B0 15 *                                   58 STORE_USER_ALL send
 B0 10 80 34                               58 WRITE_PROTECT write 80
 B0 05 04 02 21 CD 34 *                    58 page 2 VOUT_COMMAND write 34CD
@@ -1111,10 +1113,10 @@ B1                                        -- write F1 NotOurs
 /                                         -- write F1 NotOurs
 F0 00 02                                  -- write F1 NotOurs
 B2 00 02                                  59 write F2 Short 3
-B0 21 CD 34 *                             58 page 1? VOUT_COMMAND write 34CD
+B0 21 CD 34 *                             58 VOUT_COMMAND write 34CD
 B0 00 / B1 01 *                           58 PAGE read 01
 # another device
-B0 00 / B1 00 *                           58 PAGE read 00 WRONG PAGE? lines 1 and 16
+B0 00 / B1 00 *                           58 PAGE read 00
 B2 21 CD 34 *                             59 VOUT_COMMAND write 34CD WRONG PAGE? lines 12 and 17
 """),
     # Values by the output that is followed: by its VOUT_MODE, read so or by PAGE_PLUS_READ, and the COEFFICIENTS of the code.
@@ -1302,12 +1304,12 @@ B0 20 / B1 14 *                           58 page 0? VOUT_MODE read 14 ULINEAR16
 B0 21 00 10 *                             58 page 0? VOUT_COMMAND write 1000
 B0 20 / B1 14 *                           58 page 0? VOUT_MODE read 14 ULINEAR16 -12
 # no stop: B0 16
-B0 21 00 10 *                             58 page 0? VOUT_COMMAND write 1000
-B0 20 / B1 14 *                           58 page 0? VOUT_MODE read 14 ULINEAR16 -12
+B0 21 00 10 *                             58 VOUT_COMMAND write 1000
+B0 20 / B1 14 *                           58 VOUT_MODE read 14 ULINEAR16 -12
 # failed (-6): B0 20 / B1
-B0 21 00 10 *                             58 page 0? VOUT_COMMAND write 1000 1 V
+B0 21 00 10 *                             58 VOUT_COMMAND write 1000
 # no result: B0 05 03 01 20 17
-B0 21 00 10 *                             58 page 0? VOUT_COMMAND write 1000
+B0 21 00 10 *                             58 VOUT_COMMAND write 1000
 B2 05 04 00 21 00 10 *                    59 page 0 VOUT_COMMAND write 1000 1 V
 # the kernel dropped events
 B2 05 04 00 21 00 10 *                    59 page 0 VOUT_COMMAND write 1000
@@ -1327,7 +1329,7 @@ B0 00 / B1 01 *                           58 PAGE read 01 WRONG PAGE? lines 7 an
 B0 00 / B1 00 *                           58 PAGE read 00 WRONG PAGE? lines 7 and 11
 B0 00 05 *                                58 PAGE write 05
 B0 03 47                                  58 write F5 WrongPec 2
-B0 00 / B1 00 *                           58 PAGE read 00
+B0 00 / B1 00 *                           58 PAGE read 00 WRONG PAGE? lines 12 and 14
 """),
     # A page that was read contradicts no other read; of writes the last one counts.
     ("--pages", """
@@ -1345,7 +1347,7 @@ B0 00 / B1 02 *                           58 PAGE read 02
     ("--pages --all", """
 B0 00 01 *                                58 PAGE write 01
 # byte 0 of the answer wasn't acknowledged
-B0 00 / B1                                58 code 00 PAGE read, no PEC
+B0 00 / B1                                58 code 00 PAGE read, no PEC, byte 0 of the answer not acknowledged
 # no device acknowledged the address: B1
 B0 21 CD 34 *                             58 page 1? VOUT_COMMAND write 34CD WRONG PAGE? lines 3 and 5
 B0 00 / B1 00 !                           58 read F5 WrongPec 2
@@ -1360,8 +1362,8 @@ B0 21 CD 34 *                             58 VOUT_COMMAND write 34CD
 10 00 02 *                                08 PAGE write 02
 10 06 02 07 15 / 11 00                    08 page 7 code 15 STORE_USER_ALL read, no PEC
 10 21 CD 34 *                             08 page 2? VOUT_COMMAND write 34CD
-10 96 / 11                                08 code 96 READ_POUT read, no PEC
-10 21 CD 34 *                             08 VOUT_COMMAND write 34CD
+10 96 / 11                                08 page 2? code 96 READ_POUT read, no PEC
+10 21 CD 34 *                             08 page 2? VOUT_COMMAND write 34CD
 """),
     # PAGE selects an output for all codes but some, also for those that are told by their code and bytes.
     ("--pages --all --values", """
@@ -1405,7 +1407,7 @@ B0 22 00 02                               58 code 22 VOUT_TRIM write 00 02, no P
 B0 D0 02                                  58 code D0 write 02, no PEC WRONG PAGE? lines 35 and 38
 B0 AE / B1 01 31                          58 code AE IC_DEVICE_REV read 01 31 "1", no PEC
 B0 00 00                                  58 PAGE write 00, no PEC
-B0 96 / B1 FF FF                          58 code 96 READ_POUT read FF FF, all ones: nobody answered
+B0 96 / B1 FF FF                          58 page 0? code 96 READ_POUT read FF FF, all ones: nobody answered
 """),
     ("--pages --all --json", """
 B0 00 01                   {"line":1,"address":"58","code":"00","name":"PAGE","direction":"write","payload":"01","pec":false}
@@ -1426,12 +1428,12 @@ B0 00 02 *                                58 PAGE write 02
 B0 21 00 30 *                             58 page 2? VOUT_COMMAND write 3000
 # failed (1 of 2): B2 00 / B3
 B0 21 00 30 *                             58 page 2? VOUT_COMMAND write 3000
-B2 21 00 30 *                             59 VOUT_COMMAND write 3000 WRONG PAGE? lines 9 and 11
+B2 21 00 30 *                             59 VOUT_COMMAND write 3000
 # a read alone: 19 B0
 B0 21 00 30 *                             58 page 2? VOUT_COMMAND write 3000
-B2 21 00 30 *                             59 VOUT_COMMAND write 3000 WRONG PAGE? lines 9 and 14
+B2 21 00 30 *                             59 VOUT_COMMAND write 3000
 # a read alone: B3 00
-B2 21 00 30 *                             59 VOUT_COMMAND write 3000 WRONG PAGE? lines 9 and 16
+B2 21 00 30 *                             59 VOUT_COMMAND write 3000
 # no stop: b2 05
 B0 21 00 30 *                             58 page 2? VOUT_COMMAND write 3000
 # no stop: B0 05 04
@@ -1484,11 +1486,11 @@ B0 03 *                                   58 page 2? CLEAR_FAULTS send
     ("--pages", """
 B0 00 01 *                                58 PAGE write 01
 # byte 2 wasn't acknowledged
-B0 00 02 *                                58 PAGE write 02
+B0 00 02 *                                58 PAGE write 02, byte 2 not acknowledged
 B0 21 CD 34 *                             58 VOUT_COMMAND write 34CD WRONG PAGE? lines 3 and 4
 B0 00 02 *                                58 PAGE write 02
 # byte 2 wasn't acknowledged
-B0 21 CD 34 *                             58 page 2? VOUT_COMMAND write 34CD
+B0 21 CD 34 *                             58 page 2? VOUT_COMMAND write 34CD, byte 2 not acknowledged
 B0 00 02 *                                58 PAGE write 02
 B0 21 CD 34 *                             58 page 2? VOUT_COMMAND write 34CD
 """),
@@ -1496,24 +1498,24 @@ B0 21 CD 34 *                             58 page 2? VOUT_COMMAND write 34CD
     ("--pages", """
 # byte 2 wasn't acknowledged
 # byte 0 of the answer wasn't acknowledged
-B0 00 02 *                                58 PAGE write 02
-B0 03 *                                   58 CLEAR_FAULTS send WRONG PAGE? lines 3 and 4
+B0 00 02 *                                58 PAGE write 02, byte 2 not acknowledged
+B0 03 *                                   58 CLEAR_FAULTS send
 # byte 2 wasn't acknowledged
-B2 03 *                                   59 CLEAR_FAULTS send
+B2 03 *                                   59 CLEAR_FAULTS send, byte 2 not acknowledged
 B0 00 02 *                                58 PAGE write 02
 B0 03 *                                   58 page 2? CLEAR_FAULTS send
 # byte 1 wasn't acknowledged
-0E 03                                     -- write F1 NotOurs
+0E 03                                     -- write F1 NotOurs, byte 1 not acknowledged
 B0 00 01 *                                58 PAGE write 01
 B0 03 *                                   58 page 1? CLEAR_FAULTS send
 # byte 0 of the answer wasn't acknowledged
-B0 00 / B1 01 *                           58 PAGE read 01
+B0 00 / B1 01 *                           58 PAGE read 01, byte 0 of the answer not acknowledged
 B0 03 *                                   58 page 1? CLEAR_FAULTS send WRONG PAGE? lines 14 and 15
 B0 00 / B1 00 *                           58 PAGE read 00 WRONG PAGE? lines 11 and 16
 B0 03 *                                   58 page 0? CLEAR_FAULTS send
 # byte 2 wasn't acknowledged
 # no stop: B0 00 01
-B0 00 01 *                                58 PAGE write 01
+B0 00 01 *                                58 PAGE write 01, byte 2 not acknowledged
 B0 03 *                                   58 CLEAR_FAULTS send WRONG PAGE? lines 20 and 21
 #byte 2 wasn't acknowledged
 B0 00 01 *                                58 PAGE write 01
@@ -1521,11 +1523,11 @@ B0 03 *                                   58 page 1? CLEAR_FAULTS send
 # byte 2 wasn't acknowledged
 B0 9                                      X2 BadHex
 B0 00 01 *                                58 PAGE write 01
-B0 03 *                                   58 CLEAR_FAULTS send WRONG PAGE? lines 27 and 28
+B0 03 *                                   58 page 1? CLEAR_FAULTS send
 B0 00 / B1 01 *                           58 PAGE read 01
 B0 03 *                                   58 page 1? CLEAR_FAULTS send
 # byte 2 wasn't acknowledged
-B0 05 04 00 21 CD 34 *                    58 page 0 VOUT_COMMAND write 34CD
+B0 05 04 00 21 CD 34 *                    58 page 0 VOUT_COMMAND write 34CD, byte 2 not acknowledged
 B0 03 *                                   58 page 1? CLEAR_FAULTS send
 """),
     # Answers of ones: one that was written, one of an address that never sent a right PEC, which keeps the page and teaches
@@ -1553,21 +1555,21 @@ B0 24 FF FF *                             58 page 1? VOUT_MAX write FFFF 15.9997
 B0 24 / B1 FF FF                          58 page 1? VOUT_MAX read FFFF 15.999755 V, no PEC
 B2 8B / B3 FF FF                          59 READ_VOUT read FFFF, all ones: nobody answered?
 B0 24 00 10 !                             58 write F5 WrongPec 4 bytes B0 24 00 10 !
-B0 24 / B1 FF FF                          58 VOUT_MAX read FFFF, no PEC
-B0 00 01                                  58 PAGE write 01, no PEC
-B0 88 / B1 00 D3 *                        58 page 1? READ_VIN read D300 12 V
 B0 24 / B1 FF FF                          58 page 1? VOUT_MAX read FFFF 15.999755 V, no PEC
-B0 8B / B1 FF FF                          58 code 8B READ_VOUT read FF FF, all ones: nobody answered
-B0 8B / B1 00 10                          58 READ_VOUT read 1000, no PEC
+B0 00 01                                  58 PAGE write 01, no PEC
+B0 88 / B1 00 D3 *                        58 page 1? READ_VIN read D300 12 V?
+B0 24 / B1 FF FF                          58 page 1? VOUT_MAX read FFFF 15.999755 V, no PEC
+B0 8B / B1 FF FF                          58 page 1? READ_VOUT read FFFF 15.999755 V, all ones: nobody answered?
+B0 8B / B1 00 10                          58 page 1? READ_VOUT read 1000 1 V, no PEC
 B2 00 01                                  59 PAGE write 01, no PEC
 B2 96 / B3 34 12 *                        59 page 1? code 96 READ_POUT read 34 12, PEC right
-B2 96 / B3 FF FF                          59 code 96 READ_POUT read FF FF, all ones: nobody answered
+B2 96 / B3 FF FF                          59 page 1? code 96 READ_POUT read FF FF, all ones: nobody answered?
 """),
     ("--all --json", """
 B0 79 / B1 FF FF      {"line":1,"address":"58","code":"79","name":"STATUS_WORD","direction":"read","payload":"FF FF","pec":false,"answered":null}
 B0 D4 / B1 FF         {"line":2,"address":"58","code":"D4","direction":"read","payload":"FF","pec":false,"answered":null}
 B0 88 / B1 00 D3 *    {"line":3,"address":"58","code":"88","name":"READ_VIN","direction":"read","payload":"00 D3"}
-B0 79 / B1 FF FF      {"line":4,"address":"58","code":"79","name":"STATUS_WORD","direction":"read","payload":"FF FF","pec":false,"answered":false}
+B0 79 / B1 FF FF      {"line":4,"address":"58","code":"79","name":"STATUS_WORD","direction":"read","payload":"FF FF","pec":false,"answered":null}
 """),
     # With `--all`: what stays a fault, what nobody answered, what PAGE_PLUS carries, and a packet of PAGE of another length.
     ("--pages --all", """
@@ -1581,7 +1583,7 @@ B0 78 / B1 FF *                           58 page 1? STATUS_BYTE read FF
 B2 96 / B3 FF                             59 code 96 READ_POUT read FF, all ones: nobody answered?
 B0 21 00 02                               58 page 1? VOUT_COMMAND write 0200, no PEC
 B0 03 47                                  58 write F5 WrongPec 2
-B0 21 00 02                               58 VOUT_COMMAND write 0200, no PEC
+B0 21 00 02                               58 page 1? VOUT_COMMAND write 0200, no PEC
 B0 00 01 !                                58 write F5 WrongPec 3
 B0 21 00 02                               58 VOUT_COMMAND write 0200, no PEC WRONG PAGE? lines 12 and 13
 B0 00 01 *                                58 PAGE write 01
@@ -1629,7 +1631,7 @@ B0 00 01                   {"line":1,"address":"58","code":"00","name":"PAGE","d
 B0 21 00 02 *              {"line":2,"address":"58","page":1,"followed":true,"code":"21","name":"VOUT_COMMAND","direction":"write","payload":"00 02"}
 B0 21 00 02                {"line":3,"address":"58","page":1,"followed":true,"code":"21","name":"VOUT_COMMAND","direction":"write","payload":"00 02","pec":false}
 B0 00 / B1 00 *            {"line":4,"address":"58","code":"00","name":"PAGE","direction":"read","payload":"00","wrong":[1,4]}
-B0 00 / B1 FF              {"line":5,"address":"58","code":"00","name":"PAGE","direction":"read","payload":"FF","pec":false,"answered":false}
+B0 00 / B1 FF              {"line":5,"address":"58","code":"00","name":"PAGE","direction":"read","payload":"FF","pec":false,"answered":null}
 B0 03                      {"line":6,"address":"58","page":0,"followed":true,"code":"03","name":"CLEAR_FAULTS","direction":"send","pec":false,"wrong":[5,6]}
 B0 05 02 00 03 *           {"line":7,"address":"58","page":0,"code":"03","name":"CLEAR_FAULTS","direction":"send"}
 """),
@@ -1643,7 +1645,7 @@ B0 00 / B1 00 *            {"line":6,"address":"58","code":"00","name":"PAGE","d
 B0 00 02 !                 {"line":7,"address":"58","code":"00","direction":"write","packet":"B0 00 02 !","fault":"F5 WrongPec","place":3}
 B0 21 CD 34 *              {"line":8,"address":"58","code":"21","name":"VOUT_COMMAND","direction":"write","payload":"CD 34","wrong":[7,8]}
 B0 7A / B1 10 *            {"line":9,"address":"58","code":"7A","name":"STATUS_VOUT","direction":"read","payload":"10","flags":["VOUT_UV_FAULT"],"wrong":[7,9]}
-B0 88 / B1 00 D3 *         {"line":10,"address":"58","code":"88","name":"READ_VIN","direction":"read","payload":"00 D3","numerator":768,"denominator":64,"volts":12,"wrong":[7,10]}
+B0 88 / B1 00 D3 *         {"line":10,"address":"58","code":"88","name":"READ_VIN","direction":"read","payload":"00 D3","numerator":768,"denominator":64,"volts":12,"assumed":true,"wrong":[7,10]}
 B0 05 04 01 21 CD 34 *     {"line":11,"address":"58","page":1,"code":"21","name":"VOUT_COMMAND","direction":"write","payload":"CD 34","numerator":13517,"denominator":4096,"volts":3.300048}
 B0 9                       {"line":12,"fault":"X2 BadHex"}
 B0 00 FF *                 {"line":13,"address":"58","code":"00","name":"PAGE","direction":"write","payload":"FF"}
@@ -1743,7 +1745,7 @@ B0 96 / B1 34 12                          58 page 1? code 96 READ_POUT read 34 1
 # A byte of PAGE isn't acknowledged, and an order follows.
 B0 00 00 *                                58 PAGE write 00
 # byte 2 wasn't acknowledged
-B0 00 01                                  58 PAGE write 01, no PEC
+B0 00 01                                  58 PAGE write 01, no PEC, byte 2 not acknowledged
 B0 21 00 10 *                             58 VOUT_COMMAND write 1000 WRONG PAGE? lines 4 and 5
 
 # The same as the kernel shows it.
@@ -1785,7 +1787,7 @@ B0 24 / B1 FF FF                          58 page 255? VOUT_MAX read FFFF, all o
 # One output, and no PAGE.
 B0 20 / B1 17 *                           58 VOUT_MODE read 17 ULINEAR16 -9
 B0 8B / B1 66 02 *                        58 READ_VOUT read 0266 1.199218 V
-B0 88 / B1 00 D3 *                        58 READ_VIN read D300 12 V
+B0 88 / B1 00 D3 *                        58 READ_VIN read D300 12 V?
 
 # A wrong PEC of PAGE.
 B0 00 01 !                                58 write F5 WrongPec 3 bytes B0 00 01 !
@@ -1812,7 +1814,7 @@ B0 21 00 10 *                             58 page 1? VOUT_COMMAND write 1000
 # PAGE isn't acknowledged, and a limit and a trim follow.
 B0 00 00 *                                58 PAGE write 00
 # byte 1 wasn't acknowledged
-B0 00                                     58 code 00 PAGE send, no PEC
+B0 00                                     58 code 00 PAGE send, no PEC, byte 1 not acknowledged
 B0 40 00 02 *                             58 code 40 VOUT_OV_FAULT_LIMIT write 00 02, PEC right WRONG PAGE? lines 4 and 5
 B0 22 10 00 *                             58 code 22 VOUT_TRIM write 10 00, PEC right WRONG PAGE? lines 4 and 6
 
@@ -1886,8 +1888,8 @@ B0 96 / B1 34 12                          58 write F6 UnknownCode 1
 """),
     ("--times --values --all", """
 1 B0 20 / B1 14 *                         1 us 58 VOUT_MODE read 14 ULINEAR16 -12
-1 B0 88 / B1 00 D3 *                      1 us 58 READ_VIN read D300 12 V
-2 B0 88 / B1 00 D3                        2 us 58 READ_VIN read D300 12 V, no PEC
+1 B0 88 / B1 00 D3 *                      1 us 58 READ_VIN read D300 12 V?
+2 B0 88 / B1 00 D3                        2 us 58 READ_VIN read D300 12 V?, no PEC
 3 B0 88 / B1 00 D3 !                      3 us 58 read F5 WrongPec 3 bytes B0 88 / B1 00 D3 !
 = count VOUT_MODE 1
 = count READ_VIN 2
@@ -1895,7 +1897,201 @@ B0 96 / B1 34 12                          58 write F6 UnknownCode 1
 """),
 ]
 
-GROUPS = [("--values", VALUES), ("--values", TAUGHT), *VOUT, *READINGS, ("--values", FAULTS), ("--all", ALL),
+# What ends what is known, on lines and in comments alike, and what was refused.
+RECEIVED = [("--all --pages --values", """
+# A refused packet isn't done, and has no value.
+B0 20 / B1 14 *                           58 VOUT_MODE read 14 ULINEAR16 -12
+B0 21 00 10 *                             58 VOUT_COMMAND write 1000 1 V
+# byte 3 wasn't acknowledged
+B0 21 00 30 *                             58 VOUT_COMMAND write 3000, byte 3 not acknowledged
+B0 21 00 10 *                             58 VOUT_COMMAND write 1000 1 V
+# byte 2 wasn't acknowledged
+B0 7A 80                                  58 STATUS_VOUT write 80, no PEC, byte 2 not acknowledged
+# byte order is little, says a person
+B0 7A 80                                  58 STATUS_VOUT write 80 VOUT_OV_FAULT, no PEC
+= count VOUT_MODE 1
+= count VOUT_COMMAND 2
+= count STATUS_VOUT 1
+= lines 6 accepted 4 other 0 faults 0 refused 2 bad 0
+
+# What was refused isn't what was written last.
+B0 00 01                                  58 PAGE write 01, no PEC
+# byte 2 wasn't acknowledged
+B0 00 FF                                  58 PAGE write FF, no PEC, byte 2 not acknowledged
+B0 00 / B1 FF                             58 PAGE read FF, all ones: nobody answered?
+B0 21 00 10 *                             58 VOUT_COMMAND write 1000 WRONG PAGE? lines 5 and 6
+
+# A write of PAGE that WRITE_PROTECT forbids changes nothing.
+B0 00 00 *                                58 PAGE write 00
+B0 20 / B1 14 *                           58 page 0? VOUT_MODE read 14 ULINEAR16 -12
+B0 00 01 *                                58 PAGE write 01
+B0 20 / B1 17 *                           58 page 1? VOUT_MODE read 17 ULINEAR16 -9
+B0 00 00 *                                58 PAGE write 00
+B0 10 80 *                                58 WRITE_PROTECT write 80 writes of WRITE_PROTECT
+B0 10 / B1 80 *                           58 WRITE_PROTECT read 80 writes of WRITE_PROTECT
+B0 00 01 *                                58 PAGE write 01, WRITE_PROTECT forbids it
+B0 8B / B1 00 10 *                        58 page 0? READ_VOUT read 1000 1 V
+B0 10 40 *                                58 WRITE_PROTECT write 40 writes of WRITE_PROTECT, OPERATION and PAGE
+B0 00 01 *                                58 PAGE write 01
+B0 8B / B1 00 10 *                        58 page 1? READ_VOUT read 1000 8 V
+
+# A part without PAGE that is asked once for it has no marks, and its values.
+# failed (-6): B0 00 / B1
+B0 20 / B1 14 *                           58 VOUT_MODE read 14 ULINEAR16 -12
+B0 8B / B1 00 10 *                        58 READ_VOUT read 1000 1 V
+B0 06 02 00 20                            58 code 06 PAGE_PLUS_READ write 02 00 20, no PEC
+B0 06 02 00 20 / B1                       58 code 06 PAGE_PLUS_READ write 02 00 20 read, no PEC
+B0 8B / B1 00 10 *                        58 READ_VOUT read 1000 1 V
+
+# The same on the wire.
+# byte 0 of the answer wasn't acknowledged
+B0 00 / B1                                58 code 00 PAGE read, no PEC, byte 0 of the answer not acknowledged
+B0 20 / B1 14 *                           58 VOUT_MODE read 14 ULINEAR16 -12
+B0 8B / B1 00 10 *                        58 READ_VOUT read 1000 1 V
+
+# An answer of another code that nobody gives, on the wire: the part may have restarted.
+B0 00 01 *                                58 PAGE write 01
+B0 8B / B1 00 10 *                        58 page 1? READ_VOUT read 1000
+# byte 0 of the answer wasn't acknowledged
+B0 8B / B1                                58 code 8B READ_VOUT read, no PEC, byte 0 of the answer not acknowledged
+B0 8B / B1 00 10 *                        58 READ_VOUT read 1000
+
+# The same as the kernel shows it.
+B0 00 01 *                                58 PAGE write 01
+B0 8B / B1 00 10 *                        58 page 1? READ_VOUT read 1000
+# failed (-6): B0 8B / B1
+B0 8B / B1 00 10 *                        58 READ_VOUT read 1000
+
+# A code that the address never answered ends nothing.
+B0 00 01 *                                58 PAGE write 01
+# failed (-6): B0 8B / B1
+B0 96 / B1                                58 page 1? code 96 READ_POUT read, no PEC
+B0 8B / B1 00 10 *                        58 page 1? READ_VOUT read 1000
+
+# A busy part ends nothing, nor does a wrong PEC of another code.
+B0 00 01 *                                58 PAGE write 01
+B0 21 00 10 *                             58 page 1? VOUT_COMMAND write 1000
+# failed (-6): B0 21 00 10 C0
+# no device acknowledged the address: B0
+B0 21 00 10 !                             58 write F5 WrongPec 4 bytes B0 21 00 10 !
+B0 21 00 10 *                             58 page 1? VOUT_COMMAND write 1000
+
+# RESTORE may write PAGE, and VOUT_MODE.
+B0 00 01 *                                58 PAGE write 01
+B0 20 / B1 17 *                           58 page 1? VOUT_MODE read 17 ULINEAR16 -9
+B0 05 02 00 16 *                          58 page 0 RESTORE_USER_ALL send
+B0 21 00 10 *                             58 VOUT_COMMAND write 1000
+
+# A lost answer ends formats of a part whose VOUT_MODE was written, and of no other.
+B0 00 01 *                                58 PAGE write 01
+B0 20 / B1 17 *                           58 page 1? VOUT_MODE read 17 ULINEAR16 -9
+B0 20 / B1                                58 code 20 VOUT_MODE read, no PEC
+B0 00 01 *                                58 PAGE write 01
+B0 21 00 10 *                             58 page 1? VOUT_COMMAND write 1000 8 V
+B0 20 17 *                                58 page 1? code 20 VOUT_MODE write 17, PEC right
+B0 20 / B1 17 *                           58 page 1? VOUT_MODE read 17 ULINEAR16 -9
+B0 20 / B1                                58 code 20 VOUT_MODE read, no PEC
+B0 00 01 *                                58 PAGE write 01
+B0 21 00 10 *                             58 page 1? VOUT_COMMAND write 1000
+
+# A general call, and a write to a zone, are for all parts.
+B0 00 01 *                                58 PAGE write 01
+B0 20 / B1 17 *                           58 page 1? VOUT_MODE read 17 ULINEAR16 -9
+6E 96                                     37 code 96 READ_POUT send, no PEC
+B0 21 00 10 *                             58 page 1? VOUT_COMMAND write 1000 8 V
+6E 00 01                                  37 PAGE write 01, no PEC
+B0 21 00 10 *                             58 VOUT_COMMAND write 1000
+
+# One answer of another code ends by chance in its PEC: the part sends none.
+B0 D0 / B1 12 93                          58 code D0 read 12, PEC right
+B0 80 / B1 FF                             58 code 80 STATUS_MFR_SPECIFIC read FF bit 7, bit 6, bit 5, bit 4, bit 3, bit 2, bit 1, bit 0, all ones: nobody answered?
+
+# Another host reads without PEC.
+B0 8B / B1 00 10 *                        58 READ_VOUT read 1000
+B0 24 / B1 FF FF                          58 VOUT_MAX read FFFF, all ones: nobody answered?
+B0 7B / B1 FF                             58 code 7B STATUS_IOUT read FF, all ones: nobody answered
+
+# PAGE_PLUS_WRITE writes the code that it carries.
+B0 8B / B1 00 10 *                        58 READ_VOUT read 1000
+B0 05 04 00 25 FF FF *                    58 page 0 VOUT_MARGIN_HIGH write FFFF
+B0 25 / B1 FF FF                          58 VOUT_MARGIN_HIGH read FFFF, no PEC
+B0 05 04 00 25 00 10 *                    58 page 0 VOUT_MARGIN_HIGH write 1000
+B0 25 / B1 FF FF FF                       58 code 25 VOUT_MARGIN_HIGH read FF FF FF, all ones: nobody answered
+"""), ("--all --values", """
+# Without pages comments count too.
+B0 20 / B1 14 *                           58 VOUT_MODE read 14 ULINEAR16 -12
+# failed (-110): B0 00 01 ED
+B0 21 00 10 *                             58 VOUT_COMMAND write 1000
+
+B0 20 / B1 14 *                           58 VOUT_MODE read 14 ULINEAR16 -12
+# byte 3 wasn't acknowledged
+B0 00 01 *                                58 PAGE write 01, byte 3 not acknowledged
+B0 21 00 10 *                             58 VOUT_COMMAND write 1000
+? line 3 writes PAGE: --pages shows which output each packet reaches
+
+B0 20 / B1 14 *                           58 VOUT_MODE read 14 ULINEAR16 -12
+# the kernel dropped events
+B0 21 00 10 *                             58 VOUT_COMMAND write 1000
+
+# A reading whose format nobody taught is marked; one that an option gives isn't.
+B0 8C / B1 00 D3 *                        58 READ_IOUT read D300
+B0 20 / B1 14 *                           58 VOUT_MODE read 14 ULINEAR16 -12
+B0 8C / B1 00 D3 *                        58 READ_IOUT read D300 12 A?
+"""), ("--all --values --readings=8C:linear11", """
+B0 20 / B1 14 *                           58 VOUT_MODE read 14 ULINEAR16 -12
+B0 8C / B1 00 D3 *                        58 READ_IOUT read D300 12 A
+B0 88 / B1 00 D3 *                        58 READ_VIN read D300 12 V?
+"""), ("--all --values --pages", """
+# PHASE selects what a reading is of.
+B0 00 00 *                                58 PAGE write 00
+B0 20 / B1 14 *                           58 page 0? VOUT_MODE read 14 ULINEAR16 -12
+B0 04 01 *                                58 page 0? code 04 PHASE write 01, PEC right
+B0 8C / B1 10 CA *                        58 page 0? READ_IOUT read CA10 4.125 A?, phase 1
+B0 96 / B1 10 CA                          58 page 0? code 96 READ_POUT read 10 CA, no PEC, phase 1
+B0 06 02 00 8C / B1 02 10 CA *            58 page 0 READ_IOUT read CA10 4.125 A?
+B0 21 00 10 *                             58 page 0? VOUT_COMMAND write 1000 1 V
+B0 04 FF *                                58 page 0? code 04 PHASE write FF, PEC right
+B0 8C / B1 10 CA *                        58 page 0? READ_IOUT read CA10 4.125 A?
+B0 04 02                                  58 page 0? code 04 PHASE write 02, no PEC
+B0 04 03 !                                58 page 0? code 04 PHASE write 03 !, no PEC
+B0 8C / B1 10 CA *                        58 page 0? READ_IOUT read CA10 4.125 A?, phase 3
+B0 16 *                                   58 RESTORE_USER_ALL send
+B0 8C / B1 10 CA *                        58 READ_IOUT read CA10 4.125 A?
+"""), ("--all --values --pages --json", """
+B0 04 01 *                                {"line":1,"address":"58","code":"04","name":"PHASE","direction":"write","payload":"01","pec":true}
+B0 20 / B1 14 *                           {"line":2,"address":"58","code":"20","name":"VOUT_MODE","direction":"read","payload":"14","value":"ULINEAR16 -12"}
+B0 8C / B1 10 CA *                        {"line":3,"address":"58","code":"8C","name":"READ_IOUT","direction":"read","payload":"10 CA","numerator":528,"denominator":128,"amperes":4.125,"assumed":true,"phase":1}
+"""), ("--values", """
+# A write to a zone is for all parts, whatever option is given.
+B0 20 / B1 14 *                           58 VOUT_MODE read 14 ULINEAR16 -12
+6E 16 *                                   37 RESTORE_USER_ALL send
+B0 21 00 10 *                             58 VOUT_COMMAND write 1000
+
+# A hint names what is missing.
+B0 20 / B1 14 *                           58 VOUT_MODE read 14 ULINEAR16 -12
+B0 00 01 *                                58 PAGE write 01
+B0 8B / B1 00 10 *                        58 READ_VOUT read 1000
+? line 3 writes PAGE: --pages shows which output each packet reaches
+"""), ("--json --values --pages", """
+B0 20 / B1 14 *                           {"line":1,"address":"58","code":"20","name":"VOUT_MODE","direction":"read","payload":"14","value":"ULINEAR16 -12"}
+# byte 3 wasn't acknowledged
+B0 21 00 30 *                             {"line":3,"address":"58","code":"21","name":"VOUT_COMMAND","direction":"write","payload":"00 30","refused_at":3}
+# byte 0 of the answer wasn't acknowledged
+B0 21 / B1                                {"line":5,"address":"58","code":"21","direction":"read","packet":"B0 21 / B1","fault":"F2 Short","place":1,"refused_at":2}
+B0 10 80 *                                {"line":6,"address":"58","code":"10","name":"WRITE_PROTECT","direction":"write","payload":"80","value":"writes of WRITE_PROTECT"}
+B0 00 01 *                                {"line":7,"address":"58","code":"00","name":"PAGE","direction":"write","payload":"01","forbidden":true}
+= {"count":"VOUT_MODE","lines":1}
+= {"count":"WRITE_PROTECT","lines":1}
+= {"count":"PAGE","lines":1}
+= {"lines":5,"accepted":3,"faults":0,"refused":2,"bad":0}
+"""), ("--times", """
+# With any option a refused packet is shown so.
+# byte 1 wasn't acknowledged
+5 B0 03 *                                 5 us 58 CLEAR_FAULTS send, byte 1 not acknowledged
+= lines 1 accepted 0 faults 0 refused 1 bad 0
+""")]
+
+GROUPS = [*RECEIVED, ("--values", VALUES), ("--values", TAUGHT), *VOUT, *READINGS, ("--values", FAULTS), ("--all", ALL),
           ("--all --values", WORDS), ("--times", TIMES), *JSON, *PAGES, *TRACES, *EACH]
 
 # Texts as bytes, the options, and the whole answer: ends of lines, skipped lines, the longest parts.

@@ -6,8 +6,9 @@ each with a format of its own, and a host that keeps its page, as a capture of t
 
 A row of the table is a kind of capture, a kind of fault, and whether the host reads PAGE back: LIVES lives (60) of 40 jobs, each
 packet hit by the fault with four in a hundred. Half of the hosts go on after a failed select. Some jobs write VOUT_MODE or send
-RESTORE_USER_ALL. Each life begins with a select that no fault hits, since a capture says nothing of PAGE before one. A `wrong` packet reached another output than was meant: it is unmarked if it has neither a mark nor the page that
-it reached. It passes where no row of a fault that a capture shows has a false page, an unmarked false value or an unmarked wrong
+RESTORE_USER_ALL. Each life begins with a select that no fault hits, and after RESTORE comes another, since a capture says nothing of
+PAGE before one. A `wrong` packet reached another output than was meant: it is unmarked if it has neither a mark nor the page that it
+reached. It passes where no row of a fault that a capture shows has a false page, an unmarked false value or an unmarked wrong
 packet; where an answer is lost because the part restarted, at most three false pages come on a hundred packets.
 """
 import os
@@ -49,8 +50,7 @@ class Life:
         self.page, self.modes = 0, [*MODES]
         self.kept, self.goes_on = None, dice.random() < 0.5
         self.lines, self.facts, self.begun = [], [], False
-        self.select(0)
-        self.begun = True
+        self.select_surely(0)
 
     def line(self, text, fact=None):
         self.lines.append(text)
@@ -151,6 +151,12 @@ class Life:
         self.kept = output if is_done or self.goes_on else None
         return is_done or self.goes_on
 
+    def select_surely(self, output):
+        """A select that no fault hits."""
+        self.begun, self.kept = False, None
+        self.select(output)
+        self.begun = True
+
     def job(self):
         output, kind = self.dice.randrange(OUTPUTS), self.dice.random()
         if not self.select(output):
@@ -161,6 +167,7 @@ class Life:
             self.write(VOUT_MODE, [self.dice.choice(MODES)], output)
         elif kind < 0.16:
             self.write(RESTORE, [], output)
+            self.select_surely(output)
         elif kind < 0.4:
             self.read(0x8B, lambda: [0x00, 0x10], output)
         else:

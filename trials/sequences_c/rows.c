@@ -165,7 +165,7 @@ static pm_sequence_step step_of(uint8_t host, uint8_t output, uint8_t looks) {
     return step;
 }
 
-static pm_sequence_step sets(uint8_t host, uint8_t output, int64_t microvolts, uint8_t looks) {
+static pm_sequence_step sets(uint8_t host, uint8_t output, int32_t microvolts, uint8_t looks) {
     pm_sequence_step step = step_of(host, output, looks);
     step.kind = 1;
     step.command.kind = 2;
@@ -191,7 +191,7 @@ typedef struct {
     uint16_t limit;
     int is_dead, trips, gone_after;
     uint8_t looks, lacks, fault_limits;
-    int64_t microvolts;
+    int32_t microvolts;
     uint8_t kind, verdict, code, fault, found;
     int frames, writes;
 } set;

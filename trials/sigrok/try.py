@@ -155,7 +155,9 @@ def drawn_faults():
         if {*options.split()} & {"--json", "--times", "--pages"} or "--values" not in options or re.search("--vout=([0-7]|[^ ]*,)", options):
             continue
         for rows in traces(text):
-            yield from drawn_fault(options, rows)
+            # What a comment says isn't drawn.
+            if not any(row.startswith(("# byte ", "# failed", "# the kernel")) for row in rows):
+                yield from drawn_fault(options, rows)
 
 
 def is_on_bus(said, parts):

@@ -80,7 +80,7 @@ static uint16_t plain_word(const pm_sequence_wish *wish, uint16_t was, int round
     if (wish->kind == PM_WORD)
         return wish->word;
     /* ULINEAR16 with exponent -12: 4096 words a volt. The nearest, or rounded down (max) or up (min) */
-    scaled = wish->microvolts * 4096;
+    scaled = (int64_t)wish->microvolts * 4096;
     if (rounds == 0)
         return (uint16_t)((2 * scaled + step - (2 * scaled % (2 * step) == step ? 1 : 0)) / (2 * step));
     return (uint16_t)(rounds < 0 ? scaled / step : (scaled + step - 1) / step);
@@ -161,7 +161,7 @@ static void draw_wish(pm_sequence_wish *wish, uint16_t from, uint16_t to) {
     if (kind == PM_WORD)
         wish->word = (uint16_t)(from + draw((unsigned)(to - from)));
     if (kind == PM_MICROVOLTS)
-        wish->microvolts = ((int64_t)from + draw((unsigned)(to - from))) * 1000000 / 4096 + draw(200);
+        wish->microvolts = (int32_t)(((int64_t)from + draw((unsigned)(to - from))) * 1000000 / 4096 + draw(200));
 }
 
 static void draw_step(pm_sequence_step *step, int parts) {

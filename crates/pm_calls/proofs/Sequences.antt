@@ -1,6 +1,6 @@
 -- What a sequence in memory hands out and hears.
 use Rattle.std.proofs.Common.{◌≡◌, ℕ, List, Bool, true, false, Option, Some, None, Ok, Err, refl, sym, subst}
-use Rattle.std.specs.Prelude.{is_none, length}
+use Rattle.std.specs.Prelude.{is_none, is_some, length}
 use Rattle.pm_host.specs.declared.fault.Untold.{Untold}
 use Rattle.pm_host.specs.declared.fault.Untold.TheVariants.{NothingSent}
 use Rattle.pm_host.specs.declared.host.Told.{Told as Told_}
@@ -64,6 +64,15 @@ pub restart-at : (g : Guarded) (at : Stage) (told : Told_) → g.host.stage ≡ 
     surprises g.host at (entry_told told) ≡ shows_restart g (entry_told told)
 restart-at g at (Finished acked) is = refl
 restart-at g at (Got bytes) is = rw is refl
+
+-- whether there is a course whose job was named last
+pub none-open : (o : Option FrameCourse) → is_some o ≡ false → o ≡ None
+none-open None is = refl
+none-open (Some named) is = cc
+
+pub some-open : (o : Option FrameCourse) → is_some o ≡ true → is_none o ≡ false
+some-open None is = cc
+some-open (Some named) is = refl
 
 -- nothing is heard where no course hears it
 pub record Unheard (g : Guarded) (q : Sequence) (entry : Entry) : Type 0 where

@@ -57,7 +57,7 @@ placed_in i = if not (nat_lt i.output 8) then Err (host_fault_number UnknownOutp
 
 -- a step in words, as it is written
 abbrev pub word_image : Option ℕ → StepWishImage
-word_image word = record { kind = flag (is_some word); word = unwrap_or word 0; unused = 0; microvolts = pos 0 }
+word_image word = record { kind = flag (is_some word); word = unwrap_or word 0; microvolts = pos 0 }
 
 abbrev pub step_numbers : ℕ → ℕ → ℕ → ℕ → Wanted → PlacedImage
 step_numbers host output kind byte wanted = record {

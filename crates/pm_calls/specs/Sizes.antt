@@ -48,9 +48,9 @@ heard_size = 2 + word_size
 abbrev pub delivery_size : ℕ
 delivery_size = 2 * word_size + 4 + 3 * word_size + 13 * heard_size
 
--- what a step does: eight bytes, and five wishes of two words, four bytes of no meaning and eight of a voltage
+-- what a step does: eight bytes, and five wishes of two words and four bytes of a voltage
 abbrev pub placed_size : ℕ
-placed_size = 8 + 5 * (2 * word_size + 4 + 8)
+placed_size = 8 + 5 * (2 * word_size + 4)
 
 -- how far a list has come: the tries and the steps begun; four bytes; the step under way, in eight bytes, two words and five wishes; and two
 -- courses
@@ -61,9 +61,9 @@ list_size = 2 * word_size + 4 + (8 + 2 * word_size + 5 * (2 * word_size)) + 2 * 
 abbrev pub sequence_step_size : ℕ
 sequence_step_size = placed_size + 4 + 2 * word_size + 4 + heard_size
 
--- a record: a step, a delivery, and six bytes of no meaning
+-- a record: a step, a delivery, and two bytes of no meaning
 abbrev pub sequence_record_size : ℕ
-sequence_record_size = sequence_step_size + delivery_size + 6
+sequence_record_size = sequence_step_size + delivery_size + 2
 
 -- what is said: six bytes, three words, four bytes of milliseconds and eight of a voltage
 abbrev pub said_size : ℕ

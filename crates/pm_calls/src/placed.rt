@@ -17,10 +17,8 @@ pub struct StepWishImage {
     pub kind: u16,
     /// The word, otherwise 0.
     pub word: u16,
-    /// No meaning.
-    pub unused: u32,
     /// The voltage, otherwise 0.
-    pub microvolts: i64,
+    pub microvolts: i32,
 }
 
 /// A step of one of several parts. It has no padding.
@@ -79,7 +77,7 @@ impl StepWishImage {
         if self.kind == WORD {
             Wish::Word(self.word)
         } else if self.kind == MICROVOLTS {
-            Wish::Microvolts(self.microvolts)
+            Wish::Microvolts(i64::from(self.microvolts))
         } else {
             Wish::Stay
         }
@@ -92,7 +90,6 @@ impl StepWishImage {
         StepWishImage {
             kind: u16::from(word.is_some()),
             word: word.unwrap_or(0),
-            unused: 0,
             microvolts: 0,
         }
     }

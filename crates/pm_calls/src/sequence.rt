@@ -267,8 +267,9 @@ pub fn next(
             return number;
         }
     };
-    let mut is = sequence.held();
-    let (at, act) = is.hand_out(host, stage, under, ahead);
+    let mut is = Sequence::new(0, rules_of(0));
+    sequence.hold(&mut is);
+    let (at, act) = is.hand_out(host, stage, &under, &ahead);
     put(host, &is, at, act, sending);
     keep(records, sequence, &is, act);
     let said = said_after(host, &is, act, sequence.said);
@@ -294,7 +295,8 @@ pub fn tell(sequence: &mut SequenceImage, host: &mut GuardImage, told: Told<'_>)
         Ok(stage) => stage,
         Err(number) => return no_step(number),
     };
-    let mut is = sequence.held();
+    let mut is = Sequence::new(0, rules_of(0));
+    sequence.hold(&mut is);
     hear(sequence, host, &mut is, stage, told)
 }
 
@@ -317,9 +319,9 @@ fn hear(
     if !at.awaits(&told) {
         return no_step(OTHER_FRAME);
     }
-    let Some(_course) = is.list.course_open() else {
+    if !is.list.has_course() {
         return no_step(OTHER_FRAME);
-    };
+    }
     let address = host.host.state.address;
     let heard = is.hear_by(host, at, told);
     let said = sequence.said;
@@ -348,7 +350,8 @@ pub fn read_ended(sequence: &mut SequenceImage, host: &mut GuardImage, bytes: &[
         Ok(stage) => stage,
         Err(number) => return no_step(number),
     };
-    let mut is = sequence.held();
+    let mut is = Sequence::new(0, rules_of(0));
+    sequence.hold(&mut is);
     if !is_look(&is, stage) {
         return hear(sequence, host, &mut is, stage, Told::Got(bytes));
     }

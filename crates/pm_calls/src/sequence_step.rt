@@ -43,7 +43,7 @@ pub struct SequenceRecordImage {
     /// What was heard of its rail.
     pub look: DeliveryImage,
     /// No meaning.
-    pub unused: [u8; 6],
+    pub unused: [u8; 2],
 }
 
 impl SequenceStepImage {

@@ -25,6 +25,10 @@ no_formats = record { vout = replicate 8 None; readings = replicate 8 None }
 abbrev pub no_options : TellOptions
 no_options = plain_options no_formats false 0
 
+-- an option changes what is shown, and comments are noted
+abbrev pub notes_comments : TellOptions → Bool
+notes_comments options = options.values || (options.all || (options.times || (options.json || options.pages)))
+
 -- no option changes what is shown
 abbrev pub is_plain : TellOptions → Bool
-is_plain options = not (options.values || (options.all || (options.times || (options.json || options.pages))))
+is_plain options = not (notes_comments options)

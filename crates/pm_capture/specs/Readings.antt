@@ -1,21 +1,24 @@
 -- What a line of a capture reads as: the packet's bytes, as `pm_trace` reads them, and with times the number that
 -- stands before them. The forms are this project's own choice.
-use Rattle.std.specs.Prelude.{ℕ, is_some, ℤ, pos, negsuc, Bool, true, false, not, ◌&&◌, ◌||◌, ◌==◌, nat_eq, nat_lt, if◌then◌else◌, List, [], ◌∷◌, codes, drop, length, map, filter, slice_index, take, ◌/◌, ◌%◌, Option, Some, None, Result, Ok, Err}
+use Rattle.std.specs.Prelude.{ℕ, zero, suc, ◌+◌, ◌-◌, ◌*◌, nat_le, is_some, ℤ, pos, negsuc, Bool, true, false, not, ◌&&◌, ◌||◌, ◌==◌, nat_eq, nat_lt, if◌then◌else◌, List, [], ◌∷◌, codes, drop, length, map, filter, slice_index, take, ◌/◌, ◌%◌, Option, Some, None, Result, Ok, Err}
 use Rattle.std.specs.List.{enumerate_from, starts_with}
 use Rattle.pm_lines.specs.Digits.{signed_of}
 use Rattle.pm_lines.specs.Pairs.{pair_of}
 use Rattle.pm_lines.specs.Lines.{Numbered, is_skipped, is_space, lines_of}
-use Rattle.pm_table.specs.Codes as command
+use Rattle.pm_trace.specs.Pages.{is_of_all, is_paging, touch_of}
+use Rattle.pm_trace.specs.declared.touch.Touch.{Touch}
+use Rattle.pm_trace.specs.declared.touch.Touch.TheVariants.{Nothing, AsksPage, WritesPage, WritesMode, Restores}
 use Rattle.pm_trace.specs.Marks.{before}
 use Rattle.pm_trace.specs.Trace.{Judged, line_read, parts_judged, reading_judged}
 use Rattle.pm_trace.specs.declared.line_fault.LineFault.{LineFault}
 use Rattle.pm_trace.specs.declared.line_fault.LineFault.TheVariants as fault
 use Rattle.pm_trace.specs.declared.trace_line.TraceLine.{TraceLine}
-use Rattle.pm_packets.specs.Otherwise.{address_otherwise, has_pec, is_accepted, judged_anyway, lacks_pec}
+use Rattle.pm_packets.specs.Otherwise.{address_otherwise, is_accepted, judged_anyway, lacks_pec}
 use Rattle.pm_packets.specs.declared.answers.Ones.{Ones}
-use Rattle.pm_values.specs.Modes.{is_restore}
 use Rattle.pm_capture.specs.declared.comment.Remark.{Remark}
-use Rattle.pm_capture.specs.declared.comment.Remark.TheVariants.{Elsewhere, Unacknowledged, Failed, Rewritten, Loss}
+use Rattle.pm_capture.specs.declared.comment.Remark.TheVariants.{Elsewhere, Refuses, Shows, Loss}
+use Rattle.pm_capture.specs.declared.comment.ShownPacket.{ShownPacket}
+use Rattle.pm_capture.specs.Options.{notes_comments}
 use Rattle.pm_capture.specs.declared.options.TellOptions.{TellOptions}
 
 -- ---- the word before a packet
@@ -82,10 +85,19 @@ first_byte [] = None
 first_byte (high ∷ []) = None
 first_byte (high ∷ low ∷ rest) = pair_of high low
 
--- the byte that a text begins with, behind a space
-abbrev pub spaced_byte : List ℕ → Option ℕ
-spaced_byte [] = None
-spaced_byte (space ∷ rest) = if space == 32 then first_byte rest else None
+-- what follows a space
+abbrev pub behind_space : List ℕ → List ℕ
+behind_space [] = []
+behind_space (space ∷ rest) = if space == 32 then rest else []
+
+abbrev pub onto_shown : Option ℕ → List ℕ → List ℕ
+onto_shown None bytes = []
+onto_shown (Some byte) bytes = byte ∷ bytes
+
+-- the bytes that begin a text in hexadecimal, at most so many, with a space between two of them
+abbrev pub bytes_shown : ℕ → List ℕ → List ℕ
+bytes_shown zero text = []
+bytes_shown (suc count) text = onto_shown (first_byte text) (bytes_shown count (behind_space (drop 2 text)))
 
 -- what follows the first slash between two spaces. 47 is `/`.
 abbrev pub behind_slash : List ℕ → List ℕ
@@ -95,33 +107,37 @@ behind_slash (byte ∷ next ∷ []) = []
 behind_slash (byte ∷ next ∷ last ∷ rest) =
     if byte == 32 && (next == 47 && last == 32) then rest else behind_slash (next ∷ last ∷ rest)
 
--- a packet of a code may change VOUT_MODE: PAGE_PLUS_WRITE may carry it
-abbrev pub is_rewriting : ℕ → Bool → Bool
-is_rewriting code has_data = is_restore code || (has_data && (code == command.vout_mode || code == command.page_plus_write))
+-- a packet that may change PAGE or VOUT_MODE
+abbrev pub is_touching : Touch → Bool
+is_touching Nothing = false
+is_touching AsksPage = false
+is_touching WritesPage = true
+is_touching (WritesMode named) = true
+is_touching Restores = true
 
--- a packet by its address byte, the text of its bytes, and its code
-abbrev pub coded : ℕ → List ℕ → Option ℕ → Remark
-coded first bytes None = Elsewhere
-coded first bytes (Some code) = if first % 2 == 1 then Elsewhere
-    else (if code == command.page then Failed (first / 2) (not (starts_with nat_eq (drop 5 bytes) (codes " /")))
-    else (if is_rewriting code (is_some (spaced_byte (drop 5 bytes))) then Rewritten (first / 2) else Elsewhere))
+-- a general call, or a write to a zone, of such a packet
+abbrev pub is_to_all : List ℕ → Bool → Bool
+is_to_all write is_read = nat_lt 0 (length write)
+    && (is_of_all (slice_index write 0 / 2) && is_touching (touch_of write is_read))
 
-abbrev pub packet_shown : ℕ → List ℕ → Remark
-packet_shown first bytes = coded first bytes (spaced_byte (drop 2 bytes))
+-- a read part follows these bytes
+abbrev pub is_read_shown : List ℕ → ℕ → Bool
+is_read_shown text count = starts_with nat_eq (drop (3 * count - 1) text) (codes " /")
 
--- a general call or a write to a zone may be of any part, and a packet of another device is of none
-abbrev pub is_of_all : ℕ → Bool
-is_of_all addr = addr == 0x00 || addr == 0x37
+-- a packet with these first bytes
+abbrev pub packet_shown : Bool → Bool → List ℕ → ShownPacket
+packet_shown is_failed is_read bytes = record {
+  first = slice_index bytes 0;
+  code = slice_index bytes 1;
+  touch = touch_of bytes is_read;
+  has_pages = is_paging bytes false;
+  is_failed_read = is_failed && (is_read && nat_le 2 (length bytes));
+}
 
-abbrev pub if_elsewhere : Bool → Remark → Remark
-if_elsewhere is_elsewhere remark = if is_elsewhere then Elsewhere else remark
-
-abbrev pub addressed : ℕ → Bool → Remark → Remark
-addressed addr is_elsewhere (Failed of writes) = if is_of_all addr then Loss else if_elsewhere is_elsewhere (Failed of writes)
-addressed addr is_elsewhere (Rewritten of) = if is_of_all addr then Loss else if_elsewhere is_elsewhere (Rewritten of)
-addressed addr is_elsewhere Elsewhere = Elsewhere
-addressed addr is_elsewhere Unacknowledged = if_elsewhere is_elsewhere Unacknowledged
-addressed addr is_elsewhere Loss = if_elsewhere is_elsewhere Loss
+-- one that is written to an address
+abbrev pub write_shown : Bool → Bool → List ℕ → Remark
+write_shown is_failed is_read bytes = if slice_index bytes 0 % 2 == 1 then Elsewhere
+    else (if is_to_all bytes is_read then Loss else Shows (packet_shown is_failed is_read bytes))
 
 -- a part of another device follows, or a third part
 abbrev pub is_joined : ℕ → List ℕ → Option ℕ → Bool
@@ -133,13 +149,27 @@ abbrev pub is_together : ℕ → List ℕ → Bool
 is_together first rest = is_joined first rest (first_byte rest)
 
 -- a transfer whose bytes begin a text
-abbrev pub transfer_by : List ℕ → Bool → Option ℕ → Remark
-transfer_by bytes is_elsewhere None = Elsewhere
-transfer_by bytes is_elsewhere (Some first) = if is_together first (behind_slash bytes) then Loss
-    else addressed (first / 2) is_elsewhere (packet_shown first bytes)
+abbrev pub transfer_by : Bool → List ℕ → List ℕ → Remark
+transfer_by is_failed text [] = Elsewhere
+transfer_by is_failed text (first ∷ rest) = if is_together first (behind_slash text) then Loss
+    else write_shown is_failed (is_read_shown text (length (first ∷ rest))) (first ∷ rest)
 
-abbrev pub transfer_shown : List ℕ → Bool → Remark
-transfer_shown bytes is_elsewhere = transfer_by bytes is_elsewhere (first_byte bytes)
+abbrev pub transfer_shown : Bool → List ℕ → Remark
+transfer_shown is_failed text = transfer_by is_failed text (bytes_shown 6 text)
+
+-- the number that a text begins with, of at most four digits, and what follows the space behind it. 48 is `0`.
+abbrev pub place_shown : ℕ → List ℕ → Option (ℕ × List ℕ)
+place_shown so_far [] = None
+place_shown so_far (byte ∷ rest) = if byte == 32 then Some (so_far, rest)
+    else (if nat_le 48 byte && (nat_le byte 57 && nat_lt so_far 1000) then place_shown (10 * so_far + (byte - 48)) rest else None)
+
+-- the refusal that a text says behind `# byte `
+abbrev pub refusal_by : Option (ℕ × List ℕ) → Remark
+refusal_by None = Elsewhere
+refusal_by (Some shown) = if starts_with nat_eq shown.1 (codes "wasn't acknowledged")
+    then Refuses (record { place = shown.0; of_answer = false })
+    else (if starts_with nat_eq shown.1 (codes "of the answer wasn't acknowledged")
+    then Refuses (record { place = shown.0; of_answer = true }) else Elsewhere)
 
 -- packets are missing, or a transfer had more than two parts, or a second one of another device
 abbrev pub is_missing : List ℕ → Bool
@@ -148,25 +178,25 @@ is_missing text = starts_with nat_eq text (codes "# the kernel dropped events")
     || (starts_with nat_eq text (codes "# the second part is no read")
     || (starts_with nat_eq (drop 3 text) (codes " parts: ") || starts_with nat_eq (drop 4 text) (codes " parts: ")))))
 
--- a transfer is shown that failed, was cut, or is no packet
+-- a transfer is shown that was cut, is no packet, or another device's
 abbrev pub is_packet_comment : List ℕ → Bool
-is_packet_comment text = starts_with nat_eq text (codes "# failed")
-    || (starts_with nat_eq text (codes "# no stop: ") || (starts_with nat_eq text (codes "# no result: ")
-    || (starts_with nat_eq text (codes "# a read alone: ") || starts_with nat_eq text (codes "# a part "))))
+is_packet_comment text = starts_with nat_eq text (codes "# no stop: ")
+    || (starts_with nat_eq text (codes "# no result: ") || (starts_with nat_eq text (codes "# a read alone: ")
+    || (starts_with nat_eq text (codes "# a part ") || starts_with nat_eq text (codes "# another device: "))))
 
 -- what a comment says, as `pmhost capture` writes them, by its first bytes
 abbrev pub remark_in : List ℕ → Remark
-remark_in text = if starts_with nat_eq text (codes "# byte ") then Unacknowledged
+remark_in text = if starts_with nat_eq text (codes "# byte ") then refusal_by (place_shown 0 (drop 7 text))
     else (if is_missing text then Loss
-    else (if starts_with nat_eq text (codes "# another device: ") then transfer_shown (behind_colon text) true
-    else (if is_packet_comment text then transfer_shown (behind_colon text) false else Elsewhere)))
+    else (if starts_with nat_eq text (codes "# failed") then transfer_shown true (behind_colon text)
+    else (if is_packet_comment text then transfer_shown false (behind_colon text) else Elsewhere)))
 
 abbrev pub remark_of : List ℕ → Remark
 remark_of line = remark_in (take 63 line)
 
--- comments are noted if PAGE is followed
+-- comments are noted if an option changes what is shown
 abbrev pub is_noted : Bool → List ℕ → Bool
-is_noted pages line = pages && is_comment line
+is_noted notes line = notes && is_comment line
 
 -- ---- the lines
 
@@ -176,7 +206,7 @@ pub data Said : Type 0 where
   Noted : Remark → Said
 
 abbrev pub said_of : TellOptions → List ℕ → Said
-said_of options line = if is_noted options.pages line then Noted (remark_of line) else Told (reading_of options.times line)
+said_of options line = if is_noted (notes_comments options) line then Noted (remark_of line) else Told (reading_of options.times line)
 
 -- a line's number, and what the line says
 abbrev pub Entry : Type 0
@@ -187,14 +217,14 @@ entry_of options numbered = (numbered.0, said_of options numbered.1)
 
 -- a line says nothing: it is skipped, and it isn't noted
 abbrev pub is_passed : Bool → List ℕ → Bool
-is_passed pages line = not (is_noted pages line) && is_skipped line
+is_passed notes line = not (is_noted notes line) && is_skipped line
 
 abbrev pub is_heard : Bool → Numbered → Bool
-is_heard pages numbered = not (is_passed pages numbered.1)
+is_heard notes numbered = not (is_passed notes numbered.1)
 
 -- the lines of a capture that say something
 unfoldable pub entries_of : TellOptions → List ℕ → List Entry
-entries_of options text = map (entry_of options) (filter (is_heard options.pages) (enumerate_from 1 (lines_of text)))
+entries_of options text = map (entry_of options) (filter (is_heard (notes_comments options)) (enumerate_from 1 (lines_of text)))
 
 -- ---- what a packet says
 
@@ -220,7 +250,7 @@ is_without_pec all ones parts = if all then lacks_pec ones parts.write parts.rea
 abbrev pub is_told : Option ℕ → Judged → Bool
 is_told other judged = is_some other || is_accepted judged
 
--- one that is has the right PEC
+-- one that is has the right PEC, and the length of its code: a byte of another code may be its PEC by chance
 abbrev pub is_checked : Option ℕ → Bool → TraceLine → Bool
 is_checked None lacks parts = not lacks
-is_checked (Some addr) lacks parts = has_pec parts.write parts.read
+is_checked (Some addr) lacks parts = false

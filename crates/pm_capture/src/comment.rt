@@ -1,26 +1,39 @@
 //! Comments of a capture while their bytes come.
 ghost use Rattle.std.specs.Prelude.{◌≡◌, drop, take};
-ghost use Rattle.pm_capture.specs.Readings.{addressed as spec_addressed, behind_colon as spec_behind_colon, behind_slash as spec_behind_slash, first_byte, is_missing as spec_is_missing, is_packet_comment as spec_is_packet_comment, is_rewriting as spec_is_rewriting, is_together as spec_is_together, packet_shown as spec_packet_shown, remark_in as spec_remark_in, spaced_byte as spec_spaced_byte, transfer_shown as spec_transfer_shown};
+ghost use Rattle.std.specs.Prelude.{◌+◌, ◌++◌, ◌≤◌, ◌<◌, length, option_map};
+ghost use Rattle.pm_capture.specs.Readings.{behind_colon as spec_behind_colon, behind_slash as spec_behind_slash, behind_space as spec_behind_space, bytes_shown, first_byte, is_missing as spec_is_missing, is_packet_comment as spec_is_packet_comment, is_read_shown as spec_is_read_shown, is_to_all as spec_is_to_all, is_together as spec_is_together, is_touching as spec_is_touching, packet_shown as spec_packet_shown, place_shown as spec_place_shown, refusal_by, remark_in as spec_remark_in, transfer_shown as spec_transfer_shown, write_shown as spec_write_shown};
 
 use arrayvec::ArrayVec;
 use pm_lines::{pair_of, without_carriage_return};
-use pm_table::Code;
-use pm_values::is_restore;
+use pm_packets::Refusal;
+use pm_trace::{Touch, is_of_all, is_paging, touch_of};
 use std::marker::Model;
+
+/// A packet that a comment shows, by its first bytes.
+#[derive(Clone, Copy, Debug, PartialEq, Eq)]
+pub struct ShownPacket {
+    /// The address byte.
+    pub first: u8,
+    /// The code, 0 if there is none.
+    pub code: u8,
+    /// What it may change.
+    pub touch: Touch,
+    /// It shows that its part has pages.
+    pub has_pages: bool,
+    /// It is a read that failed.
+    pub is_failed_read: bool,
+}
 
 /// What a comment says, as `pmhost capture` writes them.
 #[derive(Clone, Copy, Debug, PartialEq, Eq)]
 pub enum Remark {
-    /// It ends nothing: a person's, one of a packet of another device, or of one that changes neither PAGE nor VOUT_MODE.
+    /// Nothing, as a person's.
     Elsewhere,
-    /// `# byte 3 wasn't acknowledged` stands above a packet of which nobody knows what it did.
-    Unacknowledged,
-    /// `# failed (-6): B0 00 / B1` and `# no stop: B0 00 01` show a packet of PAGE that failed or was cut: its address, and
-    /// whether it may have written PAGE.
-    Failed(u8, bool),
-    /// `# no result: B0 20 17` shows a packet that may have changed VOUT_MODE of this address.
-    Rewritten(u8),
-    /// Packets are missing, or a transfer had parts of several devices.
+    /// `# byte 3 wasn't acknowledged` stands above the packet that has the byte.
+    Refuses(Refusal),
+    /// `# failed (-6): B0 00 / B1` and `# no stop: B0 00 01` show a packet that failed or was cut.
+    Shows(ShownPacket),
+    /// Packets are missing, or one is shown that may have been of any part, or a transfer with parts of several devices.
     Loss,
 }
 
@@ -94,16 +107,54 @@ fn remark_in(text: &[u8]) -> Remark
     ensures { result ≡ spec_remark_in text.now }
 {
     if text.starts_with(b"# byte ") {
-        Remark::Unacknowledged
+        refusal_in(behind(text, 7))
     } else if is_missing(text) {
         Remark::Loss
-    } else if text.starts_with(b"# another device: ") {
-        transfer_shown(behind_colon(text), true)
+    } else if text.starts_with(b"# failed") {
+        transfer_shown(true, behind_colon(text))
     } else if is_packet_comment(text) {
-        transfer_shown(behind_colon(text), false)
+        transfer_shown(false, behind_colon(text))
     } else {
         Remark::Elsewhere
     }
+}
+
+// The refusal that a text says behind `# byte `.
+fn refusal_in(text: &[u8]) -> Remark
+    ensures { result ≡ refusal_by (spec_place_shown 0 text.now) }
+{
+    match place_shown(0, text) {
+        Some((place, rest)) if rest.starts_with(b"wasn't acknowledged") => {
+            Remark::Refuses(Refusal {
+                place,
+                of_answer: false,
+            })
+        }
+        Some((place, rest)) if rest.starts_with(b"of the answer wasn't acknowledged") => {
+            Remark::Refuses(Refusal {
+                place,
+                of_answer: true,
+            })
+        }
+        _ => Remark::Elsewhere,
+    }
+}
+
+// The number that a text begins with, behind these digits, and what follows the space behind it.
+fn place_shown<'a>(so_far: u16, text: &'a [u8]) -> Option<(u16, &'a [u8])>
+    requires { so_far < 10000 }
+    ensures { option_map (λ shown. (shown.0, shown.1.now)) result ≡ spec_place_shown so_far text.entry.now }
+{
+    let [byte, rest @ ..] = text else {
+        return None;
+    };
+    if *byte == b' ' {
+        return Some((so_far, rest));
+    }
+    if *byte < b'0' || *byte > b'9' || so_far >= 1000 {
+        return None;
+    }
+    place_shown(10 * so_far + u16::from(*byte - b'0'), rest)
 }
 
 // Whether the comment says that packets are missing, or that a transfer had more than two parts, or a second one of another device.
@@ -118,15 +169,15 @@ fn is_missing(text: &[u8]) -> bool
         || behind(text, 4).starts_with(b" parts: ")
 }
 
-// Whether the comment shows a transfer that failed, was cut, or is no packet.
+// Whether the comment shows a transfer that was cut, is no packet, or another device's.
 fn is_packet_comment(text: &[u8]) -> bool
     ensures { result ≡ spec_is_packet_comment text.now }
 {
-    text.starts_with(b"# failed")
-        || text.starts_with(b"# no stop: ")
+    text.starts_with(b"# no stop: ")
         || text.starts_with(b"# no result: ")
         || text.starts_with(b"# a read alone: ")
         || text.starts_with(b"# a part ")
+        || text.starts_with(b"# another device: ")
 }
 
 // What follows the first colon and space.
@@ -163,17 +214,97 @@ fn behind_slash(text: &[u8]) -> &[u8]
     }
 }
 
-// What a transfer says whose bytes begin a text; `is_elsewhere` is whether it is another device's.
-fn transfer_shown(bytes: &[u8], is_elsewhere: bool) -> Remark
-    ensures { result ≡ spec_transfer_shown bytes.now is_elsewhere }
+// What a transfer says whose bytes begin a text.
+fn transfer_shown(is_failed: bool, text: &[u8]) -> Remark
+    ensures { result ≡ spec_transfer_shown is_failed text.now }
 {
-    let Some(first) = byte_shown(bytes) else {
+    let mut bytes = ArrayVec::new();
+    take_bytes(&mut bytes, 6, text);
+    let Some(first) = bytes.first().copied() else {
         return Remark::Elsewhere;
     };
-    if is_together(first, behind_slash(bytes)) {
+    if is_together(first, behind_slash(text)) {
         return Remark::Loss;
     }
-    addressed(first / 2, is_elsewhere, packet_shown(first, bytes))
+    write_shown(is_failed, is_read_shown(text, bytes.len()), &bytes)
+}
+
+// Appends the bytes that begin a text, at most `left`.
+#[tactic(auto, using(pm_lines::specs::Lemmas::Joins::joins))]
+fn take_bytes(bytes: &mut ArrayVec<u8, 6>, left: usize, text: &[u8])
+    requires { length bytes.old.items + left ≤ 6 }
+    ensures { bytes.new.items ≡ bytes.old.items ++ bytes_shown left text.now }
+{
+    if left == 0 {
+        return;
+    }
+    let Some(byte) = byte_shown(text) else {
+        return;
+    };
+    bytes.push(byte);
+    take_bytes(bytes, left - 1, behind_space(behind(text, 2)));
+}
+
+// What follows a space.
+fn behind_space(text: &[u8]) -> &[u8]
+    ensures { result.now ≡ spec_behind_space text.now }
+{
+    match text {
+        [space, rest @ ..] if *space == b' ' => rest,
+        _ => &[],
+    }
+}
+
+// Whether a read part follows this many bytes.
+fn is_read_shown(text: &[u8], count: usize) -> bool
+    requires { count ≤ 6 }
+    ensures { result ≡ spec_is_read_shown text.now count }
+{
+    behind(text, (3 * count).saturating_sub(1)).starts_with(b" /")
+}
+
+// What a packet with these first bytes says.
+fn write_shown(is_failed: bool, is_read: bool, bytes: &[u8]) -> Remark
+    ensures { result ≡ spec_write_shown is_failed is_read bytes.now }
+{
+    let first = bytes.first().copied().unwrap_or(0);
+    if first % 2 == 1 {
+        Remark::Elsewhere
+    } else if is_to_all(bytes, is_read) {
+        Remark::Loss
+    } else {
+        Remark::Shows(packet_shown(is_failed, is_read, bytes))
+    }
+}
+
+// A packet with these first bytes.
+fn packet_shown(is_failed: bool, is_read: bool, bytes: &[u8]) -> ShownPacket
+    ensures { result ≡ spec_packet_shown is_failed is_read bytes.now }
+{
+    ShownPacket {
+        first: bytes.first().copied().unwrap_or(0),
+        code: bytes.get(1).copied().unwrap_or(0),
+        touch: touch_of(bytes, is_read),
+        has_pages: is_paging(bytes, false),
+        is_failed_read: is_failed && is_read && bytes.len() >= 2,
+    }
+}
+
+/// Whether a packet is a general call, or a write to a zone, that may change PAGE or VOUT_MODE of any part.
+pub fn is_to_all(write: &[u8], is_read: bool) -> bool
+    ensures { result ≡ spec_is_to_all write.now is_read }
+{
+    match write {
+        [first, ..] => is_of_all(*first / 2) && is_touching(touch_of(write, is_read)),
+        [] => false,
+    }
+}
+
+// Whether a packet may change PAGE or VOUT_MODE.
+fn is_touching(touch: Touch) -> bool
+    ensures { result ≡ spec_is_touching touch }
+{
+    !matches!(touch, Touch::Nothing | Touch::AsksPage)
 }
 
 // Whether a part of another device follows, which begins a text, or a third part.
@@ -186,43 +317,6 @@ fn is_together(first: u8, rest: &[u8]) -> bool
             || byte_shown(behind_slash(rest)).is_some(),
         None => false,
     }
-}
-
-// What a packet says of its address: a general call or a write to a zone may be of any, and one of another device is of none.
-fn addressed(addr: u8, is_elsewhere: bool, remark: Remark) -> Remark
-    ensures { result ≡ spec_addressed addr is_elsewhere remark }
-{
-    match remark {
-        Remark::Failed(_, _) | Remark::Rewritten(_) if addr == 0x00 || addr == 0x37 => Remark::Loss,
-        _ if is_elsewhere => Remark::Elsewhere,
-        _ => remark,
-    }
-}
-
-// What a packet says whose bytes begin a text, the first of which is this one.
-fn packet_shown(first: u8, bytes: &[u8]) -> Remark
-    ensures { result ≡ spec_packet_shown first bytes.now }
-{
-    let Some(code) = spaced_byte(behind(bytes, 2)) else {
-        return Remark::Elsewhere;
-    };
-    if first % 2 == 1 {
-        Remark::Elsewhere
-    } else if Code(code) == Code::PAGE {
-        Remark::Failed(first / 2, !behind(bytes, 5).starts_with(b" /"))
-    } else if is_rewriting(code, spaced_byte(behind(bytes, 5)).is_some()) {
-        Remark::Rewritten(first / 2)
-    } else {
-        Remark::Elsewhere
-    }
-}
-
-// Whether a packet of a code may change VOUT_MODE; `has_data` is whether a byte follows the code.
-fn is_rewriting(code: u8, has_data: bool) -> bool
-    ensures { result ≡ spec_is_rewriting code has_data }
-{
-    is_restore(code)
-        || (has_data && (Code(code) == Code::VOUT_MODE || Code(code) == Code::PAGE_PLUS_WRITE))
 }
 
 // What follows so many bytes.
@@ -243,16 +337,6 @@ fn byte_shown(bytes: &[u8]) -> Option<u8>
 {
     match bytes {
         [high, low, ..] => pair_of(*high, *low),
-        _ => None,
-    }
-}
-
-// The byte that a text begins with, behind a space.
-fn spaced_byte(bytes: &[u8]) -> Option<u8>
-    ensures { result ≡ spec_spaced_byte bytes.now }
-{
-    match bytes {
-        [space, rest @ ..] if *space == b' ' => byte_shown(rest),
         _ => None,
     }
 }

@@ -20,10 +20,14 @@ mod page_steps;
 mod timed_line;
 mod told_as;
 
-pub use comment::Remark;
+pub use comment::{Remark, ShownPacket, is_to_all};
 pub use options::TellOptions;
-pub use page_steps::{Marks, NOWHERE, PageStep, address_in, is_beside, page_step};
+pub use page_steps::{
+    Marks, NOWHERE, PageStep, address_in, is_beside, is_lost, is_lost_shown, is_received,
+    page_step, shown_change, shown_use,
+};
 pub use timed_line::{LineReading, TimedLine};
 pub use told_as::{
-    PacketLine, bad_shown, change_in, completed_if, is_checked, is_plain, is_told, told_code,
+    PacketLine, bad_shown, change_in, completed_if, is_checked, is_plain, is_told, shows_pages,
+    told_code,
 };

@@ -25,7 +25,7 @@ pub struct TellOptions {
 
 impl TellOptions {
     ghost use Rattle.pm_capture.specs.Options.{no_options};
-    ghost use Rattle.pm_capture.specs.Options.{is_plain};
+    ghost use Rattle.pm_capture.specs.Options.{is_plain, notes_comments};
 
     /// No option: a capture is shown as `decode` of `pm_decode` shows it.
     pub fn none() -> TellOptions
@@ -46,10 +46,17 @@ impl TellOptions {
         }
     }
 
+    /// Whether an option changes what is shown: then comments are noted.
+    pub fn notes_comments(&self) -> bool
+        ensures { result ≡ notes_comments self.now }
+    {
+        self.values | self.all | self.times | self.json | self.pages
+    }
+
     /// Whether no option changes what is shown.
     pub fn is_plain(&self) -> bool
         ensures { result ≡ is_plain self.now }
     {
-        !(self.values | self.all | self.times | self.json | self.pages)
+        !self.notes_comments()
     }
 }

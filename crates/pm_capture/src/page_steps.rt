@@ -1,14 +1,16 @@
 //! What PAGE, as a capture shows it, says of a packet.
-ghost use Rattle.std.specs.Prelude.{◌≡◌, None, Some, true};
+ghost use Rattle.std.specs.Prelude.{◌≡◌, Bool, None, Some, slice_index, true};
 ghost use Rattle.pm_trace.specs.ShownLines.{judged_in};
 ghost use Rattle.pm_trace.specs.Pages.{contradicted};
 ghost use Rattle.pm_trace.specs.declared.pages.PageUse.TheVariants.{Beside};
-ghost use Rattle.pm_capture.specs.PageSteps.{doubted_use as spec_doubted_use, is_lost as spec_is_lost, is_turned as spec_is_turned, is_unanswered as spec_is_unanswered, judged_address, marks_by, place_by, step_by, step_for as spec_step_for, sure_page as spec_sure_page, used_by};
+ghost use Rattle.pm_capture.specs.PageSteps.{heard_if as spec_heard_if, is_lost as spec_is_lost, is_lost_shown as spec_is_lost_shown, is_received as spec_is_received, is_restart as spec_is_restart, is_unanswered as spec_is_unanswered, judged_address, marks_by, place_by, shown_change as spec_shown_change, shown_use as spec_shown_use, step_by, step_for as spec_step_for, sure_page as spec_sure_page, used_by};
 ghost use Rattle.pm_capture.specs.ShownReadings.{packet_in};
 
+use crate::comment::ShownPacket;
 use crate::told_as::PacketLine;
-use pm_packets::{Ones, Packet};
-use pm_trace::{PageUse, Pages, Place, Shown, page_use};
+use pm_packets::{Answers, Ones, Packet};
+use pm_trace::{PageUse, Pages, Place, Shown, Standing, is_restore, page_use, unclear_use};
+use pm_values::{ModeChange, mode_change};
 
 /// A packet as it comes: its address, what is known of that, and what the packet says of its page.
 #[derive(Clone, Copy, Debug)]
@@ -16,12 +18,14 @@ pub struct PageStep {
     pub addr: Option<u8>,
     pub place: Place,
     pub used: PageUse,
+    /// The phase that it reads, if PHASE selects one.
+    pub phase: Option<u8>,
 }
 
 /// What a packet is marked with.
 #[derive(Clone, Copy, Debug)]
 pub struct Marks {
-    /// What an answer of ones is taken for.
+    /// How it was received.
     pub ones: Ones,
     /// It lacks its PEC.
     pub lacks: bool,
@@ -31,50 +35,80 @@ pub struct Marks {
     pub wrong: Option<u64>,
     /// The page of its address, if that is known and each packet of PAGE since then was good.
     pub page: Option<u8>,
-    /// It reads another page than the one that was written last: the device restarted, or another host was there.
-    pub is_turned: bool,
+    /// The part may have restarted: it answers another page than the one that was written last, or not at all.
+    pub is_restart: bool,
+    /// WRITE_PROTECT forbids it, a write of PAGE.
+    pub is_forbidden: bool,
+    /// The phase that it reads.
+    pub phase: Option<u8>,
 }
 
-/// The packet of a line as it comes.
-pub fn page_step(pages: &Pages, gap: u64, line: &PacketLine<'_>) -> PageStep
-    ensures { result ≡ step_by gap line.now.time pages.now line.now.ones (packet_in line.now.packet) (judged_in line.now.shown.now) line.now.other }
+/// The packet of a line as it comes; `lost` is whether nobody answered a code that its address answered before.
+pub fn page_step(pages: &Pages, gap: u64, lost: bool, line: &PacketLine<'_>) -> PageStep
+    ensures { result ≡ step_by gap line.now.time pages.now lost line.now.ones (packet_in line.now.packet) (judged_in line.now.shown.now) line.now.other }
 {
+    let standing = Standing {
+        is_clear: is_received(&line.packet, line.ones),
+        is_lost: lost,
+        is_told: line.other.is_some(),
+    };
     let used = page_use(
         line.packet.write,
         line.packet.is_read(),
-        is_lost(&line.packet, line.ones, line.other),
+        standing,
         line.shown,
     );
-    let used = doubted_use(line.ones, used);
-    step_for(pages, gap, line.time, address_in(line.shown), used)
+    step_for(pages, gap, line, used)
 }
 
-/// Whether a packet has no time and says nothing of PAGE, since it is good and carries its own page: then it doesn't matter what is
+/// Whether a packet has no time and says nothing of PAGE, since it is clear and carries its own page: then it doesn't matter what is
 /// known of its page.
 #[tactic(auto, using(crate::proofs::BesideLemmas::named_beside))]
 pub fn is_beside(line: &PacketLine<'_>) -> bool
     ensures time { result ≡ true → line.now.time ≡ None }
-    ensures used { result ≡ true
-        → used_by line.now.ones (packet_in line.now.packet) (judged_in line.now.shown.now) line.now.other ≡ Beside }
+    ensures used { result ≡ true → (lost : Bool)
+        → used_by lost line.now.ones (packet_in line.now.packet) (judged_in line.now.shown.now) line.now.other ≡ Beside }
 {
-    if line.time.is_some() {
+    if line.time.is_some() || !is_received(&line.packet, line.ones) {
         return false;
     }
     match line.shown {
-        Shown::Accepted { view, .. } => view.page().is_some(),
+        Shown::Accepted { view, .. } => view.page().is_some() && !is_restore(view.code()),
         _ => false,
     }
 }
 
-// A packet of this address that says so of its page, as it comes at a time.
-fn step_for(pages: &Pages, gap: u64, time: Option<u64>, addr: Option<u8>, used: PageUse) -> PageStep
-    ensures { result ≡ spec_step_for gap time pages.now addr used }
+// A packet that says so of its page, as it comes.
+fn step_for(pages: &Pages, gap: u64, line: &PacketLine<'_>, used: PageUse) -> PageStep
+    ensures { result ≡ spec_step_for gap line.now.time pages.now (judged_address (judged_in line.now.shown.now))
+        (slice_index line.now.packet.write.now 1) (spec_is_received line.now.ones (packet_in line.now.packet)) used }
 {
-    let place = match (used, time) {
+    let addr = address_in(line.shown);
+    let place = match (used, line.time) {
         (PageUse::Beside, None) => NOWHERE,
-        _ => place_at(pages, gap, time, addr),
+        _ => place_at(pages, gap, line.time, addr),
     };
-    PageStep { addr, place, used }
+    let heard = is_received(&line.packet, line.ones) && matches!(used, PageUse::Failed(_));
+    PageStep {
+        addr,
+        place: heard_if(heard, place),
+        used,
+        phase: place.phase(line.packet.code(), used),
+    }
+}
+
+// A place of a part that has PAGE, if it has.
+fn heard_if(heard: bool, place: Place) -> Place
+    ensures { result ≡ spec_heard_if heard place }
+{
+    if heard {
+        Place {
+            heard: true,
+            ..place
+        }
+    } else {
+        place
+    }
 }
 
 /// Nothing is known of an address.
@@ -82,6 +116,9 @@ pub const NOWHERE: Place = Place {
     page: None,
     written: None,
     failed: None,
+    locked: None,
+    phase: None,
+    heard: false,
     time: None,
 };
 
@@ -106,11 +143,50 @@ fn place_at(pages: &Pages, gap: u64, time: Option<u64>, addr: Option<u8>) -> Pla
     }
 }
 
-// Whether nobody can say what a packet did that isn't good.
-fn is_lost(packet: &Packet<'_>, ones: Ones, other: Option<u8>) -> bool
-    ensures { result ≡ spec_is_lost ones (packet_in packet.now) other }
+/// Whether nobody answered a code that its address answered before, or took.
+pub fn is_lost(answers: &Answers, packet: &Packet<'_>, ones: Ones) -> bool
+    ensures { result ≡ spec_is_lost answers.now ones (packet_in packet.now) }
 {
-    other.is_none() || is_unanswered(packet, ones)
+    is_unanswered(packet, ones) && packet.write.len() >= 2 && answers.has_answered(packet)
+}
+
+/// Whether a packet is clear, if it is shown as good or by its code and bytes: somebody answered, or took it.
+pub fn is_received(packet: &Packet<'_>, ones: Ones) -> bool
+    ensures { result ≡ spec_is_received ones (packet_in packet.now) }
+{
+    ones.is_answer() && !matches!(packet.read, Some([] | [_]))
+}
+
+/// Whether nobody answered the packet that a comment shows, whose code its address answered before, or took.
+pub fn is_lost_shown(answers: &Answers, shown: &ShownPacket) -> bool
+    ensures { result ≡ spec_is_lost_shown answers.now shown.now }
+{
+    let packet = Packet {
+        write: &[shown.first, shown.code],
+        read: None,
+    };
+    shown.is_failed_read && answers.has_answered(&packet)
+}
+
+/// The modes that the packet of a comment may change, none of them surely.
+pub fn shown_change(lost: bool, shown: &ShownPacket) -> ModeChange
+    ensures { result ≡ spec_shown_change lost shown.now }
+{
+    if lost {
+        ModeChange::OfRestart
+    } else {
+        mode_change(false, None, shown.touch)
+    }
+}
+
+/// What the packet of a comment says of its page.
+pub fn shown_use(lost: bool, shown: &ShownPacket) -> PageUse
+    ensures { result ≡ spec_shown_use lost shown.now }
+{
+    unclear_use(
+        shown.touch,
+        if lost { PageUse::Lost } else { PageUse::Beside },
+    )
 }
 
 // Whether nobody answered: nothing follows the address that was read from, or only ones that are taken for nobody's.
@@ -118,16 +194,6 @@ fn is_unanswered(packet: &Packet<'_>, ones: Ones) -> bool
     ensures { result ≡ spec_is_unanswered ones (packet_in packet.now) }
 {
     matches!(ones, Ones::Nobody) || matches!(packet.read, Some([] | [_]))
-}
-
-// What a packet says of its page: a read of PAGE whose answer may be nobody's isn't good.
-fn doubted_use(ones: Ones, used: PageUse) -> PageUse
-    ensures { result ≡ spec_doubted_use ones used }
-{
-    match (ones, used) {
-        (Ones::Doubtful, PageUse::ReadBack(_)) => PageUse::Failed(false),
-        _ => used,
-    }
 }
 
 // The page of an address, if that is known and each packet of PAGE since then was good.
@@ -140,15 +206,19 @@ fn sure_page(place: &Place) -> Option<u8>
     }
 }
 
-// Whether a packet reads another page than the one that was written last.
-fn is_turned(step: &PageStep) -> bool
-    ensures { result ≡ spec_is_turned step.now.used (contradicted step.now.place step.now.used) }
+// Whether the part may have restarted.
+fn is_restart(step: &PageStep) -> bool
+    ensures { result ≡ spec_is_restart step.now.used (contradicted step.now.place step.now.used) }
 {
-    matches!(step.used, PageUse::ReadBack(_)) && step.place.contradicted(step.used).is_some()
+    match step.used {
+        PageUse::ReadBack(_) => step.place.contradicted(step.used).is_some(),
+        PageUse::Lost => true,
+        _ => false,
+    }
 }
 
 impl Marks {
-    /// The marks of a packet if PAGE isn't followed: what its answer of ones is taken for, and whether it lacks its PEC.
+    /// The marks of a packet if PAGE isn't followed: how it was received, and whether it lacks its PEC.
     pub fn without_page(ones: Ones, lacks: bool) -> Marks
         ensures { result ≡ marks_by ones lacks None }
     {
@@ -158,11 +228,13 @@ impl Marks {
             reached: None,
             wrong: None,
             page: None,
-            is_turned: false,
+            is_restart: false,
+            is_forbidden: false,
+            phase: None,
         }
     }
 
-    /// The marks of a packet whose answer of ones is taken so, that lacks its PEC or doesn't, and that says so of its page.
+    /// The marks of a packet that was received so, that lacks its PEC or doesn't, and that says so of its page.
     pub fn of(ones: Ones, lacks: bool, step: &PageStep) -> Marks
         ensures { result ≡ marks_by ones lacks (Some step.now) }
     {
@@ -172,7 +244,9 @@ impl Marks {
             reached: step.place.output(step.used),
             wrong: step.place.contradicted(step.used),
             page: sure_page(&step.place),
-            is_turned: is_turned(step),
+            is_restart: is_restart(step),
+            is_forbidden: step.place.is_forbidden(step.used),
+            phase: step.phase,
         }
     }
 }

@@ -4,14 +4,14 @@ ghost use Rattle.pm_trace.specs.ShownLines.{judged_in};
 ghost use Rattle.pm_trace.specs.Trace.{parts_judged, reading_judged};
 ghost use Rattle.pm_packets.specs.Otherwise.{IsCompleted, content_of, is_accepted};
 ghost use Rattle.pm_capture.specs.Readings.{is_checked as spec_is_checked, is_told as spec_is_told};
-ghost use Rattle.pm_capture.specs.PageSteps.{change_by, is_clear as spec_is_clear};
+ghost use Rattle.pm_capture.specs.PageSteps.{change_by, is_clear as spec_is_clear, shows_pages as spec_shows_pages};
 ghost use Rattle.pm_capture.specs.Readings.{is_without_pec};
 ghost use Rattle.pm_capture.specs.ShownReadings.{packet_in};
 
-use crate::page_steps::Marks;
+use crate::page_steps::{Marks, is_received};
 use arrayvec::ArrayVec;
 use pm_packets::{Ones, Packet, completed_part};
-use pm_trace::{LineFault, Shown};
+use pm_trace::{LineFault, Shown, Touch, is_paging, touch_of};
 use pm_values::{ModeChange, mode_change};
 
 /// A packet of a line.
@@ -25,7 +25,7 @@ pub struct PacketLine<'a> {
     pub packet: Packet<'a>,
     /// What it says.
     pub shown: &'a Shown<'a>,
-    /// What an answer of ones is taken for.
+    /// How it was received.
     pub ones: Ones,
     /// Its address, if it is shown by its code and bytes.
     pub other: Option<u8>,
@@ -36,20 +36,31 @@ pub struct PacketLine<'a> {
 pub fn change_in(marks: &Marks, line: &PacketLine<'_>) -> ModeChange
     ensures { result ≡ change_by marks.now line.now.other (judged_in line.now.shown.now) (packet_in line.now.packet) }
 {
-    if marks.is_turned {
+    if marks.is_restart {
         return ModeChange::OfRestart;
     }
-    match mode_change(line.packet.write, marks.page) {
-        ModeChange::OfOutput(_) if !is_clear(line) => ModeChange::OfAll,
-        change => change,
+    let touch = touch_of(line.packet.write, line.packet.is_read());
+    if !matches!(touch, Touch::WritesMode(_)) {
+        return mode_change(false, None, touch);
     }
+    mode_change(is_clear(marks.ones, line), marks.page, touch)
 }
 
-// Whether a packet is shown as good, or by its code and bytes, or has the right PEC.
-fn is_clear(line: &PacketLine<'_>) -> bool
-    ensures { result ≡ spec_is_clear line.now.other (judged_in line.now.shown.now) (packet_in line.now.packet) }
+// Whether a packet wasn't refused, and is shown as good, or by its code and bytes, or has the right PEC.
+fn is_clear(ones: Ones, line: &PacketLine<'_>) -> bool
+    ensures { result ≡ spec_is_clear ones line.now.other (judged_in line.now.shown.now) (packet_in line.now.packet) }
 {
-    is_told(line) || line.packet.has_pec()
+    !ones.is_refused() && (is_told(line) || line.packet.has_pec())
+}
+
+/// Whether a packet shows that its part has pages.
+pub fn shows_pages(marks: &Marks, line: &PacketLine<'_>) -> bool
+    ensures { result ≡ spec_shows_pages marks.now.ones (packet_in line.now.packet) }
+{
+    is_paging(
+        line.packet.write,
+        line.packet.is_read() && is_received(&line.packet, marks.ones),
+    )
 }
 
 /// Whether a packet is shown as the command table has it, with its PEC: it is good, or no other is shown otherwise.
@@ -66,14 +77,11 @@ pub fn is_told(line: &PacketLine<'_>) -> bool
     line.other.is_some() || matches!(line.shown, Shown::Accepted { .. })
 }
 
-/// Whether a packet that isn't shown as a fault has the right PEC.
+/// Whether a packet that isn't shown as a fault has the right PEC, and the length of its code.
 pub fn is_checked(marks: &Marks, line: &PacketLine<'_>) -> bool
     ensures { result ≡ spec_is_checked line.now.other marks.now.lacks (packet_in line.now.packet) }
 {
-    match line.other {
-        None => !marks.lacks,
-        Some(_) => line.packet.has_pec(),
-    }
+    line.other.is_none() && !marks.lacks
 }
 
 /// The last part of a packet with its PEC, if it lacks only that and packets without PEC are shown.

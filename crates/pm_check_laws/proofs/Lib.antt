@@ -1,6 +1,1 @@
-mod ClaimedBands
-mod LastReads
-mod OpenBands
-mod Others
-mod Stays
-mod CheckedBeside
+mod Claims

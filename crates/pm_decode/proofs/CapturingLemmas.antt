@@ -17,6 +17,7 @@ use Rattle.pm_decode.specs.CaptureText.{capture_text, counts_text, line_text, li
 use Rattle.pm_decode.specs.Capturing.{Kept, entry_ended, heard_ended, kept_at_end, kept_of, kept_takes, line_ended, next, said, said_text}
 use Rattle.pm_decode.specs.Capturing.{text_ended, told, told_at_end}
 use Rattle.pm_decode.specs.Hearing.{heard_of, heard_with, known_from, unknown}
+use Rattle.pm_capture.specs.Options.{notes_comments}
 use Rattle.pm_capture.specs.Readings.{Entry, entries_of, entry_of, is_heard, is_passed, said_of}
 use Rattle.pm_capture.specs.TimedLines.{PassesTimed, passes_timed, timed_of, timed_takes}
 use Rattle.pm_capture.specs.declared.options.TellOptions.{TellOptions}
@@ -28,7 +29,7 @@ use Rattle.pm_capture.specs.Lemmas.TimedLines.{timed_of-snoc, timed_passes, time
 
 -- what lines say of which something is heard
 abbrev pub lines_said : TellOptions → List (List ℕ) → List Entry
-lines_said options lines = map (entry_of options) (filter (is_heard options.pages) (enumerate_from 1 lines))
+lines_said options lines = map (entry_of options) (filter (is_heard (notes_comments options)) (enumerate_from 1 lines))
 
 -- one line more
 abbrev pub entry_if : Bool → Entry → List Entry
@@ -36,15 +37,15 @@ entry_if passed entry = cond passed [] (entry ∷ [])
 
 -- a line at the end of others is said after what they say, with its number, if something is heard of it
 lines_said-snoc : (options : TellOptions) (lines : List (List ℕ)) (line : List ℕ) → lines_said options (lines ++ line ∷ [])
-    ≡ lines_said options lines ++ entry_if (is_passed options.pages line) (1 + length lines, said_of options line)
+    ≡ lines_said options lines ++ entry_if (is_passed (notes_comments options) line) (1 + length lines, said_of options line)
 lines_said-snoc options lines line =
     ap (λ l. map (entry_of options) (filter heard l)) (enumerate_from-snoc 1 lines line)
     ∙ ap (map (entry_of options)) (filter-append heard (enumerate_from 1 lines) ((1 + length lines, line) ∷ []))
     ∙ map-append (entry_of options) (filter heard (enumerate_from 1 lines)) (filter heard ((1 + length lines, line) ∷ []))
-    ∙ ap (λ l. lines_said options lines ++ l) (by (is_passed options.pages line))
+    ∙ ap (λ l. lines_said options lines ++ l) (by (is_passed (notes_comments options) line))
   where
     heard : Numbered → Bool
-    heard = is_heard options.pages
+    heard = is_heard (notes_comments options)
 
     by : (c : Bool) → map (entry_of options) (cond (not c) ((1 + length lines, line) ∷ []) [])
         ≡ entry_if c (1 + length lines, said_of options line)
@@ -54,22 +55,22 @@ lines_said-snoc options lines line =
 -- the line that goes on, as if it ended here
 pub ended_entries : TellOptions → List ℕ → List Entry
 ended_entries options bytes =
-    entry_if (passes_timed (kept_of options bytes).options.pages (kept_of options bytes).line) (entry_ended (kept_of options bytes))
+    entry_if (passes_timed (notes_comments (kept_of options bytes).options) (kept_of options bytes).line) (entry_ended (kept_of options bytes))
 
 -- the bytes since the last line feed say, as a line, what the line that goes on says if it ends here
 ended_here : (options : TellOptions) (bytes : List ℕ)
-    → entry_if (is_passed options.pages (without_return (since is_line_feed bytes)))
+    → entry_if (is_passed (notes_comments options) (without_return (since is_line_feed bytes)))
     (1 + length (map without_return (ended is_line_feed bytes)), said_of options (without_return (since is_line_feed bytes)))
     ≡ ended_entries options bytes
 unfolding kept_of ended_entries
 ended_here options bytes =
-    by (is_passed options.pages (without_return (since is_line_feed bytes))) refl
+    by (is_passed (notes_comments options) (without_return (since is_line_feed bytes))) refl
     ∙ ap (λ c. entry_if c (entry_ended (kept_of options bytes))) (sym (timed_passes options (since is_line_feed bytes)))
   where
     count : 1 + length (map without_return (ended is_line_feed bytes)) ≡ length (ended is_line_feed bytes) + 1
     count = let mapped = length-map (ended is_line_feed bytes) in omega arith
 
-    by : (c : Bool) → is_passed options.pages (without_return (since is_line_feed bytes)) ≡ c
+    by : (c : Bool) → is_passed (notes_comments options) (without_return (since is_line_feed bytes)) ≡ c
         → entry_if c (1 + length (map without_return (ended is_line_feed bytes)), said_of options (without_return (since is_line_feed bytes)))
         ≡ entry_if c (entry_ended (kept_of options bytes))
     by true is = refl
@@ -102,7 +103,7 @@ heard_now options bytes = refl
 heard_more : (options : TellOptions) (bytes : List ℕ)
     → heard_of options (said options bytes ++ ended_entries options bytes) ≡ heard_ended (kept_of options bytes)
 unfolding ended_entries kept_of
-heard_more options bytes = by (passes_timed options.pages (kept_of options bytes).line)
+heard_more options bytes = by (passes_timed (notes_comments options) (kept_of options bytes).line)
   where
     entry : Entry
     entry = entry_ended (kept_of options bytes)
@@ -118,7 +119,7 @@ text_here : (options : TellOptions) (bytes : List ℕ)
     → lines_text options (known_from options unknown (said options bytes)) (ended_entries options bytes)
     ≡ text_ended (kept_of options bytes)
 unfolding ended_entries kept_of heard_of
-text_here options bytes = by (passes_timed options.pages (kept_of options bytes).line)
+text_here options bytes = by (passes_timed (notes_comments options) (kept_of options bytes).line)
   where
     by : (c : Bool) → lines_text options (known_from options unknown (said options bytes))
         (entry_if c (entry_ended (kept_of options bytes)))

@@ -24,10 +24,10 @@ use Rattle.pm_trace.specs.declared.line_fault.LineFault.{LineFault}
 use Rattle.pm_trace.specs.declared.trace_line.TraceLine.{TraceLine}
 use Rattle.pm_values.specs.declared.formats.GivenFormats.{GivenFormats}
 use Rattle.pm_decode.specs.CaptureText.{capture_text, counts_text, line_text, lines_text, plain_counts, plain_line, told_line, totals_line}
-use Rattle.pm_packets.specs.declared.answers.Ones.{Ones}
-use Rattle.pm_decode.specs.Hearing.{HeardLines, Known, heard_all, heard_of, known_by, ones_in, other_code, other_code_in, told_in, told_unless, unknown}
+use Rattle.pm_packets.specs.Otherwise.{is_refused}
+use Rattle.pm_decode.specs.Hearing.{HeardLines, Known, heard_all, heard_of, known_by, ones_in, other_code, other_code_in, refusals, told_as, told_in, unknown}
 use Rattle.pm_capture.specs.Options.{plain_options}
-use Rattle.pm_capture.specs.Readings.{Told, entries_of, entry_of, judged_as}
+use Rattle.pm_capture.specs.Readings.{Told, entries_of, entry_of}
 use Rattle.pm_decode.specs.declared.telling.TellEnd.{TellEnd}
 use Rattle.pm_capture.specs.declared.options.TellOptions.{TellOptions}
 
@@ -90,28 +90,39 @@ module _ (formats : GivenFormats) (long : Bool) (gap : ℕ) where
       ∙ ap (λ l. trace_line (told_of line) ++ l) (lines_by rest lines)
 
   -- no line has another code
-  no_code : (ones : Ones) (parts : Result TraceLine LineFault) → other_code_in false ones parts ≡ None
-  no_code ones (Ok parts) = refl
-  no_code ones (Err fault) = refl
+  no_code : (known : Known) (parts : Result TraceLine LineFault) → other_code_in false (ones_in plain known parts) parts ≡ None
+  no_code known (Ok parts) = refl
+  no_code known (Err fault) = refl
 
   no_codes : (known : Known) (lines : List Numbered)
       → filter_map (other_code false) (heard_all plain known (map (entry_of plain) lines)) ≡ []
   no_codes known [] = refl
-  no_codes known (line ∷ lines) = rw (no_code (ones_in plain known (line_read line.1)) (line_read line.1))
-      (no_codes (known_by plain known (entry_of plain line)) lines)
+  no_codes known (line ∷ lines) =
+      rw (no_code known (line_read line.1)) (no_codes (known_by plain known (entry_of plain line)) lines)
 
   -- what is shown of a line if packets without PEC aren't shown
-  told_plain : (ones : Ones) (number : ℕ) (parts : Result TraceLine LineFault)
-      → told_unless (other_code_in false ones parts) (number, judged_as false ones parts) ≡ Some (number, reading_judged parts)
-  told_plain ones number (Ok parts) = refl
-  told_plain ones number (Err fault) = refl
+  told_plain : (known : Known) (number : ℕ) (parts : Result TraceLine LineFault)
+      → told_as false (ones_in plain known parts) number (Told (record { time = None; parts = parts }))
+      ≡ Some (number, reading_judged parts)
+  told_plain known number (Ok parts) = refl
+  told_plain known number (Err fault) = refl
 
   -- what is shown of the lines
   as_told : (known : Known) (lines : List Numbered)
       → filter_map (told_in false) (heard_all plain known (map (entry_of plain) lines)) ≡ map told_of lines
   as_told known [] = refl
-  as_told known (line ∷ lines) = rw (told_plain (ones_in plain known (line_read line.1)) line.0 (line_read line.1))
+  as_told known (line ∷ lines) = rw (told_plain known line.0 (line_read line.1))
       (ap (λ l. told_of line ∷ l) (as_told (known_by plain known (entry_of plain line)) lines))
+
+  -- none was refused
+  one_taken : (known : Known) (parts : Result TraceLine LineFault) → is_refused (ones_in plain known parts) ≡ false
+  one_taken known (Ok parts) = refl
+  one_taken known (Err fault) = refl
+
+  none_refused : (known : Known) (lines : List Numbered) → refusals (heard_all plain known (map (entry_of plain) lines)) ≡ 0
+  none_refused known [] = refl
+  none_refused known (line ∷ lines) =
+      rw (one_taken known (line_read line.1)) (none_refused (known_by plain known (entry_of plain line)) lines)
 
   heard_by : (lines : List Numbered) → (heard_of plain (map (entry_of plain) lines)).counts ≡ counts_of (map told_of lines)
   unfolding heard_of
@@ -121,23 +132,27 @@ module _ (formats : GivenFormats) (long : Bool) (gap : ℕ) where
   unfolding heard_of
   others_by lines = ap counted (no_codes unknown lines)
 
-  -- the counts
-  totals_by : (heard : HeardLines) → heard.others ≡ [] → totals_line false heard ≡ trace_totals heard.counts
-  unfolding totals_line trace_totals
-  totals_by heard none =
-      let count : lines_in heard.counts + 0 ≡ lines_in heard.counts = omega arith in
-      rw none (rw count (simp append_assoc))
+  taken_by : (lines : List Numbered) → (heard_of plain (map (entry_of plain) lines)).refused ≡ 0
+  unfolding heard_of
+  taken_by lines = none_refused unknown lines
 
-  counts_by : (heard : HeardLines) → heard.others ≡ [] → counts_text plain heard ≡ trace_counts heard.counts
+  -- the counts
+  totals_by : (heard : HeardLines) → heard.others ≡ [] → heard.refused ≡ 0 → totals_line false heard ≡ trace_totals heard.counts
+  unfolding totals_line trace_totals
+  totals_by heard none taken =
+      let count : lines_in heard.counts + 0 + 0 ≡ lines_in heard.counts = omega arith in
+      rw (none, taken) (rw count (simp append_assoc))
+
+  counts_by : (heard : HeardLines) → heard.others ≡ [] → heard.refused ≡ 0 → counts_text plain heard ≡ trace_counts heard.counts
   unfolding plain_counts
-  counts_by heard none = ap (λ l. flat_map count_line heard.counts.codes ++ l) (totals_by heard none)
+  counts_by heard none taken = ap (λ l. flat_map count_line heard.counts.codes ++ l) (totals_by heard none taken)
 
   pub plain_text : (text : List ℕ) → capture_text plain text ≡ trace_text text
   unfolding capture_text trace_text entries_of trace_of unskipped_from
   plain_text text =
       let lines = unskipped_from 1 text in
       ap (λ l. l ++ counts_text plain (heard_of plain (map (entry_of plain) lines))) (lines_by unknown lines)
-      ∙ ap (λ l. told_lines (map told_of lines) ++ l) (counts_by (heard_of plain (map (entry_of plain) lines)) (others_by lines))
+      ∙ ap (λ l. told_lines (map told_of lines) ++ l) (counts_by (heard_of plain (map (entry_of plain) lines)) (others_by lines) (taken_by lines))
       ∙ ap (λ c. told_lines (map told_of lines) ++ trace_counts c) (heard_by lines)
 
   -- the lines that ended

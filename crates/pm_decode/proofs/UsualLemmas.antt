@@ -140,10 +140,13 @@ usual_heard options heard number usual parts plain is =
         pages = heard.known.pages;
         beyond = heard.known.beyond;
         answers = heard.known.answers;
+        refused = heard.known.refused;
+        paging = heard.known.paging;
         lacking = sym kept i;
       };
       counts = sym (is.counted heard.counts) i;
       others = heard.others;
+      refused = heard.refused;
     }) ∙ ap (λ o. heard_with o heard (number, Told (record { time = None; parts = Ok parts }))) (plain_is options plain)
 
 -- a usual line by what it reads as

@@ -1,6 +1,6 @@
 -- What is written of a capture: a line for each of its lines that isn't skipped, a line for each code that was
 -- carried, and the counts. The forms are this project's own choice; names are printed as in PMBus 1.3 Part II.
-use Rattle.std.specs.Prelude.{ℕ, zero, suc, Bool, true, false, if◌then◌else◌, nat_eq, List, [], ◌∷◌, ◌++◌, flat_map, decimal, codes, Option, Some, None, Result, Ok, Err}
+use Rattle.std.specs.Prelude.{ℕ, zero, suc, Bool, true, false, ◌&&◌, ◌==◌, length, if◌then◌else◌, nat_eq, List, [], ◌∷◌, ◌++◌, flat_map, decimal, codes, Option, Some, None, Result, Ok, Err}
 use Rattle.std.specs.Map.{lookup}
 use Rattle.pm_lines.specs.Numbers.{hex_byte}
 use Rattle.pm_trace.specs.Counts.{total_of}
@@ -8,14 +8,18 @@ use Rattle.pm_trace.specs.Trace.{Judged, Accepted, Faulty, BadSyntax, BadHex, re
 use Rattle.pm_trace.specs.TraceText.{count_line, judged_text, message_text}
 use Rattle.pm_trace.specs.declared.line_fault.LineFault.{LineFault}
 use Rattle.pm_trace.specs.declared.trace_line.TraceLine.{TraceLine}
-use Rattle.pm_packets.specs.Otherwise.{ones_text, other_text, spaced}
+use Rattle.pm_packets.specs.Otherwise.{is_heeded, ones_text, other_text, spaced}
 use Rattle.pm_packets.specs.declared.answers.Ones.{Ones}
+use Rattle.pm_packets.specs.declared.answers.Ones.TheVariants.{Answer, Doubtful, Nobody, Refused}
+use Rattle.pm_packets.specs.declared.answers.Refusal.{Refusal}
 use Rattle.pm_packets.specs.declared.otherwise.Otherwise.{Otherwise}
-use Rattle.pm_values.specs.Taught.{Taught}
+use Rattle.pm_frame.specs.View.{message_code}
+use Rattle.pm_frame.specs.declared.message.Message.{Message}
+use Rattle.pm_values.specs.Taught.{Taught, is_assumed}
 use Rattle.pm_values.specs.ValueText.{known_text}
 use Rattle.pm_values.specs.Values.{packet_value}
 use Rattle.pm_decode.specs.Hearing.{HeardLines, Known, heard_lines, heard_of, known_by, ones_in, told_end, unknown}
-use Rattle.pm_json.specs.JsonText.{judged_fields, lack_field, number_field_if, other_fields, text_field, wrong_field}
+use Rattle.pm_json.specs.JsonText.{judged_fields, lack_field, marks_fields, number_field_if, other_fields, text_field}
 use Rattle.pm_decode.specs.JsonCounts.{count_json, other_jsons, totals_json}
 use Rattle.pm_capture.specs.PageSteps.{marks_in}
 use Rattle.pm_capture.specs.Readings.{Entry, Said, Told, Noted, entries_of, judged_by, other_address}
@@ -39,21 +43,46 @@ bytes_by (byte ∷ bytes) read = codes " bytes" ++ (spaced (byte ∷ bytes) ++ r
 abbrev pub bytes_text : TraceLine → List ℕ
 bytes_text parts = bytes_by parts.write parts.read
 
--- the value of a packet, and the bytes of one with a fault
-abbrev pub meaning_text : TellOptions → Taught → Option ℕ → TraceLine → Judged → List ℕ
-meaning_text options taught reached parts (Accepted addr message answer) =
-    known_text (packet_value options.formats taught addr reached message answer)
-meaning_text options taught reached parts (Faulty addr is_read fault) = bytes_text parts
-meaning_text options taught reached parts BadSyntax = []
-meaning_text options taught reached parts BadHex = []
+-- what follows a value whose format is only assumed
+abbrev pub assumed_text : Bool → List ℕ
+assumed_text assumed = if assumed then codes "?" else []
 
-abbrev pub extra_text : TellOptions → Taught → Option ℕ → TraceLine → Judged → List ℕ
-extra_text options taught reached parts judged =
-    if options.values then meaning_text options taught reached parts judged else []
+abbrev pub value_told : TellOptions → Taught → Option ℕ → ℕ → Message → Option (List ℕ) → List ℕ
+value_told options taught reached addr message answer =
+    known_text (packet_value options.formats taught addr reached message answer)
+    ++ assumed_text (is_assumed options.formats taught addr (message_code message))
+
+-- the value of a packet that wasn't refused, and the bytes of one with a fault
+abbrev pub meaning_text : TellOptions → Taught → Marks → TraceLine → Judged → List ℕ
+meaning_text options taught marks parts (Accepted addr message answer) = if is_heeded marks.ones
+    then value_told options taught marks.reached addr message answer else []
+meaning_text options taught marks parts (Faulty addr is_read fault) = bytes_text parts
+meaning_text options taught marks parts BadSyntax = []
+meaning_text options taught marks parts BadHex = []
+
+abbrev pub extra_text : TellOptions → Taught → Marks → TraceLine → Judged → List ℕ
+extra_text options taught marks parts judged = if options.values then meaning_text options taught marks parts judged else []
 
 -- what follows a packet that lacks its PEC, whose answer of ones is taken so
 abbrev pub lack_text : Ones → Bool → List ℕ
 lack_text ones lacks = if lacks then ones_text ones else []
+
+-- what follows one of which a byte wasn't acknowledged
+abbrev pub refused_words : Bool → List ℕ
+refused_words of_answer = if of_answer then codes " of the answer not acknowledged" else codes " not acknowledged"
+
+abbrev pub refused_text : Refusal → List ℕ
+refused_text refusal = codes ", byte " ++ (decimal refusal.place ++ refused_words refusal.of_answer)
+
+abbrev pub received_text : Ones → List ℕ
+received_text (Refused refusal) = refused_text refusal
+received_text Answer = []
+received_text Doubtful = []
+received_text Nobody = []
+
+-- what follows a write of PAGE that WRITE_PROTECT forbids
+abbrev pub forbidden_text : Bool → List ℕ
+forbidden_text forbidden = if forbidden then codes ", WRITE_PROTECT forbids it" else []
 
 -- what follows one that contradicts a line: the two lines
 unfoldable pub two_lines : ℕ → ℕ → List ℕ
@@ -62,6 +91,15 @@ two_lines line number = decimal line ++ (codes " and " ++ decimal number)
 abbrev pub wrong_text : ℕ → Option ℕ → List ℕ
 wrong_text number None = []
 wrong_text number (Some line) = codes " WRONG PAGE? lines " ++ two_lines line number
+
+-- what follows a reading of a phase
+abbrev pub phase_text : Option ℕ → List ℕ
+phase_text None = []
+phase_text (Some phase) = codes ", phase " ++ decimal phase
+
+abbrev pub marks_text : ℕ → Marks → List ℕ
+marks_text number marks = phase_text marks.phase
+    ++ (received_text marks.ones ++ (forbidden_text marks.is_forbidden ++ wrong_text number marks.wrong))
 
 -- ---- a line
 
@@ -77,15 +115,15 @@ reached_text (Some page) number BadHex = judged_text number BadHex
 -- how a packet with these marks is shown by its code and bytes
 abbrev pub otherwise_by : TellOptions → Marks → ℕ → Otherwise
 otherwise_by options marks addr =
-    record { values = options.values; addr = addr; reached = marks.reached; ones = marks.ones }
+    record { values = options.values && is_heeded marks.ones; addr = addr; reached = marks.reached; ones = marks.ones }
 
 -- a packet as the command table has it, in the line of this number, or by its code and bytes
 abbrev pub packet_text_by : TellOptions → Taught → Marks → ℕ → TraceLine → Option ℕ → List ℕ
 packet_text_by options taught marks number parts None = reached_text marks.reached number (judged_by options.all marks.ones parts)
-    ++ (extra_text options taught marks.reached parts (judged_by options.all marks.ones parts)
-    ++ (lack_text marks.ones marks.lacks ++ wrong_text number marks.wrong))
+    ++ (extra_text options taught marks parts (judged_by options.all marks.ones parts)
+    ++ (lack_text marks.ones marks.lacks ++ marks_text number marks))
 packet_text_by options taught marks number parts (Some addr) =
-    other_text (otherwise_by options marks addr) parts.write parts.read ++ wrong_text number marks.wrong
+    other_text (otherwise_by options marks addr) parts.write parts.read ++ marks_text number marks
 
 abbrev pub packet_text : TellOptions → Taught → Marks → ℕ → TraceLine → List ℕ
 packet_text options taught marks number parts =
@@ -108,11 +146,11 @@ plain_line options taught marks number time parts = decimal number
 
 -- a packet as fields of JSON
 abbrev pub packet_fields_by : TellOptions → Taught → Marks → ℕ → TraceLine → Option ℕ → List ℕ
-packet_fields_by options taught marks number parts None = judged_fields options.formats options.values taught marks.reached
-    parts.write parts.read (judged_by options.all marks.ones parts)
-    ++ (lack_field marks.ones marks.lacks ++ wrong_field number marks.wrong)
+packet_fields_by options taught marks number parts None = judged_fields options.formats options.values
+    (is_heeded marks.ones) taught marks.reached parts.write parts.read (judged_by options.all marks.ones parts)
+    ++ (lack_field marks.ones marks.lacks ++ marks_fields number (length parts.write) marks)
 packet_fields_by options taught marks number parts (Some addr) =
-    other_fields (otherwise_by options marks addr) parts.write parts.read ++ wrong_field number marks.wrong
+    other_fields (otherwise_by options marks addr) parts.write parts.read ++ marks_fields number (length parts.write) marks
 
 abbrev pub reading_fields : TellOptions → Taught → Marks → ℕ → Option ℕ → Result TraceLine LineFault → List ℕ
 reading_fields options taught marks number time (Ok parts) = number_field_if (codes "time") time
@@ -133,7 +171,8 @@ told_line options taught marks number time parts = if options.json
 -- what is written of a line by what is known before it: nothing of a comment
 abbrev pub said_line : TellOptions → Known → ℕ → Said → List ℕ
 said_line options known number (Told reading) = told_line options known.taught
-    (marks_in options known.pages (ones_in options known reading.parts) reading.time reading.parts) number reading.time reading.parts
+    (marks_in options known.pages known.answers (ones_in options known reading.parts) reading.time reading.parts) number reading.time
+    reading.parts
 said_line options known number (Noted remark) = []
 
 abbrev pub line_text : TellOptions → Known → Entry → List ℕ
@@ -164,13 +203,18 @@ other_lines others (suc code) = other_lines others code ++ other_line others cod
 abbrev pub others_total : Bool → List (ℕ × ℕ) → List ℕ
 others_total all others = if all then codes " other " ++ decimal (total_of others) else []
 
-abbrev pub faults_text : ℕ → ℕ → List ℕ
-faults_text faults bad = codes " faults " ++ (decimal faults ++ (codes " bad " ++ (decimal bad ++ codes "\n")))
+-- how many packets were refused, if one was
+abbrev pub refused_total : ℕ → List ℕ
+refused_total refused = if refused == 0 then [] else codes " refused " ++ decimal refused
+
+abbrev pub faults_text : ℕ → ℕ → ℕ → List ℕ
+faults_text faults refused bad =
+    codes " faults " ++ (decimal faults ++ (refused_total refused ++ (codes " bad " ++ (decimal bad ++ codes "\n"))))
 
 unfoldable pub totals_line : Bool → HeardLines → List ℕ
 totals_line all heard = codes "lines " ++ (decimal (heard_lines heard) ++ (codes " accepted "
     ++ (decimal heard.counts.accepted ++ (others_total all heard.others
-    ++ faults_text heard.counts.faults heard.counts.bad))))
+    ++ faults_text heard.counts.faults heard.refused heard.counts.bad))))
 
 -- the counts as they are shown to a person, and as objects of JSON
 unfoldable pub plain_counts : Bool → HeardLines → List ℕ

@@ -8,6 +8,7 @@ use Rattle.pm_lines.specs.Streams.{max_text}
 use Rattle.pm_trace.specs.Marks.{ended, since, told_at_marks}
 use Rattle.pm_decode.specs.CaptureText.{line_text, lines_text}
 use Rattle.pm_decode.specs.Hearing.{HeardLines, heard_lines, heard_of, heard_with, unknown}
+use Rattle.pm_capture.specs.Options.{notes_comments}
 use Rattle.pm_capture.specs.Readings.{Entry, entry_of, is_heard}
 use Rattle.pm_capture.specs.TimedLines.{passes_timed, timed_of, timed_said, timed_takes}
 use Rattle.pm_capture.specs.declared.options.TellOptions.{TellOptions}
@@ -26,7 +27,7 @@ pub record Kept : Type 0 where
 
 -- the lines that a line feed ended, those that say nothing apart
 unfoldable pub said : TellOptions → List ℕ → List Entry
-said options bytes = map (entry_of options) (filter (is_heard options.pages)
+said options bytes = map (entry_of options) (filter (is_heard (notes_comments options))
     (enumerate_from 1 (map without_return (ended is_line_feed bytes))))
 
 -- what is written of them
@@ -47,15 +48,15 @@ kept_of options bytes = record {
 
 -- the line that ends here
 abbrev pub entry_ended : Kept → Entry
-entry_ended kept = (kept.ended + 1, timed_said kept.options.pages kept.line)
+entry_ended kept = (kept.ended + 1, timed_said (notes_comments kept.options) kept.line)
 
 -- what is heard if a line ends here, and what is written of it
 abbrev pub heard_ended : Kept → HeardLines
-heard_ended kept = if passes_timed kept.options.pages kept.line then kept.heard
+heard_ended kept = if passes_timed (notes_comments kept.options) kept.line then kept.heard
     else heard_with kept.options kept.heard (entry_ended kept)
 
 abbrev pub text_ended : Kept → List ℕ
-text_ended kept = if passes_timed kept.options.pages kept.line then []
+text_ended kept = if passes_timed (notes_comments kept.options) kept.line then []
     else line_text kept.options kept.heard.known (entry_ended kept)
 
 -- what is kept if a line ends here

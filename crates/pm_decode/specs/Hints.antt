@@ -1,7 +1,9 @@
 -- What is said besides of a capture that was shown whole: a voltage that is ordered beyond 1000 V by the format that was given,
--- lines of which none is what the options say that lines are, and packets that all lack their PEC. This project's own choice.
-use Rattle.std.specs.Prelude.{ℕ, Bool, false, ◌&&◌, ◌||◌, nat_lt, not, is_some, unsigned_abs, if◌then◌else◌, List, [], ◌∷◌, replicate, Option, Some, None}
+-- lines of which none is what the options say that lines are, packets that all lack their PEC, and PAGE that isn't followed. This project's own choice.
+use Rattle.std.specs.Prelude.{ℕ, Bool, false, ◌==◌, ◌&&◌, ◌||◌, nat_lt, not, is_some, unsigned_abs, if◌then◌else◌, List, [], ◌∷◌, replicate, Option, Some, None}
 use Rattle.pm_frame.specs.declared.message.Message.{Message}
+use Rattle.pm_frame.specs.declared.message.Message.TheVariants.{WriteByte}
+use Rattle.pm_table.specs.Codes as command
 use Rattle.pm_packets.specs.Otherwise.{is_accepted, lacks_pec}
 use Rattle.pm_packets.specs.declared.answers.Ones.TheVariants.{Answer}
 use Rattle.pm_trace.specs.Trace.{Judged, Accepted, Faulty, BadSyntax, BadHex, parts_judged}
@@ -65,6 +67,17 @@ has_vout given = has_entry given.vout
 abbrev pub beyond_by : TellOptions → Taught → Option ℕ → ℕ → Judged → Option ℕ → Option ℕ
 beyond_by options taught reached number judged before =
     if options.values && has_vout options.formats then first_if before (is_beyond options.formats taught reached judged) number else before
+
+-- ---- outputs
+
+-- a good write of PAGE
+abbrev pub writes_page : Judged → Bool
+writes_page (Accepted addr (WriteByte code byte) answer) = code == command.page
+writes_page judged = false
+
+abbrev pub paging_by : TellOptions → ℕ → Judged → Option ℕ → Option ℕ
+paging_by options number judged before =
+    if options.values && not options.pages then first_if before (writes_page judged) number else before
 
 -- ---- packets without PEC
 

@@ -1,5 +1,5 @@
 -- The counts as objects of JSON. This project's own choice.
-use Rattle.std.specs.Prelude.{ℕ, Bool, if◌then◌else◌, zero, suc, nat_eq, List, [], ◌++◌, decimal, codes, Option, Some, None}
+use Rattle.std.specs.Prelude.{ℕ, Bool, ◌==◌, if◌then◌else◌, zero, suc, nat_eq, List, [], ◌++◌, decimal, codes, Option, Some, None}
 use Rattle.std.specs.Map.{lookup}
 use Rattle.pm_json.specs.JsonText.{number_field}
 use Rattle.pm_lines.specs.Numbers.{hex_byte}
@@ -25,10 +25,14 @@ other_jsons others (suc code) = other_jsons others code ++ other_json others cod
 abbrev pub others_json : Bool → List (ℕ × ℕ) → List ℕ
 others_json all others = if all then number_field (codes "other") (total_of others) else []
 
-abbrev pub faults_json : ℕ → ℕ → List ℕ
-faults_json faults bad = number_field (codes "faults") faults ++ (number_field (codes "bad") bad ++ codes "}\n")
+abbrev pub refused_json : ℕ → List ℕ
+refused_json refused = if refused == 0 then [] else number_field (codes "refused") refused
+
+abbrev pub faults_json : ℕ → ℕ → ℕ → List ℕ
+faults_json faults refused bad =
+    number_field (codes "faults") faults ++ (refused_json refused ++ (number_field (codes "bad") bad ++ codes "}\n"))
 
 unfoldable pub totals_json : Bool → HeardLines → List ℕ
 totals_json all heard = codes "{\"lines\":" ++ (decimal (heard_lines heard)
     ++ (number_field (codes "accepted") heard.counts.accepted ++ (others_json all heard.others
-    ++ faults_json heard.counts.faults heard.counts.bad)))
+    ++ faults_json heard.counts.faults heard.refused heard.counts.bad)))

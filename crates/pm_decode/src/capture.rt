@@ -1,7 +1,8 @@
 //! A capture as its bytes come.
-ghost use Rattle.std.specs.Prelude.{[], ◌≡◌, ◌+◌, ◌≤◌, ◌<◌, ◌^◌, ◌++◌, if◌then◌else◌, OnOk, OnErr};
+ghost use Rattle.std.specs.Prelude.{[], ◌≡◌, ◌+◌, ◌≤◌, ◌<◌, ◌^◌, ◌++◌, ◌&&◌, if◌then◌else◌, OnOk, OnErr};
 ghost use Rattle.pm_decode.specs.CaptureText.{line_text};
 ghost use Rattle.pm_decode.specs.Hearing.{heard_lines, heard_with};
+ghost use Rattle.pm_capture.specs.Options.{notes_comments};
 ghost use Rattle.pm_capture.specs.TimedLines.{passes_timed, timed_said};
 
 use crate::counts_text::push_counts;
@@ -186,8 +187,8 @@ impl Capture {
     }
 }
 
-// Gathers what a line says that ends here, with its number, and has it heard, if it isn't skipped. A comment is noted if PAGE is
-// followed.
+// Gathers what a line says that ends here, with its number, and has it heard, if it isn't skipped. A comment is noted if an option
+// changes what is shown.
 #[tactic(auto, using(crate::proofs::HearingLemmas::heard_one))]
 fn hear_line(
     heard: &mut HeardLines,
@@ -197,18 +198,25 @@ fn hear_line(
     gathered: &mut ToldText,
 ) -> Result<(), AllocError>
     requires { heard_lines heard.old + 1 < 2 ^ 64 }
-    ensures heard { OnOk result (heard.new ≡ (if passes_timed options.now.pages line.now then heard.old
-        else heard_with options.now heard.old (number, timed_said options.now.pages line.now))) }
-    ensures told { OnOk result (gathered.new ≡ gathered.old ++ (if passes_timed options.now.pages line.now then []
-        else line_text options.now heard.old.known (number, timed_said options.now.pages line.now))) }
+    ensures heard { OnOk result (heard.new ≡ (if passes_timed (notes_comments options.now) line.now then heard.old
+        else heard_with options.now heard.old (number, timed_said (notes_comments options.now) line.now))) }
+    ensures told { OnOk result (gathered.new ≡ gathered.old ++ (if passes_timed (notes_comments options.now) line.now then []
+        else line_text options.now heard.old.known (number, timed_said (notes_comments options.now) line.now))) }
     ensures unchanged { OnErr result (gathered.new ≡ gathered.old) }
     ensures few { heard_lines heard.new ≤ heard_lines heard.old + 1 }
 {
-    if options.pages && line.is_comment() {
+    if is_noted(options, line) {
         return heard.note(number, line.remark());
     }
     if line.is_skipped() {
         return Ok(());
     }
     gathered.hear(heard, options, number, &line.reading())
+}
+
+// Whether a line is a comment that is noted.
+fn is_noted(options: &TellOptions, line: &TimedLine) -> bool
+    ensures { result ≡ (notes_comments options.now && line.now.has_mark) }
+{
+    line.is_comment() && options.notes_comments()
 }

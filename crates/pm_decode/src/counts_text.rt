@@ -1,7 +1,7 @@
 //! The text of the counts.
 ghost use Rattle.std.specs.Prelude.{◌≡◌, ◌+◌, ◌<◌, ◌++◌, ◌^◌, OnOk, string_bytes};
 ghost use Rattle.pm_trace.specs.Counts.{total_of};
-ghost use Rattle.pm_decode.specs.CaptureText.{counts_text, faults_text, json_counts, other_line, other_lines, others_total, plain_counts, totals_line};
+ghost use Rattle.pm_decode.specs.CaptureText.{counts_text, faults_text, json_counts, other_line, other_lines, others_total, plain_counts, refused_total, totals_line};
 ghost use Rattle.pm_decode.specs.Hearing.{heard_lines};
 
 use crate::heard_lines::HeardLines;
@@ -81,16 +81,17 @@ fn push_totals(text: &mut String, all: bool, heard: &HeardLines) -> Result<(), A
     text.push_str(" accepted ")?;
     push_decimal(text, accepted)?;
     push_others_total(text, all, heard.others())?;
-    push_faults(text, faults, bad)
+    push_faults(text, faults, heard.refused(), bad)
 }
 
-// The end of that line: how many lines had a fault and were bad.
+// The end of that line: how many lines had a fault, were refused and were bad.
 #[tactic(auto, using(pm_lines::specs::Lemmas::Joins::joins))]
-fn push_faults(text: &mut String, faults: u64, bad: u64) -> Result<(), AllocError>
-    ensures { OnOk result (string_bytes text.new ≡ string_bytes text.old ++ faults_text faults bad) }
+fn push_faults(text: &mut String, faults: u64, refused: u64, bad: u64) -> Result<(), AllocError>
+    ensures { OnOk result (string_bytes text.new ≡ string_bytes text.old ++ faults_text faults refused bad) }
 {
     text.push_str(" faults ")?;
     push_decimal(text, faults)?;
+    push_refused(text, refused)?;
     text.push_str(" bad ")?;
     push_decimal(text, bad)?;
     text.push_str("\n")
@@ -106,4 +107,16 @@ fn push_others_total(text: &mut String, all: bool, others: &Others) -> Result<()
     }
     text.push_str(" other ")?;
     push_decimal(text, others.total())
+}
+
+// How many packets were refused, if one was.
+#[tactic(auto, using(pm_lines::specs::Lemmas::Joins::joins))]
+fn push_refused(text: &mut String, refused: u64) -> Result<(), AllocError>
+    ensures { OnOk result (string_bytes text.new ≡ string_bytes text.old ++ refused_total refused) }
+{
+    if refused == 0 {
+        return Ok(());
+    }
+    text.push_str(" refused ")?;
+    push_decimal(text, refused)
 }

@@ -10,7 +10,7 @@ use crate::known::Known;
 use crate::line_text::push_bad_line;
 use pm_capture::{
     LineReading, Marks, PacketLine, Remark, TellOptions, bad_shown, completed_if, is_plain,
-    told_code,
+    is_to_all, told_code,
 };
 use pm_packets::{Others, address_otherwise, shown_with};
 use pm_trace::{Tally, packet_shown};
@@ -23,6 +23,8 @@ pub(crate) struct HeardLines {
     known: Known,
     tally: Tally,
     others: Others,
+    // How many packets were refused.
+    refused: u64,
 }
 
 impl Model for HeardLines {
@@ -30,7 +32,7 @@ impl Model for HeardLines {
 
     ghost Value = { HeardLines };
 
-    ghost view = { λ h. record { known = h.known; counts = h.tally; others = h.others } };
+    ghost view = { λ h. record { known = h.known; counts = h.tally; others = h.others; refused = h.refused } };
 }
 
 impl HeardLines {
@@ -41,7 +43,8 @@ impl HeardLines {
     ghost use Rattle.pm_decode.specs.CaptureText.{told_line};
     ghost use Rattle.pm_packets.specs.Answers.{ones_of};
     ghost use Rattle.pm_packets.specs.declared.answers.Ones.TheVariants.{Answer};
-    ghost use Rattle.pm_decode.specs.Hearing.{answers_read, heard_lines, heard_with, known_read, ones_in, taught_read, unheard};
+    ghost use Rattle.pm_decode.specs.Hearing.{answers_read, counted_with, heard_lines, heard_with, known_read, ones_in, taught_read, unheard};
+    ghost use Rattle.pm_packets.specs.Otherwise.{content_of};
     ghost use Rattle.pm_decode.specs.Hints.{beyond_by, lacking_by};
     ghost use Rattle.pm_decode.specs.UsualLines.{code_counted};
     ghost use Rattle.pm_capture.specs.PageSteps.{used_by};
@@ -59,6 +62,7 @@ impl HeardLines {
             known: Known::new(alloc),
             tally: Tally::new(alloc),
             others: Others::new(alloc),
+            refused: 0,
         }
     }
 
@@ -86,16 +90,14 @@ impl HeardLines {
                     time: line.time,
                     packet: *packet,
                     shown: &shown,
-                    ones: self.known.ones(options.all, packet, &shown),
+                    ones: self.known.ones(options, packet, &shown),
                     other: None,
                 };
                 self.hear_packet(options, &line, text)
             }
             Err(fault) => {
                 push_bad_line(text, options, number, *fault)?;
-                if options.pages {
-                    self.known.lose(number);
-                }
+                self.known.lose_line(options.notes_comments(), number);
                 self.tally.count(&bad_shown(*fault))
             }
         }
@@ -121,7 +123,11 @@ impl HeardLines {
             ≡ heard_with options.now self.old (line.now.number, Told (record { time = line.now.time; parts = Ok (packet_in line.now.packet) }))) }
         ensures few { heard_lines self.new ≤ heard_lines self.old + 1 }
     {
-        if options.pages || !is_plain(options.all, line.shown) {
+        if options.pages
+            || line.ones.is_refused()
+            || !is_plain(options.all, line.shown)
+            || (options.notes_comments() && is_to_all(line.packet.write, line.packet.is_read()))
+        {
             return self.hear_closely(options, line, text);
         }
         let marks = Marks::without_page(line.ones, false);
@@ -230,6 +236,23 @@ impl HeardLines {
             let marks = Marks::without_page(line.ones, lacks);
             self.known.tell_packet(options, &marks, line, text)?;
         }
+        if options.notes_comments() && is_to_all(line.packet.write, line.packet.is_read()) {
+            self.known.lose(line.number);
+        }
+        self.count(line)
+    }
+
+    // Counts a packet by what it says, as the command table has it or by its code and bytes, or as a refused one.
+    fn count(&mut self, line: &PacketLine<'_>) -> Result<(), AllocError>
+        requires few { heard_lines self.old + 1 < 2 ^ 64 }
+        ensures heard { OnOk result (self.new ≡ counted_with line.now.ones line.now.other (content_of line.now.packet.write.now
+            (option_map (λ bytes. bytes.now) line.now.packet.read)).code (line.now.number, judged_in line.now.shown.now) self.old) }
+        ensures few { heard_lines self.new ≤ heard_lines self.old + 1 }
+    {
+        if line.ones.is_refused() {
+            self.refused += 1;
+            return Ok(());
+        }
         match line.other {
             None => self.tally.count(line.shown),
             Some(_) => self.others.count(told_code(&line.packet)),
@@ -260,7 +283,7 @@ impl HeardLines {
         ensures { result ≡ heard_lines self.now }
     {
         let (lines, _, _, _) = self.tally.lines();
-        lines + self.others.total()
+        lines + self.others.total() + self.refused
     }
 
     /// What is known after the lines.
@@ -275,6 +298,13 @@ impl HeardLines {
         ensures { result.now ≡ self.now.counts }
     {
         &self.tally
+    }
+
+    /// How many packets were refused.
+    pub(crate) fn refused(&self) -> u64
+        ensures { result ≡ self.now.refused }
+    {
+        self.refused
     }
 
     /// How often other codes were carried.

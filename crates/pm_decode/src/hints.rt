@@ -4,12 +4,14 @@ ghost use Rattle.pm_trace.specs.ShownLines.{judged_in};
 ghost use Rattle.pm_trace.specs.Trace.{parts_judged};
 ghost use Rattle.pm_capture.specs.ShownReadings.{packet_in};
 ghost use Rattle.pm_decode.specs.Hearing.{heard_lines, hint_by, is_none_told, is_without_any_pec as spec_is_without_any_pec, lines_hint as spec_lines_hint};
-ghost use Rattle.pm_decode.specs.Hints.{beyond_by, first_if, has_entry as spec_has_entry, has_vout as spec_has_vout, is_beyond as spec_is_beyond, is_huge as spec_is_huge, is_huge_value as spec_is_huge_value, lacking_by};
+ghost use Rattle.pm_decode.specs.Hints.{beyond_by, first_if, has_entry as spec_has_entry, has_vout as spec_has_vout, is_beyond as spec_is_beyond, is_huge as spec_is_huge, is_huge_value as spec_is_huge_value, lacking_by, paging_by, writes_page as spec_writes_page};
 
 use crate::heard_lines::HeardLines;
 use pm_capture::{PacketLine, TellOptions};
+use pm_frame::Message;
 use pm_num::Frac;
 use pm_packets::{Ones, completed_part};
+use pm_table::Code;
 use pm_trace::Shown;
 use pm_values::{
     GivenFormat, GivenFormats, GoodPacket, Lessons, Unit, Value, millionths, packet_value,
@@ -26,6 +28,8 @@ pub enum Hint {
     NoGoodPacket,
     /// Packets without PEC weren't shown, and no line was a good packet, but each packet would have been one with its PEC.
     NoPec,
+    /// The line of this number wrote PAGE, which isn't followed, so that values of outputs are missing.
+    Paging(u64),
 }
 
 /// What may be wrong with a capture of these lines, shown by these options.
@@ -38,6 +42,7 @@ pub(crate) fn hint_of(options: &TellOptions, heard: &HeardLines) -> Option<Hint>
     }
     match lines_hint(options.times, heard) {
         None if is_without_any_pec(options.all, heard) => Some(Hint::NoPec),
+        None => heard.known().paging().map(Hint::Paging),
         hint => hint,
     }
 }
@@ -96,6 +101,32 @@ pub(crate) fn first_beyond(
         first_of(&options.formats, lessons, reached, line, before)
     } else {
         before
+    }
+}
+
+/// The first line that writes PAGE, where values are shown and PAGE isn't followed; `before` is the first one before it.
+pub(crate) fn first_paging(
+    options: &TellOptions,
+    line: &PacketLine<'_>,
+    before: Option<u64>,
+) -> Option<u64>
+    ensures { result ≡ paging_by options.now line.now.number (judged_in line.now.shown.now) before }
+{
+    match before {
+        None if options.values && !options.pages && writes_page(line.shown) => Some(line.number),
+        _ => before,
+    }
+}
+
+// Whether a packet is a good write of PAGE.
+fn writes_page(shown: &Shown<'_>) -> bool
+    ensures { result ≡ spec_writes_page (judged_in shown.now) }
+{
+    match shown {
+        Shown::Accepted { view, .. } => {
+            matches!(view.message(), Message::WriteByte { code, .. } if Code(code) == Code::PAGE)
+        }
+        _ => false,
     }
 }
 

@@ -3,7 +3,7 @@ ghost use Rattle.std.specs.Prelude.{◌≡◌, ◌<◌, ◌++◌, ◌^◌, OnOk,
 ghost use Rattle.std.specs.Map.{lookup};
 ghost use Rattle.pm_decode.specs.CaptureText.{json_counts};
 ghost use Rattle.pm_decode.specs.Hearing.{heard_lines};
-ghost use Rattle.pm_decode.specs.JsonCounts.{count_json, faults_json, other_json, other_jsons, others_json, totals_json};
+ghost use Rattle.pm_decode.specs.JsonCounts.{count_json, faults_json, other_json, other_jsons, others_json, refused_json, totals_json};
 
 use crate::heard_lines::HeardLines;
 use pm_json::push_number_field;
@@ -80,7 +80,7 @@ fn push_totals(text: &mut String, all: bool, heard: &HeardLines) -> Result<(), A
     push_decimal(text, heard.lines())?;
     push_number_field(text, "accepted", accepted)?;
     push_others_total(text, all, heard.others())?;
-    push_faults(text, faults, bad)
+    push_faults(text, faults, heard.refused(), bad)
 }
 
 // How often other codes were carried.
@@ -94,12 +94,23 @@ fn push_others_total(text: &mut String, all: bool, others: &Others) -> Result<()
     push_number_field(text, "other", others.total())
 }
 
-// The end of that object: how many lines had a fault and were bad.
+// The end of that object: how many lines had a fault, were refused and were bad.
 #[tactic(auto, using(pm_lines::specs::Lemmas::Joins::joins))]
-fn push_faults(text: &mut String, faults: u64, bad: u64) -> Result<(), AllocError>
-    ensures { OnOk result (string_bytes text.new ≡ string_bytes text.old ++ faults_json faults bad) }
+fn push_faults(text: &mut String, faults: u64, refused: u64, bad: u64) -> Result<(), AllocError>
+    ensures { OnOk result (string_bytes text.new ≡ string_bytes text.old ++ faults_json faults refused bad) }
 {
     push_number_field(text, "faults", faults)?;
+    push_refused(text, refused)?;
     push_number_field(text, "bad", bad)?;
     text.push_str("}\n")
+}
+
+// How many packets were refused, if one was.
+fn push_refused(text: &mut String, refused: u64) -> Result<(), AllocError>
+    ensures { OnOk result (string_bytes text.new ≡ string_bytes text.old ++ refused_json refused) }
+{
+    if refused == 0 {
+        return Ok(());
+    }
+    push_number_field(text, "refused", refused)
 }

@@ -4,18 +4,18 @@ ghost use Rattle.pm_trace.specs.ShownLines.{judged_in};
 ghost use Rattle.pm_trace.specs.Trace.{reading_judged};
 ghost use Rattle.pm_trace.specs.TraceText.{judged_text};
 ghost use Rattle.pm_values.specs.Taught.{Taught};
-ghost use Rattle.pm_decode.specs.CaptureText.{bytes_text, extra_text, json_line, lack_text, plain_line, meaning_text, otherwise_by as spec_otherwise_by, packet_fields_by, packet_text_by, reached_text, read_bytes_text, time_text, told_line, two_lines, wrong_text};
+ghost use Rattle.pm_decode.specs.CaptureText.{assumed_text, bytes_text, extra_text, forbidden_text, json_line, lack_text, marks_text, phase_text, plain_line, meaning_text, otherwise_by as spec_otherwise_by, packet_fields_by, packet_text_by, reached_text, read_bytes_text, received_text, refused_words as spec_refused_words, time_text, told_line, two_lines, wrong_text};
 ghost use Rattle.pm_capture.specs.Readings.{judged_by, other_address};
 ghost use Rattle.pm_capture.specs.ShownReadings.{packet_in};
 ghost use Rattle.pm_capture.specs.declared.page_steps.Marks.{Marks};
 
 use pm_capture::{Marks, PacketLine, TellOptions};
 use pm_json::{
-    push_judged_fields, push_lack_field, push_number_field_if, push_other_fields, push_text_field,
-    push_wrong_field,
+    push_judged_fields, push_lack_field, push_marks_fields, push_number_field_if,
+    push_other_fields, push_text_field,
 };
 use pm_lines::{TextFault, push_decimal, push_hex};
-use pm_packets::{Otherwise, Packet, ones_words, push_otherwise, push_spaced};
+use pm_packets::{Ones, Otherwise, Packet, ones_words, push_otherwise, push_spaced};
 use pm_trace::{LineFault, Shown, push_packet, push_shown};
 use pm_values::{GoodPacket, Lessons, packet_value, push_known};
 use std::alloc::AllocError;
@@ -139,13 +139,13 @@ fn push_packet_fields(
 {
     match line.other {
         None => {
-            push_judged_fields(text, options, lessons, marks.reached, line)?;
+            push_judged_fields(text, options, lessons, marks, line)?;
             push_lack_field(text, marks)?;
-            push_wrong_field(text, line.number, marks.wrong)
+            push_marks_fields(text, line.number, line.packet.write, marks)
         }
         Some(addr) => {
             push_other_fields(text, &otherwise_by(options, marks, addr), &line.packet)?;
-            push_wrong_field(text, line.number, marks.wrong)
+            push_marks_fields(text, line.number, line.packet.write, marks)
         }
     }
 }
@@ -186,12 +186,13 @@ fn push_packet_text(
     match line.other {
         None => {
             push_reached(text, marks.reached, line.number, line.shown)?;
-            push_extra(text, options, lessons, marks.reached, line)?;
+            push_extra(text, options, lessons, marks, line)?;
+            push_lack(text, marks)?;
             push_marks(text, line.number, marks)
         }
         Some(addr) => {
             push_otherwise(text, &otherwise_by(options, marks, addr), &line.packet)?;
-            push_wrong_if(text, line.number, marks.wrong)
+            push_marks(text, line.number, marks)
         }
     }
 }
@@ -201,7 +202,7 @@ fn otherwise_by(options: &TellOptions, marks: &Marks, addr: u8) -> Otherwise
     ensures { result ≡ spec_otherwise_by options.now marks.now addr }
 {
     Otherwise {
-        values: options.values,
+        values: options.values && marks.ones.is_heeded(),
         addr,
         reached: marks.reached,
         ones: marks.ones,
@@ -231,16 +232,73 @@ fn push_reached(
     }
 }
 
-// What follows a packet for its marks: that it lacks its PEC, and the lines of which one contradicts the other.
-#[tactic(auto, using(pm_lines::specs::Lemmas::Joins::joins))]
-fn push_marks(text: &mut String, number: u64, marks: &Marks) -> Result<(), AllocError>
-    ensures { OnOk result (string_bytes text.new
-        ≡ string_bytes text.old ++ (lack_text marks.now.ones marks.now.lacks ++ wrong_text number marks.now.wrong)) }
+// What follows a packet that lacks its PEC.
+fn push_lack(text: &mut String, marks: &Marks) -> Result<(), AllocError>
+    ensures { OnOk result (string_bytes text.new ≡ string_bytes text.old ++ lack_text marks.now.ones marks.now.lacks) }
 {
     if marks.lacks {
-        text.push_str(ones_words(marks.ones))?;
+        text.push_str(ones_words(marks.ones))
+    } else {
+        Ok(())
     }
+}
+
+// What follows a packet for its phase, for how it was received, and for the line that it contradicts.
+#[tactic(auto, using(pm_lines::specs::Lemmas::Joins::joins))]
+fn push_marks(text: &mut String, number: u64, marks: &Marks) -> Result<(), AllocError>
+    ensures { OnOk result (string_bytes text.new ≡ string_bytes text.old ++ marks_text number marks.now) }
+{
+    push_phase(text, marks.phase)?;
+    push_received(text, marks.ones)?;
+    push_forbidden(text, marks.is_forbidden)?;
     push_wrong_if(text, number, marks.wrong)
+}
+
+// What follows a reading of a phase.
+#[tactic(auto, using(pm_lines::specs::Lemmas::Joins::joins))]
+fn push_phase(text: &mut String, phase: Option<u8>) -> Result<(), AllocError>
+    ensures { OnOk result (string_bytes text.new ≡ string_bytes text.old ++ phase_text phase) }
+{
+    let Some(phase) = phase else {
+        return Ok(());
+    };
+    text.push_str(", phase ")?;
+    push_decimal(text, u64::from(phase))
+}
+
+// What follows a packet of which a byte wasn't acknowledged.
+#[tactic(auto, using(pm_lines::specs::Lemmas::Joins::joins))]
+fn push_received(text: &mut String, ones: Ones) -> Result<(), AllocError>
+    ensures { OnOk result (string_bytes text.new ≡ string_bytes text.old ++ received_text ones) }
+{
+    let Ones::Refused(refusal) = ones else {
+        return Ok(());
+    };
+    text.push_str(", byte ")?;
+    push_decimal(text, u64::from(refusal.place))?;
+    text.push_str(refused_words(refusal.of_answer))
+}
+
+// What is said of a byte that wasn't acknowledged, of the answer or of the write part.
+fn refused_words(of_answer: bool) -> &'static str
+    ensures { result.now ≡ spec_refused_words of_answer }
+{
+    if of_answer {
+        " of the answer not acknowledged"
+    } else {
+        " not acknowledged"
+    }
+}
+
+// What follows a write of PAGE that WRITE_PROTECT forbids.
+fn push_forbidden(text: &mut String, is_forbidden: bool) -> Result<(), AllocError>
+    ensures { OnOk result (string_bytes text.new ≡ string_bytes text.old ++ forbidden_text is_forbidden) }
+{
+    if is_forbidden {
+        text.push_str(", WRITE_PROTECT forbids it")
+    } else {
+        Ok(())
+    }
 }
 
 // What follows a packet in this line for the earlier one that it contradicts, if there is one.
@@ -285,20 +343,20 @@ fn push_time(text: &mut String, time: Option<u64>) -> Result<(), AllocError>
     text.push_str(" us")
 }
 
-// What follows a packet's text: its value, or its bytes if it has a fault.
+// What follows a packet's text: its value if it wasn't refused, or its bytes if it has a fault.
 #[tactic(auto, using(pm_lines::specs::Lemmas::Joins::joins))]
 fn push_extra(
     text: &mut String,
     options: &TellOptions,
     lessons: &Lessons,
-    reached: Option<u8>,
+    marks: &Marks,
     line: &PacketLine<'_>,
 ) -> Result<(), AllocError>
     ensures { OnOk result (string_bytes text.new ≡ string_bytes text.old
-        ++ extra_text options.now lessons.now reached (packet_in line.now.packet) (judged_in line.now.shown.now)) }
+        ++ extra_text options.now lessons.now marks.now (packet_in line.now.packet) (judged_in line.now.shown.now)) }
 {
     if options.values {
-        push_meaning(text, options, lessons, reached, line)
+        push_meaning(text, options, lessons, marks, line)
     } else {
         Ok(())
     }
@@ -310,24 +368,40 @@ fn push_meaning(
     text: &mut String,
     options: &TellOptions,
     lessons: &Lessons,
-    reached: Option<u8>,
+    marks: &Marks,
     line: &PacketLine<'_>,
 ) -> Result<(), AllocError>
     ensures { OnOk result (string_bytes text.new ≡ string_bytes text.old
-        ++ meaning_text options.now lessons.now reached (packet_in line.now.packet) (judged_in line.now.shown.now)) }
+        ++ meaning_text options.now lessons.now marks.now (packet_in line.now.packet) (judged_in line.now.shown.now)) }
 {
     match line.shown {
+        Shown::Accepted { .. } if !marks.ones.is_heeded() => Ok(()),
         Shown::Accepted { addr, view, answer } => {
             let packet = GoodPacket {
                 addr: *addr,
-                reached,
+                reached: marks.reached,
                 view,
                 answer: *answer,
             };
-            push_known(text, packet_value(&options.formats, lessons, &packet))
+            push_known(text, packet_value(&options.formats, lessons, &packet))?;
+            push_assumed(
+                text,
+                lessons.is_assumed(&options.formats, *addr, view.code()),
+            )
         }
         Shown::Faulty { .. } => push_bytes(text, &line.packet),
         Shown::BadSyntax | Shown::BadHex => Ok(()),
+    }
+}
+
+// What follows a value whose format is only assumed.
+fn push_assumed(text: &mut String, is_assumed: bool) -> Result<(), AllocError>
+    ensures { OnOk result (string_bytes text.new ≡ string_bytes text.old ++ assumed_text is_assumed) }
+{
+    if is_assumed {
+        text.push_str("?")
+    } else {
+        Ok(())
     }
 }
 

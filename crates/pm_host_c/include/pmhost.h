@@ -64,8 +64,8 @@ extern "C" {
 #define PM_DELIVERY_SIZE 66
 #define PM_SEQUENCE_VERSION 1
 #define PM_SEQUENCE_SIZE 376
-#define PM_SEQUENCE_STEP_SIZE 104
-#define PM_SEQUENCE_RECORD_SIZE 176
+#define PM_SEQUENCE_STEP_SIZE 64
+#define PM_SEQUENCE_RECORD_SIZE 132
 #define PM_STACK 4096
 #define PM_SEQUENCE_STACK 12288
 #define PM_NAME_STACK 4096
@@ -327,8 +327,7 @@ enum { PM_STAY = 0, PM_WORD = 1, PM_MICROVOLTS = 2 };
 typedef struct {
     uint16_t kind;      /* PM_STAY, PM_WORD or PM_MICROVOLTS */
     uint16_t word;      /* of PM_WORD, otherwise 0 */
-    uint32_t unused;
-    int64_t microvolts; /* of PM_MICROVOLTS, otherwise 0 */
+    int32_t microvolts; /* of PM_MICROVOLTS, otherwise 0: at most 2,147 V */
 } pm_sequence_wish;
 
 enum {
@@ -368,7 +367,7 @@ typedef char pm_sequence_step_has_its_size[sizeof(pm_sequence_step) == PM_SEQUEN
 typedef struct {
     pm_sequence_step back; /* the step that undoes it, written as it begins: carried out as it is, nothing is looked at */
     pm_delivery look;      /* what was heard of its rail, written as its look ends, and if its goal is beyond a fault limit */
-    uint8_t unused[6];
+    uint8_t unused[2];
 } pm_sequence_record;
 
 typedef char pm_sequence_record_has_its_size[sizeof(pm_sequence_record) == PM_SEQUENCE_RECORD_SIZE ? 1 : -1];
@@ -857,7 +856,7 @@ static inline pm_course_end pm_host_run_course(pm_host *host, pm_course *course,
 
 /* Steps whose rails are looked at: READ_VOUT may be 5 % away, and all is asked seven times at most. One sets VOUT_COMMAND, the other gives
  * OPERATION a byte. Change their fields as you want. */
-static inline pm_sequence_step pm_sets(uint8_t host, uint8_t output, int64_t microvolts) {
+static inline pm_sequence_step pm_sets(uint8_t host, uint8_t output, int32_t microvolts) {
     pm_sequence_step step;
     unsigned at;
     for (at = 0; at < sizeof step; at++)

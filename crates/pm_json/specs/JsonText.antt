@@ -1,6 +1,6 @@
 -- What is written of a capture as objects of JSON, one a line, without spaces, and with keys in one order. Every text in
 -- them is made of letters, digits, spaces and a few signs of which none has to be escaped. This project's own choice.
-use Rattle.std.specs.Prelude.{ℕ, ℤ, pos, Bool, true, if◌then◌else◌, List, [], ◌∷◌, ◌++◌, decimal, codes, unwrap_or, Option, Some, None}
+use Rattle.std.specs.Prelude.{ℕ, ◌+◌, ℤ, pos, Bool, true, ◌&&◌, if◌then◌else◌, List, [], ◌∷◌, ◌++◌, decimal, codes, unwrap_or, Option, Some, None}
 use Rattle.std.specs.Fmt.{signed_decimal}
 use Rattle.pm_frame.specs.FaultWords.{frame_fault_place, frame_fault_words}
 use Rattle.pm_frame.specs.View.{message_code, message_page}
@@ -16,10 +16,12 @@ use Rattle.pm_trace.specs.Trace.{Judged, Accepted, Faulty, BadSyntax, BadHex}
 use Rattle.pm_packets.specs.CodeNames.{standard_name}
 use Rattle.pm_packets.specs.Otherwise.{ContentBytes, content_letters, content_of, has_pec, said_bytes, spaced}
 use Rattle.pm_packets.specs.declared.answers.Ones.{Ones}
-use Rattle.pm_packets.specs.declared.answers.Ones.TheVariants.{Answer, Doubtful, Nobody}
+use Rattle.pm_packets.specs.declared.answers.Ones.TheVariants.{Answer, Doubtful, Nobody, Refused}
+use Rattle.pm_packets.specs.declared.answers.Refusal.{Refusal}
+use Rattle.pm_capture.specs.declared.page_steps.Marks.{Marks}
 use Rattle.pm_packets.specs.declared.otherwise.Otherwise.{Otherwise}
 use Rattle.pm_values.specs.Statuses.{names_from, rows_of}
-use Rattle.pm_values.specs.Taught.{Taught}
+use Rattle.pm_values.specs.Taught.{Taught, is_assumed}
 use Rattle.pm_values.specs.ValueText.{capability_text, decimal_of, mode_text, on_off_text, operation_text, protection_text, relative_text, revision_text}
 use Rattle.pm_values.specs.Values.{carried, millionths, other_value, packet_value}
 use Rattle.pm_values.specs.declared.formats.GivenFormats.{GivenFormats}
@@ -123,11 +125,19 @@ abbrev pub page_fields : Option ℕ → Option ℕ → List ℕ
 page_fields None named = number_field_if (codes "page") named
 page_fields (Some page) named = number_field (codes "page") page ++ codes ",\"followed\":true"
 
+-- a value, and that its format is only assumed
+abbrev pub assumed_field : Bool → List ℕ
+assumed_field assumed = if assumed then codes ",\"assumed\":true" else []
+
+abbrev pub told_fields : GivenFormats → Taught → Option ℕ → ℕ → Message → Option (List ℕ) → List ℕ
+told_fields given taught reached addr message answer = value_fields_if (packet_value given taught addr reached message answer)
+    ++ assumed_field (is_assumed given taught addr (message_code message))
+
 -- a packet that asks for nothing but its code's value, or writes it
 abbrev pub plain_fields : GivenFormats → Bool → Taught → Option ℕ → ℕ → Message → Option (List ℕ) → List ℕ
 plain_fields given values taught reached addr message answer = page_fields reached (message_page message)
     ++ (code_fields (message_code message) ++ (payload_fields (carried message None) answer
-    ++ (if values then value_fields_if (packet_value given taught addr reached message answer) else [])))
+    ++ (if values then told_fields given taught reached addr message answer else [])))
 
 -- the answer to a request for coefficients
 abbrev pub coefficients_fields : ℕ → ℕ → List ℕ → List ℕ
@@ -221,6 +231,7 @@ abbrev pub ones_fields : Ones → List ℕ
 ones_fields Answer = codes ",\"pec\":false"
 ones_fields Doubtful = codes ",\"pec\":false,\"answered\":null"
 ones_fields Nobody = codes ",\"pec\":false,\"answered\":false"
+ones_fields (Refused refusal) = codes ",\"pec\":false"
 
 -- whether it has its PEC
 abbrev pub pec_fields : Bool → Ones → List ℕ
@@ -243,12 +254,32 @@ abbrev pub wrong_field : ℕ → Option ℕ → List ℕ
 wrong_field number None = []
 wrong_field number (Some line) = lines_field line number
 
+-- the field of a packet of which a byte wasn't acknowledged, and whose write part has so many bytes: the byte's place in the packet
+abbrev pub refused_field : ℕ → Refusal → List ℕ
+refused_field written refusal =
+    number_field (codes "refused_at") (if refusal.of_answer then written + refusal.place else refusal.place)
+
+abbrev pub received_field : ℕ → Ones → List ℕ
+received_field written (Refused refusal) = refused_field written refusal
+received_field written Answer = []
+received_field written Doubtful = []
+received_field written Nobody = []
+
+-- the field of a write of PAGE that WRITE_PROTECT forbids
+abbrev pub forbidden_field : Bool → List ℕ
+forbidden_field forbidden = if forbidden then codes ",\"forbidden\":true" else []
+
+abbrev pub marks_fields : ℕ → ℕ → Marks → List ℕ
+marks_fields number written marks = number_field_if (codes "phase") marks.phase
+    ++ (received_field written marks.ones ++ (forbidden_field marks.is_forbidden ++ wrong_field number marks.wrong))
+
 -- ---- a line
 
-abbrev pub judged_fields : GivenFormats → Bool → Taught → Option ℕ → List ℕ → Option (List ℕ) → Judged → List ℕ
-judged_fields given values taught reached write read (Accepted addr message answer) =
-    address_field (Some addr) ++ message_fields given values taught reached addr message answer
-judged_fields given values taught reached write read (Faulty addr is_read fault) =
+-- `heeded` is whether the bytes of a good packet say something
+abbrev pub judged_fields : GivenFormats → Bool → Bool → Taught → Option ℕ → List ℕ → Option (List ℕ) → Judged → List ℕ
+judged_fields given values heeded taught reached write read (Accepted addr message answer) =
+    address_field (Some addr) ++ message_fields given (values && heeded) taught reached addr message answer
+judged_fields given values heeded taught reached write read (Faulty addr is_read fault) =
     address_field addr ++ (fault_code addr write ++ fault_fields values write read is_read fault)
-judged_fields given values taught reached write read BadSyntax = []
-judged_fields given values taught reached write read BadHex = []
+judged_fields given values heeded taught reached write read BadSyntax = []
+judged_fields given values heeded taught reached write read BadHex = []

@@ -1,8 +1,9 @@
 //! The fields of a packet as the command table has it.
 ghost use Rattle.std.specs.Prelude.{◌≡◌, ◌++◌, option_map, if◌then◌else◌, OnOk, string_bytes};
+ghost use Rattle.pm_packets.specs.Otherwise.{is_heeded};
 ghost use Rattle.pm_table.specs.Coefficients.{coefficients_of};
 ghost use Rattle.pm_trace.specs.ShownLines.{judged_in};
-ghost use Rattle.pm_json.specs.JsonText.{code_fields, coefficients_fields, judged_fields, message_fields, numbers_fields, page_fields, payload_fields, plain_fields, sent_direction as spec_sent_direction, sent_fields};
+ghost use Rattle.pm_json.specs.JsonText.{assumed_field, code_fields, coefficients_fields, judged_fields, message_fields, numbers_fields, page_fields, payload_fields, plain_fields, told_fields, sent_direction as spec_sent_direction, sent_fields};
 
 use crate::fault::push_fault_fields;
 use crate::fields::{
@@ -10,11 +11,11 @@ use crate::fields::{
     push_number_field_if, push_signed_field, push_text_field,
 };
 use crate::value::push_value_fields;
-use pm_capture::{PacketLine, TellOptions};
+use pm_capture::{Marks, PacketLine, TellOptions};
 use pm_frame::Message;
 use pm_table::{Code, Coefficients};
 use pm_trace::{Shown, answered, coefficients_in};
-use pm_values::{GoodPacket, Lessons, packet_value};
+use pm_values::{GivenFormats, GoodPacket, Lessons, packet_value};
 use std::alloc::AllocError;
 
 /// Appends the fields of a packet as the command table has it.
@@ -23,23 +24,24 @@ pub fn push_judged_fields(
     text: &mut String,
     options: &TellOptions,
     lessons: &Lessons,
-    reached: Option<u8>,
+    marks: &Marks,
     line: &PacketLine<'_>,
 ) -> Result<(), AllocError>
     ensures { OnOk result (string_bytes text.new ≡ string_bytes text.old
-        ++ judged_fields options.now.formats options.now.values lessons.now reached line.now.packet.write.now
+        ++ judged_fields options.now.formats options.now.values (is_heeded marks.now.ones) lessons.now marks.now.reached line.now.packet.write.now
         (option_map (λ bytes. bytes.now) line.now.packet.read) (judged_in line.now.shown.now)) }
 {
     match line.shown {
         Shown::Accepted { addr, view, answer } => {
             let packet = GoodPacket {
                 addr: *addr,
-                reached,
+                reached: marks.reached,
                 view,
                 answer: *answer,
             };
+            let values = options.values && marks.ones.is_heeded();
             push_address_field(text, Some(*addr))?;
-            push_message_fields(text, options, lessons, &packet)
+            push_message_fields(text, &options.formats, values, lessons, &packet)
         }
         Shown::Faulty { addr, read, fault } => {
             push_address_field(text, *addr)?;
@@ -54,19 +56,20 @@ pub fn push_judged_fields(
 #[tactic(auto, using(pm_lines::specs::Lemmas::Joins::joins))]
 fn push_message_fields(
     text: &mut String,
-    options: &TellOptions,
+    given: &GivenFormats,
+    values: bool,
     lessons: &Lessons,
     packet: &GoodPacket<'_>,
 ) -> Result<(), AllocError>
     ensures { OnOk result (string_bytes text.new ≡ string_bytes text.old
-        ++ message_fields options.now.formats options.now.values lessons.now packet.now.reached packet.now.addr packet.now.view.now
+        ++ message_fields given.now values lessons.now packet.now.reached packet.now.addr packet.now.view.now
         (option_map (λ bytes. bytes.now) packet.now.answer)) }
 {
     match packet.view.message() {
         Message::ReadCoefficients { code, side } => {
             push_coefficients_fields(text, code, side, answered(packet.answer))
         }
-        _ => push_plain_fields(text, options, lessons, packet),
+        _ => push_plain_fields(text, given, values, lessons, packet),
     }
 }
 
@@ -74,21 +77,52 @@ fn push_message_fields(
 #[tactic(auto, using(pm_lines::specs::Lemmas::Joins::joins))]
 fn push_plain_fields(
     text: &mut String,
-    options: &TellOptions,
+    given: &GivenFormats,
+    values: bool,
     lessons: &Lessons,
     packet: &GoodPacket<'_>,
 ) -> Result<(), AllocError>
     ensures { OnOk result (string_bytes text.new ≡ string_bytes text.old
-        ++ plain_fields options.now.formats options.now.values lessons.now packet.now.reached packet.now.addr packet.now.view.now
+        ++ plain_fields given.now values lessons.now packet.now.reached packet.now.addr packet.now.view.now
         (option_map (λ bytes. bytes.now) packet.now.answer)) }
 {
     push_page_fields(text, packet.reached, packet.view.page())?;
     push_code_fields(text, packet.view.code())?;
     push_payload_fields(text, packet.view.payload(), packet.answer)?;
-    if options.values {
-        push_value_fields(text, packet_value(&options.formats, lessons, packet))?;
+    if values {
+        push_told_fields(text, given, lessons, packet)?;
     }
     Ok(())
+}
+
+// The value of a packet, and that its format is only assumed.
+#[tactic(auto, using(pm_lines::specs::Lemmas::Joins::joins))]
+fn push_told_fields(
+    text: &mut String,
+    given: &GivenFormats,
+    lessons: &Lessons,
+    packet: &GoodPacket<'_>,
+) -> Result<(), AllocError>
+    ensures { OnOk result (string_bytes text.new ≡ string_bytes text.old
+        ++ told_fields given.now lessons.now packet.now.reached packet.now.addr packet.now.view.now
+        (option_map (λ bytes. bytes.now) packet.now.answer)) }
+{
+    push_value_fields(text, packet_value(given, lessons, packet))?;
+    push_assumed_field(
+        text,
+        lessons.is_assumed(given, packet.addr, packet.view.code()),
+    )
+}
+
+// That a format is only assumed.
+fn push_assumed_field(text: &mut String, is_assumed: bool) -> Result<(), AllocError>
+    ensures { OnOk result (string_bytes text.new ≡ string_bytes text.old ++ assumed_field is_assumed) }
+{
+    if is_assumed {
+        text.push_str(",\"assumed\":true")
+    } else {
+        Ok(())
+    }
 }
 
 /// The output that a packet reaches if PAGE is followed, or the one that it names.

@@ -23,5 +23,5 @@ mod value;
 
 pub use fields::{push_number_field, push_number_field_if, push_text_field};
 pub use judged::push_judged_fields;
-pub use marks::{push_lack_field, push_wrong_field};
+pub use marks::{push_lack_field, push_marks_fields};
 pub use otherwise::push_other_fields;

@@ -1,19 +1,63 @@
 //! The fields of what a packet is marked with.
-ghost use Rattle.std.specs.Prelude.{◌≡◌, ◌++◌, OnOk, string_bytes};
-ghost use Rattle.pm_json.specs.JsonText.{lack_field, lines_field, ones_fields as spec_ones_fields, pec_fields as spec_pec_fields, wrong_field};
+ghost use Rattle.std.specs.Prelude.{◌≡◌, ◌++◌, OnOk, length, string_bytes};
+ghost use Rattle.pm_json.specs.JsonText.{forbidden_field, lack_field, lines_field, marks_fields, ones_fields as spec_ones_fields, pec_fields as spec_pec_fields, received_field, wrong_field};
 
-use crate::fields::push_key;
+use crate::fields::{push_key, push_number_field, push_number_field_if};
 use pm_capture::Marks;
 use pm_lines::push_decimal;
 use pm_packets::Ones;
 use std::alloc::AllocError;
 
-/// Appends the field of the two lines of which one contradicts the other, if there are two.
-pub fn push_wrong_field(
+/// Appends the fields of a packet's phase, of how it was received, and of what it contradicts, in the line of this number; `write` is its write
+/// part.
+#[tactic(auto, using(pm_lines::specs::Lemmas::Joins::joins))]
+pub fn push_marks_fields(
     text: &mut String,
     number: u64,
-    wrong: Option<u64>,
+    write: &[u8],
+    marks: &Marks,
 ) -> Result<(), AllocError>
+    ensures { OnOk result (string_bytes text.new ≡ string_bytes text.old ++ marks_fields number (length write.now) marks.now) }
+{
+    push_number_field_if(text, "phase", marks.phase.map(u64::from))?;
+    push_received_field(text, write, marks.ones)?;
+    push_forbidden_field(text, marks.is_forbidden)?;
+    push_wrong_field(text, number, marks.wrong)
+}
+
+// Appends the field of a packet of which a byte wasn't acknowledged: the byte's place in the packet.
+fn push_received_field(text: &mut String, write: &[u8], ones: Ones) -> Result<(), AllocError>
+    ensures { OnOk result (string_bytes text.new ≡ string_bytes text.old ++ received_field (length write.now) ones) }
+{
+    let Ones::Refused(refusal) = ones else {
+        return Ok(());
+    };
+    let place = u64::from(refusal.place);
+    let written = write.len() as u64;
+    push_number_field(
+        text,
+        "refused_at",
+        if refusal.of_answer {
+            written + place
+        } else {
+            place
+        },
+    )
+}
+
+// Appends the field of a write of PAGE that WRITE_PROTECT forbids.
+fn push_forbidden_field(text: &mut String, is_forbidden: bool) -> Result<(), AllocError>
+    ensures { OnOk result (string_bytes text.new ≡ string_bytes text.old ++ forbidden_field is_forbidden) }
+{
+    if is_forbidden {
+        text.push_str(",\"forbidden\":true")
+    } else {
+        Ok(())
+    }
+}
+
+// Appends the field of the two lines of which one contradicts the other, if there are two.
+fn push_wrong_field(text: &mut String, number: u64, wrong: Option<u64>) -> Result<(), AllocError>
     ensures { OnOk result (string_bytes text.new ≡ string_bytes text.old ++ wrong_field number wrong) }
 {
     match wrong {
@@ -62,7 +106,7 @@ fn ones_fields(ones: Ones) -> &'static str
     ensures { result.now ≡ spec_ones_fields ones }
 {
     match ones {
-        Ones::Answer => ",\"pec\":false",
+        Ones::Answer | Ones::Refused(_) => ",\"pec\":false",
         Ones::Doubtful => ",\"pec\":false,\"answered\":null",
         Ones::Nobody => ",\"pec\":false,\"answered\":false",
     }

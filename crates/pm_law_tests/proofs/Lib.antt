@@ -1,6 +1,3 @@
-mod Found
-mod WholeParts
+mod Uses
 mod Tries
-mod Begins
-mod Led
 mod WishesHeld

@@ -32,7 +32,7 @@ use Rattle.pm_driver.specs.Courses.{EndsAt, RunsCourse, over, refused}
 use Rattle.pm_driver.specs.Driven.{Driving}
 use Rattle.pm_driver.specs.Lives.{IsLife}
 use Rattle.pm_law_tests.specs.Drivers.{WishesAreHeld}
-use Rattle.pm_law_tests.proofs.WholeParts.{whole-holds, whole-unread}
+use Rattle.pm_law_tests.proofs.Uses.{whole-holds, whole-unread}
 
 -- an end that stays is the one that the course has
 ended-so : (o : Option CourseEnd) (e : CourseEnd) → last_end o ≡ Some e → o ≡ Some e

@@ -201,6 +201,13 @@ impl CourseImage {
         end_fault: 0,
     };
 
+    /// A survey of nothing, with no tries.
+    pub(crate) const NOTHING: CourseImage = CourseImage {
+        mark: CourseImage::MARK,
+        version: CourseImage::VERSION,
+        ..CourseImage::BLANK
+    };
+
     /// This course.
     pub fn of(course: &FrameCourse) -> CourseImage
         ensures { result ≡ course_image course.now }

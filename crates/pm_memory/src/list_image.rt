@@ -8,7 +8,7 @@ use crate::course_image::{CourseImage, flag};
 use crate::wanted_image::WantedImage;
 use pm_course::FrameCourse;
 use pm_rail::Wanted;
-use pm_stairs::{Sequence, Stairs, Under, WordAct, WordStep};
+use pm_stairs::{Sequence, Under, WordAct, WordStep};
 
 /// The words of a step that has begun, and the marks of a list, as plain numbers.
 #[repr(C)]
@@ -105,7 +105,7 @@ impl ListImage {
         self.keeps_back = flag(list.keeps_back);
         self.ends_at_restart = flag(list.ends_at_restart);
         self.unused = 0;
-        self.under = UnderImage::of(list);
+        self.under.write(list);
         write_under(&mut self.course, &list.stairs.under);
         write_course(&mut self.coming, &list.stairs.coming);
     }
@@ -118,35 +118,31 @@ impl ListImage {
     }
 
     /// What the numbers mean of memory that holds a list.
-    pub fn held(&self) -> Sequence
-        ensures { result ≡ list_meant self.now }
+    pub(crate) fn hold(&self, list: &mut Sequence)
+        ensures { list.new ≡ list_meant self.now }
     {
-        Sequence {
-            stairs: Stairs {
-                under: match self.under.step() {
-                    Some(step) => Some(Under {
-                        step,
-                        course: self.course.held(),
-                    }),
-                    None => None,
-                },
-                coming: if self.under.has_coming == 1 {
-                    Some(self.coming.held())
-                } else {
-                    None
-                },
-                reading: self.under.is_reading == 1,
-                restarted: self.under.is_restarted == 1,
-            },
-            tries: self.tries,
-            begun: self.begun,
-            host: self.host,
-            under_host: self.under.host,
-            is_free: self.under.is_free == 1,
-            is_warned: self.under.is_warned == 1,
-            keeps_back: self.keeps_back == 1,
-            ends_at_restart: self.ends_at_restart == 1,
-        }
+        list.stairs.under = match self.under.step() {
+            Some(step) => Some(Under {
+                step,
+                course: self.course.held(),
+            }),
+            None => None,
+        };
+        list.stairs.coming = if self.under.has_coming == 1 {
+            Some(self.coming.held())
+        } else {
+            None
+        };
+        list.stairs.reading = self.under.is_reading == 1;
+        list.stairs.restarted = self.under.is_restarted == 1;
+        list.tries = self.tries;
+        list.begun = self.begun;
+        list.host = self.host;
+        list.under_host = self.under.host;
+        list.is_free = self.under.is_free == 1;
+        list.is_warned = self.under.is_warned == 1;
+        list.keeps_back = self.keeps_back == 1;
+        list.ends_at_restart = self.ends_at_restart == 1;
     }
 }
 
@@ -156,7 +152,7 @@ fn write_under(image: &mut CourseImage, under: &Option<Under>)
 {
     match under {
         Some(under) => image.write(&under.course),
-        None => image.write(&FrameCourse::survey(0, 0)),
+        None => *image = CourseImage::NOTHING,
     }
 }
 
@@ -166,48 +162,44 @@ fn write_course(image: &mut CourseImage, course: &Option<FrameCourse>)
 {
     match course {
         Some(course) => image.write(course),
-        None => image.write(&FrameCourse::survey(0, 0)),
+        None => *image = CourseImage::NOTHING,
     }
 }
 
 impl UnderImage {
-    // The step under way and the marks of a list.
-    fn of(list: &Sequence) -> UnderImage
-        ensures { result ≡ under_image list.now list.now.stairs.under }
+    // The memory holds the step under way and the marks of a list now.
+    fn write(&mut self, list: &Sequence)
+        ensures { self.new ≡ under_image list.now list.now.stairs.under }
     {
-        match list.stairs.under {
-            None => UnderImage::numbers(list, 0, 0, 0, &Wanted::nothing()),
-            Some(under) => match under.step.act {
-                WordAct::Sets(wanted) => {
-                    UnderImage::numbers(list, SETS, under.step.output, 0, &wanted)
-                }
+        match &list.stairs.under {
+            None => self.put(list, 0, 0, 0, &Wanted::nothing()),
+            Some(under) => match &under.step.act {
+                WordAct::Sets(wanted) => self.put(list, SETS, under.step.output, 0, wanted),
                 WordAct::Turns(byte) => {
-                    UnderImage::numbers(list, TURNS, under.step.output, byte, &Wanted::nothing())
+                    self.put(list, TURNS, under.step.output, *byte, &Wanted::nothing())
                 }
                 WordAct::Nothing => {
-                    UnderImage::numbers(list, NOTHING, under.step.output, 0, &Wanted::nothing())
+                    self.put(list, NOTHING, under.step.output, 0, &Wanted::nothing())
                 }
             },
         }
     }
 
-    // The numbers of a step and the marks of a list.
-    fn numbers(list: &Sequence, kind: u8, output: u8, byte: u16, wanted: &Wanted) -> UnderImage
-        ensures { result ≡ under_numbers list.now kind output byte wanted.now }
+    // The memory holds the numbers of a step and the marks of a list now.
+    fn put(&mut self, list: &Sequence, kind: u8, output: u8, byte: u16, wanted: &Wanted)
+        ensures { self.new ≡ under_numbers list.now kind output byte wanted.now }
     {
-        UnderImage {
-            kind,
-            host: list.under_host,
-            output,
-            is_free: u8::from(list.is_free),
-            is_warned: u8::from(list.is_warned),
-            is_reading: u8::from(list.stairs.reading),
-            is_restarted: u8::from(list.stairs.restarted),
-            has_coming: u8::from(list.stairs.coming.is_some()),
-            byte,
-            unused: 0,
-            words: WantedImage::of(wanted),
-        }
+        self.kind = kind;
+        self.host = list.under_host;
+        self.output = output;
+        self.is_free = u8::from(list.is_free);
+        self.is_warned = u8::from(list.is_warned);
+        self.is_reading = u8::from(list.stairs.reading);
+        self.is_restarted = u8::from(list.stairs.restarted);
+        self.has_coming = u8::from(list.stairs.coming.is_some());
+        self.byte = byte;
+        self.unused = 0;
+        self.words = WantedImage::of(wanted);
     }
 
     // The step under way.

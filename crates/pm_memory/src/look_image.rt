@@ -75,6 +75,20 @@ impl LookImage {
         }
     }
 
+    /// The memory holds this look now, whatever stood there.
+    pub(crate) fn write(&mut self, look: &Look)
+        ensures { self.new ≡ look_image look.now }
+    {
+        self.delivery = look.delivery;
+        self.stood = look.stood;
+        self.status = SilenceImage::of(look.status);
+        self.vout = SilenceImage::of(look.vout);
+        self.probed = look.probe.asked;
+        self.is_there = u8::from(look.probe.is_there);
+        self.is_over = u8::from(look.probe.is_over);
+        self.unused = 0;
+    }
+
     /// What the numbers mean.
     pub fn look(&self) -> Look
         ensures { result ≡ look_read self.now }

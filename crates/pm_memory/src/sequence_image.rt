@@ -203,7 +203,7 @@ impl SequenceImage {
         self.asks = flag(sequence.asks);
         self.said = said;
         self.list.write(&sequence.list);
-        self.look = LookImage::of(&sequence.look);
+        self.look.write(&sequence.look);
         self.look_host = sequence.look_host;
         self.phase = phase_number(sequence.phase);
         self.is_read = flag(sequence.is_read);
@@ -225,24 +225,22 @@ impl SequenceImage {
     }
 
     /// What the numbers mean of memory that holds a sequence.
-    pub fn held(&self) -> Sequence
-        ensures { result ≡ sequence_meant self.now }
+    pub fn hold(&self, is: &mut Sequence)
+        ensures { is.new ≡ sequence_meant self.now }
     {
-        Sequence {
-            list: self.list.held(),
-            look: self.look.look(),
-            look_host: self.look_host,
-            phase: phase_of(self.phase),
-            is_read: self.is_read == 1,
-            is_shown: self.is_shown == 1,
-            is_waited: self.is_waited == 1,
-            is_looked: self.is_looked == 1,
-            leaves: self.leaves == 1,
-            asks: self.asks == 1,
-            told: self.told.told(),
-            left: self.left,
-            end: self.end.end(),
-        }
+        self.list.hold(&mut is.list);
+        is.look = self.look.look();
+        is.look_host = self.look_host;
+        is.phase = phase_of(self.phase);
+        is.is_read = self.is_read == 1;
+        is.is_shown = self.is_shown == 1;
+        is.is_waited = self.is_waited == 1;
+        is.is_looked = self.is_looked == 1;
+        is.leaves = self.leaves == 1;
+        is.asks = self.asks == 1;
+        is.told = self.told.told();
+        is.left = self.left;
+        is.end = self.end.end();
     }
 }
 

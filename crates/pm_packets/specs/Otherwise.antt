@@ -12,7 +12,7 @@ use Rattle.pm_table.specs.Commands.{is_written}
 use Rattle.pm_trace.specs.Trace.{Judged, Accepted, Faulty, BadSyntax, BadHex, parts_judged}
 use Rattle.pm_packets.specs.CodeNames.{standard_name}
 use Rattle.pm_packets.specs.declared.answers.Ones.{Ones}
-use Rattle.pm_packets.specs.declared.answers.Ones.TheVariants.{Answer, Doubtful, Nobody}
+use Rattle.pm_packets.specs.declared.answers.Ones.TheVariants.{Answer, Doubtful, Nobody, Refused}
 use Rattle.pm_packets.specs.declared.otherwise.Otherwise.{Otherwise}
 use Rattle.pm_values.specs.ValueText.{known_text}
 use Rattle.pm_values.specs.Values.{other_value}
@@ -82,21 +82,38 @@ abbrev pub is_all_ones : List ℕ → Option (List ℕ) → Bool
 is_all_ones write None = false
 is_all_ones write (Some read) = are_ones (drop 1 read) && not (has_pec write (Some read))
 
--- an answer of ones is taken for an answer, for nobody's, or may be either
+-- a packet that was answered, or taken
 abbrev pub is_answer : Ones → Bool
 is_answer Answer = true
 is_answer Doubtful = false
 is_answer Nobody = false
+is_answer (Refused refusal) = false
 
 abbrev pub is_nobody : Ones → Bool
 is_nobody Answer = false
 is_nobody Doubtful = false
 is_nobody Nobody = true
+is_nobody (Refused refusal) = false
 
-abbrev pub is_doubtful : Ones → Bool
-is_doubtful Answer = false
-is_doubtful Doubtful = true
-is_doubtful Nobody = false
+-- an answer of ones, which is nobody's or may be
+abbrev pub are_strange : Ones → Bool
+are_strange Answer = false
+are_strange Doubtful = true
+are_strange Nobody = true
+are_strange (Refused refusal) = false
+
+-- its bytes say something: it was neither refused nor nobody's
+abbrev pub is_heeded : Ones → Bool
+is_heeded Answer = true
+is_heeded Doubtful = true
+is_heeded Nobody = false
+is_heeded (Refused refusal) = false
+
+abbrev pub is_refused : Ones → Bool
+is_refused Answer = false
+is_refused Doubtful = false
+is_refused Nobody = false
+is_refused (Refused refusal) = true
 
 -- a write of PAGE_PLUS whose count says that its last byte is the PEC, which is wrong
 abbrev pub is_miscounted : List ℕ → Option (List ℕ) → Bool
@@ -107,7 +124,7 @@ is_miscounted write (Some read) = false
 -- the address of a packet that is shown by its code and bytes
 abbrev pub address_otherwise : Ones → List ℕ → Option (List ℕ) → Judged → Option ℕ
 address_otherwise ones write read (Faulty (Some addr) is_read fault) =
-    if has_code write read && ((is_of_code (slice_index write 1) read fault || not (is_answer ones)) && not (is_miscounted write read))
+    if has_code write read && ((is_of_code (slice_index write 1) read fault || are_strange ones) && not (is_miscounted write read))
     then Some addr else None
 address_otherwise ones write read (Faulty None is_read fault) = None
 address_otherwise ones write read (Accepted addr message answer) = None
@@ -294,6 +311,7 @@ abbrev pub ones_text : Ones → List ℕ
 ones_text Answer = codes ", no PEC"
 ones_text Doubtful = codes ", all ones: nobody answered?"
 ones_text Nobody = codes ", all ones: nobody answered"
+ones_text (Refused refusal) = codes ", no PEC"
 
 -- whether the packet has its PEC
 abbrev pub verdict_text : Bool → Ones → List ℕ

@@ -28,7 +28,7 @@ mod others;
 mod otherwise;
 mod packet;
 
-pub use answers::{Answers, Ones};
+pub use answers::{Answers, Ones, Refusal};
 pub use code_names::standard_name;
 pub use content::Content;
 pub use others::Others;

@@ -4,7 +4,7 @@ ghost use Rattle.std.specs.Prelude.{◌≡◌, ◌++◌, ◌&&◌, ◌||◌, not
 ghost use Rattle.pm_trace.specs.ShownLines.{judged_in};
 ghost use Rattle.pm_trace.specs.Trace.{parts_judged};
 ghost use Rattle.pm_packets.specs.Contents.{content_in};
-ghost use Rattle.pm_packets.specs.Otherwise.{IsCompleted, address_otherwise as spec_address_otherwise, carried_by, content_meaning, content_page, content_text, has_code as spec_has_code, is_accepted, is_answer, is_miscounted as spec_is_miscounted, is_of_code as spec_is_of_code, is_read_from, is_short as spec_is_short, judged_with, lacks_pec, letters_text, named_by, ones_text, other_text, sent_text, spaced, verdict_text, written_text};
+ghost use Rattle.pm_packets.specs.Otherwise.{IsCompleted, address_otherwise as spec_address_otherwise, carried_by, content_meaning, content_page, content_text, has_code as spec_has_code, is_accepted, are_strange, is_miscounted as spec_is_miscounted, is_of_code as spec_is_of_code, is_read_from, is_short as spec_is_short, judged_with, lacks_pec, letters_text, named_by, ones_text, other_text, sent_text, spaced, verdict_text, written_text};
 
 use crate::answers::Ones;
 use crate::code_names::standard_name;
@@ -106,10 +106,9 @@ pub fn address_otherwise(packet: &Packet<'_>, shown: &Shown<'_>, ones: Ones) -> 
 // Whether a fault is of a packet's code, direction or length, or maybe nobody answered.
 fn is_otherwise(packet: &Packet<'_>, fault: FrameFault, ones: Ones) -> bool
     ensures { result ≡ ((spec_is_of_code (slice_index packet.now.write.now 1) (option_map (λ bytes. bytes.now) packet.now.read) fault
-        || not (is_answer ones)) && not (spec_is_miscounted packet.now.write.now (option_map (λ bytes. bytes.now) packet.now.read))) }
+        || are_strange ones) && not (spec_is_miscounted packet.now.write.now (option_map (λ bytes. bytes.now) packet.now.read))) }
 {
-    (is_of_code(packet.code(), packet.read, fault) || !matches!(ones, Ones::Answer))
-        && !is_miscounted(packet)
+    (is_of_code(packet.code(), packet.read, fault) || ones.are_strange()) && !is_miscounted(packet)
 }
 
 // Whether a packet is a write of PAGE_PLUS whose count says that its last byte is the PEC, which is wrong.
@@ -210,7 +209,7 @@ pub fn ones_words(ones: Ones) -> &'static str
     ensures { result.now ≡ ones_text ones }
 {
     match ones {
-        Ones::Answer => ", no PEC",
+        Ones::Answer | Ones::Refused(_) => ", no PEC",
         Ones::Doubtful => ", all ones: nobody answered?",
         Ones::Nobody => ", all ones: nobody answered",
     }

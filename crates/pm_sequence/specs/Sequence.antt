@@ -143,6 +143,22 @@ read_after q list = record q { list = list; told = None }
 abbrev pub job_after : Sequence → Job → List → Sequence
 job_after q job list = if is_order job then record q { list = list; is_shown = false; is_looked = false; told = None } else read_after q list
 
+-- a job that is named so has begun: with the first order of a step that begins
+abbrev pub begun_as : Sequence → Act → Job → Sequence
+begun_as q (act.Begins first back) job = begun_with q q.list
+begun_as q (act.Job named) job = job_after q job q.list
+begun_as q (act.Passes back) job = job_after q job q.list
+begun_as q (act.Order named) job = job_after q job q.list
+begun_as q (act.Ask question) job = job_after q job q.list
+begun_as q act.Probe job = job_after q job q.list
+begun_as q act.Pause job = job_after q job q.list
+begun_as q (act.Wait milliseconds) job = job_after q job q.list
+begun_as q act.Again job = job_after q job q.list
+begun_as q (act.NoWayBack fault) job = job_after q job q.list
+begun_as q (act.Does found) job = job_after q job q.list
+begun_as q (act.Leaves why) job = job_after q job q.list
+begun_as q (act.Ended why) job = job_after q job q.list
+
 -- nothing begins, and this order is told
 abbrev pub told_with : Sequence → Job → Sequence
 told_with q job = record q { told = Some job }

@@ -3,7 +3,7 @@
 ghost use Rattle.std.specs.Prelude.{◌≡◌, ◌<◌, None};
 ghost use Rattle.pm_host.specs.Image.{held};
 ghost use Rattle.pm_stairs.specs.Sequence.{one_more as spec_one_more};
-ghost use Rattle.pm_sequence.specs.Sequence.{act_of, after_of, ahead_act, ahead_after, begun_with, due_by, due_in as spec_due_in, end_of as spec_end_of, found_at, gate as spec_gate, gated_act, gated_after, is_at as spec_is_at, is_good as spec_is_good, is_read_for as spec_is_read_for, job_after, judged_after, look_before, looked_act, looked_after, may_leave as spec_may_leave, needs_look as spec_needs_look, new_sequence, reached_act, reached_after, shown as spec_shown, stopped_act, stopped_after, verdict_by, verdict_in as spec_verdict_in, Acts, Steps};
+ghost use Rattle.pm_sequence.specs.Sequence.{act_of, after_of, ahead_act, ahead_after, begun_as, begun_with, due_by, due_in as spec_due_in, end_of as spec_end_of, found_at, gate as spec_gate, gated_act, gated_after, is_at as spec_is_at, is_good as spec_is_good, is_read_for as spec_is_read_for, job_after, judged_after, look_before, looked_act, looked_after, may_leave as spec_may_leave, needs_look as spec_needs_look, new_sequence, reached_act, reached_after, shown as spec_shown, stopped_act, stopped_after, verdict_by, verdict_in as spec_verdict_in, with_list, Acts, Steps};
 
 use crate::gate::{Gate, is_judged_order, is_order, is_untold, judge};
 use crate::look::{Look, LookAct};
@@ -12,7 +12,7 @@ use pm_delivery::{Delivery, DeliveryFault, Due, Question, Verdict};
 use pm_host::{Job, State};
 use pm_limits::{OutputLimits, PartRegisters};
 use pm_rail::{PlanFault, power_in};
-use pm_stairs::{Placed, Sequence as List, Sight, StepEnd, Turn, Under, WordStep};
+use pm_stairs::{Placed, Sequence as List, Sight, StepEnd, Turn, WordStep};
 
 /// What is looked at.
 #[derive(Clone, Copy, Debug, PartialEq, Eq)]
@@ -140,31 +140,53 @@ impl Sequence {
     }
 
     /// What comes next by the host at the place `list.host`, if these are the newest step that has begun and the first one ahead.
-    pub fn next<S: Sight>(&mut self, guard: &S, under: Option<Step>, ahead: Option<Step>) -> Act
-        ensures { Acts (S.guarded guard.now) under ahead self.old result self.new }
+    pub fn next<S: Sight>(&mut self, guard: &S, under: &Option<Step>, ahead: &Option<Step>) -> Act
+        ensures { Acts (S.guarded guard.now) under.now ahead.now self.old result self.new }
+    {
+        let was = *self;
+        self.next_from(&was, guard, under, ahead)
+    }
+
+    // As `next`, of a sequence that was this before, so that nothing is copied.
+    pub(crate) fn next_from<S: Sight>(
+        &mut self,
+        was: &Sequence,
+        guard: &S,
+        under: &Option<Step>,
+        ahead: &Option<Step>,
+    ) -> Act
+        requires { was.now ≡ self.old }
+        ensures { Acts (S.guarded guard.now) under.now ahead.now self.old result self.new }
     {
         if let Some(end) = self.end {
             return Act::Ended(end);
         }
         match self.phase {
-            Phase::Steps => self.steps(guard, under, ahead),
+            Phase::Steps => self.steps(&was.list, guard, under, ahead),
             Phase::Before => self.looks(guard, under),
             Phase::After => self.looks(guard, under),
         }
     }
 
     // What the list says.
-    fn steps<S: Sight>(&mut self, guard: &S, under: Option<Step>, ahead: Option<Step>) -> Act
-        ensures { Steps (S.guarded guard.now) under ahead self.old result self.new }
+    fn steps<S: Sight>(
+        &mut self,
+        was: &List,
+        guard: &S,
+        under: &Option<Step>,
+        ahead: &Option<Step>,
+    ) -> Act
+        requires { was.now ≡ self.old.list }
+        ensures { Steps (S.guarded guard.now) under.now ahead.now self.old result self.new }
     {
-        let mut asked = self.list;
-        let turn = asked.next(guard, self.shown(ahead));
-        self.goes(guard, under, ahead, turn, asked)
+        let shown = self.shown(ahead);
+        let turn = self.list.next_from(was, guard, &shown);
+        self.goes(guard, under, ahead, turn, was)
     }
 
     // The first step ahead, if it may be asked.
-    fn shown(&self, ahead: Option<Step>) -> Option<Placed>
-        ensures { result ≡ spec_shown self.now ahead }
+    fn shown(&self, ahead: &Option<Step>) -> Option<Placed>
+        ensures { result ≡ spec_shown self.now ahead.now }
     {
         match ahead {
             Some(step) if self.is_shown => Some(step.placed),
@@ -172,61 +194,51 @@ impl Sequence {
         }
     }
 
-    // What comes of what the list says.
+    // What comes of what the list says, which was this before.
     fn goes<S: Sight>(
         &mut self,
         guard: &S,
-        under: Option<Step>,
-        ahead: Option<Step>,
+        under: &Option<Step>,
+        ahead: &Option<Step>,
         turn: Turn,
-        asked: List,
+        was: &List,
     ) -> Act
-        ensures act { result ≡ act_of (S.guarded guard.now) under ahead self.old turn asked }
-        ensures after { self.new ≡ after_of (S.guarded guard.now) under ahead self.old turn asked }
+        ensures act { result ≡ act_of (S.guarded guard.now) under.now ahead.now (with_list self.old was.now) turn self.old.list }
+        ensures after { self.new ≡ after_of (S.guarded guard.now) under.now ahead.now (with_list self.old was.now) turn self.old.list }
     {
         match turn {
             Turn::Again => {
-                if asked.begun == self.list.begun {
-                    self.list = asked;
-                } else {
-                    self.begins(asked);
+                if self.list.begun != was.begun {
+                    self.begins();
                 }
                 Act::Again
             }
             Turn::Job(job) => {
-                let gate = self.gate(guard, under, job, asked.stairs.under);
-                self.gated(under, gate, job, Act::Job(job), self.after_job(job, asked))
+                let gate = self.gate(guard, under, job);
+                self.gated(under, gate, job, Act::Job(job), was)
             }
             Turn::Begins(job, back) => {
-                let gate = self.gate(guard, ahead, job, asked.stairs.under);
-                let mut begun = *self;
-                begun.begins(asked);
-                self.gated(ahead, gate, job, Act::Begins(job, back), begun)
+                let gate = self.gate(guard, ahead, job);
+                self.gated(ahead, gate, job, Act::Begins(job, back), was)
             }
             Turn::Passes(back) => {
-                self.begins(asked);
+                self.begins();
                 Act::Passes(back)
             }
-            Turn::NoWayBack(fault) => {
-                self.list = asked;
-                Act::NoWayBack(fault)
-            }
-            Turn::Reached => self.reached(under, ahead, asked),
-            Turn::Stops(why) => {
-                self.list = asked;
-                self.stops(End::Stopped(why))
-            }
+            Turn::NoWayBack(fault) => Act::NoWayBack(fault),
+            Turn::Reached => self.reached(under, ahead),
+            Turn::Stops(why) => self.stops(End::Stopped(why)),
         }
     }
 
     // Whether a job of a step may begin.
-    fn gate<S: Sight>(&self, guard: &S, step: Option<Step>, job: Job, under: Option<Under>) -> Gate
-        ensures { result ≡ spec_gate (S.guarded guard.now) self.now step job under }
+    fn gate<S: Sight>(&self, guard: &S, step: &Option<Step>, job: Job) -> Gate
+        ensures { result ≡ spec_gate (S.guarded guard.now) self.now step.now job self.now.list.stairs.under }
     {
         match step {
             Some(step) if step.looks.is_wanted && is_judged_order(job) => {
-                if self.is_read_for(&step) {
-                    judge(guard, &self.look.delivery, under)
+                if self.is_read_for(step) {
+                    judge(guard, &self.look.delivery, &self.list.stairs.under)
                 } else {
                     Gate::Looks
                 }
@@ -251,32 +263,50 @@ impl Sequence {
         self.is_read && self.is_at(step)
     }
 
-    // What comes of an order or a job of a step.
-    fn gated(&mut self, step: Option<Step>, gate: Gate, job: Job, act: Act, after: Sequence) -> Act
-        ensures act { result ≡ gated_act self.old gate job act }
-        ensures after { self.new ≡ gated_after self.old step gate job after }
+    // What comes of a job that the list, which was this before, names of a step.
+    fn gated(&mut self, step: &Option<Step>, gate: Gate, job: Job, act: Act, was: &List) -> Act
+        ensures act { result ≡ gated_act (with_list self.old was.now) gate job act }
+        ensures after { self.new ≡ gated_after (with_list self.old was.now) step.now gate job (begun_as self.old act job) }
     {
         match gate {
             Gate::Goes => {
                 if is_untold(self.asks, self.told, job) {
+                    self.list = *was;
                     self.told = Some(job);
                     return Act::Order(job);
                 }
-                *self = after;
+                self.begins_as(&act, job);
                 act
             }
             Gate::Looks => {
+                self.list = *was;
                 self.look_before(step);
                 Act::Again
             }
-            Gate::Beyond(fault) => self.stops(End::Beyond(fault)),
-            Gate::Unjudged => self.stops(End::Unjudged),
+            Gate::Beyond(fault) => {
+                self.list = *was;
+                self.stops(End::Beyond(fault))
+            }
+            Gate::Unjudged => {
+                self.list = *was;
+                self.stops(End::Unjudged)
+            }
+        }
+    }
+
+    // A job begins, as the first order of a step or otherwise.
+    fn begins_as(&mut self, act: &Act, job: Job)
+        ensures { self.new ≡ begun_as self.old act.now job }
+    {
+        match act {
+            Act::Begins(..) => self.begins(),
+            _ => self.after_job(job),
         }
     }
 
     // What stands before the first order of a step's output is looked at.
-    fn look_before(&mut self, step: Option<Step>)
-        ensures { self.new ≡ look_before self.old step }
+    fn look_before(&mut self, step: &Option<Step>)
+        ensures { self.new ≡ look_before self.old step.now }
     {
         let Some(step) = step else {
             return;
@@ -287,40 +317,35 @@ impl Sequence {
         self.phase = Phase::Before;
     }
 
-    // A step begins.
-    fn begins(&mut self, asked: List)
-        ensures { self.new ≡ begun_with self.old asked }
+    // A step has begun.
+    fn begins(&mut self)
+        ensures { self.new ≡ begun_with self.old self.old.list }
     {
-        self.list = asked;
         self.is_shown = false;
         self.is_waited = false;
         self.is_looked = false;
         self.told = None;
     }
 
-    // It goes on once a job of the step under way, or one that reads for the next one, has begun.
-    fn after_job(&self, job: Job, asked: List) -> Sequence
-        ensures { result ≡ job_after self.now job asked }
+    // A job of the step under way, or one that reads for the next one, has begun.
+    fn after_job(&mut self, job: Job)
+        ensures { self.new ≡ job_after self.old job self.old.list }
     {
-        let mut after = *self;
-        after.list = asked;
-        after.told = None;
+        self.told = None;
         if is_order(job) {
-            after.is_shown = false;
-            after.is_looked = false;
+            self.is_shown = false;
+            self.is_looked = false;
         }
-        after
     }
 
     // The step under way is over, and the next one isn't shown, or there is none.
-    fn reached(&mut self, under: Option<Step>, ahead: Option<Step>, asked: List) -> Act
-        ensures act { result ≡ reached_act self.old under ahead asked }
-        ensures after { self.new ≡ reached_after self.old under ahead asked }
+    fn reached(&mut self, under: &Option<Step>, ahead: &Option<Step>) -> Act
+        ensures act { result ≡ reached_act self.old under.now ahead.now self.old.list }
+        ensures after { self.new ≡ reached_after self.old under.now ahead.now self.old.list }
     {
-        self.list = asked;
         match under {
-            Some(step) if self.needs_look(&step) => {
-                if !self.is_at(&step) {
+            Some(step) if self.needs_look(step) => {
+                if !self.is_at(step) {
                     self.look = Look::new(step.delivery());
                     self.look_host = step.placed.host;
                     self.is_read = false;
@@ -344,9 +369,9 @@ impl Sequence {
     }
 
     // All of the step under way is over.
-    fn ahead(&mut self, ahead: Option<Step>) -> Act
-        ensures act { result ≡ ahead_act self.old ahead }
-        ensures after { self.new ≡ ahead_after self.old ahead }
+    fn ahead(&mut self, ahead: &Option<Step>) -> Act
+        ensures act { result ≡ ahead_act self.old ahead.now }
+        ensures after { self.new ≡ ahead_after self.old ahead.now }
     {
         match ahead {
             None => {
@@ -397,9 +422,9 @@ impl Sequence {
     }
 
     // What a look says.
-    fn looks<S: Sight>(&mut self, guard: &S, under: Option<Step>) -> Act
-        ensures act { result ≡ looked_act (S.guarded guard.now) self.old under }
-        ensures after { self.new ≡ looked_after (S.guarded guard.now) self.old under }
+    fn looks<S: Sight>(&mut self, guard: &S, under: &Option<Step>) -> Act
+        ensures act { result ≡ looked_act (S.guarded guard.now) self.old under.now }
+        ensures after { self.new ≡ looked_after (S.guarded guard.now) self.old under.now }
     {
         let due = self.due(guard);
         let act = self.look.next(guard.state().passes, due);
@@ -419,12 +444,12 @@ impl Sequence {
     pub(crate) fn due<S: Sight>(&self, guard: &S) -> Due
         ensures { result ≡ spec_due_in (S.guarded guard.now) self.now.look.delivery }
     {
-        let delivery = self.look.delivery;
+        let delivery = &self.look.delivery;
         if 8 <= delivery.output {
             return Due::Nothing;
         }
         due_seen(
-            &delivery,
+            delivery,
             guard.state(),
             guard.registers(),
             &guard.limits(delivery.output),
@@ -435,12 +460,12 @@ impl Sequence {
     fn verdict<S: Sight>(&self, guard: &S) -> Verdict
         ensures { result ≡ spec_verdict_in (S.guarded guard.now) self.now.look.delivery }
     {
-        let delivery = self.look.delivery;
+        let delivery = &self.look.delivery;
         if 8 <= delivery.output {
             return Verdict::NotYet;
         }
         verdict_seen(
-            &delivery,
+            delivery,
             guard.state(),
             guard.registers(),
             &guard.limits(delivery.output),
@@ -448,9 +473,9 @@ impl Sequence {
     }
 
     // A look is over.
-    fn looked(&mut self, under: Option<Step>, verdict: Verdict) -> Act
-        ensures act { result ≡ found_at self.old under verdict }
-        ensures after { self.new ≡ judged_after self.old under verdict }
+    fn looked(&mut self, under: &Option<Step>, verdict: Verdict) -> Act
+        ensures act { result ≡ found_at self.old under.now verdict }
+        ensures after { self.new ≡ judged_after self.old under.now verdict }
     {
         if self.phase == Phase::Before {
             self.phase = Phase::Steps;
@@ -497,8 +522,8 @@ fn verdict_seen(
 }
 
 // Whether a rail does what it is to.
-fn is_good(step: Option<Step>, verdict: Verdict) -> bool
-    ensures { result ≡ spec_is_good step verdict }
+fn is_good(step: &Option<Step>, verdict: Verdict) -> bool
+    ensures { result ≡ spec_is_good step.now verdict }
 {
     let Some(step) = step else {
         return false;

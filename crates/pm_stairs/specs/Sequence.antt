@@ -118,6 +118,9 @@ abbrev pub begins_after : Sequence → Stairs → Option PlanFault → Sequence
 begins_after q asked None = one_begun q asked
 begins_after q asked (Some fault) = record q { is_free = false; is_warned = true }
 
+abbrev pub with_stairs : Sequence → Stairs → Sequence
+with_stairs q stairs = record q { stairs = stairs }
+
 abbrev pub reached_after : Sequence → Stairs → Option Placed → Sequence
 reached_after q asked None = record q { stairs = asked }
 reached_after q asked (Some placed) = record q { stairs = asked; is_free = true; host = placed.host }

@@ -81,7 +81,11 @@ fn due_byte(host: &State, stage: Option<Stage>, output: u8, byte: u16) -> Due
     Due {
         order: if idle { Some(order) } else { None },
         over: idle && is_word(known, byte),
-        lacks: if only_in(host, cell).is_none() { Some(cell) } else { None },
+        lacks: if only_in(host, cell).is_none() {
+            Some(cell)
+        } else {
+            None
+        },
     }
 }
 

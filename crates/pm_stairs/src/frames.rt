@@ -1,11 +1,11 @@
 //! The frames of stairs, over a guard.
 
-ghost use Rattle.std.specs.Prelude.{◌≡◌};
+ghost use Rattle.std.specs.Prelude.{◌≡◌, is_some};
 ghost use Rattle.pm_host.specs.Transcript.{Finished, Got};
 ghost use Rattle.pm_stairs.specs.Frames.{HandsOut, Hears, course_open as spec_course_open, is_job_at as spec_is_job_at, refused_with as spec_refused_with, shows_restart as spec_shows_restart, with_course as spec_with_course};
 
 use crate::said::StepEnd;
-use crate::stairs::{Move, Stairs, Under};
+use crate::stairs::{Move, Stairs};
 use crate::step::{Step, WordStep};
 use pm_course::{CourseEnd, FrameCourse, Refusal, Sending, sent_by, surprises};
 use pm_host::{Job, Stage, Told, Untold};
@@ -43,7 +43,7 @@ impl Stairs {
             }
         }
         let mut asked = *self;
-        match asked.next(guard, ahead, tries) {
+        match asked.next(guard, &ahead, tries) {
             Move::Job(job) => match guard.begin(job) {
                 Ok(()) => {
                     *self = asked;
@@ -82,7 +82,7 @@ impl Stairs {
         };
         let mut heard = course;
         let result = heard.write_ended(guard, acked);
-        *self = self.with_course(heard, false);
+        self.put_course(&heard, false);
         result
     }
 
@@ -97,7 +97,7 @@ impl Stairs {
         let restarted = shows_restart(guard, bytes);
         let mut heard = course;
         let result = heard.read_ended(guard, bytes);
-        *self = self.with_course(heard, restarted);
+        self.put_course(&heard, restarted);
         result
     }
 
@@ -114,34 +114,47 @@ impl Stairs {
         }
     }
 
+    // Whether there is one.
+    pub(crate) fn has_course(&self) -> bool
+        ensures { result ≡ is_some (spec_course_open self.now) }
+    {
+        if self.reading {
+            self.coming.is_some()
+        } else {
+            self.under.is_some()
+        }
+    }
+
     // Whether the job that stands at this stage is its.
     pub(crate) fn is_job_at(&self, stage: Stage) -> bool
         ensures { result ≡ spec_is_job_at self.now stage }
     {
-        match self.course_open() {
-            Some(course) => course.is_job_of(stage),
-            None => false,
+        if self.reading {
+            match &self.coming {
+                Some(course) => course.is_job_of(stage),
+                None => false,
+            }
+        } else {
+            match &self.under {
+                Some(under) => under.course.is_job_of(stage),
+                None => false,
+            }
         }
     }
 
-    // The stairs if that course has become this one, and an answer showed a restart or didn't.
-    pub(crate) fn with_course(&self, course: FrameCourse, restarted: bool) -> Stairs
-        ensures { result ≡ spec_with_course self.now course restarted }
+    // That course has become this one, and an answer showed a restart or didn't.
+    pub(crate) fn put_course(&mut self, course: &FrameCourse, restarted: bool)
+        ensures { self.new ≡ spec_with_course self.old course.now restarted }
     {
-        let mut heard = *self;
-        heard.restarted = self.restarted || restarted;
+        self.restarted = self.restarted || restarted;
         if self.reading {
-            heard.coming = Some(course);
+            self.coming = Some(*course);
         } else {
-            heard.under = match self.under {
-                Some(under) => Some(Under {
-                    step: under.step,
-                    course,
-                }),
-                None => None,
-            };
+            match &mut self.under {
+                Some(under) => under.course = *course,
+                None => {}
+            }
         }
-        heard
     }
 }
 

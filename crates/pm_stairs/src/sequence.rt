@@ -1,8 +1,8 @@
 //! A list of steps over the outputs of several parts.
 
-ghost use Rattle.std.specs.Prelude.{◌≡◌};
+ghost use Rattle.std.specs.Prelude.{◌≡◌, is_some};
 ghost use Rattle.pm_stairs.specs.Frames.{course_open as spec_course_open, is_job_at as spec_is_job_at};
-ghost use Rattle.pm_stairs.specs.Sequence.{ahead_here as spec_ahead_here, asked_apart as spec_asked_apart, at_once, has_begun as spec_has_begun, heard_with, host_due as spec_host_due, is_at_once as spec_is_at_once, is_under as spec_is_under, off_at_once as spec_off_at_once, one_begun, one_more as spec_one_more, refused_back as spec_refused_back, refused_for as spec_refused_for, refused_in, sequence_new, skipped, step_stopped, turned, turned_after, Says, Turns};
+ghost use Rattle.pm_stairs.specs.Sequence.{ahead_here as spec_ahead_here, asked_apart as spec_asked_apart, at_once, has_begun as spec_has_begun, heard_with, host_due as spec_host_due, is_at_once as spec_is_at_once, is_under as spec_is_under, off_at_once as spec_off_at_once, one_begun, one_more as spec_one_more, refused_back as spec_refused_back, refused_for as spec_refused_for, refused_in, sequence_new, skipped, step_stopped, turned, turned_after, with_stairs, Says, Turns};
 
 use crate::said::StepEnd;
 use crate::sight::Sight;
@@ -86,69 +86,75 @@ impl Sequence {
     }
 
     /// What comes next by the host at the place `host`, if this is the first step ahead.
-    pub fn next<S: Sight>(&mut self, guard: &S, ahead: Option<Placed>) -> Turn
-        ensures { Turns (S.guarded guard.now) ahead self.old result self.new }
+    pub fn next<S: Sight>(&mut self, guard: &S, ahead: &Option<Placed>) -> Turn
+        ensures { Turns (S.guarded guard.now) ahead.now self.old result self.new }
+    {
+        let was = *self;
+        self.next_from(&was, guard, ahead)
+    }
+
+    /// As `next`, of a list that was this before, so that nothing is copied.
+    pub fn next_from<S: Sight>(&mut self, was: &Sequence, guard: &S, ahead: &Option<Placed>) -> Turn
+        requires { was.now ≡ self.old }
+        ensures { Turns (S.guarded guard.now) ahead.now self.old result self.new }
     {
         let due = self.host_due(ahead);
         if self.host == due {
-            return self.asked(guard, ahead);
+            return self.asked(was, guard, ahead);
         }
         self.host = due;
         Turn::Again
     }
 
     // What comes next by the host that is the one to ask.
-    fn asked<S: Sight>(&mut self, guard: &S, ahead: Option<Placed>) -> Turn
-        requires { self.old.host ≡ spec_host_due self.old ahead }
-        ensures { Turns (S.guarded guard.now) ahead self.old result self.new }
+    fn asked<S: Sight>(&mut self, was: &Sequence, guard: &S, ahead: &Option<Placed>) -> Turn
+        requires same { was.now ≡ self.old }
+        requires due { self.old.host ≡ spec_host_due self.old ahead.now }
+        ensures { Turns (S.guarded guard.now) ahead.now self.old result self.new }
     {
         if let Some(step) = self.off_at_once(ahead) {
-            self.begins_at_once(step);
+            self.begins_at_once(&step);
             return Turn::Again;
         }
-        let (said, asked) = self.said(guard, ahead);
-        let refused = self.refused_for(guard, said);
-        self.goes(ahead, said, asked, refused)
+        let said = was.said(guard, ahead, &mut self.stairs);
+        let refused = was.refused_for(guard, &said);
+        self.goes(&was.stairs, ahead, &said, refused)
     }
 
-    // What the stairs say, and the stairs then.
-    fn said<S: Sight>(&self, guard: &S, ahead: Option<Placed>) -> (Move, Stairs)
-        ensures { Says (S.guarded guard.now) ahead self.now result.0 result.1 }
+    // What these stairs, which are its own, say, and become.
+    fn said<S: Sight>(&self, guard: &S, ahead: &Option<Placed>, asked: &mut Stairs) -> Move
+        requires { asked.old ≡ self.now.stairs }
+        ensures { Says (S.guarded guard.now) ahead.now self.now result asked.new }
     {
-        let mut asked = self.stairs;
         match self.asked_apart(ahead) {
-            Some(step) => {
-                let said = asked.next_apart(guard, &step, self.tries);
-                (said, asked)
-            }
-            None => {
-                let said = asked.next(guard, self.ahead_here(ahead), self.tries);
-                (said, asked)
-            }
+            Some(step) => asked.next_apart(guard, &step, self.tries),
+            None => asked.next(guard, &self.ahead_here(ahead), self.tries),
         }
     }
 
     // The place of the host that is to be asked.
-    fn host_due(&self, ahead: Option<Placed>) -> u8
-        ensures { result ≡ spec_host_due self.now ahead }
+    fn host_due(&self, ahead: &Option<Placed>) -> u8
+        ensures { result ≡ spec_host_due self.now ahead.now }
     {
-        match (self.is_under(ahead), ahead) {
-            (true, _) => self.under_host,
-            (false, Some(placed)) => placed.host,
-            (false, None) => self.host,
+        if self.is_under(ahead) {
+            return self.under_host;
+        }
+        match ahead {
+            Some(placed) => placed.host,
+            None => self.host,
         }
     }
 
     // Whether the step under way is asked first.
-    fn is_under(&self, ahead: Option<Placed>) -> bool
-        ensures { result ≡ spec_is_under self.now ahead }
+    fn is_under(&self, ahead: &Option<Placed>) -> bool
+        ensures { result ≡ spec_is_under self.now ahead.now }
     {
         self.stairs.under.is_some() && (!self.is_free || ahead.is_none())
     }
 
     // The first step ahead, if it is asked without the one under way, which is over.
-    fn asked_apart(&self, ahead: Option<Placed>) -> Option<Step>
-        ensures { result ≡ spec_asked_apart self.now ahead }
+    fn asked_apart(&self, ahead: &Option<Placed>) -> Option<Step>
+        ensures { result ≡ spec_asked_apart self.now ahead.now }
     {
         match ahead {
             Some(placed) if self.is_free => Some(placed.step),
@@ -157,8 +163,8 @@ impl Sequence {
     }
 
     // The first step ahead, if the host that is asked is its own and it doesn't begin at once.
-    fn ahead_here(&self, ahead: Option<Placed>) -> Option<Step>
-        ensures { result ≡ spec_ahead_here self.now ahead }
+    fn ahead_here(&self, ahead: &Option<Placed>) -> Option<Step>
+        ensures { result ≡ spec_ahead_here self.now ahead.now }
     {
         match ahead {
             Some(placed) if placed.host == self.host && !self.is_at_once(&placed.step) => {
@@ -179,8 +185,8 @@ impl Sequence {
     }
 
     // The first step ahead, if it begins at once now.
-    fn off_at_once(&self, ahead: Option<Placed>) -> Option<Step>
-        ensures { result ≡ spec_off_at_once self.now (spec_is_under self.now ahead) ahead }
+    fn off_at_once(&self, ahead: &Option<Placed>) -> Option<Step>
+        ensures { result ≡ spec_off_at_once self.now (spec_is_under self.now ahead.now) ahead.now }
     {
         match ahead {
             Some(placed) if !self.is_under(ahead) && self.is_at_once(&placed.step) => Some(
@@ -191,8 +197,8 @@ impl Sequence {
     }
 
     // A step begins before anything is asked.
-    fn begins_at_once(&mut self, step: Step)
-        ensures { self.new ≡ one_begun self.old (at_once self.old.stairs step self.old.tries) }
+    fn begins_at_once(&mut self, step: &Step)
+        ensures { self.new ≡ one_begun self.old (at_once self.old.stairs step.now self.old.tries) }
     {
         self.stairs.under = Some(Under {
             step: step.with_words(Wanted::nothing()),
@@ -213,44 +219,41 @@ impl Sequence {
         self.is_warned = false;
     }
 
-    // What comes of what the stairs say, if the way back of the step that begins would be refused so.
+    // What comes of what its stairs, which were these before, say, if the way back of the step that begins would be refused so.
     fn goes(
         &mut self,
-        ahead: Option<Placed>,
-        said: Move,
-        asked: Stairs,
+        was: &Stairs,
+        ahead: &Option<Placed>,
+        said: &Move,
         refused: Option<PlanFault>,
     ) -> Turn
-        ensures turn { result ≡ turned ahead said refused }
-        ensures after { self.new ≡ turned_after ahead self.old said asked refused }
+        ensures turn { result ≡ turned ahead.now said.now refused }
+        ensures after { self.new ≡ turned_after ahead.now (with_stairs self.old was.now) said.now self.old.stairs refused }
     {
-        match said {
+        match *said {
             Move::Job(job) => {
                 self.is_free = false;
-                self.stairs = asked;
                 Turn::Job(job)
             }
             Move::Begins(job, back) => {
                 match refused {
                     Some(fault) => {
+                        self.stairs = *was;
                         self.is_free = false;
                         self.is_warned = true;
                         Turn::NoWayBack(fault)
                     }
                     None => {
-                        self.stairs = asked;
                         self.begins();
                         Turn::Begins(job, back)
                     }
                 }
             }
             Move::Passes(back) => {
-                self.stairs = asked;
                 self.begins();
                 Turn::Passes(back)
             }
             Move::Reached => {
-                self.stairs = asked;
                 match ahead {
                     Some(placed) => {
                         self.is_free = true;
@@ -262,18 +265,17 @@ impl Sequence {
             }
             Move::Stops(why) => {
                 self.is_free = false;
-                self.stairs = asked;
                 Turn::Stops(why)
             }
         }
     }
 
     // Why the way back of the step that begins would be refused, if one begins.
-    fn refused_for<S: Sight>(&self, guard: &S, said: Move) -> Option<PlanFault>
-        ensures { result ≡ spec_refused_for (S.guarded guard.now) self.now said }
+    fn refused_for<S: Sight>(&self, guard: &S, said: &Move) -> Option<PlanFault>
+        ensures { result ≡ spec_refused_for (S.guarded guard.now) self.now said.now }
     {
         match said {
-            Move::Begins(_, back) => self.refused_back(guard, &back),
+            Move::Begins(_, back) => self.refused_back(guard, back),
             Move::Job(_) | Move::Passes(_) | Move::Reached | Move::Stops(_) => None,
         }
     }
@@ -290,13 +292,11 @@ impl Sequence {
     }
 
     /// The guard refuses what these stairs named: it is as it was, but for which step stopped.
-    pub fn refused(&self, named: &Sequence, begins: bool) -> Sequence
-        ensures { result ≡ refused_in self.now named.now begins }
+    pub fn refuse(&mut self, named: &Sequence, begins: bool)
+        ensures { self.new ≡ refused_in self.old named.now begins }
     {
-        let mut kept = *self;
-        kept.is_free = false;
-        kept.stairs.reading = begins || named.stairs.reading;
-        kept
+        self.is_free = false;
+        self.stairs.reading = begins || named.stairs.reading;
     }
 
     /// Whether the job that stands at this stage is the one that was named last.
@@ -313,15 +313,19 @@ impl Sequence {
         self.stairs.course_open()
     }
 
-    /// That course has become this one, and an answer showed that the part restarted or was exchanged, or didn't.
-    pub fn with_course(&self, course: FrameCourse, restarted: bool) -> Sequence
-        ensures { result ≡ heard_with self.now course restarted }
+    /// Whether there is a course whose job was named last.
+    pub fn has_course(&self) -> bool
+        ensures { result ≡ is_some (spec_course_open self.now.stairs) }
     {
-        let mut heard = *self;
-        heard.stairs = self
-            .stairs
-            .with_course(course, restarted && self.ends_at_restart);
-        heard
+        self.stairs.has_course()
+    }
+
+    /// That course has become this one, and an answer showed that the part restarted or was exchanged, or didn't.
+    pub fn put_course(&mut self, course: &FrameCourse, restarted: bool)
+        ensures { self.new ≡ heard_with self.old course.now restarted }
+    {
+        self.stairs
+            .put_course(course, restarted && self.ends_at_restart);
     }
 
     /// Whether what stopped is the step under way, and not the first one ahead.

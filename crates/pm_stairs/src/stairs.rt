@@ -67,8 +67,8 @@ impl Stairs {
     }
 
     /// What comes next, if this is the first step ahead, which gets so many tries.
-    pub fn next<S: Sight>(&mut self, guard: &S, ahead: Option<Step>, tries: u16) -> Move
-        ensures { Goes (S.guarded guard.now) tries ahead self.old result self.new }
+    pub fn next<S: Sight>(&mut self, guard: &S, ahead: &Option<Step>, tries: u16) -> Move
+        ensures { Goes (S.guarded guard.now) tries ahead.now self.old result self.new }
     {
         if self.restarted {
             return Move::Stops(StepEnd::Restarted);
@@ -77,7 +77,7 @@ impl Stairs {
             return said;
         }
         match ahead {
-            Some(step) => self.ahead(guard, &step, tries),
+            Some(step) => self.ahead(guard, step, tries),
             None => Move::Reached,
         }
     }
@@ -97,15 +97,13 @@ impl Stairs {
         ensures { GoesUnder (S.guarded guard.now) self.old result self.new }
     {
         self.reading = false;
-        let Some(under) = self.under else {
+        let Some(under) = &mut self.under else {
             return None;
         };
-        let step = under.step;
-        if !are_there(guard, &step, &under.course) {
+        if !are_there(guard, &under.step, &under.course) {
             return Some(Move::Stops(absent()));
         }
-        let (said, course) = ask(guard, true, &step, &under.course);
-        self.under = Some(Under { step, course });
+        let said = ask(guard, true, &under.step, &mut under.course);
         under_move(said)
     }
 
@@ -113,29 +111,29 @@ impl Stairs {
     fn ahead<S: Sight>(&mut self, guard: &S, step: &Step, tries: u16) -> Move
         ensures { GoesAhead (S.guarded guard.now) tries step.now self.old result self.new }
     {
-        let course = self.coming_course(step, tries);
+        let mut course = self.coming_course(step, tries);
         match words_by(guard, &course) {
             Err(refusal) => {
-                self.reads_for(course);
+                self.reads_for(&course);
                 Move::Stops(StepEnd::Course(CourseEnd::Refused(refusal)))
             }
-            Ok(words) => self.asks(guard, &step.with_words(words), &course),
+            Ok(words) => self.asks(guard, &step.with_words(words), &mut course),
         }
     }
 
     // What a first step ahead asks for, in words.
-    fn asks<S: Sight>(&mut self, guard: &S, step: &WordStep, course: &FrameCourse) -> Move
-        ensures { AsksAhead (S.guarded guard.now) step.now course.now self.old result self.new }
+    fn asks<S: Sight>(&mut self, guard: &S, step: &WordStep, course: &mut FrameCourse) -> Move
+        ensures { AsksAhead (S.guarded guard.now) step.now course.old self.old result self.new }
     {
         if !are_there(guard, step, course) {
-            self.reads_for(*course);
+            self.reads_for(course);
             return Move::Stops(absent());
         }
-        let (said, after) = ask(guard, false, step, course);
+        let said = ask(guard, false, step, course);
         if begins_now(said) {
-            self.begins(step, after);
+            self.begins(step, course);
         } else {
-            self.reads_for(after);
+            self.reads_for(course);
         }
         ahead_move(said, noted(guard, step))
     }
@@ -151,25 +149,22 @@ impl Stairs {
     }
 
     // A step begins.
-    fn begins(&mut self, step: &WordStep, course: FrameCourse)
-        ensures { self.new ≡ begun_with self.old step.now course }
+    fn begins(&mut self, step: &WordStep, course: &FrameCourse)
+        ensures { self.new ≡ begun_with self.old step.now course.now }
     {
-        *self = Stairs {
-            under: Some(Under {
-                step: *step,
-                course,
-            }),
-            coming: None,
-            reading: false,
-            restarted: self.restarted,
-        };
+        self.under = Some(Under {
+            step: *step,
+            course: *course,
+        });
+        self.coming = None;
+        self.reading = false;
     }
 
     // The first step ahead has asked for something, and hasn't begun.
-    fn reads_for(&mut self, course: FrameCourse)
-        ensures { self.new ≡ reading_for self.old course }
+    fn reads_for(&mut self, course: &FrameCourse)
+        ensures { self.new ≡ reading_for self.old course.now }
     {
-        self.coming = Some(course);
+        self.coming = Some(*course);
         self.reading = true;
     }
 }
@@ -245,24 +240,20 @@ pub(crate) fn words_by<S: Sight>(guard: &S, course: &FrameCourse) -> Result<Want
 }
 
 // What a step asks for, which has begun or begins now, and its course then.
-fn ask<S: Sight>(
-    guard: &S,
-    begun: bool,
-    step: &WordStep,
-    course: &FrameCourse,
-) -> (Said, FrameCourse)
+fn ask<S: Sight>(guard: &S, begun: bool, step: &WordStep, course: &mut FrameCourse) -> Said
     requires step { step.now.output < (S.guarded guard.now).host.setup.outputs }
-    requires course { course.now.course.survey.output < (S.guarded guard.now).host.setup.outputs }
-    ensures { SaysStep (S.guarded guard.now) begun step.now course.now result.0 result.1 }
+    requires course { course.old.course.survey.output < (S.guarded guard.now).host.setup.outputs }
+    ensures { SaysStep (S.guarded guard.now) begun step.now course.old result course.new }
 {
-    let mut after = *course;
+    let was = *course;
     let limits = guard.limits(course.course.survey.output);
-    let next = after.next_in(guard.state(), guard.stage(), guard.registers(), &limits);
+    let next = course.next_in(guard.state(), guard.stage(), guard.registers(), &limits);
     let said = trying(
-        course,
+        &was,
         said_of(begun, step.output, &due_by(guard, step), next),
     );
-    (said, after_said(course, after, said))
+    put_said(course, &was, said);
+    said
 }
 
 // What is due in a step by a guard.
@@ -289,25 +280,26 @@ fn trying(course: &FrameCourse, said: Said) -> Said
     }
 }
 
-// The course of a step once it said so.
-fn after_said(old: &FrameCourse, after: FrameCourse, said: Said) -> FrameCourse
-    ensures { result ≡ course_after old.now after said }
+// The course of a step, which was this before, once it said so.
+fn put_said(course: &mut FrameCourse, was: &FrameCourse, said: Said)
+    ensures { course.new ≡ course_after was.now course.old said }
 {
     match said {
-        Said::Looks(cell) => looked(old, cell),
-        Said::Over => *old,
-        Said::Orders(..) | Said::Reads(_) | Said::Stops(_) => after,
+        Said::Looks(cell) => {
+            *course = *was;
+            looks(course, cell);
+        }
+        Said::Over => *course = *was,
+        Said::Orders(..) | Said::Reads(_) | Said::Stops(_) => {}
     }
 }
 
-// A course in whose name a cell is looked at.
-fn looked(course: &FrameCourse, cell: Cell) -> FrameCourse
-    ensures { result ≡ spec_looked course.now cell }
+// In the name of a course a cell is looked at.
+fn looks(course: &mut FrameCourse, cell: Cell)
+    ensures { course.new ≡ spec_looked course.old cell }
 {
-    let mut looks = *course;
-    looks.course.survey.asked = Some(Job::Check(cell));
-    looks.course.survey.left = looks.course.survey.left.saturating_sub(1);
-    looks
+    course.course.survey.asked = Some(Job::Check(cell));
+    course.course.survey.left = course.course.survey.left.saturating_sub(1);
 }
 
 // The step that undoes one that begins now.

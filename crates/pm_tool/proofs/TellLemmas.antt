@@ -22,18 +22,14 @@ use Rattle.pm_tool.specs.declared.text_commands.Unwritten.TheVariants.{TooLong a
 use Rattle.pm_tool.specs.declared.text_commands.Written.{Written}
 use Rattle.pm_tool.proofs.EndLemmas.{Ends, Writers, ended}
 
--- the line that says which line orders a voltage beyond 1000 V, from its pieces
-pub beyond_line : (program : List ℕ) (line : ℕ) (digits : List ℕ) → program ≡ codes "pmb" → digits ≡ decimal line
-    → program ++ (codes ": " ++ (codes "line " ++ (digits
-    ++ (codes " orders a voltage beyond 1000 V by --vout: a minus may be missing" ++ codes "\n"))))
-    ≡ refusal_line (hint_words (Beyond line))
-beyond_line program line digits named is =
+-- the line that says something of a line, from its pieces
+pub line_of_pieces : (program : List ℕ) (line : ℕ) (digits words : List ℕ) → program ≡ codes "pmb" → digits ≡ decimal line
+    → program ++ (codes ": " ++ (codes "line " ++ (digits ++ (words ++ codes "\n"))))
+    ≡ refusal_line (codes "line " ++ (decimal line ++ words))
+line_of_pieces program line digits words named is =
     (λ i. named i ++ (codes ": " ++ (codes "line " ++ (is i ++ (words ++ codes "\n")))))
     ∙ ap (λ l. codes "pmb" ++ (codes ": " ++ (codes "line " ++ l))) (sym (append_assoc (decimal line) words (codes "\n")))
     ∙ ap (λ l. codes "pmb" ++ (codes ": " ++ l)) (sym (append_assoc (codes "line ") (decimal line ++ words) (codes "\n")))
-  where
-    words : List ℕ
-    words = codes " orders a voltage beyond 1000 V by --vout: a minus may be missing"
 
 -- the two lines that say that a trace is too long, and what reads it, from their pieces
 pub too_long_line : (program words again : List ℕ) → program ≡ codes "pmb" → words ≡ fault_words TooLong → again ≡ codes "pmb"

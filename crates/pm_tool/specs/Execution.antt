@@ -19,7 +19,7 @@ use Rattle.pm_decode.specs.CaptureText.{capture_end, capture_text}
 use Rattle.pm_decode.specs.Capturing.{most_bytes, said_text}
 use Rattle.pm_decode.specs.LongEngine.{Breaks, GaveAll, IsCut}
 use Rattle.pm_decode.specs.declared.hints.Hint.{Hint}
-use Rattle.pm_decode.specs.declared.hints.Hint.TheVariants.{Beyond, NoTimes, NoGoodPacket, NoPec}
+use Rattle.pm_decode.specs.declared.hints.Hint.TheVariants.{Beyond, NoTimes, NoGoodPacket, NoPec, Paging}
 use Rattle.pm_capture.specs.declared.options.TellOptions.{TellOptions}
 use Rattle.pm_limits.specs.declared.part_registers.PartRegisters.{PartRegisters}
 use Rattle.pm_log.specs.Texts.{IsAll, log_end, log_text}
@@ -161,6 +161,7 @@ hint_words (Beyond line) = codes "line " ++ (decimal line ++ codes " orders a vo
 hint_words NoTimes = codes "no line is a time and a packet: give --times to both ends, or to none"
 hint_words NoGoodPacket = codes "no line is a good packet: where lines begin with times, give --times"
 hint_words NoPec = codes "no line is a good packet: where packets have no PEC, give --all"
+hint_words (Paging line) = codes "line " ++ (decimal line ++ codes " writes PAGE: --pages shows which output each packet reaches")
 
 -- how a run ends whose text was written whole, by what may be wrong
 abbrev pub told_as : ℕ → List ℕ → Option Hint → End

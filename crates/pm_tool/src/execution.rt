@@ -1,4 +1,4 @@
-ghost use Rattle.std.specs.Prelude.{◌≡◌, ◌⊎◌, ◌≤◌, IsFalse, MatchResult, Err, Ok, flat_map, map, string_bytes};
+ghost use Rattle.std.specs.Prelude.{◌≡◌, ◌⊎◌, ◌≤◌, ◌++◌, IsFalse, MatchResult, Err, Ok, codes, decimal, flat_map, map, string_bytes};
 ghost use Rattle.std.specs.Io.KnownBytes.{Keeps};
 ghost use Rattle.std.specs.IoError.{error_kind};
 ghost use Rattle.std.specs.Process.{exit_status};
@@ -7,7 +7,6 @@ ghost use Rattle.clap.specs.Walk.{texts};
 ghost use Rattle.clap.specs.Words.{kind_of};
 ghost use Rattle.pm_tool.specs.Arguments.{arguments_of};
 ghost use Rattle.pm_tool.specs.Refusals.{Says};
-ghost use Rattle.pm_decode.specs.declared.hints.Hint.TheVariants.{Beyond};
 ghost use Rattle.pm_tool.specs.Execution.{CheckEnds, CommandRuns, End, IsDone, IsEnd, NumberEnds, RunEnds, UsageEnds};
 ghost use Rattle.pm_tool.specs.Execution.{OptionsEnd, TellEnds};
 ghost use Rattle.pm_tool.specs.Execution.{CutShort, IsToldDone, Printed, hint_words, refusal_line, unwritten_words, wants_memory};
@@ -279,7 +278,11 @@ fn say_hint<E: Write>(errors: &mut Sink<E>, hint: Hint)
     ensures { Says E.contents errors.old errors.new (refusal_line (hint_words hint)) }
 {
     match hint {
-        Hint::Beyond(line) => say_beyond(errors, line),
+        Hint::Beyond(line) => say_line(
+            errors,
+            line,
+            b" orders a voltage beyond 1000 V by --vout: a minus may be missing",
+        ),
         Hint::NoTimes => say(
             errors,
             NAME,
@@ -295,13 +298,18 @@ fn say_hint<E: Write>(errors: &mut Sink<E>, hint: Hint)
             NAME,
             "no line is a good packet: where packets have no PEC, give --all",
         ),
+        Hint::Paging(line) => say_line(
+            errors,
+            line,
+            b" writes PAGE: --pages shows which output each packet reaches",
+        ),
     }
 }
 
-// Says which line orders a voltage beyond 1000 V.
-fn say_beyond<E: Write>(errors: &mut Sink<E>, line: u64)
+// Says something of a line.
+fn say_line<E: Write>(errors: &mut Sink<E>, line: u64, words: &[u8])
     requires { IsFalse errors.old.failed }
-    ensures { Says E.contents errors.old errors.new (refusal_line (hint_words (Beyond line))) }
+    ensures { Says E.contents errors.old errors.new (refusal_line (codes "line " ++ (decimal line ++ words.now))) }
 {
     let mut digits = itoa::Buffer::new();
     say_pieces(
@@ -311,7 +319,7 @@ fn say_beyond<E: Write>(errors: &mut Sink<E>, line: u64)
             b": ",
             b"line ",
             digits.format(line).as_bytes(),
-            b" orders a voltage beyond 1000 V by --vout: a minus may be missing",
+            words,
             b"\n",
         ],
     );

@@ -4,7 +4,7 @@ use crate::checks::is_true;
 use crate::run::run_on;
 
 /// The words, what is read, the status, what is printed and what is said.
-static HINTS: [(&[&str], &str, u8, &str, &str); 17] = [
+static HINTS: [(&[&str], &str, u8, &str, &str); 19] = [
     // The first order beyond 1000 V is named.
     (
         &["pmb", "decode", "--values", "--vout=ulinear16:0"],
@@ -124,6 +124,21 @@ static HINTS: [(&[&str], &str, u8, &str, &str); 17] = [
         1,
         "1 58 write F2 Short 4 bytes B0 21 CD 34\n2 X2 BadHex\nlines 2 accepted 0 faults 1 bad 1\n",
         "pmb: no line is a good packet: where lines begin with times, give --times\n",
+    ),
+    // PAGE is written, and isn't followed.
+    (
+        &["pmb", "decode", "--values"],
+        "B0 03 46\nB0 00 01 ED\nB0 00 00 EA\n",
+        0,
+        "1 58 CLEAR_FAULTS send\n2 58 PAGE write 01\n3 58 PAGE write 00\ncount CLEAR_FAULTS 1\ncount PAGE 2\nlines 3 accepted 3 faults 0 bad 0\n",
+        "pmb: line 2 writes PAGE: --pages shows which output each packet reaches\n",
+    ),
+    (
+        &["pmb", "decode", "--values", "--pages"],
+        "B0 00 01 ED\n",
+        0,
+        "1 58 PAGE write 01\ncount PAGE 1\nlines 1 accepted 1 faults 0 bad 0\n",
+        "",
     ),
     (
         &["pmb", "decode", "--long"],

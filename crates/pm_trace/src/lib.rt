@@ -26,6 +26,7 @@ mod pages;
 mod shown;
 mod shown_text;
 mod tally;
+mod touch;
 mod trace_line;
 
 pub use byte_list::ByteList;
@@ -36,8 +37,9 @@ pub use decoder::{Decoder, LinePart, PART_BYTES};
 pub use fed::Fed;
 pub use laws::pieces_do_not_matter;
 pub use line_fault::LineFault;
-pub use pages::{PageLine, PageUse, Pages, Place, page_use};
+pub use pages::{PageLine, PageUse, Pages, Place, Standing, page_use, unclear_use};
 pub use shown::{Shown, packet_shown};
 pub use shown_text::{answered, coefficients_in, push_packet, push_shown};
 pub use tally::{Tally, count_code};
+pub use touch::{Touch, is_of_all, is_paging, is_restore, touch_of};
 pub use trace_line::{TraceLine, read_trace_line, render_line};

@@ -1,12 +1,13 @@
 //! PAGE as a trace shows it, address by address.
 ghost use Rattle.std.specs.Prelude.{◌≡◌};
-ghost use Rattle.pm_trace.specs.Pages.{behind, contradicted, output_of, use_of};
-ghost use Rattle.pm_trace.specs.Pages.{accepted_use as spec_accepted_use, is_of_device as spec_is_of_device, is_of_page as spec_is_of_page, is_silent as spec_is_silent, other_use as spec_other_use, plain_use as spec_plain_use};
+ghost use Rattle.pm_trace.specs.Pages.{behind, contradicted, is_forbidden, on_page, output_of, phase_of, restarted, unsure, use_of};
+ghost use Rattle.pm_trace.specs.Pages.{accepted_use as spec_accepted_use, is_of_device as spec_is_of_device, is_silent as spec_is_silent, other_use as spec_other_use, plain_use as spec_plain_use, told_use as spec_told_use, unclear_use as spec_unclear_use};
 ghost use Rattle.pm_trace.specs.Pages.{is_apart as spec_is_apart, kept_since as spec_kept_since, line_since as spec_line_since, written_else as spec_written_else};
 ghost use Rattle.pm_trace.specs.ShownLines.{judged_in};
 
 use crate::shown::Shown;
 use crate::shown_text::answered;
+use crate::touch::{Touch, is_restore, touch_of};
 use indexmap::IndexMap;
 use pm_frame::Message;
 use pm_table::Code;
@@ -16,13 +17,19 @@ use std::marker::Model;
 /// What a packet says of the PAGE of its address.
 #[derive(Clone, Copy, Debug, PartialEq, Eq)]
 pub enum PageUse {
-    /// A good write of PAGE: the page.
+    /// A clear write of PAGE: the page.
     Written(u8),
-    /// A good read of PAGE: the page.
+    /// A clear read of PAGE: the page.
     ReadBack(u8),
-    /// A packet of PAGE that isn't good, and whether it may have written PAGE.
+    /// A packet of PAGE that isn't clear, and whether it may have written PAGE.
     Failed(bool),
-    /// Another packet of which nobody can say what it did.
+    /// RESTORE, which may write PAGE.
+    Restored,
+    /// A clear write or read of WRITE_PROTECT, and whether it forbids writes of PAGE.
+    Protects(bool),
+    /// A clear write of PHASE: the phase.
+    SetsPhase(u8),
+    /// Nobody answered a code that the address answered before.
     Lost,
     /// A packet that acts on an output and names none.
     OfOutput,
@@ -53,10 +60,16 @@ pub struct PageLine {
 pub struct Place {
     /// The page that plain packets reach.
     pub page: Option<PageLine>,
-    /// The last good write of PAGE.
+    /// The last clear write of PAGE.
     pub written: Option<PageLine>,
-    /// The line of a packet of PAGE that wasn't good, until a good one comes, or something is lost.
+    /// The line of a packet of PAGE that wasn't clear, until a clear one comes, or something is lost.
     pub failed: Option<u64>,
+    /// The line since which WRITE_PROTECT forbids writes of PAGE.
+    pub locked: Option<u64>,
+    /// The phase that readings are of, if PHASE selects one.
+    pub phase: Option<PageLine>,
+    /// The part has PAGE: it took a clear write of it, or answered a read.
+    pub heard: bool,
     /// The time of the last packet, in microseconds, if lines have one.
     pub time: Option<u64>,
 }
@@ -67,57 +80,110 @@ impl Place {
         ensures { result ≡ output_of self.now used }
     {
         match (used, self.page) {
-            (PageUse::OfOutput, Some(said)) => Some(said.page),
+            (PageUse::OfOutput | PageUse::SetsPhase(_), Some(said)) => Some(said.page),
             _ => None,
         }
     }
 
     /// The line that a packet contradicts: a page is read that isn't the one written last, or a packet acts on an output
-    /// and names none after a packet of PAGE that wasn't good, and no good one came since then.
+    /// and names none after a packet of PAGE that wasn't clear, of a part that has PAGE, and no clear one came since then.
     pub fn contradicted(&self, used: PageUse) -> Option<u64>
         ensures { result ≡ contradicted self.now used }
     {
         match used {
             PageUse::ReadBack(page) => written_else(page, self.written),
-            PageUse::OfOutput => self.failed,
-            PageUse::Written(_) | PageUse::Failed(_) | PageUse::Lost | PageUse::Beside => None,
+            PageUse::OfOutput | PageUse::SetsPhase(_) if self.heard => self.failed,
+            _ => None,
         }
     }
 
-    // What is known after the packet in this line; `doubted` says whether a byte of it wasn't acknowledged.
-    fn behind(self, line: u64, doubted: bool, used: PageUse) -> Place
-        ensures { result ≡ behind line doubted self used }
+    /// The phase that a packet of this code reads: of READ_VIN to READ_PIN, if it acts on an output and names none.
+    pub fn phase(&self, code: u8, used: PageUse) -> Option<u8>
+        ensures { result ≡ phase_of self.now code used }
+    {
+        match (used, self.phase) {
+            (PageUse::OfOutput, Some(said)) if Code::READ_VIN.0 <= code && code <= 0x97 => {
+                Some(said.page)
+            }
+            _ => None,
+        }
+    }
+
+    /// Whether WRITE_PROTECT forbids a packet, a write of PAGE.
+    pub fn is_forbidden(&self, used: PageUse) -> bool
+        ensures { result ≡ is_forbidden self.now used }
+    {
+        matches!(used, PageUse::Written(_)) && self.locked.is_some()
+    }
+
+    // What is known after the packet in this line.
+    fn behind(self, line: u64, used: PageUse) -> Place
+        ensures { result ≡ behind line self used }
     {
         match used {
-            PageUse::Written(page) if !doubted => Place {
-                page: Some(PageLine { page, line }),
+            PageUse::Written(_) if self.locked.is_some() => self,
+            PageUse::Written(page) => Place {
                 written: Some(PageLine { page, line }),
-                failed: None,
-                time: self.time,
+                ..self.on_page(line, page)
             },
-            PageUse::ReadBack(page) if !doubted => Place {
-                page: Some(PageLine { page, line }),
-                written: self.written,
-                failed: None,
-                time: self.time,
-            },
-            PageUse::ReadBack(_) | PageUse::Failed(false) => Place {
-                failed: Some(line),
+            PageUse::ReadBack(page) => self.on_page(line, page),
+            PageUse::Failed(writes) => self.unsure(line, writes),
+            PageUse::Protects(all) => Place {
+                locked: if all { Some(line) } else { None },
                 ..self
             },
-            PageUse::Written(_) | PageUse::Failed(true) => Place {
-                page: None,
-                written: None,
-                failed: Some(line),
-                time: self.time,
+            PageUse::SetsPhase(phase) => Place {
+                phase: if phase == 0xFF {
+                    None
+                } else {
+                    Some(PageLine { page: phase, line })
+                },
+                ..self
             },
-            PageUse::Lost => Place {
-                page: None,
-                written: None,
-                failed: self.failed,
-                time: self.time,
-            },
+            PageUse::Restored | PageUse::Lost => self.restarted(),
             PageUse::OfOutput | PageUse::Beside => self,
+        }
+    }
+
+    // What is known after a clear packet of PAGE in this line, which gave this page.
+    fn on_page(self, line: u64, page: u8) -> Place
+        ensures { result ≡ on_page line page self }
+    {
+        Place {
+            page: Some(PageLine { page, line }),
+            failed: None,
+            heard: true,
+            ..self
+        }
+    }
+
+    // What is known after a packet of PAGE in this line that isn't clear, and may have written it.
+    fn unsure(self, line: u64, writes: bool) -> Place
+        ensures { result ≡ unsure line writes self }
+    {
+        let failed = Some(line);
+        if writes {
+            Place {
+                page: None,
+                written: None,
+                failed,
+                ..self
+            }
+        } else {
+            Place { failed, ..self }
+        }
+    }
+
+    // What is known after a sign of a restart, or RESTORE.
+    fn restarted(self) -> Place
+        ensures { result ≡ restarted self }
+    {
+        Place {
+            page: None,
+            written: None,
+            locked: None,
+            phase: None,
+            ..self
         }
     }
 }
@@ -128,8 +194,6 @@ pub struct Pages {
     places: IndexMap<u8, Place>,
     // The last line in which something was lost, of nobody knows which address, or 0.
     lost: u64,
-    // A byte of the next packet wasn't acknowledged.
-    doubted: bool,
 }
 
 impl Model for Pages {
@@ -137,12 +201,12 @@ impl Model for Pages {
 
     ghost Value = { Pages };
 
-    ghost view = { λ p. record { places = p.places.entries; lost = p.lost; doubted = p.doubted } };
+    ghost view = { λ p. record { places = p.places.entries; lost = p.lost } };
 }
 
 impl Pages {
     ghost use Rattle.std.specs.Prelude.{OnOk};
-    ghost use Rattle.pm_trace.specs.Pages.{doubting, failed_at, lost_in, no_pages, pages_by, place_in, place_of};
+    ghost use Rattle.pm_trace.specs.Pages.{lost_in, no_pages, pages_by, pages_shown, place_in, place_of};
 
     /// Nothing is known yet. Takes no memory.
     pub fn new(alloc: Global) -> Pages
@@ -151,7 +215,6 @@ impl Pages {
         Pages {
             places: IndexMap::new(alloc),
             lost: 0,
-            doubted: false,
         }
     }
 
@@ -163,16 +226,12 @@ impl Pages {
         self.lost = line;
     }
 
-    /// A packet of PAGE at an address failed in this line; `writes` is whether it may have written PAGE. Takes memory for an
-    /// address that is new.
-    pub fn fail(&mut self, line: u64, addr: u8, writes: bool) -> Result<(), AllocError>
-        ensures { OnOk result (self.new ≡ failed_at line addr writes self.old) }
+    /// Learns what a packet says of its address's page that a comment in this line shows. Takes memory for an address that is new.
+    pub fn learn_shown(&mut self, line: u64, addr: u8, used: PageUse) -> Result<(), AllocError>
+        ensures { OnOk result (self.new ≡ pages_shown line addr used self.old) }
     {
-        let doubted = self.doubted;
         let place = self.kept(addr);
-        let learned = self.learn(line, Some(addr), place, PageUse::Failed(writes));
-        self.doubted = doubted;
-        learned
+        self.learn(line, Some(addr), place, used)
     }
 
     // What is kept of an address.
@@ -186,13 +245,6 @@ impl Pages {
         }
     }
 
-    /// A byte of the next packet wasn't acknowledged.
-    pub fn doubt(&mut self)
-        ensures { self.new ≡ doubting self.old }
-    {
-        self.doubted = true;
-    }
-
     /// What is known of an address when a packet comes at a time, if lines have one. Nothing is known any more after a
     /// pause of more than `gap` microseconds, or at a time before the last one.
     pub fn place(&self, gap: u64, time: Option<u64>, addr: u8) -> Place
@@ -200,12 +252,19 @@ impl Pages {
     {
         let place = self.kept(addr);
         if is_apart(gap, place.time, time) {
-            return Place { time, ..NOWHERE };
+            return Place {
+                heard: place.heard,
+                time,
+                ..NOWHERE
+            };
         }
         Place {
             page: kept_since(self.lost, place.page),
             written: kept_since(self.lost, place.written),
             failed: line_since(self.lost, place.failed),
+            locked: line_since(self.lost, place.locked),
+            phase: kept_since(self.lost, place.phase),
+            heard: place.heard,
             time,
         }
     }
@@ -221,15 +280,13 @@ impl Pages {
     ) -> Result<(), AllocError>
         ensures { OnOk result (self.new ≡ pages_by line addr place used self.old) }
     {
-        let doubted = self.doubted;
-        self.doubted = false;
         let Some(addr) = addr else {
             return Ok(());
         };
         if used.is_silent() && place.time.is_none() {
             return Ok(());
         }
-        self.places.insert(addr, place.behind(line, doubted, used))?;
+        self.places.insert(addr, place.behind(line, used))?;
         Ok(())
     }
 }
@@ -239,6 +296,9 @@ const NOWHERE: Place = Place {
     page: None,
     written: None,
     failed: None,
+    locked: None,
+    phase: None,
+    heard: false,
     time: None,
 };
 
@@ -282,31 +342,61 @@ fn written_else(page: u8, written: Option<PageLine>) -> Option<u64>
     }
 }
 
-/// What a packet says of the PAGE of its address, by its write part, by whether it has a read part, and by what it is shown
-/// as; of one that isn't good `lost` is whether nobody can say what it did.
-pub fn page_use(write: &[u8], is_read: bool, lost: bool, shown: &Shown<'_>) -> PageUse
-    ensures { result ≡ use_of write.now is_read lost (judged_in shown.now) }
+/// What decides of a packet's use besides its bytes.
+#[derive(Clone, Copy, Debug)]
+pub struct Standing {
+    /// If it is shown as good, it is clear: no byte was refused, and somebody answered.
+    pub is_clear: bool,
+    /// Nobody answered a code that its address answered before.
+    pub is_lost: bool,
+    /// It is shown by its code and bytes.
+    pub is_told: bool,
+}
+
+/// What a packet says of the PAGE of its address, by its write part, by whether it has a read part, and by what it is shown as.
+pub fn page_use(write: &[u8], is_read: bool, standing: Standing, shown: &Shown<'_>) -> PageUse
+    ensures { result ≡ use_of write.now is_read standing.is_clear standing.is_lost standing.is_told (judged_in shown.now) }
 {
     match shown {
-        Shown::Accepted { view, answer, .. } => accepted_use(&view.message(), answered(*answer)),
-        Shown::Faulty { .. } => other_use(write, is_read, lost),
+        Shown::Accepted { view, answer, .. } => {
+            if standing.is_clear {
+                accepted_use(&view.message(), answered(*answer))
+            } else {
+                other_use(write, is_read, false, standing.is_lost, true)
+            }
+        }
+        Shown::Faulty { .. } => other_use(
+            write,
+            is_read,
+            standing.is_clear,
+            standing.is_lost,
+            standing.is_told,
+        ),
         Shown::BadSyntax | Shown::BadHex => PageUse::Beside,
     }
 }
 
-// What a good packet says: one that carries its own page says nothing of PAGE.
+// What a clear packet says: one that carries its own page says nothing of PAGE, but for RESTORE.
 fn accepted_use(message: &Message, answer: &[u8]) -> PageUse
     ensures { result ≡ spec_accepted_use message.now answer.now }
 {
     match *message {
-        Message::WriteByte { code, byte } if Code(code) == Code::PAGE => PageUse::Written(byte),
-        Message::ReadCommand { code } if Code(code) == Code::PAGE => {
-            PageUse::ReadBack(answer.first().copied().unwrap_or(0))
+        Message::WriteByte { code, byte } => match Code(code) {
+            Code::PAGE => PageUse::Written(byte),
+            Code::WRITE_PROTECT => PageUse::Protects(byte == 0x80),
+            _ => plain_use(code),
+        },
+        Message::ReadCommand { code } => {
+            let byte = answer.first().copied().unwrap_or(0);
+            match Code(code) {
+                Code::PAGE => PageUse::ReadBack(byte),
+                Code::WRITE_PROTECT => PageUse::Protects(byte == 0x80),
+                _ => plain_use(code),
+            }
         }
-        Message::SendByte { code }
-        | Message::WriteByte { code, .. }
-        | Message::WriteWord { code, .. }
-        | Message::ReadCommand { code } => plain_use(code),
+        Message::SendByte { code } if is_restore(code) => PageUse::Restored,
+        Message::SendByte { code } | Message::WriteWord { code, .. } => plain_use(code),
+        Message::PagePlusWrite { code, .. } if is_restore(code) => PageUse::Restored,
         Message::PagePlusWrite { .. }
         | Message::PagePlusRead { .. }
         | Message::ReadCoefficients { .. } => PageUse::Beside,
@@ -339,22 +429,40 @@ fn is_of_device(code: u8) -> bool
         || code == 0xAE
 }
 
-// What a packet says that isn't good.
-fn other_use(write: &[u8], is_read: bool, lost: bool) -> PageUse
-    ensures { result ≡ spec_other_use write.now is_read lost }
+// What a packet says that isn't shown as good, or isn't clear.
+fn other_use(write: &[u8], is_read: bool, is_clear: bool, is_lost: bool, is_told: bool) -> PageUse
+    ensures { result ≡ spec_other_use write.now is_read is_clear is_lost is_told }
 {
-    if is_of_page(write) {
-        PageUse::Failed(!is_read || write.len() > 2)
-    } else if lost {
+    let other = if is_lost {
         PageUse::Lost
+    } else if is_told {
+        told_use(is_clear, is_read, write)
     } else {
-        plain_use(write.get(1).copied().unwrap_or(0))
+        PageUse::Beside
+    };
+    unclear_use(touch_of(write, is_read), other)
+}
+
+// What a packet says that is shown by its code and bytes: a clear write of PHASE sets it.
+fn told_use(is_clear: bool, is_read: bool, write: &[u8]) -> PageUse
+    ensures { result ≡ spec_told_use is_clear is_read write.now }
+{
+    let code = write.get(1).copied().unwrap_or(0);
+    if is_clear && !is_read && code == 0x04 && write.len() > 2 {
+        PageUse::SetsPhase(write[2])
+    } else {
+        plain_use(code)
     }
 }
 
-// Whether the packet's code is PAGE.
-fn is_of_page(write: &[u8]) -> bool
-    ensures { result ≡ spec_is_of_page write.now }
+/// What a packet says that isn't clear: it fails if it is one of PAGE, and RESTORE restores PAGE too; `other` is what any other says.
+pub fn unclear_use(touch: Touch, other: PageUse) -> PageUse
+    ensures { result ≡ spec_unclear_use touch other }
 {
-    write.len() >= 2 && Code(write[1]) == Code::PAGE
+    match touch {
+        Touch::WritesPage => PageUse::Failed(true),
+        Touch::AsksPage => PageUse::Failed(false),
+        Touch::Restores => PageUse::Restored,
+        Touch::WritesMode(_) | Touch::Nothing => other,
+    }
 }

@@ -1,10 +1,12 @@
 -- What a capture says of the VOUT_MODE of each output (PMBus 1.3 Part II), until it may have changed: of each address and page, and
 -- of each address that never had a packet of PAGE or PAGE_PLUS, which is one output. That these decide is this project's own choice.
-use Rattle.std.specs.Prelude.{ℕ, ◌+◌, ◌*◌, ◌/◌, Bool, true, false, ◌&&◌, ◌||◌, ◌==◌, nat_eq, nat_le, nat_lt, if◌then◌else◌, List, [], ◌∷◌, is_some, length, slice_index, Option, Some, None}
+use Rattle.std.specs.Prelude.{ℕ, ◌+◌, ◌*◌, ◌/◌, Bool, true, false, not, ◌&&◌, ◌||◌, ◌==◌, nat_eq, nat_lt, if◌then◌else◌, List, [], is_some, Option, Some, None}
 use Rattle.std.specs.List.{list_any}
 use Rattle.std.specs.Map.{lookup}
 use Rattle.indexmap.specs.IndexMap.{insert_entry}
-use Rattle.pm_table.specs.Codes as command
+use Rattle.std.specs.Option.{option_or}
+use Rattle.pm_trace.specs.declared.touch.Touch.{Touch}
+use Rattle.pm_trace.specs.declared.touch.Touch.TheVariants.{Nothing, AsksPage, WritesPage, WritesMode, Restores}
 use Rattle.pm_values.specs.declared.mode_changes.ModeChange.{ModeChange}
 use Rattle.pm_values.specs.declared.mode_changes.ModeChange.TheVariants.{OfNone, OfOutput, OfAll, OfRestart}
 use Rattle.pm_values.specs.declared.modes.ModeLine.{ModeLine}
@@ -28,32 +30,18 @@ key_of addr number = addr * 256 + number
 
 -- ---- by what a mode may change
 
--- RESTORE_USER_ALL, RESTORE_DEFAULT_ALL, RESTORE_DEFAULT_CODE and RESTORE_USER_CODE
-abbrev pub is_restore : ℕ → Bool
-is_restore code = code == command.restore_user_all || (code == 0x12 || (code == 0x14 || code == 0x18))
+-- a write of VOUT_MODE changes one mode if a clear packet names the output; FFh, and a page that isn't known, are all of them
+abbrev pub page_change : Bool → Option ℕ → ModeChange
+page_change is_clear None = OfAll
+page_change is_clear (Some page) = if is_clear && not (page == 0xFF) then OfOutput page else OfAll
 
--- a write of VOUT_MODE to a page: FFh, and one that isn't known, are all of them
-abbrev pub mode_change : Option ℕ → ModeChange
-mode_change None = OfAll
-mode_change (Some page) = if page == 0xFF then OfAll else OfOutput page
-
--- what a code that is written changes, at a page if that is known; `has_data` is whether a byte follows the code
-abbrev pub code_change : Option ℕ → ℕ → Bool → ModeChange
-code_change page code has_data = if is_restore code then OfAll
-    else (if code == command.vout_mode && has_data then mode_change page else OfNone)
-
--- What a write part changes, by nothing but its bytes, whatever fault it has, and whether a read part follows or not: the code
--- that PAGE_PLUS_WRITE carries, or its own. `page` is the one that plain packets reach, if that is sure.
-abbrev pub change_of : Option ℕ → List ℕ → ModeChange
-change_of page (addr ∷ code ∷ rest) = if code == command.page_plus_write
-    then code_change (Some (slice_index rest 1)) (slice_index rest 2) (nat_lt 3 (length rest))
-    else code_change page code (nat_lt 0 (length rest))
-change_of page _ = OfNone
-
--- a packet of PAGE, PAGE_PLUS_WRITE or PAGE_PLUS_READ, whatever fault it has
-abbrev pub is_paging : List ℕ → Bool
-is_paging write = nat_le 2 (length write) && (slice_index write 1 == command.page
-    || (slice_index write 1 == command.page_plus_write || slice_index write 1 == command.page_plus_read))
+-- what a packet may change that touches so; `page` is the one that plain packets reach, if that is sure
+abbrev pub change_of : Bool → Option ℕ → Touch → ModeChange
+change_of is_clear page (WritesMode named) = page_change is_clear (option_or named page)
+change_of is_clear page Restores = OfAll
+change_of is_clear page WritesPage = OfNone
+change_of is_clear page AsksPage = OfNone
+change_of is_clear page Nothing = OfNone
 
 -- ---- what a line says
 

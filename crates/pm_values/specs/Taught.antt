@@ -2,7 +2,7 @@
 -- VOUT_MODE for each output, until the mode may have changed; for each address, each code that has a voltage and each side the last
 -- good answer to COEFFICIENTS; and the addresses that answered a read of VOUT_MODE with ULINEAR16, since the readings of such a part
 -- are LINEAR11. That these decide is this project's own choice.
-use Rattle.std.specs.Prelude.{ℕ, ◌/◌, Bool, true, ◌&&◌, ◌||◌, ◌==◌, nat_eq, nat_lt, if◌then◌else◌, List, [], ◌∷◌, slice_index, option_map, Option, Some, None, Result, Ok, Err}
+use Rattle.std.specs.Prelude.{ℕ, ◌/◌, Bool, true, not, is_some, ◌&&◌, ◌||◌, ◌==◌, nat_eq, nat_lt, if◌then◌else◌, List, [], ◌∷◌, slice_index, option_map, Option, Some, None, Result, Ok, Err}
 use Rattle.std.specs.Map.{lookup}
 use Rattle.std.specs.Option.{option_or}
 use Rattle.std.specs.Result.{result_ok}
@@ -20,7 +20,7 @@ use Rattle.pm_table.specs.declared.vout_mode.VoutMode.TheVariants.{Linear, Direc
 use Rattle.pm_frame.specs.declared.message.Message.{Message}
 use Rattle.pm_frame.specs.declared.message.Message.TheVariants.{SendByte, WriteByte, WriteWord, PagePlusWrite, ReadCommand, PagePlusRead, ReadCoefficients}
 use Rattle.pm_trace.specs.Trace.{Judged, Accepted, Faulty, BadSyntax, BadHex}
-use Rattle.pm_values.specs.Modes.{Modes, key_of, is_paging, modes_changed, modes_lost, no_modes, output_said, page_mode, paged, plain_said}
+use Rattle.pm_values.specs.Modes.{Modes, key_of, modes_changed, modes_lost, no_modes, output_said, page_mode, paged, plain_said}
 use Rattle.pm_values.specs.declared.formats.GivenFormats.{GivenFormats}
 use Rattle.pm_values.specs.declared.formats.GivenFormat.{GivenFormat}
 use Rattle.pm_values.specs.declared.lessons.Asked.{Asked}
@@ -99,17 +99,13 @@ changed_by line addr change taught = record taught { modes = modes_changed line 
 abbrev pub taught_lost : ℕ → Taught → Taught
 taught_lost line taught = record taught { modes = modes_lost line taught.modes }
 
--- a packet of PAGE or PAGE_PLUS at an address: its plain modes say nothing any more
+-- an address has pages: its plain modes say nothing any more
 abbrev pub paged_at : ℕ → Taught → Taught
 paged_at addr taught = record taught { modes = paged addr taught.modes }
 
 abbrev pub paged_if : Bool → Option ℕ → Taught → Taught
 paged_if is None taught = taught
 paged_if is (Some addr) taught = if is then paged_at addr taught else taught
-
--- what is known after a packet at an address, if it has one, by its write part
-abbrev pub paged_by : Option ℕ → List ℕ → Taught → Taught
-paged_by addr write taught = paged_if (is_paging write) addr taught
 
 -- ---- the format of a voltage
 
@@ -188,11 +184,16 @@ abbrev pub reading_shape : List (Option GivenFormat) → Taught → ℕ → ℕ 
 reading_shape readings taught addr code =
     option_or (format_given readings addr code) (linear_if (lookup (nat_eq addr) taught.linear))
 
--- ---- the format of a word
-
 -- the codes whose words are readings, each in a format of its own
 abbrev pub is_reading : ℕ → Bool
 is_reading code = code == command.read_vin || (code == command.read_iout || code == command.read_temperature_1)
+
+-- the format of a reading is only assumed: neither the capture nor an option gave it
+abbrev pub is_assumed : GivenFormats → Taught → ℕ → ℕ → Bool
+is_assumed given taught addr code = is_reading code
+    && (not (is_some (format_given given.readings addr code)) && is_some (lookup (nat_eq addr) taught.linear))
+
+-- ---- the format of a word
 
 abbrev pub packet_shape : GivenFormats → Taught → Asked → Option Shape
 packet_shape given taught asked =

@@ -8,7 +8,7 @@ ghost use Rattle.pm_values.specs.Modes.{key_of as spec_key_of};
 
 use crate::formats::{GivenFormats, direct_only, format_given};
 use crate::meaning::{GoodPacket, exponent_in};
-use crate::mode_changes::{ModeChange, is_paging};
+use crate::mode_changes::ModeChange;
 use crate::modes::{Modes, key_of};
 use indexmap::IndexMap;
 use pm_frame::Message;
@@ -55,7 +55,7 @@ impl Lessons {
     ghost use Rattle.std.specs.Map.{lookup};
     ghost use Rattle.pm_table.specs.VoutMode.{IsMode};
     ghost use Rattle.pm_trace.specs.ShownLines.{judged_in};
-    ghost use Rattle.pm_values.specs.Taught.{answer_taught, changed_by, coefficients_known, coefficients_taught, linear_taught, mode_taught, packet_shape, paged_at, paged_by, reading_shape, shape_known, shape_of_byte, side_taught, taught_by, taught_lost, untaught, voltage_shape};
+    ghost use Rattle.pm_values.specs.Taught.{answer_taught, changed_by, coefficients_known, coefficients_taught, is_assumed, linear_taught, mode_taught, packet_shape, paged_if, reading_shape, shape_known, shape_of_byte, side_taught, taught_by, taught_lost, untaught, voltage_shape};
 
     /// Nothing yet. Takes no memory.
     pub fn new(alloc: Global) -> Lessons
@@ -89,22 +89,14 @@ impl Lessons {
         self.modes.lose(line);
     }
 
-    /// Learns that an address has pages, when a packet of PAGE or PAGE_PLUS comes: its plain modes say nothing any more.
-    /// Takes memory for an address that is new.
-    pub fn see_pages(&mut self, addr: Option<u8>, write: &[u8]) -> Result<(), AllocError>
-        ensures { OnOk result (self.new ≡ paged_by addr write.now self.old) }
+    /// Learns that an address has pages, if it has: its plain modes say nothing any more. Takes memory for an address that is new.
+    pub fn see_pages(&mut self, addr: Option<u8>, has_pages: bool) -> Result<(), AllocError>
+        ensures { OnOk result (self.new ≡ paged_if has_pages addr self.old) }
     {
         match addr {
-            Some(addr) if is_paging(write) => self.see_page(addr),
+            Some(addr) if has_pages => self.modes.page(addr),
             _ => Ok(()),
         }
-    }
-
-    /// Learns that an address has pages. Takes memory for an address that is new.
-    pub fn see_page(&mut self, addr: u8) -> Result<(), AllocError>
-        ensures { OnOk result (self.new ≡ paged_at addr self.old) }
-    {
-        self.modes.page(addr)
     }
 
     /// Learns what the packet of a line says: a good answer to a read of VOUT_MODE, or to COEFFICIENTS of a code that has a
@@ -244,6 +236,15 @@ impl Lessons {
             return self.reading_format(given, asked.addr, asked.code);
         }
         None
+    }
+
+    /// Whether the format of a word is only assumed: it is a reading's, which neither the capture nor an option gave.
+    pub fn is_assumed(&self, given: &GivenFormats, addr: u8, code: u8) -> bool
+        ensures { result ≡ is_assumed given.now self.now addr code }
+    {
+        is_reading(code)
+            && format_given(&given.readings, addr, code).is_none()
+            && self.linear.get(&addr).is_some()
     }
 
     // The format of a voltage: that of the mode which was taught, otherwise the one that is given.

@@ -32,7 +32,7 @@ pub use formats::{GivenFormat, GivenFormats};
 pub use laws::microvolts_are_the_floor;
 pub use lessons::Lessons;
 pub use meaning::{GoodPacket, other_value, packet_value};
-pub use mode_changes::{ModeChange, is_paging, is_restore, mode_change};
+pub use mode_changes::{ModeChange, mode_change};
 pub use modes::key_of;
 pub use names::{NameMarks, push_names};
 pub use status::{Row, Status};

@@ -117,7 +117,7 @@ class RailHeardImage(c.Structure):
 
 
 class SequenceWishImage(c.Structure):
-    _fields_ = [("kind", c.c_uint16), ("word", c.c_uint16), ("unused", c.c_uint32), ("microvolts", c.c_int64)]
+    _fields_ = [("kind", c.c_uint16), ("word", c.c_uint16), ("microvolts", c.c_int32)]
 
 
 class SequenceStepImage(c.Structure):
@@ -128,7 +128,7 @@ class SequenceStepImage(c.Structure):
 
 
 class SequenceRecordImage(c.Structure):
-    _fields_ = [("back", SequenceStepImage), ("mark", c.c_uint16), ("version", c.c_uint16), ("look", RailHeardImage), ("unused", c.c_uint8 * 6)]
+    _fields_ = [("back", SequenceStepImage), ("mark", c.c_uint16), ("version", c.c_uint16), ("look", RailHeardImage), ("unused", c.c_uint8 * 2)]
 
 
 class JudgementImage(c.Structure):
@@ -142,6 +142,7 @@ class SaidImage(c.Structure):
 
 
 class SequenceImage(c.Structure):
+    # `look` stands in what the header calls `held`.
     _fields_ = [("mark", c.c_uint16), ("version", c.c_uint16), ("left", c.c_uint16), ("leaves", c.c_uint8), ("asks", c.c_uint8), ("said", SaidImage),
                 ("tries", c.c_uint16), ("begun", c.c_uint16), ("host", c.c_uint8), ("keeps_back", c.c_uint8), ("ends_at_restart", c.c_uint8),
                 ("unused", c.c_uint8), ("held", c.c_uint64 * 30), ("look", RailHeardImage), ("more", c.c_uint8 * 34)]

@@ -19,7 +19,7 @@ from .packets import read_write
 from .states import Bus, Sending, Step
 from .transfers import Transfers
 from .values import CODES, LOOKED_AT, NAMES, code_of, frame_bytes, whole
-from .voltages import GivenVoltage, given_microvolts
+from .voltages import MOST_WISH, GivenVoltage, given_microvolts
 
 REFERENCE = ctypes.byref
 ENDED, AGAIN, NO_WAY_BACK, WAIT, ASKED, TOLD = 0x95, 0x96, 0x97, 0x98, 0x99, 0x9A
@@ -164,7 +164,7 @@ class SequenceStep:
             if isinstance(wanted, int):
                 wish.kind, wish.word = WORD, whole(wanted, 0, 0xFFFF, f"step {name}")
             else:
-                wish.kind, wish.microvolts = MICROVOLTS, given_microvolts(wanted)
+                wish.kind, wish.microvolts = MICROVOLTS, whole(given_microvolts(wanted), -MOST_WISH - 1, MOST_WISH, f"step {name}", "microvolts")
         found.looks = LOOK_NOT if self.looks is None else LOOK_MUST if self.must else LOOK
         found.fault_limits, found.tells_power_good = FAULT_LIMITS[looks.fault_limits], looks.power_good == "tell"
         found.within, found.rounds, found.wait = looks.within, looks.rounds, whole(self.wait, 0, 0xFFFF_FFFF, "wait", "milliseconds")

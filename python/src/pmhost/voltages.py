@@ -9,6 +9,8 @@ WITH_UNIT = re.compile(r"(-?[0-9]+)(?:\.([0-9]+))? ?(V|mV|uV)\Z")
 BARE = re.compile(r"-?[0-9]+(?:[.,][0-9]+)?\Z")
 MICRO = {"V": 1_000_000, "mV": 1_000, "uV": 1}
 MOST, MOST_LIMIT = 10**15, 10**9
+# The most that a step of a list may want: a wish has 32 bits.
+MOST_WISH = 2**31 - 1
 # How long the text of a voltage may be.
 LONGEST = 28
 

@@ -2,11 +2,11 @@
 import re
 
 from . import trace
-from .following import Pages, is_good_page
+from .following import Pages, is_clear_page, is_to_all, remark_of, shows_pages, touched
 from .lines import MOST_BYTES, TextFault, decimal, is_skipped, lines_of
 from .numbers import coefficients_fault
 from .packets import VOUT_CODES, name_of
-from .telling import ANSWER, DOUBTFUL, Answers, fields_of, is_closed, object_text, of_all, text_of
+from .telling import ANSWER, NOBODY, Answers, fields_of, is_closed, marks_fields, object_text, of_all, text_of
 from .trace import judged, parts_of
 from .values import READINGS, Formats, value_fields, words_of_value
 
@@ -111,13 +111,14 @@ class Telling:
         self.answers = Answers()
         self.pages = Pages(1000 * options.get("--gap", GAP)) if "--pages" in options else None
         self.said, self.counts, self.codes = [], {}, {}
-        self.faults = self.bad = self.others = self.others_faulty = 0  # the last: faults that a PEC wouldn't mend
-        self.beyond = None  # the first line that orders a voltage beyond 1000 V by --vout
+        self.faults = self.bad = self.others = self.refusals = self.others_faulty = 0  # the last: faults that a PEC wouldn't mend
+        self.refused = None  # the byte of the next packet that wasn't acknowledged, and whether it is the answer's
+        self.beyond = self.paging = None  # the first line that orders a voltage beyond 1000 V by --vout, and that writes PAGE
 
     def line(self, number, line):
         if is_skipped(line):
-            if self.pages and line.startswith(b"#"):
-                self.formats.note(self.pages.comment(number, line))
+            if line.startswith(b"#") and {*self.options} & {*SWITCHES} - {"--long"}:
+                self.comment(number, *(remark_of(line) or (None, None)))
             return
         time = None
         if "--times" in self.options:
@@ -132,23 +133,63 @@ class Telling:
         else:
             self.packet(number, time, *parts)
 
+    def comment(self, number, kind, what):
+        if kind == "refused":
+            self.refused = self.refused or what
+        elif kind == "lost":
+            self.lose()
+        elif kind == "shown":
+            frame, is_read, is_failed = what
+            is_lost = self.answers.is_lost(frame, is_failed and is_read)
+            kind, page = touched(frame, is_read)
+            self.formats.forget(frame[0] >> 1, kind, page, False, is_lost)
+            if shows_pages(frame, False):
+                self.formats.has_pages(frame[0] >> 1)
+            if self.pages:
+                self.pages.place(frame[0] >> 1).touch(number, kind, is_lost)
+
+    def lose(self):
+        """Something was lost, nobody knows of which address."""
+        self.formats.lose(None)
+        if self.pages:
+            self.pages.lose()
+
     def packet(self, number, time, frame, read):
-        packet, wrong = judged(frame, read), None
+        packet, wrong, taken = judged(frame, read), None, ANSWER
         if "--all" in self.options:
-            packet = of_all(packet, frame, read, self.answers.taken(frame, read))
-            self.answers.hear(packet, frame, read)
+            taken = ANSWER if self.refused or packet["kind"] != "fault" else self.answers.taken(frame, read)
+            packet = of_all(packet, frame, read, taken)
+        is_empty = read is not None and len(read) < 2
+        packet = {**packet, "refused": self.refused, "is_forbidden": False, "phase": None,
+                  "is_received": taken == ANSWER and not self.refused and not is_empty,
+                  "is_lost": self.answers.is_lost(frame, taken == NOBODY or is_empty)}
+        self.refused = None
         if self.pages:
             self.pages.come(packet, time)
             wrong = self.pages.contradiction(number, packet)
-            packet = self.pages.followed(packet)
+            packet = {**self.pages.followed(packet), "is_forbidden": self.pages.forbids(packet), "phase": self.pages.phase(packet)}
         self.count(packet, (frame, read))
         self.say(number, time, packet, (frame, read), wrong)
         if self.beyond is None and self.is_beyond(packet):
             self.beyond = number
-        is_turned = wrong is not None and is_good_page(packet)
-        is_clear = packet["kind"] != "fault" or len(frame) > 1 and is_closed(frame, read)
-        self.formats.forget(packet, frame, is_clear, self.pages.sure_page(packet) if self.pages else None, is_turned)
-        if packet.get("taken") != DOUBTFUL and not wrong:
+        if self.paging is None and packet["kind"] == "write" and packet["code"] == 0x00 and not self.pages and "--values" in self.options:
+            self.paging = number
+        self.teach(number, packet, frame, read, wrong)
+        if {"--all", "--pages"} & {*self.options}:
+            self.answers.hear(packet, frame, read, bool(self.pages))
+        if is_to_all(frame, read is not None):
+            self.lose()
+
+    def teach(self, number, packet, frame, read, wrong):
+        """What a packet teaches of formats and pages."""
+        is_clear = not packet["refused"] and (packet["kind"] != "fault" or len(frame) > 1 and is_closed(frame, read))
+        kind, page = touched(frame, read is not None)
+        sure = self.pages.sure_page(packet) if self.pages else None
+        is_restart = bool(self.pages) and (packet["is_lost"] and kind is None or wrong is not None and is_clear_page(packet))
+        self.formats.forget(packet["address"], kind, sure if page is None else page, is_clear, is_restart)
+        if packet["address"] is not None and shows_pages(frame, read is not None and packet["is_received"]):
+            self.formats.has_pages(packet["address"])
+        if packet["is_received"] and not wrong:
             self.formats.learn(packet)
         if self.pages:
             self.pages.learn(number, packet, frame, read)
@@ -157,7 +198,7 @@ class Telling:
         value, has_values = self.value(packet), "--values" in self.options
         if "--json" in self.options:
             told = fields_of(packet, *parts, has_values, value)
-            self.said.append(object_text({"line": number, "time": time, **told, "wrong": wrong}))
+            self.said.append(object_text({"line": number, "time": time, **told, **marks_fields(packet, parts[0]), "wrong": wrong}))
             return
         where = f"{number}" if time is None else f"{number} {time} us"
         mark = f" WRONG PAGE? lines {wrong[0]} and {wrong[1]}" if wrong else ""
@@ -165,15 +206,17 @@ class Telling:
 
     def bad_line(self, number, words):
         self.bad += 1
-        if self.pages:
-            self.pages.lose()
-            self.formats.lose(None)
+        self.refused = None
+        self.lose()
         self.said.append(object_text({"line": number, "fault": words}) if "--json" in self.options else f"{number} {words}")
 
     def count(self, packet, parts):
         if packet["kind"] == "fault":
-            self.faults += 1
             self.others_faulty += of_all(packet, *parts, ANSWER)["kind"] in ("fault", "other")
+        if packet["refused"]:
+            self.refusals += 1
+        elif packet["kind"] == "fault":
+            self.faults += 1
         elif packet["kind"] == "other":
             self.others += 1
             self.codes[packet["code"]] = self.codes.get(packet["code"], 0) + 1
@@ -183,32 +226,39 @@ class Telling:
     def value(self, packet):
         if "--values" not in self.options or packet["kind"] not in ("read", "write", "other"):
             return {}
-        return value_fields(packet, None if packet["kind"] == "other" else self.formats.of(packet))
+        if packet["refused"] or packet.get("taken") == NOBODY:
+            return {}
+        if packet["kind"] == "other":
+            return value_fields(packet, None)
+        is_assumed = self.formats.is_assumed(packet["address"], packet["code"])
+        return {**value_fields(packet, self.formats.of(packet)), **({"assumed": True} if is_assumed else {})}
 
     def is_beyond(self, packet):
         """Whether a packet orders a voltage beyond 1000 V, and only --vout gives it one."""
         return (packet["kind"] == "write" and packet["code"] in VOUT_CODES and not self.formats.of_the_trace(packet)
-                and abs(self.value(packet).get("volts", 0)) > 1000 * 10**6)
+                and abs(self.value({**packet, "refused": None}).get("volts", 0)) > 1000 * 10**6)
 
     def hint(self):
         """What may be wrong, or None."""
         if self.beyond is not None:
             return f"line {self.beyond} orders a voltage beyond 1000 V by --vout: a minus may be missing"
+        paging = f"line {self.paging} writes PAGE: --pages shows which output each packet reaches" if self.paging is not None else None
         if self.counts or self.codes:
-            return None
+            return paging
         if self.bad and "--times" not in self.options:
             return "no line is a good packet: where lines begin with times, give --times"
         if self.bad and not self.faults:
             return "no line is a time and a packet: give --times to both ends, or to none"
         if "--all" not in self.options and self.faults and not self.others_faulty:
             return "no line is a good packet: where packets have no PEC, give --all"
-        return None
+        return paging
 
     def ends(self):
         """The lines of the counts."""
         has_all, accepted, lines = "--all" in self.options, sum(self.counts.values()), len(self.said)
         other = {"other": self.others} if has_all else {}
-        last = {"lines": lines, "accepted": accepted, **other, "faults": self.faults, "bad": self.bad}
+        last = {"lines": lines, "accepted": accepted, **other, "faults": self.faults,
+                **({"refused": self.refusals} if self.refusals else {}), "bad": self.bad}
         codes = sorted(self.codes.items())
         if "--json" in self.options:
             counts = [{"count": name_of(code), "lines": count} for code, count in self.counts.items()]

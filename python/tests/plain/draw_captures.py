@@ -29,7 +29,7 @@ NO_GAPS = ["", "x", "-1", "+1", "1000001", "00000001", "1.5"]
 SWITCHES = ["--all", "--long", "--times", "--json", "--pages"]
 COMMENTS = [b"#", b"# no stop: B0 05 04", b"# another device: A0 00 01", b"# another device", b"# another devic", b"#another device",
             b"# no device acknowledged the address: B1", b"# no device acknowledged the addres",
-            b"# byte 2 wasn't acknowledged", b"# byte", b"#  byte 0", b"# byte 0 of the answer wasn't acknowledged",
+            b"# byte 2 wasn't acknowledged", b"# byte", b"#  byte 0", b"# byte 3 wasn't acknowledged", b"# byte  wasn't acknowledged", b"# byte 10000 wasn't acknowledged", b"# byte 2 was", b"# byte 0 of the answer wasn't acknowledged",
             b"# failed (-5): B0 00 / B1", b" # x", b"# failed (-121): B0 00 01 ED", b"# failed (1 of 2): B1 00", b"# failed (-6): B0",
             b"# failed (-6): B0 21 00 30 20", b"# failed (-6): B", b"# failed (-6)", b"# failed", b"# a read alone: 19 B0",
             b"# a read alone: b1 00", b"# no stop: 10 05 04", b"# no stop: EE", b"# no stop", b"# 3 parts: B0 00 / B1 / B1",
@@ -220,7 +220,7 @@ def named_line(dice):
 def unknown_line(dice):
     """A packet of another code, or of a code of the table in another length, with PEC or without."""
     address = dice.choice([0x58, 0x58, 0x08, 0x77, 0x10])
-    code = dice.choice([0x96, 0xD4, 0xFF, 0x02, 0x86, 0x96, dice.choice([*TABLE])])
+    code = dice.choice([0x96, 0xD4, 0xFF, 0x02, 0x86, 0x96, 0x04, 0x04, dice.choice([*TABLE])])
     frame = [2 * address, code, *[dice.randrange(256) for _ in range(dice.choice([0, 0, 1, 2, 3, 5, 33, 200, 297]))]]
     if dice.random() < 0.5:
         if dice.random() < 0.5:

@@ -15,10 +15,11 @@ ANSWERED = {ANSWER: {}, DOUBTFUL: {"answered": None}, NOBODY: {"answered": False
 
 
 class Answers:
-    """The addresses that sent a right PEC, and the bytes that were written last to each code of each address."""
+    """The addresses that sent a right PEC, the bytes that were written last to each code of each address, and the codes that each
+    address answered, or took."""
 
     def __init__(self):
-        self.checked, self.written = set(), {}
+        self.checked, self.written, self.answered = set(), {}, set()
 
     def taken(self, frame, read):
         """What the answer of a packet is taken for, where it is one of ones."""
@@ -27,15 +28,23 @@ class Answers:
         written = self.written.get((frame[0] >> 1, frame[1]), [])
         if written[:len(read) - 1] == read[1:] and len(written) - len(read) in (-1, 0):
             return ANSWER
-        return NOBODY if frame[0] >> 1 in self.checked else DOUBTFUL
+        lacks_pec = judged(frame, [*read, pec([*frame, *read])])["kind"] != "fault"
+        return NOBODY if frame[0] >> 1 in self.checked and not lacks_pec else DOUBTFUL
 
-    def hear(self, packet, frame, read):
-        """A packet as it is told."""
-        if packet["kind"] == "fault":
+    def is_lost(self, frame, is_unanswered):
+        """Whether nobody answered a code that its address answered before, or took."""
+        return is_unanswered and len(frame) > 1 and (frame[0] >> 1, frame[1]) in self.answered
+
+    def hear(self, packet, frame, read, has_pages):
+        """A packet as it is told; which codes are answered counts where PAGE is followed."""
+        if packet["kind"] == "fault" or not packet["is_received"]:
             return
+        if has_pages:
+            self.answered.add((frame[0] >> 1, frame[1]))
         if read is None:
-            self.written[frame[0] >> 1, frame[1]] = frame[2:]
-        elif packet.get("pec", True):
+            code, data = (frame[4], frame[5:]) if frame[1] == 0x05 and len(frame) > 4 else (frame[1], frame[2:])
+            self.written[frame[0] >> 1, code] = data
+        elif packet["kind"] != "other" and packet.get("pec", True):
             self.checked.add(frame[0] >> 1)
 
 
@@ -90,7 +99,7 @@ def otherwise(address, frame, read, taken):
     shown = last[before:-1] if is_closed(frame, read) else last[before:]
     written, got = (shown, None) if read is None else (frame[2:], shown)
     return {"kind": "other", "address": address, "page": None, "code": frame[1], "written": written, "got": got,
-            "pec": is_closed(frame, read), "taken": taken, "is_lost": taken == NOBODY or read is not None and len(read) < 2}
+            "pec": is_closed(frame, read), "taken": taken}
 
 
 def carried(packet, frame, read):
@@ -110,7 +119,7 @@ def text_of(packet, frame, read, has_values, value):
     text = packet_words(packet) + value
     if packet["kind"] == "fault" and has_values and (frame or read is not None):
         text += " bytes " + whole_bytes(frame, read)
-    return text + (f", {packet['taken']}" if "pec" in packet else "")
+    return text + (f", {packet['taken']}" if "pec" in packet else "") + marks_text(packet)
 
 
 def fields_of(packet, frame, read, has_values, value):
@@ -147,7 +156,20 @@ def other_text(packet, value):
         words.append(("read " + spaced(got)).rstrip(" "))
     if not written and got is None:
         words.append("send")
-    return f"{' '.join(words)}{value}, {'PEC right' if packet['pec'] else packet['taken']}"
+    return f"{' '.join(words)}{value}, {'PEC right' if packet['pec'] else packet['taken']}{marks_text(packet)}"
+
+
+def marks_text(packet):
+    """How a packet was received."""
+    text = "" if packet["phase"] is None else f", phase {packet['phase']}"
+    if packet["refused"]:
+        text += ", byte {}{} not acknowledged".format(packet["refused"][0], " of the answer" * packet["refused"][1])
+    return text + ", WRITE_PROTECT forbids it" * packet["is_forbidden"]
+
+
+def marks_fields(packet, frame):
+    refused = packet["refused"] and packet["refused"][0] + len(frame) * packet["refused"][1]
+    return {"phase": packet["phase"], "refused_at": refused, "forbidden": packet["is_forbidden"] or None}
 
 
 def other_fields(packet, value):

@@ -23,12 +23,8 @@ UNITS = {"READ_VIN": "volts", "READ_IOUT": "amperes", "READ_TEMPERATURE_1": "cel
 LETTERS = {"volts": "V", "amperes": "A", "celsius": "C"}
 MODE, READINGS = CODES["VOUT_MODE"], tuple(map(CODES.get, UNITS))
 DIRECT = 0x40
-# RESTORE_DEFAULT_ALL, RESTORE_DEFAULT_CODE, RESTORE_USER_ALL, RESTORE_USER_CODE.
-RESTORES = (0x12, 0x14, 0x16, 0x18)
 # A mode that isn't known any more.
 OVER = "over"
-# PAGE, PAGE_PLUS_WRITE and PAGE_PLUS_READ.
-PAGING = (0x00, 0x05, 0x06)
 # What is never relative where VOUT_MODE is.
 NEVER_RELATIVE = ("VOUT_COMMAND", "VOUT_MAX", "VOUT_MIN", "READ_VOUT")
 
@@ -112,20 +108,10 @@ def words_of_value(fields):
         return " " + (", ".join(fields["flags"]) or "none")
     for measured, letter in LETTERS.items():
         if measured in fields:
-            return f" {fields[measured]} {letter}"
+            return f" {fields[measured]} {letter}" + "?" * fields.get("assumed", False)
     if "text" in fields:
         return f' "{fields["text"]}"'
     return f" {fields['value']}" if "value" in fields else ""
-
-
-def pages_changed(frame, page):
-    """The pages whose mode a packet may have changed, None for all, by its write part alone."""
-    code, data = frame[1:2], frame[2:]
-    if code == [CODES["PAGE_PLUS_WRITE"]]:
-        page, code, data = (data + [0, 0])[1], data[2:3], data[3:]
-    if code and code[0] in RESTORES:
-        return [None]
-    return [page] if code == [MODE] and data else []
 
 
 class Formats:
@@ -152,21 +138,16 @@ class Formats:
             if byte < 0x20:
                 self.linear.add(address)
 
-    def forget(self, packet, frame, is_clear, page, is_turned):
-        """What a packet may have changed: one that isn't clear names no output; `page` is that of plain packets, where it is sure;
-        `is_turned` is whether the packet reads another page than the one that was written last."""
-        address = packet["address"]
-        if address is None:
+    def forget(self, address, kind, page, is_clear, is_restart):
+        """What a packet of an address may have changed by its kind: the mode of a page only if it is clear. `is_restart` is whether the
+        part may have restarted, which changes modes that were written."""
+        if address is None or not (address in self.over if is_restart else kind in ("mode", "all")):
             return
-        changed = [None] * (address in self.over) if is_turned else pages_changed(frame, page)
-        self.over.update([address] * bool(changed))
-        for each in changed:
-            if each in (None, 0xFF) or not is_clear:
-                self.lose(address)
-            else:
-                self.modes[address, each] = OVER
-        if frame[1:2] and frame[1] in PAGING:
-            self.has_pages(address)
+        if is_restart or kind == "all" or not is_clear or page in (None, 0xFF):
+            self.lose(address)
+        else:
+            self.modes[address, page] = OVER
+        self.over.add(address)
 
     def lose(self, address):
         """All modes of an address may have changed; None ends all that was taught, of whatever address."""
@@ -175,13 +156,6 @@ class Formats:
             self.over.add(address)
         self.modes.update({of: OVER for of in self.modes if address in (None, of[0])})
         self.plain.update({of: OVER for of in self.plain if address in (None, of)})
-
-    def note(self, said):
-        """What a comment says: a kind and an address, or None."""
-        if said and said[0] == "page":
-            self.has_pages(said[1])
-        elif said:
-            self.lose(said[1])
 
     def has_pages(self, address):
         """A packet of PAGE or PAGE_PLUS was seen: plain modes say nothing any more."""
@@ -214,6 +188,10 @@ class Formats:
         if taught is None:
             return vout if vout and vout[0] == "direct" else None
         return None if coefficients_fault(taught[0], taught[2]) else format_of(mode, taught)
+
+    def is_assumed(self, address, code):
+        """Whether the format of a word is a reading's, which neither the capture nor an option gave."""
+        return code in READINGS and not given(self.readings, address, code) and address in self.linear
 
     def mode(self, address, page):
         """The mode that a packet of this page meets, OVER, or None where nothing was said of it."""

@@ -196,7 +196,7 @@ fn set(
     host: &mut Host,
     record: &mut SequenceRecord,
     rail: &mut Rail,
-    microvolts: i64,
+    microvolts: i32,
     looks: Looks,
 ) -> Result<Delivered, NotDelivered<NoAnswer>> {
     let step = SequenceStep::sets(0, 0, Wishes::microvolts(microvolts)).with_looks(Some(looks));

@@ -141,7 +141,7 @@ impl Boards {
     }
 }
 
-fn sets(host: usize, output: u8, microvolts: i64) -> SequenceStep {
+fn sets(host: usize, output: u8, microvolts: i32) -> SequenceStep {
     must(SequenceStep::sets(host, output, Wishes::microvolts(microvolts)))
 }
 
@@ -154,7 +154,7 @@ fn up() -> Sequence {
 }
 
 /// A set of output 0 beside a part: its end, what was told, and how many frames and writes there were.
-fn set(change: fn(&mut Board), microvolts: i64) -> (String, usize, usize, usize) {
+fn set(change: fn(&mut Board), microvolts: i32) -> (String, usize, usize, usize) {
     let mut boards = Boards::new();
     change(&mut boards.parts[0]);
     let mut records = [SequenceRecord::default()];

@@ -18,8 +18,8 @@ KNOWN, OTHER, FAULT = "known", "other", "fault"
 # What is wrong: NO_PEC is a packet of another code, length or direction, which need not have one, SHORT one that is too short.
 NO_PEC, SHORT, WRONG_PEC, ELSEWHERE = "no PEC", "too short", "wrong PEC", "another address answers"
 RIGHT, NOBODY, DOUBTFUL = "PEC right", "all ones: nobody answered", "all ones: nobody answered?"
-# RESTORE_DEFAULT_ALL, RESTORE_DEFAULT_CODE, RESTORE_USER_ALL and RESTORE_USER_CODE; a mode that isn't known any more.
-RESTORES, OVER = (0x12, 0x14, 0x16, 0x18), "over"
+# The addresses of a general call, and of a write to a zone.
+OF_ALL = (0x00, 0x37)
 # What is never relative where VOUT_MODE is.
 NEVER_RELATIVE = ("VOUT_COMMAND", "VOUT_MAX", "VOUT_MIN", "READ_VOUT")
 SPEEDS = ("100 kHz", "400 kHz", "1 MHz", "reserved speed")
@@ -109,16 +109,17 @@ def vouts_of(text):
 
 class Told:
     """A packet as it is told: its kind, its text, a short text, and how its PEC is: None where that isn't asked. `packet` is its address,
-    its code, its page and its payload, where it has them; `is_ones` that nobody answered, `is_good` that it surely is one of the table."""
+    its code, its page and its payload, where it has them; `is_good` that it surely is one of the table."""
 
-    def __init__(self, kind, text, short, pec=None, packet=(None, None, None, None), is_ones=False, is_good=True):
+    def __init__(self, kind, text, short, pec=None, packet=(None, None, None, None), is_good=True):
         self.kind, self.text, self.short, self.pec = kind, text, short, pec
         self.address, self.code, page, self.payload = packet
         self.is_read = False
         self.is_good = kind == KNOWN and is_good
-        # Whether it says nothing certain of its address any more, and whether it acts on an output and names none.
-        self.is_lost = kind == FAULT or is_ones
-        self.is_of_output = not self.is_lost and page is None
+        # Whether nobody answered a code that its address answered before, or took; whether somebody answered it, or took it.
+        self.is_lost = self.is_received = False
+        # Whether it acts on an output and names none.
+        self.is_of_output = kind != FAULT and page is None
 
 
 class Reader:
@@ -128,8 +129,10 @@ class Reader:
         self.modes, self.plain, self.coefficients = {}, {}, {}
         # The addresses that have pages, those of which all modes may have changed, and those that showed ULINEAR16.
         self.paged, self.changed, self.linear = set(), set(), set()
-        # The addresses that sent a right PEC, and what was written last to each code.
-        self.checked, self.written = set(), {}
+        # The addresses that sent a right PEC, what was written last to each code, and the codes that each address answered, or took.
+        self.checked, self.written, self.answered = set(), {}, set()
+        # The byte of this packet that wasn't acknowledged, and whether it is the answer's.
+        self.refused = None
         self.vout, self.readings = vouts_of(vout), readings_of(readings)
 
     def taken(self, write, read):
@@ -139,30 +142,52 @@ class Reader:
         written = self.written.get((write[0], write[1]), [])
         if written[:len(read) - 1] == read[1:] and len(written) - len(read) in (-1, 0):
             return NO_PEC
-        return NOBODY if write[0] in self.checked else DOUBTFUL
+        lacks_pec = fault_of(write, read + [pec(write + read)]) is None
+        return NOBODY if write[0] in self.checked and not lacks_pec else DOUBTFUL
 
     def hear(self, told, write, read):
-        """Keeps what decides of answers of ones."""
-        if told.kind != FAULT and read is None:
-            self.written[write[0], write[1]] = write[2:]
-        elif told.kind != FAULT and told.pec:
+        """Keeps what decides of answers of ones, and which codes are answered."""
+        if told.kind == FAULT or not told.is_received:
+            return
+        self.answered.add((write[0], write[1]))
+        if read is None:
+            code, data = (write[4], write[5:]) if write[1] == CARRIER and len(write) > 4 else (write[1], write[2:])
+            self.written[write[0], code] = data
+        elif told.kind == KNOWN and told.pec:
             self.checked.add(write[0])
 
-    def tell(self, write, read=None):
-        """A packet: the bytes of its write part, and of its read part."""
+    def tell(self, write, read=None, refused=None):
+        """A packet: the bytes of its write part, and of its read part; which byte wasn't acknowledged, and whether it is the answer's."""
+        self.refused = refused
         told = self.of(write, read)
         told.is_read = read is not None
+        if refused:
+            told.text += ", byte %d%s not acknowledged" % (refused[0], " of the answer" * refused[1])
         return told
 
     def of(self, write, read):
         if not write or write[0] & 1 or not 0x08 <= write[0] >> 1 <= 0x77:
+            self.lose_if_all(write, read)
             return Told(FAULT, "-- no address of a device", "?")
-        told = self.told(write, read)
+        taken = self.taken(write, read) if len(write) > 1 and fault_of(write, read) is not None and not self.refused else NO_PEC
+        is_empty = read is not None and len(read) < 2
+        is_lost = (taken == NOBODY or is_empty) and len(write) > 1 and (write[0], write[1]) in self.answered
+        is_received = taken == NO_PEC and not is_empty and not self.refused
+        told = self.told(write, read, taken, is_received)
+        told.is_lost, told.is_received = is_lost, is_received
+        told.is_of_output = told.is_of_output and not is_lost
         self.hear(told, write, read)
-        self.forget(write, told.kind != FAULT or len(write) > 1 and is_last_right(write, read))
+        is_clear = not self.refused and (told.kind != FAULT or len(write) > 1 and is_last_right(write, read))
+        self.forget(write, is_clear, read is not None and is_received)
+        self.lose_if_all(write, read)
         return told
 
-    def forget(self, write, is_clear):
+    def lose_if_all(self, write, read):
+        """A general call, or a write to a zone, may be of any part."""
+        if is_to_all(write, read is not None):
+            self.lose(None)
+
+    def forget(self, write, is_clear, is_answered):
         """What a packet may have changed: its modes, and whether its address has pages. One that isn't clear names no output."""
         address, code, data, page = write[0], write[1:2], write[2:], None
         if code == [CARRIER]:
@@ -172,7 +197,7 @@ class Reader:
                 self.modes[address, page] = OVER
             else:
                 self.lose(address)
-        if write[1:2] and write[1] in (CODES["PAGE"], CARRIER, REQUESTER):
+        if write[1:2] == [REQUESTER] and is_answered or write[1:2] in ([CODES["PAGE"]], [CARRIER]) and (is_answered or write[2:]):
             self.paged.add(address)
             self.plain.pop(address, None)
 
@@ -183,26 +208,24 @@ class Reader:
         self.modes.update({of: OVER for of in self.modes if address in (None, of[0])})
         self.plain.update({of: OVER for of in self.plain if address in (None, of)})
 
-    def no_packet(self, changed):
-        """What bytes that are no packet may have changed, by `changed_by` of pages.py: a kind and an address."""
-        if changed and changed[0] == "page":
-            self.paged.add(2 * changed[1])
-            self.plain.pop(2 * changed[1], None)
-        elif changed:
-            self.lose(None if changed[1] is None else 2 * changed[1])
+    def no_packet(self, parts, is_lost):
+        """What bytes may have changed that are no packet, or one of another device."""
+        if is_lost:
+            self.lose(None)
+        elif parts and parts[0] and not parts[0][0] & 1:
+            self.forget(parts[0], False, False)
 
-    def told(self, write, read):
-        """The same of a packet with an address."""
+    def told(self, write, read, taken, is_received):
+        """The same of a packet with an address, whose answer of ones is taken so."""
         where = "%02X " % (write[0] >> 1)
         fault = fault_of(write, read)
         if fault is None:
-            return self.known(where, write, read)
+            return self.known(where, write, read, is_received)
         if len(write) > 1 and is_answer(write, read):
-            taken = self.taken(write, read)
             if fault == SHORT and taken != NOBODY:
                 right = pec(write + (read or []))
                 if fault_of(write + [right], None) is None if read is None else fault_of(write, read + [right]) is None:
-                    return self.known(where, *([write + [right], None] if read is None else [write, read + [right]]), taken)
+                    return self.known(where, *([write + [right], None] if read is None else [write, read + [right]]), is_received, taken)
             if taken == NO_PEC and is_miscounted(write, read):
                 fault = WRONG_PEC
             elif taken != NO_PEC or fault in (NO_PEC, SHORT):
@@ -212,12 +235,13 @@ class Reader:
         code = write[1] if len(write) > 1 else None
         return Told(FAULT, where + fault, fault, False if fault == WRONG_PEC else None, (write[0] >> 1, code, None, None))
 
-    def known(self, where, write, read, taken=None):
+    def known(self, where, write, read, is_received, taken=None):
         """A packet of the table, with its PEC; `taken` is what is said of it if it has none on the bus."""
         code, page, ending, has_pec = write[1], None, ", " + taken if taken else "", not taken
         if code == ASKER:
             m, b, r = signed(number(read[2:4]), 16), signed(number(read[4:6]), 16), signed(read[6], 8)
-            self.coefficients[write[0], write[3], write[4]] = m, b, r
+            if is_received:
+                self.coefficients[write[0], write[3], write[4]] = m, b, r
             said = "m %d b %d r %d" % (m, b, r)
             return Told(KNOWN, "%s%s of %02X side %d read %s%s" % (where, NAMES[code], write[3], write[4], said, ending),
                         "%s %s" % (NAMES[code], said), has_pec or None, (write[0] >> 1, code, None, None))
@@ -229,8 +253,8 @@ class Reader:
         said = "send"
         if payload:
             said = ("write " if read is None else "read ") + "%0*X" % (2 * len(payload), number(payload))
-        value = self.value((write[0], page, code, int(read is not None)), payload)
-        if read is not None and code == MODE and taken != DOUBTFUL:
+        value = "" if self.refused else self.value((write[0], page, code, int(read is not None)), payload)
+        if read is not None and code == MODE and is_received:
             if page is not None:
                 self.modes[write[0], page] = payload[0]
             elif write[0] not in self.paged:
@@ -239,7 +263,7 @@ class Reader:
                 self.linear.add(write[0])
         text = "%s%s %s%s%s" % (where, NAMES[code], said, value and " " + value, ending)
         return Told(KNOWN, text, "%s %s" % (NAMES[code], value or said), has_pec or None, (write[0] >> 1, code, page, payload),
-                    is_good=taken != DOUBTFUL)
+                    is_good=is_received)
 
     def value(self, asked, payload):
         """What a payload says, of an address, a page or None, a code and a side: 0 for what is written, 1 for what is read."""
@@ -249,17 +273,19 @@ class Reader:
             return ", ".join(bits_of(FLAGS[code], word)) or "none"
         if code in UNITS or code in VOLTAGES:
             form = self.reading_form(address, code) if code in UNITS else self.form(*asked)
-            return "%s %s" % (decimal(*form(word)), UNITS.get(code, "V")) if form else ""
+            is_assumed = code in UNITS and not self.given_reading(address, code)
+            return "%s %s%s" % (decimal(*form(word)), UNITS.get(code, "V"), "?" * is_assumed) if form else ""
         if code == CAPABILITY:
             return capability_words(word)
         return next((said for first, last, said in WORDS.get(code, ()) if first <= word <= last), "")
 
     def reading_form(self, address, code):
         """The format of a reading: as the user gave it, or LINEAR11 where a mode of its address was ULINEAR16."""
-        for where, asked, _, form in self.readings:
-            if where in (None, address >> 1) and asked in (None, code):
-                return form
-        return format_of("linear11") if address in self.linear else None
+        return self.given_reading(address, code) or (format_of("linear11") if address in self.linear else None)
+
+    def given_reading(self, address, code):
+        """The format of a reading that the user gave, or None."""
+        return next((form for where, asked, _, form in self.readings if where in (None, address >> 1) and asked in (None, code)), None)
 
     def form(self, address, page, code, side):
         """The format of a voltage: by its output's mode, or where the trace has none as the user gave it."""
@@ -306,10 +332,10 @@ class Reader:
             words.append(("read " + spaced(got)).rstrip())
         elif not written:
             words.append("send")
-        value = value_of_bytes(code, written if got is None else got)
+        value = "" if self.refused or taken == NOBODY else value_of_bytes(code, written if got is None else got)
         said = " ".join(words) + (value and " " + value)
         return Told(OTHER, "%s%s, %s" % (where, said, RIGHT if is_right else taken), said, True if is_right else None,
-                    (write[0] >> 1, code, page, None), taken == NOBODY or got == [])
+                    (write[0] >> 1, code, page, None))
 
 
 def mode_words(byte):
@@ -352,6 +378,18 @@ def value_of_bytes(code, shown):
     if code == ON_OFF_CONFIG:
         return on_off_words(shown[0])
     return (", ".join(bits_of(FLAGS[code], shown[0])) or "none") if code in FLAGS else ""
+
+
+def is_to_all(write, is_read):
+    """A general call, or a write to a zone, of a packet that may change PAGE or VOUT_MODE of any part."""
+    if not write or write[0] >> 1 not in OF_ALL or len(write) < 2:
+        return False
+    code, data = write[1], write[2:]
+    if code == CARRIER:
+        code, data = (data + [0, 0, 0])[2], data[3:]
+    elif code == CODES["PAGE"]:
+        return not is_read or bool(data)
+    return code in RESTORES or code == MODE and bool(data)
 
 
 def is_last_right(write, read):

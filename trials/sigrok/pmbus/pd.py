@@ -4,7 +4,7 @@ import re
 import sigrokdecode as srd
 
 from .packets import FAULT, KNOWN, OTHER, Reader, labels, pec, readings_of, spaced, vouts_of
-from .pages import Pages, changed_by
+from .pages import Pages, is_of_several
 
 # Annotations by their places below.
 PACKET, OTHERS, FAULTY, NONE, BYTE, PEC_RIGHT, PEC_WRONG, WRONG_PAGE = range(8)
@@ -88,17 +88,17 @@ class Decoder(srd.Decoder):
         refusal = self.refusal(parts, ending)
         if is_elsewhere or refusal:
             self.pages.count += not is_elsewhere
-            changed = None if refusal == UNHEARD else changed_by(parts, is_elsewhere)
-            self.pages.no_packet(changed, parts)
-            self.reader.no_packet(changed)
+            if refusal != UNHEARD:
+                self.pages.no_packet(parts, is_of_several(parts))
+                self.reader.no_packet(parts, is_of_several(parts))
         if is_elsewhere:
             return
         if refusal:
             shown = " / ".join(spaced(part) for part in parts)
             self.put(self.first, last, self.out_ann, [NONE, ["%s: %s" % (refusal, shown), refusal]])
             return
-        told = self.reader.tell(*parts)
-        wrong = self.pages.packet(told, parts[0], self.is_acknowledged())
+        told = self.reader.tell(parts[0], parts[1] if len(parts) > 1 else None, self.refused())
+        wrong = self.pages.packet(told, parts[0])
         if wrong:
             self.put(self.first, last, self.out_ann, [WRONG_PAGE, ["WRONG PAGE? packets %d and %d" % wrong, "WRONG PAGE?"]])
         self.put(self.first, last, self.out_ann, [CLASSES[told.kind], [told.text, told.short]])
@@ -118,9 +118,14 @@ class Decoder(srd.Decoder):
             return ALONE
         return "the second part is no read of the device" if len(parts) == 2 and parts[1][0] != parts[0][0] + 1 else None
 
-    def is_acknowledged(self):
-        """Whether each byte of the packet was acknowledged, but for the last one that the host reads."""
-        return all(it[3] for at, part in enumerate(self.parts) for it in (part[:-1] if at else part))
+    def refused(self):
+        """The place of the first byte that wasn't acknowledged, and whether it is the answer's; None if each was, but for the last one
+        that the host reads."""
+        for at, part in enumerate(self.parts):
+            for place, it in enumerate(part):
+                if not it[3] and not (at and place and place == len(part) - 1):
+                    return place, bool(at)
+        return None
 
     def put_bytes(self, parts, is_right):
         """A word below each byte, and what the last one is as a PEC, where it stands for one."""

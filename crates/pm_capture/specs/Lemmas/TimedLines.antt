@@ -20,6 +20,7 @@ use Rattle.pm_trace.specs.Trace.{line_read}
 use Rattle.pm_trace.specs.Lemmas.OpenLines.{has_last, line_of-snoc, turned, without_return-snoc}
 use Rattle.pm_trace.specs.Lemmas.PlainLines.{part_of-snoc}
 use Rattle.pm_trace.specs.Lemmas.Said.{open_reads, skipped_kind}
+use Rattle.pm_capture.specs.Options.{notes_comments}
 use Rattle.pm_capture.specs.Readings.{Told, Noted, behind_word, first_word, from_first, is_comment, is_noted, is_passed, past_spaces, reading_of}
 use Rattle.pm_capture.specs.Readings.{remark_in, remark_of, said_of, time_in, timed}
 use Rattle.pm_capture.specs.TimedLines.{PassesTimed, begun_with, head_remark, head_takes, is_told, passes_timed, plain_takes, skips_timed, timed_of, timed_read}
@@ -685,10 +686,10 @@ marked times line = refl
 
 -- a line says nothing by what is kept of it
 pub timed_passes : (options : TellOptions) (line : List ℕ)
-    → passes_timed options.pages (timed_of options.times line) ≡ is_passed options.pages (without_return line)
+    → passes_timed (notes_comments options) (timed_of options.times line) ≡ is_passed (notes_comments options) (without_return line)
 timed_passes options line =
-    ap (λ c. not (options.pages && c) && skips_timed (timed_of options.times line)) (marked options.times line ∙ sym (mark_kept line))
-    ∙ ap (λ c. not (is_noted options.pages (without_return line)) && c) (timed_skips options.times line)
+    ap (λ c. not (notes_comments options && c) && skips_timed (timed_of options.times line)) (marked options.times line ∙ sym (mark_kept line))
+    ∙ ap (λ c. not (is_noted (notes_comments options) (without_return line)) && c) (timed_skips options.times line)
 
 -- ---- a comment
 
@@ -751,12 +752,12 @@ remark_kept line = ap remark_in (
     ])
 
 -- a line of which something is said is by what is kept of it what it is
-pub timed_says : (options : TellOptions) (line : List ℕ) → is_passed options.pages (without_return line) ≡ false
-    → timed_said options.pages (timed_of options.times line) ≡ said_of options (without_return line)
+pub timed_says : (options : TellOptions) (line : List ℕ) → is_passed (notes_comments options) (without_return line) ≡ false
+    → timed_said (notes_comments options) (timed_of options.times line) ≡ said_of options (without_return line)
 unfolding timed_of
 timed_says options line heard =
-    by options.pages (is_comment line) refl (timed_passes options line ∙ heard)
-    ∙ ap (λ c. cond (options.pages && c) (Noted (remark_of (without_return line)))
+    by (notes_comments options) (is_comment line) refl (timed_passes options line ∙ heard)
+    ∙ ap (λ c. cond (notes_comments options && c) (Noted (remark_of (without_return line)))
     (Told (reading_of options.times (without_return line)))) (sym (mark_kept line))
   where
     by : (pages c : Bool) → is_comment line ≡ c

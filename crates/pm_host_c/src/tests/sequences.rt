@@ -56,7 +56,7 @@ fn record() -> SequenceRecordImage {
     SequenceRecordImage {
         back: turns(0, 0, 0, 0),
         look: DeliveryImage::of(Delivery::new(7, 0, 0, 0, 0)),
-        unused: [0; 6],
+        unused: [0; 2],
     }
 }
 
@@ -81,8 +81,8 @@ fn next(
 fn sequences_have_their_sizes(rt: HostRuntime) {
     equal(&rt, &pm_sequence_size(), &376, &1);
     equal(&rt, &pm_sequence_version(), &1, &2);
-    equal(&rt, &size_of::<SequenceStepImage>(), &104, &3);
-    equal(&rt, &size_of::<SequenceRecordImage>(), &176, &4);
+    equal(&rt, &size_of::<SequenceStepImage>(), &64, &3);
+    equal(&rt, &size_of::<SequenceRecordImage>(), &132, &4);
     equal(&rt, &size_of::<SaidImage>(), &24, &5);
 }
 
@@ -247,4 +247,35 @@ fn a_reading_is_told_in_microvolts(rt: HostRuntime) {
         &(1, 1_500_000),
         &2,
     );
+}
+
+#[test]
+fn a_step_that_is_spent_is_named(rt: HostRuntime) {
+    let mut image = host(1);
+    let steps = [turns(0, 1, 0, 0), turns(0, 0, 0, 0)];
+    let mut sequence = begun(1, 0);
+    let sent = next(&mut sequence, &mut image, &steps, &mut []);
+    equal(&rt, &sent, &(0, 1, 0), &1);
+    let step = pm_sequence_write_ended(&mut sequence, &mut image, 1);
+    equal(&rt, &(step.kind, step.word), &(0, 0), &2);
+    let sent = next(&mut sequence, &mut image, &steps, &mut []);
+    equal(&rt, &sent, &(0, 2, 0), &3);
+    let step = pm_sequence_read_ended(&mut sequence, &mut image, &[]);
+    equal(&rt, &(step.kind, step.word), &(3, 0), &4);
+    let sent = next(&mut sequence, &mut image, &steps, &mut []);
+    equal(&rt, &sent, &(0x95, 0, 0), &5);
+    let said = sequence.said;
+    equal(&rt, &(said.kind, said.code, said.step), &(4, 0x01, 0), &6);
+    equal(&rt, &sequence.list.begun, &1, &7);
+}
+
+#[test]
+fn a_list_that_keeps_a_way_back_reads_before_it_turns(rt: HostRuntime) {
+    let mut image = host(1);
+    let steps = [turns(0, 1, 0, 0)];
+    let mut records = [record()];
+    let mut sequence = begun(4, 1);
+    let sent = next(&mut sequence, &mut image, &steps, &mut records);
+    equal(&rt, &sent, &(0, 2, 0), &1);
+    equal(&rt, &sequence.list.begun, &0, &2);
 }

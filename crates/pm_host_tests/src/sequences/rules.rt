@@ -78,7 +78,7 @@ fn another_order_than_the_one_told_is_told_first(rt: HostRuntime) {
                 (Some(step), None)
             };
             sequence.told = *told;
-            said = sequence.next(&guard, under, ahead);
+            said = sequence.next(&guard, &under, &ahead);
         }
         equal(&rt, &(said, sequence.told), &(*act, *then), name);
     }
@@ -139,7 +139,7 @@ fn a_restart_ends_a_list_that_leaves_steps(rt: HostRuntime) {
     let step = sets(0, 0, 1_200_000, MUST);
     equal(
         &rt,
-        &sequence.next(&guard(&rt), None, Some(step)),
+        &sequence.next(&guard(&rt), &None, &Some(step)),
         &Act::Ended(End::Stopped(restarted)),
         &"an answer showed a restart",
     );

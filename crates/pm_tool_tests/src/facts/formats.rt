@@ -41,6 +41,7 @@ count PAGE 1
 count CLEAR_FAULTS 1
 count STATUS_BYTE 1
 lines 24 accepted 22 faults 2 bad 0
+? line 13 writes PAGE: --pages shows which output each packet reaches
 ",
     ),
     (

@@ -183,26 +183,26 @@ B0 D4 / B1 FF FE -> 58 code D4 read FF FE, no PEC
 B0 D4 / B1 -> 58 code D4 read, no PEC
 B0 D4 FF FF -> 58 code D4 write FF FF, no PEC
 B0 8B / B1 FF FF DF -> 58 READ_VOUT read FFFF
-B0 8B / B1 FF FF -> 58 code 8B READ_VOUT read FF FF, all ones: nobody answered
+B0 8B / B1 FF FF -> 58 READ_VOUT read FFFF, all ones: nobody answered?
 B0 24 FF FF -> 58 VOUT_MAX write FFFF, no PEC
 B0 24 / B1 FF FF -> 58 VOUT_MAX read FFFF, no PEC
 B0 24 / B1 FF -> 58 code 24 VOUT_MAX read FF, no PEC
 B0 24 FF FE -> 58 VOUT_MAX write FEFF, no PEC
-B0 24 / B1 FF FF -> 58 code 24 VOUT_MAX read FF FF, all ones: nobody answered
+B0 24 / B1 FF FF -> 58 VOUT_MAX read FFFF, all ones: nobody answered?
 count VOUT_COMMAND 3
 count CLEAR_FAULTS 2
 count OPERATION 1
 count READ_VIN 1
 count STATUS_BYTE 1
 count COEFFICIENTS 1
-count READ_VOUT 2
+count READ_VOUT 3
 count STATUS_VOUT 1
-count VOUT_MAX 3
+count VOUT_MAX 4
 count code 06 1
-count code 24 2
-count code 8B 2
+count code 24 1
+count code 8B 1
 count code D4 4
-lines 24 accepted 15 other 9 faults 0 bad 0
+lines 24 accepted 17 other 7 faults 0 bad 0
 ",
     ),
     (
@@ -211,15 +211,15 @@ lines 24 accepted 15 other 9 faults 0 bad 0
         "
 B0 88 / B1 00 D3 -> 58 READ_VIN read D300, no PEC
 B0 20 / B1 17 -> 58 VOUT_MODE read 17 ULINEAR16 -9, no PEC
-B0 88 / B1 00 D3 -> 58 READ_VIN read D300 12 V, no PEC
-B0 8C / B1 FB FF -> 58 READ_IOUT read FFFB -2.5 A, no PEC
+B0 88 / B1 00 D3 -> 58 READ_VIN read D300 12 V?, no PEC
+B0 8C / B1 FB FF -> 58 READ_IOUT read FFFB -2.5 A?, no PEC
 B2 88 / B3 00 D3 -> 59 READ_VIN read D300, no PEC
 B0 79 / B1 02 20 -> 58 STATUS_WORD read 2002 INPUT, CML, no PEC
 B0 06 02 01 20 / B1 01 14 -> 58 page 1 VOUT_MODE read 14 ULINEAR16 -12, no PEC
 B0 06 02 01 8B / B1 02 CD 34 -> 58 page 1 READ_VOUT read 34CD 3.300048 V, no PEC
 B0 8B / B1 CD 34 -> 58 READ_VOUT read 34CD, no PEC
 B0 79 00 08 -> 58 code 79 STATUS_WORD write 00 08, no PEC
-B0 88 / B1 FF FF -> 58 READ_VIN read FFFF -0.5 V, all ones: nobody answered?
+B0 88 / B1 FF FF -> 58 READ_VIN read FFFF -0.5 V?, all ones: nobody answered?
 B0 03 47 -> 58 write F5 WrongPec 2 bytes B0 03 47
 count READ_VIN 4
 count VOUT_MODE 2
@@ -338,9 +338,9 @@ B0 96 / B1 34 12 -> {"line":10,"address":"58","code":"96","direction":"write","f
         r#"
 B0 06 02 00 20 / B1 01 14 4E -> {"line":1,"address":"58","page":0,"code":"20","name":"VOUT_MODE","direction":"read","payload":"14","value":"ULINEAR16 -12"}
 B0 05 04 00 21 CD 34 5A -> {"line":2,"address":"58","page":0,"code":"21","name":"VOUT_COMMAND","direction":"write","payload":"CD 34","numerator":13517,"denominator":4096,"volts":3.300048}
-B0 88 / B1 00 D3 F6 -> {"line":3,"address":"58","code":"88","name":"READ_VIN","direction":"read","payload":"00 D3","numerator":768,"denominator":64,"volts":12}
-B0 8C / B1 FB FF E9 -> {"line":4,"address":"58","code":"8C","name":"READ_IOUT","direction":"read","payload":"FB FF","numerator":-5,"denominator":2,"amperes":-2.5}
-B0 8D / B1 19 00 65 -> {"line":5,"address":"58","code":"8D","name":"READ_TEMPERATURE_1","direction":"read","payload":"19 00","numerator":25,"denominator":1,"celsius":25}
+B0 88 / B1 00 D3 F6 -> {"line":3,"address":"58","code":"88","name":"READ_VIN","direction":"read","payload":"00 D3","numerator":768,"denominator":64,"volts":12,"assumed":true}
+B0 8C / B1 FB FF E9 -> {"line":4,"address":"58","code":"8C","name":"READ_IOUT","direction":"read","payload":"FB FF","numerator":-5,"denominator":2,"amperes":-2.5,"assumed":true}
+B0 8D / B1 19 00 65 -> {"line":5,"address":"58","code":"8D","name":"READ_TEMPERATURE_1","direction":"read","payload":"19 00","numerator":25,"denominator":1,"celsius":25,"assumed":true}
 B0 01 94 1A -> {"line":6,"address":"58","code":"01","name":"OPERATION","direction":"write","payload":"94","value":"on, margin low"}
 B0 01 FF 0C -> {"line":7,"address":"58","code":"01","name":"OPERATION","direction":"write","payload":"FF"}
 B0 10 80 34 -> {"line":8,"address":"58","code":"10","name":"WRITE_PROTECT","direction":"write","payload":"80","value":"writes of WRITE_PROTECT"}
@@ -381,7 +381,7 @@ B0 02 -> {"line":8,"address":"58","code":"02","name":"ON_OFF_CONFIG","direction"
 B0 FF -> {"line":9,"address":"58","code":"FF","name":"PMBUS_COMMAND_EXT","direction":"send","pec":false}
 B0 06 02 00 EF / B1 01 60 7D -> {"line":10,"address":"58","page":0,"code":"EF","direction":"read","payload":"60","pec":true}
 B0 05 02 FF D4 -> {"line":11,"address":"58","page":255,"code":"D4","direction":"send","pec":false}
-B0 06 02 00 21 / B1 FF FF -> {"line":12,"address":"58","code":"06","name":"PAGE_PLUS_READ","direction":"read","written":"02 00 21","payload":"FF FF","pec":false,"answered":false}
+B0 06 02 00 21 / B1 FF FF -> {"line":12,"address":"58","code":"06","name":"PAGE_PLUS_READ","direction":"read","written":"02 00 21","payload":"FF FF","pec":false,"answered":null}
 B0 99 / B1 03 4C 54 43 -> {"line":13,"address":"58","code":"99","name":"MFR_ID","direction":"read","payload":"03 4C 54 43","pec":false}
 B2 D4 / B3 FF -> {"line":14,"address":"59","code":"D4","direction":"read","payload":"FF","pec":false,"answered":null}
 {"count":"VOUT_COMMAND","lines":1}
@@ -406,7 +406,7 @@ B0 7B / B1 82 CE -> {"line":2,"address":"58","code":"7B","name":"STATUS_IOUT","d
 B0 02 16 -> {"line":3,"address":"58","code":"02","name":"ON_OFF_CONFIG","direction":"write","payload":"16","value":"by CONTROL, CONTROL active high, off with delay","pec":false}
 B0 19 / B1 B0 -> {"line":4,"address":"58","code":"19","name":"CAPABILITY","direction":"read","payload":"B0","value":"PEC, 400 kHz, SMBALERT#","pec":false}
 B0 20 / B1 17 E4 -> {"line":5,"address":"58","code":"20","name":"VOUT_MODE","direction":"read","payload":"17","value":"ULINEAR16 -9"}
-B0 8D / B1 D8 07 -> {"line":6,"address":"58","code":"8D","name":"READ_TEMPERATURE_1","direction":"read","payload":"D8 07","numerator":-40,"denominator":1,"celsius":-40,"pec":false}
+B0 8D / B1 D8 07 -> {"line":6,"address":"58","code":"8D","name":"READ_TEMPERATURE_1","direction":"read","payload":"D8 07","numerator":-40,"denominator":1,"celsius":-40,"assumed":true,"pec":false}
 {"count":"CAPABILITY","lines":1}
 {"count":"VOUT_MODE","lines":1}
 {"count":"READ_TEMPERATURE_1","lines":1}

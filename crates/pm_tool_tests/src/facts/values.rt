@@ -66,17 +66,17 @@ lines 44 accepted 44 faults 0 bad 0
         "
 B0 88 / B1 00 D3 F6 -> 58 READ_VIN read D300
 B0 20 / B1 14 ED -> 58 VOUT_MODE read 14 ULINEAR16 -12
-B0 88 / B1 00 D3 F6 -> 58 READ_VIN read D300 12 V
+B0 88 / B1 00 D3 F6 -> 58 READ_VIN read D300 12 V?
 B2 88 / B3 00 D3 E4 -> 59 READ_VIN read D300
-B0 88 / B1 00 80 48 -> 58 READ_VIN read 8000 0 V
-B0 88 / B1 FF 87 8A -> 58 READ_VIN read 87FF -0.000016 V
-B0 06 02 00 88 / B1 02 00 D3 8E -> 58 page 0 READ_VIN read D300 12 V
-B0 8C / B1 FB FF E9 -> 58 READ_IOUT read FFFB -2.5 A
-B0 8C / B1 FF 7B 28 -> 58 READ_IOUT read 7BFF 33521664 A
-B0 06 02 01 8C / B1 02 00 84 8A -> 58 page 1 READ_IOUT read 8400 -0.015625 A
-B0 8D / B1 19 00 65 -> 58 READ_TEMPERATURE_1 read 0019 25 C
-B0 8D / B1 64 F0 F0 -> 58 READ_TEMPERATURE_1 read F064 25 C
-B0 8D / B1 D8 07 88 -> 58 READ_TEMPERATURE_1 read 07D8 -40 C
+B0 88 / B1 00 80 48 -> 58 READ_VIN read 8000 0 V?
+B0 88 / B1 FF 87 8A -> 58 READ_VIN read 87FF -0.000016 V?
+B0 06 02 00 88 / B1 02 00 D3 8E -> 58 page 0 READ_VIN read D300 12 V?
+B0 8C / B1 FB FF E9 -> 58 READ_IOUT read FFFB -2.5 A?
+B0 8C / B1 FF 7B 28 -> 58 READ_IOUT read 7BFF 33521664 A?
+B0 06 02 01 8C / B1 02 00 84 8A -> 58 page 1 READ_IOUT read 8400 -0.015625 A?
+B0 8D / B1 19 00 65 -> 58 READ_TEMPERATURE_1 read 0019 25 C?
+B0 8D / B1 64 F0 F0 -> 58 READ_TEMPERATURE_1 read F064 25 C?
+B0 8D / B1 D8 07 88 -> 58 READ_TEMPERATURE_1 read 07D8 -40 C?
 B0 01 / B1 00 A9 -> 58 OPERATION read 00 off
 B0 01 3F 42 -> 58 OPERATION write 3F off
 B0 01 40 38 -> 58 OPERATION write 40 soft off
@@ -148,6 +148,7 @@ count STATUS_WORD 3
 count STATUS_VOUT 2
 count STATUS_CML 2
 lines 66 accepted 66 faults 0 bad 0
+? line 49 writes PAGE: --pages shows which output each packet reaches
 ",
     ),
     (
@@ -290,7 +291,7 @@ lines 4 accepted 4 faults 0 bad 0
         0,
         "
 B4 20 / B5 1F D0 -> 5A VOUT_MODE read 1F ULINEAR16 -1
-B4 88 / B5 00 D3 D2 -> 5A READ_VIN read D300 12 V
+B4 88 / B5 00 D3 D2 -> 5A READ_VIN read D300 12 V?
 B6 20 / B7 20 6B -> 5B VOUT_MODE read 20 VID
 B6 88 / B7 00 D3 C0 -> 5B READ_VIN read D300
 count VOUT_MODE 2

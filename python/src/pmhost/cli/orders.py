@@ -82,6 +82,14 @@ def voltage_of(word: str) -> int:
         raise argparse.ArgumentTypeError(str(fault)) from None
 
 
+def wanted_of(word: str) -> int:
+    """The microvolts that are ordered."""
+    found = voltage_of(word)
+    if abs(found) > voltages.MOST_WISH:
+        raise argparse.ArgumentTypeError(f"voltage {word}: it is beyond 2147V: is the unit right?")
+    return found
+
+
 def accept_of(word: str) -> int:
     """Microvolts of how near is near enough."""
     found = voltage_of(word)
@@ -139,7 +147,7 @@ def add(commands: Any) -> None:
     bus_options(found)
     found = command("set", set_voltage, judge_order)
     found.add_argument("output", **output)
-    found.add_argument("microvolts", type=voltage_of, metavar="VOLTAGE", help="with its unit, as 3.3V, 3300mV or 3300000uV")
+    found.add_argument("microvolts", type=wanted_of, metavar="VOLTAGE", help="with its unit, as 3.3V, 3300mV or 3300000uV")
     completed_by(found.add_argument("register", metavar="REG", nargs="?", type=register_of(VOLTAGES), default="VOUT_COMMAND",
                                     help=f"one of {', '.join(VOLTAGES)}; VOUT_COMMAND if left out"), VOLTAGES)
     bus_options(found)

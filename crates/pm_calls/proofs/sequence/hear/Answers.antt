@@ -7,7 +7,6 @@ use Rattle.pm_host.specs.declared.stage.Stage.TheVariants.{Writes, Reads, Asks, 
 use Rattle.pm_host.specs.Sound.{HasWord, IsSound}
 use Rattle.pm_host.specs.Summary.{Summary, stage_message, step_of}
 use Rattle.pm_host.specs.Told.{entry_told, is_awaited}
-use Rattle.pm_course.specs.declared.frame_course.FrameCourse.{FrameCourse}
 use Rattle.pm_course.specs.Frames as frames
 use Rattle.pm_course.specs.Lemmas.Awaited.{comes-awaited}
 use Rattle.pm_sequence.specs.Frames.{nothing}
@@ -20,7 +19,7 @@ use Rattle.pm_calls.specs.Course.{heard_step}
 use Rattle.pm_calls.specs.Host.{host_step, told_fault}
 use Rattle.pm_calls.specs.Sequence.{hears_it, unasked, HearsIn}
 use Rattle.pm_calls.proofs.Heard.{fault-at}
-use Rattle.pm_calls.proofs.Sequences.{told-at, unheard}
+use Rattle.pm_calls.proofs.Sequences.{none-open, some-open, told-at, unheard}
 use Rattle.pm_calls.proofs.sequence.hear.Goals as goal
 
 pub returns-in_default : goal.returns-in_default
@@ -43,14 +42,15 @@ returns-then-not-awaits c =
     subst (λ (s : HostStep). HearsIn c.args.host.now c.args.sequence.now entry s c.args.host.now c.args.sequence.now)
     (sym c.no_step-then-not-awaits.ensures) (unasked g c.args.is.now w.is w.fault c.requires.both w.hears)
 
-pub returns-in_default-course_open : goal.returns-in_default-course_open
-returns-in_default-course_open c =
+pub returns-then-not-has_course : goal.returns-then-not-has_course
+returns-then-not-has_course c =
     let entry = entry_told c.args.told in
     let g = guard_in c.args.host.now in
     let q = c.args.is.now in
     subst (λ (s : HostStep). HearsIn c.args.host.now c.args.sequence.now entry s c.args.host.now c.args.sequence.now)
-    (sym c.no_step-in_default-course_open.ensures)
-    (unasked g q q NothingSent c.requires.both (nothing (sym c.course_open.ensures ∙ c.in_default-course_open.is)))
+    (sym c.no_step-then-not-has_course.ensures)
+    (unasked g q q NothingSent c.requires.both
+    (nothing (none-open (course_open q.list.stairs) (sym c.has_course.ensures ∙ c.if-not-has_course.true))))
 
 word-at : (s : Summary) (at : Stage) → IsSound s → s.stage ≡ Some at → HasWord at
 word-at s (Writes cell word pass) sound opened = search rules
@@ -77,7 +77,7 @@ returns c =
     let opened : g.host.stage ≡ Some at = sym c.requires.stage ∙ c.in-Some.is in
     let waits : is_awaited at c.args.told ≡ true = sym c.awaits.ensures ∙ c.if-not-awaits.false in
     let some : is_none (course_open q.list.stairs) ≡ false =
-    ap (λ (o : Option FrameCourse). is_none o) (sym c.course_open.ensures ∙ c.in-Some-course_open.is) in
+    some-open (course_open q.list.stairs) (sym c.has_course.ensures ∙ c.if-not-has_course.false) in
     let did = told-at g next q is at c.args.told c.hear_by-heard.result opened waits some c.hear_by-heard.ensures.hears in
     let host-is : host.host.state.address ≡ g.host.setup.addr = ap (λ (s : Summary). s.setup.addr) c.requires.there.whole in
     let answered : c.step_after.result ≡ heard_step g entry =

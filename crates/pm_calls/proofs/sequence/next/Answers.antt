@@ -52,7 +52,7 @@ returns c =
       ahead_at = sym c.in-Ok-step_at.ensures;
     } in
     let does : HandsOut g under ahead q put.sent act next is =
-    subst (λ (x : Sequence). HandsOut g under ahead x put.sent act next is) c.held-is.ensures
+    subst (λ (x : Sequence). HandsOut g under ahead x put.sent act next is) c.hold.ensures
     (c.hand_out-at.ensures.hands put.sent put.of_stage) in
     let number : c.number_next.result ≡ number_sent put.sent act = c.number_next.ensures ∙ numbered next at put.sent act put.of_stage in
     subst (λ (n : ℕ). NextIn host image steps records n new c.write.new.self c.keep.new.records c.put.new.sending) (sym number)

@@ -22,8 +22,8 @@ returns-then-not-is_look c =
     let host = c.args.host.now in
     let image = c.args.sequence.now in
     let g = guard_in host in
-    let q = c.held-is.result in
-    let both : AreBoth host image g q = subst (λ (x : Sequence). AreBoth host image g x) (sym c.held-is.ensures) c.in-Ok.ensures.both in
+    let q = c.hold.new.is in
+    let both : AreBoth host image g q = subst (λ (x : Sequence). AreBoth host image g x) (sym c.hold.ensures) c.in-Ok.ensures.both in
     let look : is_look q g.host.stage ≡ false =
     ap (λ (at : Option Stage). is_look q at) (sym c.in-Ok.ensures.stage) ∙ sym c.is_look.ensures ∙ c.if-not-is_look.true in
     of_a_job g q c.hear.result c.hear.new.host c.hear.new.sequence both look c.hear.ensures
@@ -34,8 +34,8 @@ returns c =
     let image = c.args.sequence.now in
     let bytes = c.args.bytes.now in
     let g = guard_in host in
-    let q = c.held-is.result in
-    let both : AreBoth host image g q = subst (λ (x : Sequence). AreBoth host image g x) (sym c.held-is.ensures) c.in-Ok.ensures.both in
+    let q = c.hold.new.is in
+    let both : AreBoth host image g q = subst (λ (x : Sequence). AreBoth host image g x) (sym c.hold.ensures) c.in-Ok.ensures.both in
     let look : is_look q g.host.stage ≡ true =
     ap (λ (at : Option Stage). is_look q at) (sym c.in-Ok.ensures.stage) ∙ sym c.is_look.ensures ∙ c.if-not-is_look.false in
     let is : c.answered.new.self ≡ heard_in g q bytes =

@@ -1,5 +1,4 @@
-use Rattle.pm_check_laws.proofs.ClaimedBands.{commands-claimed}
-use Rattle.pm_check_laws.proofs.LastReads.{Below, claimed, held-now, held-then}
+use Rattle.pm_check_laws.proofs.Claims.{commands-claimed, Below, claimed, held-now, held-then}
 use Rattle.pm_check_laws.proofs.laws.accepted_claims_are_held.Goals as goal
 
 pub returns : goal.returns

@@ -1,4 +1,4 @@
-use Rattle.pm_check_laws.proofs.CheckedBeside.{claims-beside}
+use Rattle.pm_check_laws.proofs.Claims.{claims-beside}
 use Rattle.pm_check_laws.proofs.laws.accepted_claims_hold_beside.Goals as goal
 
 pub returns : goal.returns

@@ -1,6 +1,5 @@
 use Rattle.std.proofs.Common.{◌∙◌}
-use Rattle.pm_check_laws.proofs.LastReads.{Below, claimed, held-now}
-use Rattle.pm_check_laws.proofs.Stays.{stay}
+use Rattle.pm_check_laws.proofs.Claims.{Below, claimed, held-now, stay}
 use Rattle.pm_check_laws.proofs.laws.accepted_claims_stay.Goals as goal
 
 pub returns : goal.returns

@@ -1,9 +1,7 @@
 use Rattle.std.proofs.Common.{sym, subst}
 use Rattle.pm_num.specs.Ratio.{Ratio}
 use Rattle.pm_limits.specs.Bounds.{IsWithin}
-use Rattle.pm_check_laws.proofs.ClaimedBands.{commands-claimed, output-there}
-use Rattle.pm_check_laws.proofs.LastReads.{Below}
-use Rattle.pm_check_laws.proofs.Stays.{command-stays}
+use Rattle.pm_check_laws.proofs.Claims.{commands-claimed, output-there, Below, command-stays}
 use Rattle.pm_check_laws.proofs.laws.accepted_voltages_stay.Goals as goal
 
 pub returns : goal.returns

@@ -1,5 +1,4 @@
-use Rattle.pm_check_laws.proofs.LastReads.{Below}
-use Rattle.pm_check_laws.proofs.Others.{open-life}
+use Rattle.pm_check_laws.proofs.Claims.{Below, open-life}
 use Rattle.pm_check_laws.proofs.laws.unknown_claims_are_open.Goals as goal
 
 pub returns : goal.returns

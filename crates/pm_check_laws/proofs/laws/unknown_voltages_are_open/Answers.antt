@@ -1,5 +1,4 @@
-use Rattle.pm_check_laws.proofs.LastReads.{Below}
-use Rattle.pm_check_laws.proofs.OpenBands.{open-voltage}
+use Rattle.pm_check_laws.proofs.Claims.{Below, open-voltage}
 use Rattle.pm_check_laws.proofs.laws.unknown_voltages_are_open.Goals as goal
 
 pub returns : goal.returns

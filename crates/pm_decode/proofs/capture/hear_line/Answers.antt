@@ -2,7 +2,7 @@ use Rattle.std.proofs.Common.{◌∙◌, sym}
 use Rattle.pm_decode.proofs.HearingLemmas.{comment_noted}
 use Rattle.pm_decode.proofs.capture.hear_line.Goals as goal
 
-pub returns-then-is_comment-clause-heard : goal.returns-then-is_comment-clause-heard
-returns-then-is_comment-clause-heard c =
-    comment_noted c.note.result c.args.options.now c.args.heard.now _ c.args.number c.args.line.now c.remark.result c.if-options.true
-    (sym c.is_comment.ensures ∙ c.if-is_comment.true) c.remark.ensures c.note.ensures.heard
+pub returns-then-is_noted-clause-heard : goal.returns-then-is_noted-clause-heard
+returns-then-is_noted-clause-heard c =
+    comment_noted c.note.result c.args.options.now c.args.heard.now _ c.args.number c.args.line.now c.remark.result
+    (sym c.is_noted.ensures ∙ c.if-is_noted.true) c.remark.ensures c.note.ensures.heard

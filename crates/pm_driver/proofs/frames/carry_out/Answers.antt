@@ -1,5 +1,5 @@
 use Rattle.std.proofs.Common.{[], None, Some, refl, ◌∙◌}
-use Rattle.pm_driver.proofs.Composed.{leads-nothing}
+use Rattle.pm_driver.proofs.Lives.{leads-nothing}
 use Rattle.pm_driver.proofs.frames.carry_out.Goals as goal
 
 pub frames-init : goal.frames-init

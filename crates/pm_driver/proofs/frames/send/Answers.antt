@@ -4,9 +4,8 @@ use Rattle.std.specs.Prelude.{IsSomeAnd}
 use Rattle.pm_frame.specs.Layout.{IsRequest, IsWrite}
 use Rattle.pm_host.specs.Summary.{sending_in}
 use Rattle.pm_driver.specs.Acts.{Read, Wrote}
-use Rattle.pm_driver.proofs.Composed.{leads-nothing}
-use Rattle.pm_driver.proofs.OpenJobs.{busy-host}
-use Rattle.pm_driver.proofs.SentFrames.{room-empty, told-leads, told-open}
+use Rattle.pm_driver.proofs.Lives.{leads-nothing}
+use Rattle.pm_driver.proofs.Jobs.{busy-host, room-empty, told-leads, told-open}
 use Rattle.pm_driver.proofs.frames.send.Goals as goal
 
 pub returns-in-Idle-clause-leads : goal.returns-in-Idle-clause-leads

@@ -8,8 +8,7 @@ use Rattle.pm_host.specs.Sound.{IsSound}
 use Rattle.pm_host.specs.Transcript.{Finished, Got}
 use Rattle.pm_driver.specs.Acts.{Read, Wrote}
 use Rattle.pm_driver.proofs.CourseSteps.{call-carries, heard-so, told-keeps}
-use Rattle.pm_driver.proofs.OpenJobs.{spends}
-use Rattle.pm_driver.proofs.SentFrames.{room-empty}
+use Rattle.pm_driver.proofs.Jobs.{spends, room-empty}
 use Rattle.pm_driver.proofs.frames.send_for.Goals as goal
 
 pub returns-in-Write-clause-carries : goal.returns-in-Write-clause-carries

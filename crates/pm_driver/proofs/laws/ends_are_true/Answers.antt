@@ -1,4 +1,4 @@
-use Rattle.pm_driver.proofs.EndedJobs.{ends-are-true}
+use Rattle.pm_driver.proofs.Jobs.{ends-are-true}
 use Rattle.pm_driver.proofs.laws.ends_are_true.Goals as goal
 
 pub returns : goal.returns

@@ -1,4 +1,4 @@
-use Rattle.pm_driver.proofs.SentFrames.{frames-lead}
+use Rattle.pm_driver.proofs.Jobs.{frames-lead}
 use Rattle.pm_driver.proofs.laws.frames_lead.Goals as goal
 
 pub returns : goal.returns

@@ -1,4 +1,4 @@
-use Rattle.pm_driver.proofs.BegunJobs.{jobs-lead}
+use Rattle.pm_driver.proofs.Lives.{jobs-lead}
 use Rattle.pm_driver.proofs.laws.jobs_lead.Goals as goal
 
 pub returns : goal.returns

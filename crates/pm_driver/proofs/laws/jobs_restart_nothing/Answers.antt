@@ -1,4 +1,4 @@
-use Rattle.pm_driver.proofs.NoRestarts.{jobs-none}
+use Rattle.pm_driver.proofs.Lives.{jobs-none}
 use Rattle.pm_driver.proofs.laws.jobs_restart_nothing.Goals as goal
 
 pub returns : goal.returns

@@ -1,4 +1,4 @@
-use Rattle.pm_driver.proofs.Composed.{leads-compose}
+use Rattle.pm_driver.proofs.Lives.{leads-compose}
 use Rattle.pm_driver.proofs.laws.leads_compose.Goals as goal
 
 pub returns : goal.returns

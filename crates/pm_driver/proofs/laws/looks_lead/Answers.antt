@@ -1,4 +1,4 @@
-use Rattle.pm_driver.proofs.Looked.{looks-lead}
+use Rattle.pm_driver.proofs.Jobs.{looks-lead}
 use Rattle.pm_driver.proofs.laws.looks_lead.Goals as goal
 
 pub returns : goal.returns

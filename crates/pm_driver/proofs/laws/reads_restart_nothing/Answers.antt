@@ -1,4 +1,4 @@
-use Rattle.pm_driver.proofs.NoRestarts.{reads-none}
+use Rattle.pm_driver.proofs.Lives.{reads-none}
 use Rattle.pm_driver.proofs.laws.reads_restart_nothing.Goals as goal
 
 pub returns : goal.returns

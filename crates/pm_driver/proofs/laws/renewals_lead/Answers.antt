@@ -1,4 +1,4 @@
-use Rattle.pm_driver.proofs.BegunJobs.{renewals-lead}
+use Rattle.pm_driver.proofs.Lives.{renewals-lead}
 use Rattle.pm_driver.proofs.laws.renewals_lead.Goals as goal
 
 pub returns : goal.returns

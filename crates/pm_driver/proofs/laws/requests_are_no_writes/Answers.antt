@@ -1,4 +1,4 @@
-use Rattle.pm_driver.proofs.Looked.{no-writes}
+use Rattle.pm_driver.proofs.Jobs.{no-writes}
 use Rattle.pm_driver.proofs.laws.requests_are_no_writes.Goals as goal
 
 pub returns : goal.returns

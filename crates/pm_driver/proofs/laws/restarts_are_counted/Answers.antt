@@ -1,4 +1,4 @@
-use Rattle.pm_driver.proofs.NoRestarts.{leads-since}
+use Rattle.pm_driver.proofs.Lives.{leads-since}
 use Rattle.pm_driver.proofs.laws.restarts_are_counted.Goals as goal
 
 pub returns : goal.returns

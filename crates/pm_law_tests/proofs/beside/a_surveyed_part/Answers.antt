@@ -6,7 +6,7 @@ use Rattle.pm_rail.specs.Registers.{wants_of}
 use Rattle.pm_rail.specs.Survey.{is_surveyed, wanted_in}
 use Rattle.pm_part_laws.specs.Happenings.{Happening, IsLifeBeside, beside}
 use Rattle.pm_part_laws.specs.Surveys.{AreKnownSince}
-use Rattle.pm_law_tests.proofs.WholeParts.{lacks-none}
+use Rattle.pm_law_tests.proofs.Uses.{lacks-none}
 use Rattle.pm_law_tests.proofs.beside.a_surveyed_part.Goals as goal
 
 pub returns : goal.returns

@@ -1,6 +1,6 @@
 use Rattle.std.proofs.Common.{ℕ, subst, sym}
 use Rattle.pm_table.specs.Address.{IsAddress}
-use Rattle.pm_law_tests.proofs.Begins.{made-begins}
+use Rattle.pm_law_tests.proofs.Uses.{made-begins}
 use Rattle.pm_law_tests.proofs.drivers.a_host_that_begins_anew.Goals as goal
 
 pub new-requires : goal.new-requires

@@ -1,5 +1,5 @@
 use Rattle.std.specs.Prelude.{[], ◌∷◌, reverse}
-use Rattle.pm_law_tests.proofs.Found.{found-so}
+use Rattle.pm_law_tests.proofs.Uses.{found-so}
 use Rattle.pm_law_tests.proofs.knowledge.a_band_that_stays_within.Goals as goal
 
 pub returns : goal.returns

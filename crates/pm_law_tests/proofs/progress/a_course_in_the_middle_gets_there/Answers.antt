@@ -3,7 +3,7 @@ use Rattle.std.specs.Prelude.{List}
 use Rattle.pm_course.specs.FrameCourse.{last_end}
 use Rattle.pm_world.specs.declared.event.Event.{Event}
 use Rattle.pm_world.specs.Lived.{IsLived}
-use Rattle.pm_law_tests.proofs.Found.{found-lived}
+use Rattle.pm_law_tests.proofs.Uses.{found-lived}
 use Rattle.pm_law_tests.proofs.progress.a_course_in_the_middle_gets_there.Goals as goal
 
 pub returns : goal.returns

@@ -9,7 +9,7 @@ use Rattle.pm_world.specs.Life.{now}
 use Rattle.pm_world.specs.Lived.{IsLived}
 use Rattle.pm_world.specs.Surveys.{MissingUnread}
 use Rattle.pm_course_laws.specs.Reached.{HoldsWanted, ReadsStand}
-use Rattle.pm_law_tests.proofs.Found.{found-lived}
+use Rattle.pm_law_tests.proofs.Uses.{found-lived}
 use Rattle.pm_law_tests.proofs.progress.a_course_that_read_all_again.Goals as goal
 
 pub returns : goal.returns

@@ -2,8 +2,7 @@ use Rattle.std.proofs.Common.{List, arith, subst}
 use Rattle.pm_limits.specs.Part.{all_registers}
 use Rattle.pm_world.specs.declared.event.Event.{Event}
 use Rattle.pm_world.specs.Lived.{IsLived}
-use Rattle.pm_law_tests.proofs.Found.{found-lived}
-use Rattle.pm_law_tests.proofs.WholeParts.{has-all}
+use Rattle.pm_law_tests.proofs.Uses.{found-lived, has-all}
 use Rattle.pm_law_tests.proofs.progress.a_survey_gets_there.Goals as goal
 
 pub returns : goal.returns

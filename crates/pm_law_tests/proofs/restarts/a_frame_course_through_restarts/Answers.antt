@@ -8,7 +8,7 @@ use Rattle.pm_world.specs.Honest.{IsSpelled}
 use Rattle.pm_world.specs.Lived.{IsLived}
 use Rattle.pm_restart_laws.specs.Restarts.{CoursesKeepBetween}
 use Rattle.pm_law_tests.specs.Restarts.{WritesWishes}
-use Rattle.pm_law_tests.proofs.Found.{found-lived}
+use Rattle.pm_law_tests.proofs.Uses.{found-lived}
 use Rattle.pm_law_tests.proofs.restarts.a_frame_course_through_restarts.Goals as goal
 
 writes : CoursesKeepBetween → FrameCoursesGoTheirWay → (config : Config) (passes : ℕ) (events : List Event) → IsSpelled config →

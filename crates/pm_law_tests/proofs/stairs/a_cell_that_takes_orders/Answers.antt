@@ -4,7 +4,7 @@ use Rattle.pm_model.specs.Settings.{word_at}
 use Rattle.pm_world.specs.declared.event.Event.{Event}
 use Rattle.pm_world.specs.Lived.{IsLived}
 use Rattle.pm_world.specs.Moves.{words_at}
-use Rattle.pm_law_tests.proofs.Found.{found-lived}
+use Rattle.pm_law_tests.proofs.Uses.{found-lived}
 use Rattle.pm_law_tests.proofs.stairs.a_cell_that_takes_orders.Goals as goal
 
 pub returns : goal.returns

@@ -1,4 +1,4 @@
-use Rattle.pm_law_tests.proofs.Found.{found-lived}
+use Rattle.pm_law_tests.proofs.Uses.{found-lived}
 use Rattle.pm_law_tests.proofs.stairs.steps_that_went_up.Goals as goal
 
 pub returns : goal.returns

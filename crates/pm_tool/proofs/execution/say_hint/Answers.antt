@@ -17,3 +17,13 @@ pub returns-in-NoPec : goal.returns-in-NoPec
 returns-in-NoPec g c =
     subst (λ hint. Says g.E.Write.contents c.args.errors.now c.say-in-NoPec.new.errors (refusal_line (hint_words hint)))
     (sym c.in-NoPec.is) c.say-in-NoPec.ensures
+
+pub returns-in-Beyond : goal.returns-in-Beyond
+returns-in-Beyond g c =
+    subst (λ hint. Says g.E.Write.contents c.args.errors.now c.say_line.new.errors (refusal_line (hint_words hint)))
+    (sym c.in-Beyond.is) c.say_line.ensures
+
+pub returns-in-Paging : goal.returns-in-Paging
+returns-in-Paging g c =
+    subst (λ hint. Says g.E.Write.contents c.args.errors.now c.say_line-in-Paging.new.errors (refusal_line (hint_words hint)))
+    (sym c.in-Paging.is) c.say_line-in-Paging.ensures

@@ -1,7 +1,7 @@
 use Rattle.std.proofs.Common.{drop, length, sym, ◌∙◌, ap, subst}
 use Rattle.pm_world.specs.Legal.{answer_in}
 use Rattle.pm_driver.specs.Disturbed.{IsAskedPart}
-use Rattle.pm_driver.proofs.Heard.{Hears, came-back, lost-back, put-in}
+use Rattle.pm_driver.proofs.Lives.{Hears, came-back, lost-back, put-in}
 use Rattle.pm_driver.proofs.buses.converter_end.ask.Goals as goal
 
 pub returns-then-count-answer-clause-asked : goal.returns-then-count-answer-clause-asked

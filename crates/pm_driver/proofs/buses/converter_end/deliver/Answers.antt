@@ -1,5 +1,5 @@
 use Rattle.std.proofs.Common.{sym, ◌∙◌}
-use Rattle.pm_driver.proofs.Heard.{delivered}
+use Rattle.pm_driver.proofs.Lives.{delivered}
 use Rattle.pm_driver.proofs.buses.converter_end.deliver.Goals as goal
 
 pub returns-then-is_legal_hearing-clause-is : goal.returns-then-is_legal_hearing-clause-is

@@ -1,6 +1,6 @@
 use Rattle.std.proofs.Common.{sym, subst}
 use Rattle.pm_driver.specs.Disturbed.{IsDisturbed}
-use Rattle.pm_driver.proofs.Heard.{restarted, undisturbed}
+use Rattle.pm_driver.proofs.Lives.{restarted, undisturbed}
 use Rattle.pm_driver.proofs.buses.converter_end.disturb.Goals as goal
 
 pub returns-then-restarts-clause-is : goal.returns-then-restarts-clause-is

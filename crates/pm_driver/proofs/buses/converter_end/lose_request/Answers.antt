@@ -1,5 +1,5 @@
 use Rattle.std.proofs.Common.{length}
-use Rattle.pm_driver.proofs.Heard.{lost-asked}
+use Rattle.pm_driver.proofs.Lives.{lost-asked}
 use Rattle.pm_driver.proofs.buses.converter_end.lose_request.Goals as goal
 
 pub returns-clause-asked : goal.returns-clause-asked

@@ -1,4 +1,4 @@
-use Rattle.pm_driver.proofs.NeverRestarts.{never-stays}
+use Rattle.pm_driver.proofs.SimulatedBuses.{never-stays}
 use Rattle.pm_driver.proofs.buses.laws.never_restarts_stays.Goals as goal
 
 pub returns : goal.returns

@@ -1,4 +1,4 @@
-use Rattle.pm_driver.proofs.Parts.{parts-compose}
+use Rattle.pm_driver.proofs.SimulatedBuses.{parts-compose}
 use Rattle.pm_driver.proofs.buses.laws.parts_compose.Goals as goal
 
 pub returns : goal.returns

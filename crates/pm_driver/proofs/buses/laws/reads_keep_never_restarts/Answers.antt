@@ -1,4 +1,4 @@
-use Rattle.pm_driver.proofs.NeverRestarts.{reads-stay}
+use Rattle.pm_driver.proofs.SimulatedBuses.{reads-stay}
 use Rattle.pm_driver.proofs.buses.laws.reads_keep_never_restarts.Goals as goal
 
 pub returns : goal.returns

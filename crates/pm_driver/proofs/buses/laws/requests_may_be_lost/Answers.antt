@@ -6,7 +6,7 @@ use Rattle.pm_device.specs.Effect as device
 use Rattle.pm_device.specs.Held.{Held}
 use Rattle.pm_device.specs.History.{next, after}
 use Rattle.pm_device.specs.Verdict.{verdict_of}
-use Rattle.pm_driver.proofs.Heard.{lost-asked}
+use Rattle.pm_driver.proofs.Lives.{lost-asked}
 use Rattle.pm_driver.proofs.buses.laws.requests_may_be_lost.Goals as goal
 
 -- hearing no byte and then a stop changes nothing that a converter holds

@@ -1,4 +1,4 @@
-use Rattle.pm_driver.proofs.AsItIs.{begins-lived, begins-since}
+use Rattle.pm_driver.proofs.Lives.{begins-lived, begins-since}
 use Rattle.pm_driver.proofs.driver.Driver.guarded.Goals as goal
 
 pub invariant_of-result : goal.invariant_of-result

@@ -1,6 +1,6 @@
 use Rattle.std.proofs.Common.{subst}
 use Rattle.pm_driver.specs.Driven.{IsTrueOf}
-use Rattle.pm_driver.proofs.BegunJobs.{true-of}
+use Rattle.pm_driver.proofs.Lives.{true-of}
 use Rattle.pm_driver.proofs.driver.Driver.laws.Goals as goal
 
 pub returns : goal.returns

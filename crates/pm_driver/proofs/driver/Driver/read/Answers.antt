@@ -4,8 +4,8 @@ use Rattle.pm_host.specs.Refusals.{is_busy}
 use Rattle.pm_driver.specs.Acts.{IsNoWrite, Looked}
 use Rattle.pm_driver.specs.Driven.{Driving, driven}
 use Rattle.pm_driver.specs.Looks.{Looks}
-use Rattle.pm_driver.proofs.BegunJobs.{leads-lived}
-use Rattle.pm_driver.proofs.Looked.{IsLooked, looked-leads, looks-so}
+use Rattle.pm_driver.proofs.Lives.{leads-lived}
+use Rattle.pm_driver.proofs.Jobs.{IsLooked, looked-leads, looks-so}
 use Rattle.pm_driver.proofs.driver.Driver.read.Goals as goal
 
 pub invariant_of-self : goal.invariant_of-self

@@ -1,7 +1,7 @@
 use Rattle.std.proofs.Common.{[], ◌∷◌, None, sym, subst}
 use Rattle.pm_driver.specs.Acts.{Renewed}
 use Rattle.pm_driver.specs.Driven.{HasLife}
-use Rattle.pm_driver.proofs.BegunJobs.{leads-lived}
+use Rattle.pm_driver.proofs.Lives.{leads-lived}
 use Rattle.pm_driver.proofs.driver.Driver.restart.Goals as goal
 
 pub invariant_of-self : goal.invariant_of-self

@@ -1,7 +1,7 @@
 use Rattle.std.proofs.Common.{Ok, ◌∙◌, subst}
 use Rattle.pm_driver.specs.Driven.{Driving, Runs}
-use Rattle.pm_driver.proofs.BegunJobs.{begun-busy, job-lived}
-use Rattle.pm_driver.proofs.RanJobs.{guard-begun, runs-so}
+use Rattle.pm_driver.proofs.Lives.{begun-busy, job-lived}
+use Rattle.pm_driver.proofs.Jobs.{guard-begun, runs-so}
 use Rattle.pm_driver.proofs.driver.Driver.run.Goals as goal
 
 pub unreachable-requires : goal.unreachable-requires

@@ -1,5 +1,5 @@
 use Rattle.std.proofs.Common.{None}
-use Rattle.pm_driver.proofs.BegunJobs.{leads-lived}
+use Rattle.pm_driver.proofs.Lives.{leads-lived}
 use Rattle.pm_driver.proofs.driver.Driver.run_course.Goals as goal
 
 pub invariant_of-self : goal.invariant_of-self

@@ -30,7 +30,7 @@ pub returns-in-None-clause-hands : goal.returns-in-None-clause-hands
 returns-in-None-clause-hands g c = λ sent none.
     let old = g.H.Hosted.guarded c.args.host.now in
     let was = c.args.self.now in
-    subst (λ (s : Option Sending). HandsOut old c.args.under c.args.ahead was s c.next_at-act.result old c.next_at-act.new.self) (sym none)
+    subst (λ (s : Option Sending). HandsOut old c.args.under.now c.args.ahead.now was s c.next_at-act.result old c.next_at-act.new.self) (sym none)
     (says c.next_at-act.result c.next_at-act.new.self (sym c.job.ensures ∙ c.in-None.is) c.next_at-act.ensures)
 
 pub returns-in-Ok-clause-hands : goal.returns-in-Ok-clause-hands
@@ -47,4 +47,4 @@ returns-in-Err-clause-hands g c = λ sent none.
     refuses (refused_act c.args.self.now c.next_at-act.new.self c.next_at-act.result why)
     (refused_after c.args.self.now c.next_at-act.new.self c.next_at-act.result why)
     (refused c.in-Some-job.job c.next_at-act.result c.in-Err.fault c.next_at-act.new.self (sym c.job.ensures ∙ c.in-Some-job.is)
-    c.next_at-act.ensures fault) none c.in-Err.ensures.begins.err c.refused.ensures.act c.refused.ensures.after
+    c.next_at-act.ensures fault) none c.in-Err.ensures.begins.err c.refused-refused.ensures.act c.refused-refused.ensures.after

@@ -32,5 +32,5 @@ returns-clause-hears g c =
     let shown : c.surprises-restarted.result ≡ surprises old.host c.args.stage entry =
     c.surprises-restarted.ensures ∙ ap (λ (s : Summary). surprises s c.args.stage entry) whole in
     subst (λ (list : List). HearsAt old was c.args.stage entry c.hear_by-result.result new (with_list was list))
-    (sym (c.with_course-self.ensures ∙ ap (λ (b : Bool). heard_with was.list c.hear_by-result.new.self b) shown))
+    (sym (c.put_course.ensures ∙ ap (λ (b : Bool). heard_with was.list c.hear_by-result.new.self b) shown))
     (course c.in-Some.course c.hear_by-result.new.self (sym c.course_open.ensures ∙ c.in-Some.is) c.hear_by-result.ensures.told)

@@ -32,8 +32,8 @@ returns-then-not-are_there g c =
 
 pub returns : goal.returns
 returns g c =
-    let said : Said = c.ask-said.result.0 in
-    let after : FrameCourse = c.ask-said.result.1 in
+    let said : Said = c.ask-said.result in
+    let after : FrameCourse = c.ask-said.new.course in
     let is : (b : Bool) → c.begins_now.result ≡ b → begins_now said ≡ b = λ b e. sym c.begins_now.ensures ∙ e in
     asked (g.S.Sight.guarded c.args.guard.now) c.args.step.now c.args.course.now c.args.self.now said after c.ahead_move.result
     c.if-begins_now.self

@@ -10,7 +10,7 @@ returns-in_default c = nothing (sym c.course_open.ensures ∙ c.in_default.is)
 pub returns : goal.returns
 returns c =
     subst (λ (new : Stairs). Hears c.args.guard.now c.args.self.now (Got c.args.bytes.now) c.read_ended-result.result c.read_ended-result.new.host new)
-    (sym (c.with_course.ensures
+    (sym (c.put_course.ensures
     ∙ ap (λ (b : Bool). with_course c.args.self.now c.read_ended-result.new.self b) c.shows_restart-restarted.ensures))
     (heard c.in-Some.course c.read_ended-result.new.self c.read_ended-result.result c.read_ended-result.new.host
     (sym c.course_open.ensures ∙ c.in-Some.is) c.read_ended-result.ensures.hears)

@@ -9,6 +9,6 @@ returns-in_default c = nothing (sym c.course_open.ensures ∙ c.in_default.is)
 
 pub returns : goal.returns
 returns c = subst (λ (new : Stairs). Hears c.args.guard.now c.args.self.now (Finished c.args.acked) c.write_ended-result.result c.write_ended-result.new.host new)
-    (sym c.with_course.ensures)
+    (sym c.put_course.ensures)
     (heard c.in-Some.course c.write_ended-result.new.self c.write_ended-result.result c.write_ended-result.new.host
     (sym c.course_open.ensures ∙ c.in-Some.is) c.write_ended-result.ensures.hears)

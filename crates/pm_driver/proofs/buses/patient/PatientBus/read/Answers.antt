@@ -3,7 +3,7 @@ use Rattle.pm_driver.specs.declared.adapter.ReadEnd.TheVariants as read
 use Rattle.pm_driver.specs.Adapter.{Asks}
 use Rattle.pm_driver.specs.Bus.{IsAsked}
 use Rattle.pm_driver.specs.Patience.{asks_patiently}
-use Rattle.pm_driver.proofs.Patience.{room-so, waits-last, waits-more, waits-none, waits-over}
+use Rattle.pm_driver.proofs.SimulatedBuses.{room-so, waits-last, waits-more, waits-none, waits-over}
 use Rattle.pm_driver.proofs.buses.patient.PatientBus.read.Goals as goal
 
 pub reads-init : goal.reads-init

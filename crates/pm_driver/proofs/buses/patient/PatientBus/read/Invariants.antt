@@ -1,6 +1,6 @@
 use Rattle.std.proofs.Common.{◌≡◌, ℕ, List, length, replicate}
 use Rattle.pm_driver.specs.Patience.{asks_patiently}
-use Rattle.pm_driver.proofs.Patience.{Waits}
+use Rattle.pm_driver.proofs.SimulatedBuses.{Waits}
 use Rattle.pm_driver.proofs.buses.patient.PatientBus.read.Given as goal
 
 abbrev pub invariant-reads : goal.invariant-reads

@@ -1,6 +1,6 @@
 use Rattle.std.proofs.Common.{true, false, inl, inr, refl, sym}
 use Rattle.pm_driver.specs.Patience.{sends_patiently}
-use Rattle.pm_driver.proofs.Patience.{waits-last, waits-more, waits-none, waits-over}
+use Rattle.pm_driver.proofs.SimulatedBuses.{waits-last, waits-more, waits-none, waits-over}
 use Rattle.pm_driver.proofs.buses.patient.PatientBus.write.Goals as goal
 
 pub writes-init : goal.writes-init

@@ -1,6 +1,6 @@
 use Rattle.std.proofs.Common.{◌≡◌, Bool}
 use Rattle.pm_driver.specs.Patience.{sends_patiently}
-use Rattle.pm_driver.proofs.Patience.{Waits}
+use Rattle.pm_driver.proofs.SimulatedBuses.{Waits}
 use Rattle.pm_driver.proofs.buses.patient.PatientBus.write.Given as goal
 
 abbrev pub invariant-writes : goal.invariant-writes

@@ -1,4 +1,4 @@
-use Rattle.pm_driver.proofs.Plan.{got, unheard-so}
+use Rattle.pm_driver.proofs.SimulatedBuses.{got, unheard-so}
 use Rattle.pm_driver.proofs.buses.simulated_bus.SimulatedBus.turn.Goals as goal
 
 pub returns-clause-unheard : goal.returns-clause-unheard

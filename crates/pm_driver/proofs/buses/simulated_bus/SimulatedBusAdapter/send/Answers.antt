@@ -1,5 +1,5 @@
 use Rattle.pm_driver.specs.Plan.{restarts_so}
-use Rattle.pm_driver.proofs.Parts.{sent-so}
+use Rattle.pm_driver.proofs.SimulatedBuses.{sent-so}
 use Rattle.pm_driver.proofs.buses.simulated_bus.SimulatedBusAdapter.send.Goals as goal
 
 pub returns-then-fault-2-clause-sent : goal.returns-then-fault-2-clause-sent
