@@ -51,13 +51,13 @@ class Look:
     """At the rail of a step, of which nothing was asked."""
 
     def __init__(self, step):
-        self.of, self.step, self.is_off, self.is_read, self.is_before, self.round = asks_for(step), step, turns_off(step), False, False, 0
+        self.of, self.step, self.is_off, self.is_read, self.is_before, self.round = asks_for(step), step, False, False, False, 0
         self.heard = {name: Heard() for name in ASKED} | {"before": Heard(*step.before)}
         self.silences, self.answered, self.found = {"STATUS_WORD": 0, "READ_VOUT": 0}, set(), set()
 
-    def begins(self, number):
-        """A round begins: what was heard of the output is forgotten, and what stood before is kept."""
-        self.round = number
+    def begins(self, number, is_off):
+        """A round begins: what was heard of the output is forgotten, and what stood before is kept. It was turned off, or not."""
+        self.round, self.is_off = number, is_off
         self.heard.update({name: Heard() for name in ASKED if name not in FIRST})
 
     def hears(self, question, fault, word, is_silent):

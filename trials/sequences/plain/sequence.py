@@ -225,7 +225,7 @@ class Sequence:
         part = self.parts[step.host]
         if self.look is None or self.look.of != asks_for(step):
             self.look = Look(step)
-        self.look.begins(0)
+        self.look.begins(0, turns_off(step))
         yield from self.looks(step)
         word, *rest = self.look.verdict(part)
         said, self.heard[self.under] = (word, *rest, self.look.microvolts(part)), dict(self.look.heard)
@@ -253,7 +253,7 @@ class Sequence:
                 is_there = bool((yield "frame", step.host, [*request, OPERATION], True))
                 probes += 1
             elif found == "again":
-                self.look.begins(self.look.round + 1)
+                self.look.begins(self.look.round + 1, self.look.is_off)
                 probes, is_there, is_counted = 0, False, False
                 yield "told", self.under, "wait", min(10 * 2 ** (self.look.round - 1), 5120)
             else:
