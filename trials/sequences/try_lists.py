@@ -24,8 +24,8 @@ import plain.look  # noqa: E402
 import plain.sequence as plain_side  # noqa: E402
 from plain.course import Course  # noqa: E402
 from plain.part import UNKNOWN, Part  # noqa: E402
-from pmhost import Heard, Host, Looks, ModelPart, Output, Rules, Said, Sequence, SequenceStep  # noqa: E402
-from pmhost.errors import PartRefused, name_of  # noqa: E402
+from pmhost import Heard, Host, Looks, ModelPart, ModelPartBus, Output, Rules, Said, Sequence, SequenceStep  # noqa: E402
+from pmhost.errors import name_of  # noqa: E402
 from pmhost.voltages import of_microvolts  # noqa: E402
 from tests.plain.limits import VOLTAGES  # noqa: E402
 from tests.plain.packets import CODES, name_of as register_of, pec  # noqa: E402
@@ -99,25 +99,19 @@ class World:
         fate = self.draw.choice(("lost", "deaf", "acked", "bit", "cut", "long", "other")) if self.draw.random() < self.rate else "ok"
         self.away, fate = max(self.away - 1, 0), "deaf" if self.away else fate
         if not is_request:
-            return fate == "acked" if fate in ("deaf", "acked") else self.hear(place, frame, False) is not None and fate != "lost"
+            return fate == "acked" if fate in ("deaf", "acked") else ModelPartBus(self.parts[place]).write(bytes(frame)) and fate != "lost"
         came = b"" if fate in ("deaf", "lost") else self.answer(place, frame)
         changed = {"bit": came[:-1] + bytes([came[-1] ^ 4]), "cut": came[:-1], "long": came + b"\0", "other": bytes([came[0] ^ 2]) + came[1:]} if came else {}
         return changed.get(fate, came)
 
-    def hear(self, place, frame, is_request):
-        try:
-            return self.parts[place].hear(bytes(frame), is_request)
-        except PartRefused:
-            return None
-
     def answer(self, place, frame):
-        part, output, code = self.parts[place], frame[3] if frame[1] == 0x06 else None, frame[-1]
+        output, code = frame[3] if frame[1] == 0x06 else None, frame[-1]
         payload = self.answers.get((place, output, code), b"")
-        if payload == b"" and code == 0x8B:
-            off = self.draw.choice((0,) * 8 + (-0x300, 0x80))
-            payload = ((part.formats[output].nearest(part.voltage(output).microvolts) + off) % 0x10000 * part.is_on(output)).to_bytes(2, "little")
+        if payload == b"" and code == 0x8B and self.draw.random() < 0.2:
+            payload = self.near(0x300).to_bytes(2, "little")
         if not payload:
-            return b"" if payload is None else self.hear(place, frame, True) or b""
+            came = b"" if payload is None else ModelPartBus(self.parts[place]).read(bytes(frame), 255)
+            return came and bytes([frame[0] + 1]) + came
         came = bytes([frame[0] + 1, len(payload)]) + payload
         return came + bytes([pec([*frame, *came])])
 
@@ -137,17 +131,21 @@ def drawn_hosts(draw, world):
     return hosts, parts
 
 
-def drawn_step(draw, world, looks):
+def drawn_look(draw, share):
+    """How a rail is looked at, if at all, what its part lacks, and what was heard of STATUS_WORD before."""
+    how = draw.choice(("refuse", "refuse", "tell", "skip")), draw.choice(("judge", "tell")), draw.choice((50, 0, 200, 1000)), draw.choice([*SETTLE])
+    lacks = tuple(name for name in ("STATUS_WORD", "READ_VOUT") if draw.random() < 0.12)
+    before = draw.choice(((0, None, 0),) * 6 + ((1, None, 0x8000), (1, None, 0), (2, "no answer", 0)))
+    return plain_side.Looks(*how) if draw.random() < share else None, lacks, before
+
+
+def drawn_step(draw, world, how, lacks, before):
     host, act = draw.randrange(len(world.parts)), draw.choice(("sets", "sets", "sets", "turns", "turns", "turns", "surveys", "rests"))
     near = [("word", world.near(0x180)), ("microvolts", 1000000 + draw.randint(-90000, 90000))] * 4
     wishes = {register: draw.choice(near if world.is_calm else near + FAR) for register in VOLTAGES
               if act == "sets" and draw.random() < (0.7 if register == 0x21 else 0.12)}
-    how = plain_side.Looks(draw.choice(("refuse", "refuse", "tell", "skip")), draw.choice(("judge", "tell")), draw.choice((50, 0, 200, 1000)),
-                           draw.choice([*SETTLE])) if draw.random() < looks else None
-    before = draw.choice(((0, None, 0),) * 6 + ((1, None, 0x8000), (1, None, 0), (2, "no answer", 0)))
     return plain_side.Step(host, draw.randrange(world.parts[host].outputs), act, wishes, draw.choice(BYTES) if act == "turns" else 0, how,
-                           how is not None and draw.random() < 0.4, tuple(name for name in ("STATUS_WORD", "READ_VOUT") if draw.random() < 0.12),
-                           draw.choice((0, 0, 5, 250)), before)
+                           how is not None and draw.random() < 0.4, lacks, draw.choice((0, 0, 5, 250)), before)
 
 
 def step_of(step):
@@ -205,9 +203,9 @@ def carried_out(world, parts, mine, theirs, said, most):
 def one_list(seed, number, counts):
     """Nothing, or what differs in a list and those that follow it."""
     draw = random.Random(f"list {seed} {number}")
-    world, looks, tries = World(draw), draw.choice((0, 0.5, 0.9)), draw.choice((40, 40, 40, 12, 6, 1))
-    (hosts, parts), rules = drawn_hosts(draw, world), [draw.random() < 0.4 for _ in range(4)]
-    steps, said = [drawn_step(draw, world, looks) for _ in range(draw.randint(1, 8))], []
+    world, share, tries, said = World(draw), draw.choice((0, 0.5, 0.9)), draw.choice((40, 40, 40, 12, 6, 1)), []
+    (hosts, parts), rules, look = drawn_hosts(draw, world), [draw.random() < 0.4 for _ in range(4)], drawn_look(draw, share)
+    steps = [drawn_step(draw, world, *(look if draw.random() < 0.7 else drawn_look(draw, share))) for _ in range(draw.randint(1, 8))]
     steps = sorted(steps, key=lambda step: (step.host, step.output)) if draw.random() < 0.4 else steps
     try:
         while steps:
