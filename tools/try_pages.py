@@ -229,13 +229,11 @@ def toolchain_faults(shell, found):
 
 
 def listing_fault(found):
-    """The listing of docs/proved.md is the rail of the driver's own example, which a test runs."""
-    listing = re.search(r"^```rust\n(.*?)^```", found, re.M | re.S)[1]
+    """The second listing of docs/rattle-driver.md is that of the driver's own example, which a test runs."""
+    listings = re.findall(r"^```rust\n(.*?)^```", found, re.M | re.S)
     with open(os.path.join(program.ROOT, "crates/pm_host_tests/src/driver/example.rt"), encoding="utf-8") as file:
         body = re.search(r"^fn applied.*?^}\n", file.read(), re.M | re.S)[0]
-    body = re.sub(r",\s*}", " }", re.sub(r"Some\((driver\.apply\(.*?\))\)", r"\1", body))
-    plain = [" ".join(it.split()) for it in (listing, body)]
-    return [] if plain[0] in plain[1] else ["its listing isn't that of crates/pm_host_tests/src/driver/example.rt"]
+    return [] if listings[1:] == [body] else ["its second listing isn't that of crates/pm_host_tests/src/driver/example.rt"]
 
 
 def manual_faults(page):
@@ -253,7 +251,7 @@ def script_faults(shell):
     """Each script answers --help, and those that run the program say in one line what to build where there is none."""
     paths = [it for form in ("tools/*", "trials/programs/*.py", "trials/driver/*.py", "bench/**/*.*") for it in glob.glob(form, root_dir=program.ROOT, recursive=True)]
     for path in sorted(paths):
-        if not os.access(os.path.join(program.ROOT, path), os.X_OK):
+        if os.path.isdir(os.path.join(program.ROOT, path)) or not os.access(os.path.join(program.ROOT, path), os.X_OK):
             continue
         ran = shell.run(f"{path} --help")
         if ran.returncode or not ran.stdout or ran.stderr:
@@ -281,7 +279,9 @@ def main():
             if name == "docs/formats.md":
                 told += text_faults(shell, found)
             if name == "docs/proved.md":
-                told += [*listing_fault(found), *toolchain_faults(shell, found)]
+                told += toolchain_faults(shell, found)
+            if name == "docs/rattle-driver.md":
+                told += listing_fault(found)
             told += [*anchor_faults(name, found), *width_faults(name, found)]
             if name.endswith(".1"):
                 told += manual_faults(name)

@@ -18,6 +18,7 @@ A file has a block for each run, a blank line between them. The lines of a block
     looks: struck        mishaps befall the reads that ask what a rail does, too
     field: O NAME WORD   what a part of field.py has at first, by the names of trials/field/field.h; - for the device
     volts: V V ..        at how many volts the rails of such a part are behind the run
+    transfers: N         how many transfers such a part heard
     status: N            the status
     out: TEXT, err: TEXT     a line of standard output, of standard error
 
@@ -78,6 +79,7 @@ class Run:
     looks: str = ""
     fields: list = field(default_factory=list)
     volts: str = ""
+    transfers: str = ""
     faults: dict = field(default_factory=dict)
     functions: int = I2C_FUNC_I2C
     held: str = "1000"
@@ -94,7 +96,7 @@ class Run:
             # `ok*6` stands for six of them.
             several = (word.partition("*") for word in text.split())
             self.mishaps = " ".join(" ".join([word] * int(count or 1)) for word, _, count in several)
-        elif key in ("name", "words", "part", "held", "writes", "looks", "volts"):
+        elif key in ("name", "words", "part", "held", "writes", "looks", "volts", "transfers"):
             setattr(self, key, text)
         elif key in ("out", "err"):
             setattr(self, key, f"{getattr(self, key)}{text}\n")

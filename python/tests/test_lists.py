@@ -55,6 +55,15 @@ class Board:
         return made, made.run(self.buses, told, after_order)
 
 
+class Left(unittest.TestCase):
+    def test_a_step_that_was_left_before_it_began_has_no_way_back(self):
+        board = Board()
+        made, how = board.run([SequenceStep.sets(0, 0, {"VOUT_COMMAND": "3.3V"}), SequenceStep.sets(1, 0, {"VOUT_COMMAND": 0x1080})],
+                              Rules(keeps_back=True, leaves=True))
+        self.assertEqual(how.kind, "left")
+        self.assertEqual([(back.host, back.act, back.wishes) for back in made.way_back()], [(1, "sets", {"VOUT_COMMAND": 0x1000})])
+
+
 def stairs_of(start, steps=STEPS):
     """What the outputs hold after each step."""
     found, words = [start], {(0, 0): 0x10CD, (1, 0): 0x1080}

@@ -90,8 +90,8 @@ class Answers(unittest.TestCase):
         self.assertEqual(found, {
             "command": "set 0 1V", "end": "restarted", "status": 3, "why": "so", "refusal": "L3 BelowLimit", "output": 0, "register": "OPERATION",
             "word": "80", "volts": 1.0, "possible": ["80", "00"], "selected": "VOUT_COMMAND", "faults_ignored": False, "on": True, "commands": [1.0, 1.000001],
-            "limits": [0.9, 1.1], "within": True, "delivery": "off", "read_vout": 0.000005, "status_word": "0040", "missing": ["VOUT_MAX", "VOUT_MIN"],
-            "restart_seen": True, "rows": [], "part": "u1"})
+            "limits": [0.9, 1.1], "within": True, "delivery": "off", "read_vout": 0.000005, "status_word": "0040", "trims": [],
+            "missing": ["VOUT_MAX", "VOUT_MIN"], "restart_seen": True, "rows": [], "part": "u1"})
         self.assertEqual([Answer("x", "done", output=output, register=register, name=name).place()
                           for output, register, name in ((1, None, ""), (None, "WRITE_PROTECT", ""), (None, None, ""), (0, None, "core"))], [" 1", " -", "", " core"])
 
@@ -104,7 +104,7 @@ class Causes(unittest.TestCase):
                  "READ_VOUT": Reading("READ_VOUT", 0x1000, value=Decimal(1))}
         lines, said = [], []
         part = SimpleNamespace(host=SimpleNamespace(restart_seen=False))
-        call = SimpleNamespace(part=lambda: part, is_json=False, named=None, looks=None, say_lines=lines.extend, say=lambda it: said.append(it) or it.status)
+        call = SimpleNamespace(part=lambda: part, is_json=False, named=None, looks_of=lambda _: None, say_lines=lines.extend, say=lambda it: said.append(it) or it.status)
         with mock.patch.multiple(why, findings=lambda *_: Findings(Place("1"), state, found), cause=lambda _: because):
             ended = why.why(argparse.Namespace(call=call, output=1, command="why", said="why 1"))
         return ended, said[0], lines

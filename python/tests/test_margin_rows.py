@@ -173,7 +173,7 @@ class Rows(unittest.TestCase):
     def test_a_rail_that_trips_while_another_is_at_a_margin(self):
         status, found, out, err = self.run_test("core", kind=TripsAnother)
         self.assertEqual((status, found), (1, [(0, HIGH), (0, ON)]))
-        self.assertIn("core: at high: io: READ_VOUT is outside the limits: `why` says more", err)
+        self.assertIn("core: at high: io: READ_VOUT is outside the limits after 0.63s, `--settle` gives it longer: `why` says more", err)
         self.assertIn("core: back, OPERATION 80 confirmed", out)
 
     def test_a_restart_at_a_margin_is_told(self):

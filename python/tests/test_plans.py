@@ -424,19 +424,12 @@ class Exchanged(Recorded):
 
 
 class Kinds(unittest.TestCase):
-    def test_a_course_knows_whether_it_turns_its_output_off(self):
-        for byte, is_off in ((0x00, True), (0x40, True), (0x7F, True), (0x80, False), (0xA8, False)):
-            course = Course.power(0, byte)
-            self.assertEqual((course.turns_off, course.copy().turns_off), (is_off, is_off), f"{byte:02X}")
-        self.assertFalse(Course.survey(0).turns_off)
-
-    def test_a_course_knows_at_which_margin_the_part_acts_on_faults(self):
-        host = free(Host(0x58))
-        for side, ignored, register in (("high", False, "VOUT_MARGIN_HIGH"), ("low", False, "VOUT_MARGIN_LOW"), ("high", True, None), ("low", True, None)):
+    def test_a_course_to_a_margin_brings_operation_to_its_byte(self):
+        for side, ignored, byte in (("high", False, 0xA8), ("low", False, 0x98), ("high", True, 0xA4), ("low", True, 0x94)):
+            device = pmhost.Device(pmhost.ModelPartBus(pmhost.ModelPart(0x58, [pmhost.Output()])), 0x58, limits={0: None})
             course = Course.margin(0, side, 40, ignored)
-            self.assertEqual((course.guarded, course.copy().guarded, course.tries, course.turns_off), (register, register, 40, False))
-            self.assertEqual(course.next(host).kind, "learn")
-        self.assertEqual((Course.power(0, 0x98).guarded, Course.survey(0).guarded), (None, None))
+            device.host.run_course(course, device.bus)
+            self.assertEqual((device.bus.part.word(0, "OPERATION"), course.tries, course.ended.kind), (byte, 40, "reached"))
 
     def test_a_job_has_a_word_where_it_is_an_order(self):
         host, course = free(Host(0x58)), Course.power(0, 0x40)

@@ -139,8 +139,8 @@ class Busy(unittest.TestCase):
     def test_a_part_that_answers_at_once_is_waited_for_only_where_it_lacks_something(self):
         with mock.patch("pmhost.reads.clock.wait") as slept:
             found = Probe(ModelPartBus(ModelPart(ADDRESS, [Output()])), ADDRESS, 1).run()
-        # Two waits for each of MFR_ID, MFR_MODEL, MFR_REVISION and ON_OFF_CONFIG.
-        self.assertEqual((found.late, slept.call_count), (0, 12))
+        # Two waits for each of MFR_ID, MFR_MODEL, MFR_REVISION, ON_OFF_CONFIG, MFR_SERIAL, IC_DEVICE_ID and VOUT_TRIM.
+        self.assertEqual((found.late, slept.call_count), (0, 14))
 
 
 class Revisions(unittest.TestCase):

@@ -263,8 +263,7 @@ pub enum SequenceNext {
 /// # Ok::<(), Box<dyn core::error::Error>>(())
 /// ```
 ///
-/// As a step begins, the step that undoes it stands in its record: those of the steps that have begun, the newest first, are the list of
-/// the way back.
+/// As a step begins, the step that undoes it stands in its record: those that stand there, the newest first, are the list of the way back.
 #[derive(Clone)]
 #[must_use = "a list does nothing until it is carried out"]
 pub struct Sequence {

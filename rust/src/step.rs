@@ -326,10 +326,11 @@ pub struct SequenceRecord {
 
 // SAFETY of the call of the library: references are valid and aligned, and the one that is written overlaps nothing.
 impl SequenceRecord {
-    /// The step that undoes it, once it has begun in a list that keeps a way back. Nothing is looked at in it.
+    /// The step that undoes it, once it has begun in a list that keeps a way back. Nothing is looked at in it. `None` before, and of a step
+    /// that was left before it began.
     #[must_use]
-    pub fn back(&self) -> SequenceStep {
-        SequenceStep { image: self.image.back }
+    pub fn back(&self) -> Option<SequenceStep> {
+        (self.image.back.kind != 0).then_some(SequenceStep { image: self.image.back })
     }
 
     /// What was heard of STATUS_WORD before the first order; `None` if no good answer came.

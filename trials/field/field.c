@@ -186,7 +186,7 @@ static const place WORDS[] = {
 static const place OUTPUTS[] = {
     OF_OUTPUT("is_run_low", is_run_low), OF_OUTPUT("is_good_low", is_good_low), OF_OUTPUT("pin_command", pin_command),
     OF_OUTPUT("on_ms", on_ms), OF_OUTPUT("off_ms", off_ms), OF_OUTPUT("ramp_ms", ramp_ms), OF_OUTPUT("good_ms", good_ms),
-    OF_OUTPUT("is_off_early", is_off_early),
+    OF_OUTPUT("is_off_early", is_off_early), OF_OUTPUT("stored_trim", stored.trim),
     {"trip_at", offsetof(field_output, trip_at), 4}, OF_OUTPUT("error", error),
     OF_OUTPUT("has_tripped", has_tripped), OF_OUTPUT("STATUS_VOUT", vout), OF_OUTPUT("STATUS_IOUT", iout),
     OF_OUTPUT("STATUS_INPUT", input), OF_OUTPUT("STATUS_TEMPERATURE", temperature)};
@@ -231,7 +231,7 @@ uint8_t field_set(field_part *part, uint8_t output, const char *name, int64_t va
     int code = cell_of(name);
     if (at) {
         memcpy(at, &value, size);
-        for (uint8_t each = 0; each < part->outputs; each++) part->out[each].stored = part->out[each].held;
+        if (output < part->outputs && find(WORDS, COUNT(WORDS), name)) part->out[output].stored = part->out[output].held;
     } else if (!strcmp(name, "lacks")) {
         part->lacks[value >> 5 & 7] |= (uint32_t)1 << (value & 31);
     } else if (!strcmp(name, "READ_TEMPERATURE_1") || !strcmp(name, "READ_VIN")) {

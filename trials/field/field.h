@@ -81,7 +81,7 @@ uint64_t field_size(void);
 uint8_t field_new(field_part *part, uint8_t address, uint8_t outputs);
 
 /* Sets what has this name, a register or a field above; - for the device is any output. `lacks` takes a code. 0, or 1 where there is none.
- * A register is held then, and in the user store. field_get tells it, and `microvolts`, which the rail is at. */
+ * A register is held then, and in the user store; `stored_trim` is VOUT_TRIM of the store alone. field_get tells it, and `microvolts`, which the rail is at. */
 uint8_t field_set(field_part *part, uint8_t output, const char *name, int64_t value);
 uint8_t field_get(field_part *part, uint8_t output, const char *name, int64_t *value);
 

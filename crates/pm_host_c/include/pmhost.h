@@ -737,12 +737,14 @@ enum {
 void pm_sequence_new(pm_sequence *sequence, uint16_t tries, uint8_t rules);
 
 /* What comes next, by the host at the place sequence->host. `steps` is the whole list, the same each time. `records` has one record for each
- * step: their `back`, that of the newest step that has begun first, are the list of the way back. Without PM_KEEPS_BACK `room` may be less,
- * and nothing is kept of the steps beyond. With all but PM_OK the frame is PM_NOTHING.
+ * step: their `back`, that of the newest step that has begun first, are the list of the way back, without those of kind 0: such a step was
+ * left before it began. Without PM_KEEPS_BACK `room` may be less, and nothing is kept of the steps beyond. With all but PM_OK the frame is
+ * PM_NOTHING.
  *   PM_OK           the frame goes on the bus of that host, and stays the same until pm_sequence_write_ended or pm_sequence_read_ended
  *   PM_AGAIN        ask at once, by the host at sequence->host, which may be another
  *   PM_WAIT         ask again once sequence->said.milliseconds have passed: the wait of a step, or the time that a rail is given
  *   PM_ASKED        with PM_ASKS: sequence->said says which order comes next. Nothing has begun. Asked again it begins, if it is still due
+ *                   and the host's limits let it
  *   PM_TOLD         sequence->said says what the rail of a step does that does what it is to, or how a step stopped that was left
  *   PM_NO_WAY_BACK  with PM_KEEPS_BACK, before the first order of a step, once: the plan of its way back would be refused by the words that
  *                   are known, as sequence->said says. Asked again the step begins

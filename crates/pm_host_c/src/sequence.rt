@@ -87,19 +87,19 @@ pub extern "C" fn pm_sequence_read_ended(
 /// refuse; that limit is written then too. E0h, ECh if nothing was heard of the rail, H4, H7; then nothing is written.
 #[unsafe(no_mangle)]
 pub extern "C" fn pm_sequence_judge(
-    record: &SequenceRecordImage,
+    kept: &SequenceRecordImage,
     host: &GuardImage,
     word: u16,
     judgement: &mut JudgementImage,
 ) -> u8
-    ensures number { let refusal = asked_number host.now record.now.look in
-        result ≡ judge_number refusal (format_at (idle host.now) record.now.look.delivery.output) record.now.look.delivery word }
-    ensures judgement { let refusal = asked_number host.now record.now.look in
-        judgement.new ≡ judgement_after refusal (format_at (idle host.now) record.now.look.delivery.output) record.now.look.delivery word judgement.old }
+    ensures number { let refusal = asked_number host.now kept.now.look in
+        result ≡ judge_number refusal (format_at (idle host.now) kept.now.look.delivery.output) kept.now.look.delivery word }
+    ensures judgement { let refusal = asked_number host.now kept.now.look in
+        judgement.new ≡ judgement_after refusal (format_at (idle host.now) kept.now.look.delivery.output) kept.now.look.delivery word judgement.old }
 {
-    let number = refusal(&record.look, host);
+    let number = refusal(&kept.look, host);
     if number != ACCEPTED {
         return number;
     }
-    judge_in(&record.look.delivery, host, word, judgement)
+    judge_in(&kept.look.delivery, host, word, judgement)
 }

@@ -570,6 +570,28 @@ fn steps_that_order_nothing_stand_between_others(rt: HostRuntime) {
 }
 
 #[test]
+fn a_goal_beyond_a_limit_leaves_its_own_step(rt: HostRuntime) {
+    let part = Part {
+        limit: Some(0x1200),
+        ..PART
+    };
+    let rules = Rules { leaves: true, ..UP };
+    for host in 0..2_u8 {
+        let steps = [
+            sets(0, 0, 1_100_000, LOOKS),
+            sets(host, 1 - host, 1_200_000, LOOKS),
+        ];
+        let (run, parts) = over(&rt, rules, [part, part], &steps);
+        equal(
+            &rt,
+            &(run.end, parts[0].writes, parts[1].writes),
+            &(Some(End::Left(1)), 1, 0),
+            &host,
+        );
+    }
+}
+
+#[test]
 fn each_step_is_judged_by_what_it_asks_for(rt: HostRuntime) {
     let part = Part {
         limit: Some(0x1200),

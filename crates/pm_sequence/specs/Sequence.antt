@@ -159,6 +159,29 @@ begun_as q (act.Does found) job = job_after q job q.list
 begun_as q (act.Leaves why) job = job_after q job q.list
 begun_as q (act.Ended why) job = job_after q job q.list
 
+-- an act by which the first step ahead begins with its order
+abbrev pub is_begin : Act → Bool
+is_begin (act.Begins job back) = true
+is_begin (act.Job job) = false
+is_begin (act.Passes back) = false
+is_begin (act.Order job) = false
+is_begin (act.Ask question) = false
+is_begin act.Probe = false
+is_begin act.Pause = false
+is_begin (act.Wait milliseconds) = false
+is_begin act.Again = false
+is_begin (act.NoWayBack fault) = false
+is_begin (act.Does found) = false
+is_begin (act.Leaves why) = false
+is_begin (act.Ended why) = false
+
+-- nothing of what the list named begins: it is as before, but for which step was asked
+abbrev pub asked_list : List → List → Bool → List
+asked_list was named begins = record was { stairs = record was.stairs { reading = begins || named.stairs.reading } }
+
+abbrev pub asked_of : Sequence → List → Bool → Sequence
+asked_of q named begins = with_list q (asked_list q.list named begins)
+
 -- nothing begins, and this order is told
 abbrev pub told_with : Sequence → Job → Sequence
 told_with q job = record q { told = Some job }
@@ -231,8 +254,10 @@ again_after q list = if list.begun == q.list.begun then with_list q list else be
 
 abbrev pub act_of : Guarded → Option Step → Option Step → Sequence → Turn → List → Act
 act_of g under ahead q turn.Again list = act.Again
-act_of g under ahead q (turn.Job job) list = gated_act q (gate g q under job list.stairs.under) job (act.Job job)
-act_of g under ahead q (turn.Begins job back) list = gated_act q (gate g q ahead job list.stairs.under) job (act.Begins job back)
+act_of g under ahead q (turn.Job job) list =
+    gated_act (asked_of q list false) (gate g q under job list.stairs.under) job (act.Job job)
+act_of g under ahead q (turn.Begins job back) list =
+    gated_act (asked_of q list true) (gate g q ahead job list.stairs.under) job (act.Begins job back)
 act_of g under ahead q (turn.Passes back) list = act.Passes back
 act_of g under ahead q (turn.NoWayBack fault) list = act.NoWayBack fault
 act_of g under ahead q turn.Reached list = reached_act q under ahead list
@@ -240,8 +265,10 @@ act_of g under ahead q (turn.Stops why) list = stopped_act (with_list q list) (e
 
 abbrev pub after_of : Guarded → Option Step → Option Step → Sequence → Turn → List → Sequence
 after_of g under ahead q turn.Again list = again_after q list
-after_of g under ahead q (turn.Job job) list = gated_after q under (gate g q under job list.stairs.under) job (job_after q job list)
-after_of g under ahead q (turn.Begins job back) list = gated_after q ahead (gate g q ahead job list.stairs.under) job (begun_with q list)
+after_of g under ahead q (turn.Job job) list =
+    gated_after (asked_of q list false) under (gate g q under job list.stairs.under) job (job_after q job list)
+after_of g under ahead q (turn.Begins job back) list =
+    gated_after (asked_of q list true) ahead (gate g q ahead job list.stairs.under) job (begun_with q list)
 after_of g under ahead q (turn.Passes back) list = begun_with q list
 after_of g under ahead q (turn.NoWayBack fault) list = with_list q list
 after_of g under ahead q turn.Reached list = reached_after q under ahead list

@@ -3,7 +3,7 @@
 ghost use Rattle.std.specs.Prelude.{◌≡◌, ◌<◌, None};
 ghost use Rattle.pm_host.specs.Image.{held};
 ghost use Rattle.pm_stairs.specs.Sequence.{one_more as spec_one_more};
-ghost use Rattle.pm_sequence.specs.Sequence.{act_of, after_of, ahead_act, ahead_after, begun_as, begun_with, due_by, due_in as spec_due_in, end_of as spec_end_of, found_at, gate as spec_gate, gated_act, gated_after, is_at as spec_is_at, is_good as spec_is_good, is_read_for as spec_is_read_for, job_after, judged_after, look_before, looked_act, looked_after, may_leave as spec_may_leave, needs_look as spec_needs_look, new_sequence, reached_act, reached_after, shown as spec_shown, stopped_act, stopped_after, verdict_by, verdict_in as spec_verdict_in, with_list, Acts, Steps};
+ghost use Rattle.pm_sequence.specs.Sequence.{act_of, after_of, ahead_act, ahead_after, asked_of, begun_as, begun_with, due_by, due_in as spec_due_in, end_of as spec_end_of, found_at, gate as spec_gate, gated_act, gated_after, is_at as spec_is_at, is_begin as spec_is_begin, is_good as spec_is_good, is_read_for as spec_is_read_for, job_after, judged_after, look_before, looked_act, looked_after, may_leave as spec_may_leave, needs_look as spec_needs_look, new_sequence, reached_act, reached_after, shown as spec_shown, stopped_act, stopped_after, verdict_by, verdict_in as spec_verdict_in, with_list, Acts, Steps};
 
 use crate::gate::{Gate, is_judged_order, is_order, is_untold, judge};
 use crate::look::{Look, LookAct};
@@ -265,13 +265,14 @@ impl Sequence {
 
     // What comes of a job that the list, which was this before, names of a step.
     fn gated(&mut self, step: &Option<Step>, gate: Gate, job: Job, act: Act, was: &List) -> Act
-        ensures act { result ≡ gated_act (with_list self.old was.now) gate job act }
-        ensures after { self.new ≡ gated_after (with_list self.old was.now) step.now gate job (begun_as self.old act job) }
+        ensures act { result ≡ gated_act (asked_of (with_list self.old was.now) self.old.list (spec_is_begin act)) gate job act }
+        ensures after { self.new ≡ gated_after (asked_of (with_list self.old was.now) self.old.list (spec_is_begin act)) step.now gate job
+            (begun_as self.old act job) }
     {
         match gate {
             Gate::Goes => {
                 if is_untold(self.asks, self.told, job) {
-                    self.list = *was;
+                    self.asked(was, is_begin(&act));
                     self.told = Some(job);
                     return Act::Order(job);
                 }
@@ -279,19 +280,28 @@ impl Sequence {
                 act
             }
             Gate::Looks => {
-                self.list = *was;
+                self.asked(was, is_begin(&act));
                 self.look_before(step);
                 Act::Again
             }
             Gate::Beyond(fault) => {
-                self.list = *was;
+                self.asked(was, is_begin(&act));
                 self.stops(End::Beyond(fault))
             }
             Gate::Unjudged => {
-                self.list = *was;
+                self.asked(was, is_begin(&act));
                 self.stops(End::Unjudged)
             }
         }
+    }
+
+    // Nothing of what the list named begins: it is as before, but for which step was asked.
+    fn asked(&mut self, was: &List, begins: bool)
+        ensures { self.new ≡ asked_of (with_list self.old was.now) self.old.list begins }
+    {
+        let reading = begins || self.list.stairs.reading;
+        self.list = *was;
+        self.list.stairs.reading = reading;
     }
 
     // A job begins, as the first order of a step or otherwise.
@@ -489,6 +499,13 @@ impl Sequence {
         }
         self.stops(End::Does(verdict))
     }
+}
+
+// Whether the first step ahead begins so.
+pub(crate) fn is_begin(act: &Act) -> bool
+    ensures { result ≡ spec_is_begin act.now }
+{
+    matches!(act, Act::Begins(..))
 }
 
 // Whether a step that stopped so may be left: a restart of its part ends the list.

@@ -28,7 +28,7 @@ use Rattle.pm_sequence.specs.declared.step.Step.{Step}
 use Rattle.pm_sequence.specs.Frames.{job_named, refusal_end, refused_act, refused_after, refused_with}
 use Rattle.pm_sequence.specs.Gate.{is_order, is_untold}
 use Rattle.pm_sequence.specs.Look.{look_act, look_after}
-use Rattle.pm_sequence.specs.Sequence.{Acts, Steps, act_of, after_of, again_after, ahead_act, ahead_after, begun_with, done_act, done_after, due_in, end_of, found_in, gate, gated_act, gated_after, is_good, job_after, judged_in, looked_act, looked_after, look_before, may_leave, needs_look, over_act, over_after, read_after, said_act, said_after, shown, step_act, step_after, stopped_act, stopped_after, told_with, verdict_in, with_list, with_look}
+use Rattle.pm_sequence.specs.Sequence.{Acts, Steps, act_of, after_of, again_after, ahead_act, ahead_after, asked_of, begun_with, done_act, done_after, due_in, end_of, found_in, gate, gated_act, gated_after, is_good, job_after, judged_in, looked_act, looked_after, look_before, may_leave, needs_look, over_act, over_after, read_after, said_act, said_after, shown, step_act, step_after, stopped_act, stopped_after, told_with, verdict_in, with_list, with_look}
 use Rattle.pm_sequence.specs.Sequence as does
 use Rattle.pm_sequence_laws.specs.Runs.{Mark, Orders, Does, Leaves, Places, marks_of, must, under_at}
 use Rattle.pm_sequence_laws.proofs.Counts.{Counts, counts, may_begin}
@@ -84,15 +84,17 @@ module _ (steps : Places) (was : Sequence) where
   stop-kind q why other begun shows looks lefts on = stop-by q why other begun shows looks lefts on (q.leaves && may_leave why)
 
   module _ (on : was.end ≡ None) where
-    look-kind : (step : Option Step) → Kind steps was (look_before was step) []
-    look-kind None = quiet refl (λ e. e) (λ e. e) refl (λ e. e)
-    look-kind (Some step) = quiet refl (λ e. e) (λ e. e) refl (λ e. e)
+    look-kind : (list : List_) (first : Bool) (step : Option Step) → Kind steps was (look_before (asked_of was list first) step) []
+    look-kind list first None = quiet refl (λ e. e) (λ e. e) refl (λ e. e)
+    look-kind list first (Some step) = quiet refl (λ e. e) (λ e. e) refl (λ e. e)
 
     -- an order is told, or begins
-    tell-by : (job : Job) (after : Sequence) (x : Act) → Kind steps was after (marks_of after.list.begun x) → (b : Bool)
-        → Kind steps was (cond b (told_with was job) after) (marks_of (cond b (told_with was job) after).list.begun (cond b (act.Order job) x))
-    tell-by job after x goes true = quiet refl (λ e. e) (λ e. e) refl (λ e. e)
-    tell-by job after x goes false = goes
+    tell-by : (list : List_) (first : Bool) (job : Job) (after : Sequence) (x : Act) → Kind steps was after (marks_of after.list.begun x)
+        → (b : Bool)
+        → Kind steps was (cond b (told_with (asked_of was list first) job) after)
+        (marks_of (cond b (told_with (asked_of was list first) job) after).list.begun (cond b (act.Order job) x))
+    tell-by list first job after x goes true = quiet refl (λ e. e) (λ e. e) refl (λ e. e)
+    tell-by list first job after x goes false = goes
 
     -- a job, where as many have begun
     abbrev order-after : List_ → Sequence
@@ -105,22 +107,27 @@ module _ (steps : Places) (was : Sequence) where
     job-by job list begun false = quiet begun (λ e. e) (λ e. e) refl (λ e. e)
 
     job-kind : (step : Option Step) (job : Job) (list : List_) → list.begun ≡ was.list.begun → (is : Gate)
-        → Kind steps was (gated_after was step is job (job_after was job list))
-        (marks_of (gated_after was step is job (job_after was job list)).list.begun (gated_act was is job (act.Job job)))
+        → Kind steps was (gated_after (asked_of was list false) step is job (job_after was job list))
+        (marks_of (gated_after (asked_of was list false) step is job (job_after was job list)).list.begun
+        (gated_act (asked_of was list false) is job (act.Job job)))
     job-kind step job list begun gate_is.Goes =
-        tell-by job (job_after was job list) (act.Job job) (job-by job list begun (is_order job)) (is_untold was.asks was.told job)
-    job-kind step job list begun gate_is.Looks = look-kind step
-    job-kind step job list begun (gate_is.Beyond fault) = stop-kind was (end.Beyond fault) (λ e. cc) refl (λ e. e) (λ e. e) refl on
-    job-kind step job list begun gate_is.Unjudged = stop-kind was end.Unjudged (λ e. cc) refl (λ e. e) (λ e. e) refl on
+        tell-by list false job (job_after was job list) (act.Job job) (job-by job list begun (is_order job)) (is_untold was.asks was.told job)
+    job-kind step job list begun gate_is.Looks = look-kind list false step
+    job-kind step job list begun (gate_is.Beyond fault) =
+        stop-kind (asked_of was list false) (end.Beyond fault) (λ e. cc) refl (λ e. e) (λ e. e) refl on
+    job-kind step job list begun gate_is.Unjudged = stop-kind (asked_of was list false) end.Unjudged (λ e. cc) refl (λ e. e) (λ e. e) refl on
 
     begin-kind : (step : Option Step) (job : Job) (back : WordStep) (list : List_) → Begun steps was (begun_with was list) → (is : Gate)
-        → Kind steps was (gated_after was step is job (begun_with was list))
-        (marks_of (gated_after was step is job (begun_with was list)).list.begun (gated_act was is job (act.Begins job back)))
+        → Kind steps was (gated_after (asked_of was list true) step is job (begun_with was list))
+        (marks_of (gated_after (asked_of was list true) step is job (begun_with was list)).list.begun
+        (gated_act (asked_of was list true) is job (act.Begins job back)))
     begin-kind step job back list begun gate_is.Goes =
-        tell-by job (begun_with was list) (act.Begins job back) (orders begun refl refl refl (no-end on)) (is_untold was.asks was.told job)
-    begin-kind step job back list begun gate_is.Looks = look-kind step
-    begin-kind step job back list begun (gate_is.Beyond fault) = stop-kind was (end.Beyond fault) (λ e. cc) refl (λ e. e) (λ e. e) refl on
-    begin-kind step job back list begun gate_is.Unjudged = stop-kind was end.Unjudged (λ e. cc) refl (λ e. e) (λ e. e) refl on
+        tell-by list true job (begun_with was list) (act.Begins job back) (orders begun refl refl refl (no-end on)) (is_untold was.asks was.told job)
+    begin-kind step job back list begun gate_is.Looks = look-kind list true step
+    begin-kind step job back list begun (gate_is.Beyond fault) =
+        stop-kind (asked_of was list true) (end.Beyond fault) (λ e. cc) refl (λ e. e) (λ e. e) refl on
+    begin-kind step job back list begun gate_is.Unjudged =
+        stop-kind (asked_of was list true) end.Unjudged (λ e. cc) refl (λ e. e) (λ e. e) refl on
 
     -- all of the newest step is over
     end-by : (n : ℕ) (b : Bool) → (n == 0) ≡ b → Some (cond b end.Reached (end.Left n)) ≡ reached → n ≡ 0

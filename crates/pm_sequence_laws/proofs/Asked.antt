@@ -30,7 +30,7 @@ use Rattle.pm_sequence.specs.declared.sequence.Sequence.{Sequence}
 use Rattle.pm_sequence.specs.declared.step.Step.{Step}
 use Rattle.pm_sequence.specs.Gate.{is_order, is_untold}
 use Rattle.pm_sequence.specs.Look.{counted, is_silent, look_act, look_after, probe_due}
-use Rattle.pm_sequence.specs.Sequence.{Acts, Steps, after_of, ahead_after, begun_with, done_after, due_in, gate, gated_after, is_at, is_good, job_after, judged_in, left_out, look_before, looking_at, may_leave, needs_look, read_after, said_after, stopped_after, told_with, verdict_in, with_list, with_look}
+use Rattle.pm_sequence.specs.Sequence.{Acts, Steps, after_of, ahead_after, asked_list, begun_with, done_after, due_in, gate, gated_after, is_at, is_good, job_after, judged_in, left_out, look_before, looking_at, may_leave, needs_look, read_after, said_after, stopped_after, told_with, verdict_in, with_list, with_look}
 use Rattle.pm_sequence.specs.Sequence as does
 use Rattle.pm_sequence_laws.specs.Read.{LimitsAreRead, WasRead}
 
@@ -48,16 +48,17 @@ module _ (q : Sequence) (unread : q.is_read ≡ false) where
   stop-read : (list : List) (why : End) → (stopped_after (with_list q list) why).is_read ≡ true → ⊥
   stop-read list why = either-read ⊥ (q.leaves && may_leave why) (left_out (with_list q list)) (record q { list = list; end = Some why }) never never
 
-  before-read : (step : Option Step) → (look_before q step).is_read ≡ true → ⊥
-  before-read None = never
-  before-read (Some step) = λ e. true≢false (sym e)
+  before-read : (list : List) (step : Option Step) → (look_before (with_list q list) step).is_read ≡ true → ⊥
+  before-read list None = never
+  before-read list (Some step) = λ e. true≢false (sym e)
 
-  gate-read : (step : Option Step) (job : Job) (after : Sequence) → (after.is_read ≡ true → ⊥) → (is : Gate)
-      → (gated_after q step is job after).is_read ≡ true → ⊥
-  gate-read step job after quiet gate_is.Goes = either-read ⊥ (is_untold q.asks q.told job) (told_with q job) after never quiet
-  gate-read step job after quiet gate_is.Looks = before-read step
-  gate-read step job after quiet (gate_is.Beyond fault) = stop-read q.list (end.Beyond fault)
-  gate-read step job after quiet gate_is.Unjudged = stop-read q.list end.Unjudged
+  gate-read : (list : List) (step : Option Step) (job : Job) (after : Sequence) → (after.is_read ≡ true → ⊥) → (is : Gate)
+      → (gated_after (with_list q list) step is job after).is_read ≡ true → ⊥
+  gate-read list step job after quiet gate_is.Goes =
+      either-read ⊥ (is_untold q.asks q.told job) (told_with (with_list q list) job) after never quiet
+  gate-read list step job after quiet gate_is.Looks = before-read list step
+  gate-read list step job after quiet (gate_is.Beyond fault) = stop-read list (end.Beyond fault)
+  gate-read list step job after quiet gate_is.Unjudged = stop-read list end.Unjudged
 
   and-read : (b : Bool) → (q.is_read && b) ≡ true → ⊥
   and-read b e = let same : (q.is_read && b) ≡ (false && b) = ap (λ (x : Bool). x && b) unread in true≢false (sym e ∙ same)
@@ -75,8 +76,10 @@ module _ (q : Sequence) (unread : q.is_read ≡ false) where
   turn-read : (g : Guarded) (under ahead : Option Step) (x : Turn) (list : List) → (after_of g under ahead q x list).is_read ≡ true → ⊥
   turn-read g under ahead turn.Again list = either-read ⊥ (list.begun == q.list.begun) (with_list q list) (begun_with q list) never never
   turn-read g under ahead (turn.Job job) list =
-      gate-read under job (job_after q job list) (either-read ⊥ (is_order job) _ (read_after q list) never never) (gate g q under job list.stairs.under)
-  turn-read g under ahead (turn.Begins job back) list = gate-read ahead job (begun_with q list) never (gate g q ahead job list.stairs.under)
+      gate-read (asked_list q.list list false) under job (job_after q job list)
+      (either-read ⊥ (is_order job) _ (read_after q list) never never) (gate g q under job list.stairs.under)
+  turn-read g under ahead (turn.Begins job back) list =
+      gate-read (asked_list q.list list true) ahead job (begun_with q list) never (gate g q ahead job list.stairs.under)
   turn-read g under ahead (turn.Passes back) list = never
   turn-read g under ahead (turn.NoWayBack fault) list = never
   turn-read g under ahead turn.Reached list = over-read list under ahead

@@ -1,7 +1,7 @@
 -- Which orders a sequence begins, case by case.
-use Rattle.std.proofs.Common.{◌≡◌, ℕ, Bool, true, false, cond, Option, Some, None, refl, sym, ◌∙◌, ap, subst}
+use Rattle.std.proofs.Common.{◌≡◌, ℕ, Bool, true, false, cond, Option, Some, None, is_some, refl, sym, ◌∙◌, ap, subst}
 use Rattle.std.specs.Ordering.{int_eq}
-use Rattle.std.specs.Prelude.{◌&&◌, ◌==◌, not}
+use Rattle.std.specs.Prelude.{◌&&◌, ◌==◌, ◌-◌, nat_lt, not}
 use Rattle.std.proofs.lemmas.Bool.{and_parts, eqb-true}
 use Rattle.std.proofs.lemmas.Bool.Decides.{Decides-int_eq}
 use Rattle.pm_table.specs.Cell.{same_cell}
@@ -31,7 +31,7 @@ use Rattle.pm_sequence.specs.declared.step.Step.{Step}
 use Rattle.pm_sequence.specs.Gate.{is_order, is_told, is_untold, order_gate, same_order, step_gate}
 use Rattle.pm_sequence.specs.Look.{look_act, look_after}
 use Rattle.pm_delivery.specs.declared.verdict.Verdict.{Verdict}
-use Rattle.pm_sequence.specs.Sequence.{Acts, Steps, act_of, after_of, ahead_act, done_act, due_in, found_at, found_in, gate, gated_act, gated_after, is_good, is_read_for, job_after, looked_act, may_leave, needs_look, over_act, read_gate, said_act, shown, step_act, stopped_act, told_with, verdict_in, with_list, with_look}
+use Rattle.pm_sequence.specs.Sequence.{Acts, Steps, act_of, after_of, ahead_act, asked_of, done_act, due_in, found_at, found_in, gate, gated_act, gated_after, is_good, is_read_for, job_after, looked_act, may_leave, needs_look, over_act, read_gate, said_act, shown, step_act, stopped_act, told_with, verdict_in, with_list, with_look}
 use Rattle.pm_sequence.specs.Sequence as does
 use Rattle.pm_sequence_laws.proofs.Listed.{either-list}
 use Rattle.pm_sequence_laws.specs.Judged.{IsDue, IsJudged, IsTold, OrdersAreJudged, OrdersAreTold}
@@ -116,41 +116,51 @@ data NamesSo (g : Guarded) (under ahead : Option Step) (q new : Sequence) : Act 
       → is_untold q.asks q.told job ≡ false → NamesSo g under ahead q new (act.Job job)
   a-begin : (job : Job) (back : WordStep) (list : List) → Turns g (shown q ahead) q.list (turn.Begins job back) list → new.list ≡ list
       → IsJudged g q ahead job list → is_untold q.asks q.told job ≡ false → NamesSo g under ahead q new (act.Begins job back)
-  an-order : (job : Job) → is_untold q.asks q.told job ≡ true → IsDue g under ahead q job → new ≡ told_with q job
-      → NamesSo g under ahead q new (act.Order job)
+  an-order : (job : Job) → is_untold q.asks q.told job ≡ true → IsDue g under ahead q new job → new.list.begun ≡ q.list.begun
+      → new.told ≡ Some job → NamesSo g under ahead q new (act.Order job)
   none : (said : Act) → is_named said ≡ false → NamesSo g under ahead q new said
+
+next-named : (b c : Bool) (x y : ℕ) → cond ((b && false) && c) x y ≡ y
+next-named true c x y = refl
+next-named false c x y = refl
 
 -- an order that may begin is told, or begins
 job-goes : (g : Guarded) (under ahead : Option Step) (q : Sequence) (job : Job) (list : List)
     → Turns g (shown q ahead) q.list (turn.Job job) list → IsJudged g q under job list → (b : Bool) → is_untold q.asks q.told job ≡ b
-    → NamesSo g under ahead q (cond b (told_with q job) (job_after q job list)) (cond b (act.Order job) (act.Job job))
-job-goes g under ahead q job list says judged true told = an-order job told (due.job list says judged) refl
+    → NamesSo g under ahead q (cond b (told_with (asked_of q list false) job) (job_after q job list)) (cond b (act.Order job) (act.Job job))
+job-goes g under ahead q job list says judged true told = an-order job told (due.job list says judged refl) refl refl
 job-goes g under ahead q job list says judged false told = a-job job list says (either-list _ _ _ list refl refl) judged told
 
 begin-goes : (g : Guarded) (under ahead : Option Step) (q : Sequence) (job : Job) (back : WordStep) (list : List)
     → Turns g (shown q ahead) q.list (turn.Begins job back) list → IsJudged g q ahead job list → (b : Bool) → is_untold q.asks q.told job ≡ b
-    → NamesSo g under ahead q (cond b (told_with q job) (does.begun_with q list)) (cond b (act.Order job) (act.Begins job back))
-begin-goes g under ahead q job back list says judged true told = an-order job told (due.begins list back says judged) refl
+    → NamesSo g under ahead q (cond b (told_with (asked_of q list true) job) (does.begun_with q list))
+    (cond b (act.Order job) (act.Begins job back))
+begin-goes g under ahead q job back list says judged true told =
+    an-order job told
+    (due.begins list back says judged refl
+    (next-named (is_some q.list.stairs.under) (nat_lt 0 q.list.begun) (q.list.begun - 1) q.list.begun)) refl refl
 begin-goes g under ahead q job back list says judged false told = a-begin job back list says refl judged told
 
 job-so : (g : Guarded) (under ahead : Option Step) (q : Sequence) (job : Job) (list : List) → Turns g (shown q ahead) q.list (turn.Job job) list
     → (is : Gate) → gate g q under job list.stairs.under ≡ is
-    → NamesSo g under ahead q (gated_after q under is job (job_after q job list)) (gated_act q is job (act.Job job))
+    → NamesSo g under ahead q (gated_after (asked_of q list false) under is job (job_after q job list))
+    (gated_act (asked_of q list false) is job (act.Job job))
 job-so g under ahead q job list says gate_is.Goes goes =
     job-goes g under ahead q job list says (judged g q under job list goes) (is_untold q.asks q.told job) refl
 job-so g under ahead q job list says gate_is.Looks goes = none act.Again refl
-job-so g under ahead q job list says (gate_is.Beyond fault) goes = none _ (stop-quiet q (end.Beyond fault))
-job-so g under ahead q job list says gate_is.Unjudged goes = none _ (stop-quiet q end.Unjudged)
+job-so g under ahead q job list says (gate_is.Beyond fault) goes = none _ (stop-quiet (asked_of q list false) (end.Beyond fault))
+job-so g under ahead q job list says gate_is.Unjudged goes = none _ (stop-quiet (asked_of q list false) end.Unjudged)
 
 begin-so : (g : Guarded) (under ahead : Option Step) (q : Sequence) (job : Job) (back : WordStep) (list : List)
     → Turns g (shown q ahead) q.list (turn.Begins job back) list
     → (is : Gate) → gate g q ahead job list.stairs.under ≡ is
-    → NamesSo g under ahead q (gated_after q ahead is job (does.begun_with q list)) (gated_act q is job (act.Begins job back))
+    → NamesSo g under ahead q (gated_after (asked_of q list true) ahead is job (does.begun_with q list))
+    (gated_act (asked_of q list true) is job (act.Begins job back))
 begin-so g under ahead q job back list says gate_is.Goes goes =
     begin-goes g under ahead q job back list says (judged g q ahead job list goes) (is_untold q.asks q.told job) refl
 begin-so g under ahead q job back list says gate_is.Looks goes = none act.Again refl
-begin-so g under ahead q job back list says (gate_is.Beyond fault) goes = none _ (stop-quiet q (end.Beyond fault))
-begin-so g under ahead q job back list says gate_is.Unjudged goes = none _ (stop-quiet q end.Unjudged)
+begin-so g under ahead q job back list says (gate_is.Beyond fault) goes = none _ (stop-quiet (asked_of q list true) (end.Beyond fault))
+begin-so g under ahead q job back list says gate_is.Unjudged goes = none _ (stop-quiet (asked_of q list true) end.Unjudged)
 
 turn-so : (g : Guarded) (under ahead : Option Step) (q : Sequence) (said : Turn) (list : List) → Turns g (shown q ahead) q.list said list
     → NamesSo g under ahead q (after_of g under ahead q said list) (act_of g under ahead q said list)
@@ -235,15 +245,14 @@ module _ (apart : CellsAreToldApart) where
 
   order-of : (g : Guarded) (under ahead : Option Step) (q new : Sequence) (job : Job) → NamesSo g under ahead q new (act.Order job)
       → (q.asks ≡ true) × IsTold g under ahead q new job
-  order-of g under ahead q new job (an-order job' untold due is) =
+  order-of g under ahead q new job (an-order job' untold due begun told) =
       let parts = untold-parts q.asks (is_order job) (is_told q.told job) untold in (
         parts.0,
         record {
           order = parts.1;
           due = due;
-          list = ap (λ (x : Sequence). x.list) is;
-          told = ap (λ (x : Sequence). x.told) is;
-          same = is;
+          begun = begun;
+          told = told;
         },
       )
   order-of g under ahead q new job (none said quiet) = cc

@@ -28,9 +28,9 @@ use Rattle.pm_sequence.specs.declared.sequence.Sequence.{Sequence}
 use Rattle.pm_sequence.specs.declared.step.Step.{Step}
 use Rattle.pm_sequence.specs.Gate.{is_order, is_untold}
 use Rattle.pm_sequence.specs.Look.{look_act, look_after}
-use Rattle.pm_sequence.specs.Sequence.{Acts, Steps, after_of, ahead_after, begun_with, done_after, due_in, gate, gated_after, is_good, job_after, judged_in, left_out, look_before, may_leave, needs_look, over_after, read_after, said_after, shown, stopped_after, told_with, verdict_in, with_list, with_look}
+use Rattle.pm_sequence.specs.Sequence.{Acts, Steps, after_of, ahead_after, asked_list, asked_of, begun_with, done_after, due_in, gate, gated_after, is_good, job_after, judged_in, left_out, look_before, may_leave, needs_look, over_after, read_after, said_after, shown, stopped_after, told_with, verdict_in, with_list, with_look}
 use Rattle.pm_sequence.specs.Sequence as does
-use Rattle.pm_sequence_laws.specs.Turned.{IsKept, ListGoes, SequencesTurn}
+use Rattle.pm_sequence_laws.specs.Turned.{IsKept, ListGoes, SequencesTurn, is_begin}
 use Rattle.pm_sequence_laws.specs.Turned as it
 
 -- one of two that have this list
@@ -77,6 +77,11 @@ module _ (g : Guarded) (ahead : Option Placed) (leaves_steps : Bool) where
   stopping old list new x turned (kept is) = saying old list new x turned is
   stopping old list new x turned (left leaves is) = it.says_and_leaves x list turned leaves is
 
+  asking : (old list new : List) (x : Turn) → Turns g ahead old x list → Stops leaves_steps (asked_list old list (is_begin x)) new
+      → ListGoes g ahead leaves_steps old new
+  asking old list new x turned (kept is) = it.asked x list turned is
+  asking old list new x turned (left leaves is) = it.asked_and_leaves x list turned leaves is
+
   either-goes : (old : List) (b : Bool) (x y : Sequence) → ListGoes g ahead leaves_steps old x.list → ListGoes g ahead leaves_steps old y.list
       → ListGoes g ahead leaves_steps old (cond b x y).list
   either-goes old true x y first second = first
@@ -84,13 +89,15 @@ module _ (g : Guarded) (ahead : Option Placed) (leaves_steps : Bool) where
 
 gate-so : (g : Guarded) (ahead : Option Placed) (q : Sequence) (step : Option Step) (job : Job) (after : Sequence) (list : List) (x : Turn)
     → Turns g ahead q.list x list → after.list ≡ list → (is : Gate)
-    → ListGoes g ahead q.leaves q.list (gated_after q step is job after).list
+    → ListGoes g ahead q.leaves q.list (gated_after (asked_of q list (is_begin x)) step is job after).list
 gate-so g ahead q step job after list x turned is gate_is.Goes =
-    either-goes g ahead q.leaves q.list (is_untold q.asks q.told job) (told_with q job) after (it.stays refl)
-    (saying g ahead q.leaves q.list list after.list x turned is)
-gate-so g ahead q step job after list x turned is gate_is.Looks = it.stays (before-list q step)
-gate-so g ahead q step job after list x turned is (gate_is.Beyond fault) = staying g ahead q.leaves q.list _ (stop-list q (end.Beyond fault))
-gate-so g ahead q step job after list x turned is gate_is.Unjudged = staying g ahead q.leaves q.list _ (stop-list q end.Unjudged)
+    either-goes g ahead q.leaves q.list (is_untold q.asks q.told job) (told_with (asked_of q list (is_begin x)) job) after
+    (it.asked x list turned refl) (saying g ahead q.leaves q.list list after.list x turned is)
+gate-so g ahead q step job after list x turned is gate_is.Looks = it.asked x list turned (before-list (asked_of q list (is_begin x)) step)
+gate-so g ahead q step job after list x turned is (gate_is.Beyond fault) =
+    asking g ahead q.leaves q.list list _ x turned (stop-list (asked_of q list (is_begin x)) (end.Beyond fault))
+gate-so g ahead q step job after list x turned is gate_is.Unjudged =
+    asking g ahead q.leaves q.list list _ x turned (stop-list (asked_of q list (is_begin x)) end.Unjudged)
 
 turn-so : (g : Guarded) (under ahead : Option Step) (q : Sequence) (x : Turn) (list : List) → Turns g (shown q ahead) q.list x list
     → ListGoes g (shown q ahead) q.leaves q.list (after_of g under ahead q x list).list

@@ -32,7 +32,7 @@ use Rattle.pm_sequence.specs.declared.sequence.Sequence.{Sequence}
 use Rattle.pm_sequence.specs.declared.step.Step.{Step}
 use Rattle.pm_sequence.specs.Gate.{is_order, is_untold}
 use Rattle.pm_sequence.specs.Look.{is_silent, look_act, look_after, probe_due}
-use Rattle.pm_sequence.specs.Sequence.{Acts, Steps, after_of, ahead_after, begun_with, due_in, found_in, gate, gated_after, job_after, left_out, look_before, looked_act, looking_at, may_leave, needs_look, over_after, read_after, said_act, stopped_after, told_with, verdict_in, with_list, with_look}
+use Rattle.pm_sequence.specs.Sequence.{Acts, Steps, after_of, ahead_after, asked_list, begun_with, due_in, found_in, gate, gated_after, job_after, left_out, look_before, looked_act, looking_at, may_leave, needs_look, over_after, read_after, said_act, stopped_after, told_with, verdict_in, with_list, with_look}
 use Rattle.pm_sequence.specs.Sequence as does
 use Rattle.pm_sequence_laws.specs.Read.{EarlierAnswersCount}
 use Rattle.pm_sequence_laws.proofs.Asked.{due-is}
@@ -67,20 +67,21 @@ module _ (under ahead : Option Step) where
         either-starts (q.leaves && may_leave why) (left_out (with_list q list)) (record q { list = list; end = Some why })
         (λ e. absurd (never phase.Steps refl e)) off
 
-    under-starts : (step : Option Step) → under ≡ step → Starts (look_before q step)
-    under-starts None is = off
-    under-starts (Some step) is = λ e. (step, (inl is, refl))
+    under-starts : (list : List) (step : Option Step) → under ≡ step → Starts (look_before (with_list q list) step)
+    under-starts list None is = off
+    under-starts list (Some step) is = λ e. (step, (inl is, refl))
 
-    ahead-starts : (step : Option Step) → ahead ≡ step → Starts (look_before q step)
-    ahead-starts None is = off
-    ahead-starts (Some step) is = λ e. (step, (inr is, refl))
+    ahead-starts : (list : List) (step : Option Step) → ahead ≡ step → Starts (look_before (with_list q list) step)
+    ahead-starts list None is = off
+    ahead-starts list (Some step) is = λ e. (step, (inr is, refl))
 
-    gate-starts : (step : Option Step) (job : Job) (after : Sequence) → Starts (look_before q step) → Starts after → (is : Gate)
-        → Starts (gated_after q step is job after)
-    gate-starts step job after looks goes gate_is.Goes = either-starts (is_untold q.asks q.told job) (told_with q job) after off goes
-    gate-starts step job after looks goes gate_is.Looks = looks
-    gate-starts step job after looks goes (gate_is.Beyond fault) = stop-starts q.list (end.Beyond fault)
-    gate-starts step job after looks goes gate_is.Unjudged = stop-starts q.list end.Unjudged
+    gate-starts : (list : List) (step : Option Step) (job : Job) (after : Sequence) → Starts (look_before (with_list q list) step)
+        → Starts after → (is : Gate) → Starts (gated_after (with_list q list) step is job after)
+    gate-starts list step job after looks goes gate_is.Goes =
+        either-starts (is_untold q.asks q.told job) (told_with (with_list q list) job) after off goes
+    gate-starts list step job after looks goes gate_is.Looks = looks
+    gate-starts list step job after looks goes (gate_is.Beyond fault) = stop-starts list (end.Beyond fault)
+    gate-starts list step job after looks goes gate_is.Unjudged = stop-starts list end.Unjudged
 
     next-starts : (list : List) (next : Option Step) → Starts (ahead_after (with_list q list) next)
     next-starts list None = off
@@ -96,10 +97,11 @@ module _ (under ahead : Option Step) where
     turn-starts turn.Again list =
         either-starts (list.begun == q.list.begun) (with_list q list) (begun_with q list) off off
     turn-starts (turn.Job job) list =
-        gate-starts under job (job_after q job list) (under-starts under refl)
+        gate-starts (asked_list q.list list false) under job (job_after q job list) (under-starts (asked_list q.list list false) under refl)
         (either-starts (is_order job) _ (read_after q list) off off) (gate g q under job list.stairs.under)
     turn-starts (turn.Begins job back) list =
-        gate-starts ahead job (begun_with q list) (ahead-starts ahead refl) off (gate g q ahead job list.stairs.under)
+        gate-starts (asked_list q.list list true) ahead job (begun_with q list) (ahead-starts (asked_list q.list list true) ahead refl) off
+        (gate g q ahead job list.stairs.under)
     turn-starts (turn.Passes back) list = off
     turn-starts (turn.NoWayBack fault) list = off
     turn-starts turn.Reached list = over-starts list under ahead

@@ -10,8 +10,7 @@ use Rattle.pm_rail.specs.declared.wanted.Wanted.{Wanted}
 use Rattle.pm_rail.specs.Orders.{plan_of}
 use Rattle.pm_rail.specs.Registers.{Wants}
 use Rattle.pm_stairs.specs.declared.step.WordStep.{WordStep}
-use Rattle.pm_stairs.specs.Steps.{noted}
-use Rattle.pm_stairs.specs.WayBack.{act_fault, checked, goal_at, lasting, plan_fault, way_back_fault, words_check}
+use Rattle.pm_stairs.specs.WayBack.{goal_at, lasting, plan_fault, way_back_fault}
 
 -- a plan by what is seen is one by the guard
 pub planned : {part p : PartRegisters} {s t : Summary} {l m : OutputLimits} → part ≡ p → s ≡ t → l ≡ m → (output : ℕ) (wants : Wants)
@@ -29,8 +28,3 @@ pub back-none : (g : Guarded) (back : WordStep) (wanted : Wanted) → nat_lt bac
     → goal_at g.host back.output back.act ≡ Some wanted → plan_fault g back.output wanted ≡ None → way_back_fault g back ≡ None
 unfolding way_back_fault
 back-none g back wanted small goal is = rw (small, goal, is) refl
-
--- what is said of a step in words by both faults
-pub words-checked : (g : Guarded) (step : WordStep) {fault back : Option PlanFault} → nat_lt step.output 8 ≡ true
-    → fault ≡ act_fault g step step.act → back ≡ way_back_fault g (noted g.host step) → checked fault back ≡ words_check g step
-words-checked g step small fault-is back-is = rw (fault-is, back-is, small) refl

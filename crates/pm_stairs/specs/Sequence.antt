@@ -179,13 +179,14 @@ has_begun q = is_some q.stairs.under && not q.stairs.reading
 abbrev pub step_stopped : Sequence → ℕ
 step_stopped q = if has_begun q && nat_lt 0 q.begun then q.begun - 1 else q.begun
 
--- the step that stopped is left
-abbrev pub left_under : Stairs → Stairs
-left_under stairs = record stairs { under = None; coming = None; reading = false }
-
-abbrev pub left_ahead : Stairs → Stairs
-left_ahead stairs = record stairs { coming = None; reading = false }
+-- The step that stopped is left: none is under way then, whether it had begun or not.
+abbrev pub left : Stairs → Stairs
+left stairs = record stairs { under = None; coming = None; reading = false }
 
 abbrev pub skipped : Sequence → Sequence
-skipped q = if has_begun q then record q { stairs = left_under q.stairs; is_free = false; is_warned = false }
-    else record q { stairs = left_ahead q.stairs; begun = one_more q.begun; is_free = false; is_warned = false }
+skipped q = record q {
+  stairs = left q.stairs;
+  begun = if has_begun q then q.begun else one_more q.begun;
+  is_free = false;
+  is_warned = false;
+}

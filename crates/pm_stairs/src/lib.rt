@@ -27,4 +27,4 @@ pub use sequence::{Placed, Sequence, Turn};
 pub use sight::Sight;
 pub use stairs::{Move, Stairs, Under};
 pub use step::{Act, Step, WordAct, WordStep};
-pub use way_back::{StepCheck, check, goal, way_back_fault};
+pub use way_back::{goal, way_back_fault};

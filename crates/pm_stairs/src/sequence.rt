@@ -346,15 +346,14 @@ impl Sequence {
         }
     }
 
-    /// The step that stopped is left: the next one goes on.
+    /// The step that stopped is left: the next one goes on. None is under way then, whether it had begun or not.
     pub fn skip(&mut self)
         ensures { self.new ≡ skipped self.old }
     {
-        if self.has_begun() {
-            self.stairs.under = None;
-        } else {
+        if !self.has_begun() {
             self.begun = one_more(self.begun);
         }
+        self.stairs.under = None;
         self.stairs.coming = None;
         self.stairs.reading = false;
         self.is_free = false;

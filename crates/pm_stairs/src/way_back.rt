@@ -1,82 +1,16 @@
-//! Whether a step, or the one that undoes it, would be refused.
+//! Whether the step that undoes another would be refused.
 
 ghost use Rattle.std.specs.Prelude.{◌≡◌, ◌<◌};
 ghost use Rattle.std.specs.Prelude.{None};
 ghost use Rattle.pm_host.specs.Image.{held};
 ghost use Rattle.pm_table.specs.Operation.{selected_register};
-ghost use Rattle.pm_stairs.specs.WayBack.{act_fault as spec_act_fault, checked as spec_checked, goal_at, lasting as spec_lasting, one_word as spec_one_word, plan_fault as spec_plan_fault, selected_at, way_back_fault as spec_way_back_fault, words_check, Checks};
+ghost use Rattle.pm_stairs.specs.WayBack.{goal_at, lasting as spec_lasting, one_word as spec_one_word, plan_fault as spec_plan_fault, selected_at, way_back_fault as spec_way_back_fault};
 
 use crate::sight::Sight;
-use crate::stairs::words_by;
-use crate::step::{Step, WordAct, WordStep, known_in};
-use pm_course::Refusal;
+use crate::step::{WordAct, WordStep, known_in};
 use pm_host::State;
 use pm_rail::{Plan, PlanFault, Wanted, next_order_in};
 use pm_table::{Cell, Operation, Reg};
-
-/// What is said of a step before anything of its list has begun.
-#[derive(Clone, Copy, Debug, PartialEq, Eq)]
-pub enum StepCheck {
-    /// Neither its plan nor that of its way back is refused by what is known.
-    Accepted,
-    /// Its plan is refused so.
-    Refused(Refusal),
-    /// The plan of its way back is refused so.
-    NoWayBack(PlanFault),
-}
-
-/// What is said of a step, by the format and the words that are known now. What isn't known is a refusal: P1, P4.
-pub fn check<S: Sight>(guard: &S, step: &Step) -> StepCheck
-    ensures { Checks (S.guarded guard.now) step.now result }
-{
-    let mut course = step.course(1);
-    course.course.survey.learned = true;
-    match words_by(guard, &course) {
-        Err(refusal) => StepCheck::Refused(refusal),
-        Ok(words) => check_words(guard, &step.with_words(words)),
-    }
-}
-
-// Whether the plan of a step in words or that of its way back would be refused.
-fn check_words<S: Sight>(guard: &S, step: &WordStep) -> StepCheck
-    ensures { result ≡ words_check (S.guarded guard.now) step.now }
-{
-    if 8 <= step.output {
-        return StepCheck::Accepted;
-    }
-    let back = step.noted(guard.state());
-    checked(act_fault(guard, step), way_back_fault(guard, &back))
-}
-
-// Why a step in words would be refused, by the words that are known now.
-fn act_fault<S: Sight>(guard: &S, step: &WordStep) -> Option<PlanFault>
-    requires { step.now.output < 8 }
-    ensures { result ≡ spec_act_fault (S.guarded guard.now) step.now step.now.act }
-{
-    let cell = Cell::Out(step.output, Reg::Operation);
-    match step.act {
-        WordAct::Sets(wanted) => plan_fault(guard, step.output, &wanted),
-        WordAct::Turns(_) => match known_in(guard.state(), cell) {
-            Some(_) => way_back_fault(guard, step),
-            None => Some(PlanFault::NotKnown(cell)),
-        },
-        WordAct::Nothing => None,
-    }
-}
-
-// What is said by both faults.
-fn checked(fault: Option<PlanFault>, back: Option<PlanFault>) -> StepCheck
-    ensures { result ≡ spec_checked fault back }
-{
-    match (fault, back) {
-        (Some(fault), _) => StepCheck::Refused(Refusal {
-            number: fault.number(),
-            register: fault.code(),
-        }),
-        (None, Some(fault)) => StepCheck::NoWayBack(fault),
-        (None, None) => StepCheck::Accepted,
-    }
-}
 
 /// Why the plan of a way back would be refused, by the words that are known as the step begins which it undoes: they are those that it
 /// leads to. What isn't known is no reason, since the way back reads it.

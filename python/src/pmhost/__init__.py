@@ -14,7 +14,7 @@ from .course import Course, CourseEnd, Job, Wanted
 from .delivered import Delivered, NotDelivered
 from .device import Device
 from .errors import (Differs, FrameRefused, HostRefused, LimitRefused, MarginRefused, MemoryRefused, NoFormat, NotDone, NumberRefused, OtherSource,
-                     PartRefused, PlanRefused, PmhostError, Refused, SetupRefused, Spent, Unknown)
+                     PartRefused, PlanRefused, PmhostError, Refused, SetupRefused, Spent, TrimRefused, Unknown)
 from .host import Host
 from .looks import Looks
 from .packets import Packet, code_request, pec, read_answer, read_block, read_plain, read_request, read_write
@@ -31,6 +31,6 @@ __all__ = [
     "ModelPart", "ModelPartBus", "NoBus", "NoFormat", "NoTransfer", "NotDelivered", "NotDone", "NumberRefused", "OtherSource",
     "Output", "Packet", "PartRefused", "PatientBus", "PlanRefused", "PmhostError", "RailHeard", "RailState", "Refused", "Rules", "Said", "Sending", "Sequence",
     "SequenceStep",
-    "SetupRefused", "Smbus2Bus", "Spent", "Step", "Transfers", "Unknown", "Verdict", "Voltage", "Wanted", "__version__", "code_request",
+    "SetupRefused", "Smbus2Bus", "Spent", "Step", "Transfers", "TrimRefused", "Unknown", "Verdict", "Voltage", "Wanted", "__version__", "code_request",
     "pec", "read_answer", "read_block", "read_plain", "read_request", "read_write",
 ]

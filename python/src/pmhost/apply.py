@@ -143,6 +143,8 @@ class Board:
     def learn_rail(self, rail: Rail) -> None:
         """Learns a rail's format."""
         part = self.on(rail)
+        if part.trims is not None:
+            part.trims.ask(rail.output)
         part.host.learn(rail.output)
         if part.run().kind != "learned":
             raise Stopped(f"{rail.name}: its format isn't known: {probe.why_not_learned(part, rail.output)}", rail.part, rail.output)

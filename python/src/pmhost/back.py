@@ -75,8 +75,10 @@ def read_first(part: Device, held: Held) -> str:
 
 def carried_out(part: Device, held: Held) -> str:
     """Carries the step back out: why it isn't reached."""
-    part.transfers = Transfers()
-    end, form = StepRun(part, held.step(), TRIES).carry_out(), part.host.format(held.output)
+    part.transfers, run = Transfers(), StepRun(part, held.step(), TRIES)
+    # What was held before isn't judged: it comes back, whatever the trim.
+    run.trims = None
+    end, form = run.carry_out(), part.host.format(held.output)
     if held.form is not None and form != held.form:
         return "its voltages have another format now"
     if end.is_well and all(only_word(part, held.output, register) == word for register, word in held.words.items()):

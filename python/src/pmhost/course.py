@@ -4,13 +4,13 @@ from __future__ import annotations
 import ctypes
 import functools
 from dataclasses import dataclass
-from typing import TYPE_CHECKING, Any, Iterable, Mapping, Optional, Union
+from typing import TYPE_CHECKING, Any, Mapping, Optional, Union
 
 from . import _library as at
 from ._library import library
 from .errors import Differs, NoFormat, OtherSource, PmhostError, Spent, accepted, name_of, refusal
-from .operation import ON, avsbus, margin_byte, selected_by
-from .values import CODES, NAMES, code_of, frame_bytes, whole
+from .operation import avsbus, margin_byte
+from .values import NAMES, code_of, frame_bytes, whole
 from .voltages import GivenVoltage, given_microvolts
 
 if TYPE_CHECKING:
@@ -105,11 +105,6 @@ class Course:
     def __init__(self, output: int, tries: int) -> None:
         self._image = at.CourseImage()
         self.output, self.tries = whole(output, 0, 7, "output"), whole(tries, 0, 0xFFFF, "tries")
-        # Whether it brings OPERATION to a byte that turns the output off, and by which registers it may command a voltage.
-        self.turns_off = False
-        self.goals: tuple[str, ...] = GOALS
-        # The margin that it is to, if the part acts on faults there.
-        self.guarded: Optional[str] = None
 
     @classmethod
     def survey(cls, output: int, tries: int = SURVEY_TRIES) -> Course:
@@ -123,7 +118,6 @@ class Course:
         """To words of voltages, as {"VOUT_COMMAND": 0x34CD, "VOUT_MAX": 0x3770}."""
         made, image = cls(output, tries), wanted_image(wanted)
         accepted(library.pm_course_words(REFERENCE(made._image), output, REFERENCE(image), tries))
-        made._aims_at(wanted)
         return made
 
     @classmethod
@@ -132,7 +126,6 @@ class Course:
         isn't below it. H5 of a register that is no voltage."""
         made, microvolts, code = cls(output, tries), given_microvolts(voltage), code_of(register)
         accepted(library.pm_course_microvolts(REFERENCE(made._image), output, code, microvolts, tries))
-        made._aims_at([code])
         return made
 
     @classmethod
@@ -140,26 +133,17 @@ class Course:
         """To a byte of OPERATION. One that turns the output off is ordered at once, before anything is read."""
         made = cls(output, tries)
         accepted(library.pm_course_power(REFERENCE(made._image), output, whole(byte, 0, 0xFF, "byte"), tries))
-        made.turns_off = byte < ON
         return made
 
     @classmethod
     def margin(cls, output: int, side: str, tries: int = TRIES, ignore_faults: bool = False) -> Course:
         """To the margin `high` or `low`, by OPERATION A8h or 98h, at which the part acts on faults; to A4h or 94h with `ignore_faults`."""
-        byte = margin_byte(side, ignore_faults)
-        made = cls.power(output, byte, tries)
-        made.guarded = None if ignore_faults else selected_by(byte)
-        return made
-
-    def _aims_at(self, registers: Iterable[str | int]) -> None:
-        """It is to words or voltages of these registers only."""
-        self.goals = tuple(name for name in GOALS if CODES[name] in map(code_of, registers))
+        return cls.power(output, margin_byte(side, ignore_faults), tries)
 
     def want(self, register: str | int, voltage: GivenVoltage) -> None:
         """A voltage is wanted of a register of a course to words or voltages, in the place of what was wanted of it. H5 of a register that
         is no voltage."""
         accepted(library.pm_course_want(REFERENCE(self._image), code_of(register), given_microvolts(voltage)))
-        self._aims_at([*self.goals, register])
 
     def accept(self, host: Host, voltage: GivenVoltage) -> None:
         """For parts that round: the word that a register holds is wanted in the place of what was, and the course begins anew, by the tries
@@ -239,13 +223,12 @@ class Course:
 
     def load(self, memory: bytes) -> None:
         """It is what it was when these bytes were saved."""
-        self._image, self.goals = at.CourseImage.from_buffer_copy(memory), GOALS
+        self._image = at.CourseImage.from_buffer_copy(memory)
 
     def copy(self) -> Course:
         """Another course, which stands if this one does."""
         other = Course(self.output, self.tries)
         other.load(self.save())
-        other.turns_off, other.goals, other.guarded = self.turns_off, self.goals, self.guarded
         return other
 
     # ---- Its end ----

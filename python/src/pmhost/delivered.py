@@ -20,6 +20,8 @@ STATUS = ("STATUS_VOUT", "STATUS_IOUT", "STATUS_INPUT", "STATUS_TEMPERATURE")
 LIMITS = ("VOUT_OV_FAULT_LIMIT", "VOUT_OV_WARN_LIMIT", "VOUT_UV_WARN_LIMIT", "VOUT_UV_FAULT_LIMIT")
 # The fault limit of a margin, and how near it may be to the margin, in thousandths of what is commanded.
 MARGIN_LIMITS, NEAR = {"VOUT_MARGIN_HIGH": "VOUT_OV_FAULT_LIMIT", "VOUT_MARGIN_LOW": "VOUT_UV_FAULT_LIMIT"}, 10
+# What a rail that is on its way may do, so that it is given its time.
+SLOW = ("no power good", "power good alone", "outside", "beyond")
 # Verdicts that are bad of a rail that has to deliver alone.
 NOT_ON = ("commanded off", "not known to be on", "went off")
 # The bits of STATUS_WORD that say a fault or point to one.
@@ -42,7 +44,7 @@ class Delivered:
     """What a rail does, by its last answers. `is_bad` says that it doesn't do what it is to, or isn't known to. `is_off` says that it was
     turned off; `lacks` which of STATUS_WORD and READ_VOUT the part doesn't have, as the caller says, and `found` which it was found to lack;
     `limits` are those that it is outside of; `status` is STATUS_WORD, `before` what it was before the first order; `registers` has the status
-    registers that were read, `notes` what is said of limits."""
+    registers that were read, `notes` what is said of limits, `trims` what of VOUT_TRIM and VOUT_CAL_OFFSET."""
 
     output: int
     verdict: Verdict
@@ -57,6 +59,7 @@ class Delivered:
     registers: dict[str, int] = field(default_factory=dict)
     power_good_on: Optional[int] = None
     notes: list[str] = field(default_factory=list)
+    trims: list[str] = field(default_factory=list)
 
     @property
     def _needed(self) -> tuple[str, ...]:
@@ -84,8 +87,11 @@ class Delivered:
 
     @property
     def why_told(self) -> str:
-        """The same for a line of the command, whose user has `why`."""
-        return f"{self.why}: `why` says more" if self.is_bad and self.verdict.kind != "not known" else self.why
+        """The same for a line of the command, whose user has `why`, and `--settle` if waiting may help."""
+        if not self.is_bad or self.verdict.kind == "not known":
+            return self.why
+        has_waited = self.how.settle and self.verdict.kind in SLOW
+        return f"{self.why}{f' after {self.how.settle / 1000:g}s, `--settle` gives it longer' if has_waited else ''}: `why` says more"
 
     @property
     def why(self) -> str:
@@ -106,13 +112,13 @@ class Delivered:
     @property
     def said(self) -> str:
         """What it does, in words that stand by themselves."""
-        return "; ".join([self._verdict_words(), *self.notes])
+        return "; ".join([self._verdict_words(), *self.notes, *self.trims])
 
     @property
     def words(self) -> str:
         """The same for the end of a line that says what is commanded."""
         has_none = self.verdict.kind in ("commanded off", "not known to be on")
-        said = "; ".join(self.notes) if has_none else self.said
+        said = "; ".join([*self.notes, *self.trims]) if has_none else self.said
         return f"{', ' if self.verdict.kind.startswith('delivers') else '; '}{said}" if said else ""
 
     def _verdict_words(self) -> str:

@@ -16,6 +16,7 @@ from .sequence import WHY, Said, SequenceStep
 from .states import Bus, Known, RailState, Step
 from .step_run import StepRun
 from .transfers import Transfers
+from .trims import Trims
 from .values import CODES, LOOKED_AT, NAMES, code_of
 from .voltages import GivenVoltage, Voltage, given_microvolts
 
@@ -50,7 +51,8 @@ class Device:
 
     `limits` gives outputs a least and a most: no order beyond them leaves this host, and `set_limits` can narrow them. {1: None} says that
     output 1 has none; an output that isn't named is ordered no voltage (L8). `lacks` names registers that the part doesn't have, as
-    ("VOUT_MIN", "READ_VOUT"). A voltage is a text with its unit, as "3.3V" or "850mV", or a Voltage, which is what is given back.
+    ("VOUT_MIN", "READ_VOUT"); `trims` says that each output has VOUT_TRIM and VOUT_CAL_OFFSET. A voltage is a text with its unit, as "3.3V" or
+    "850mV", or a Voltage, which is what is given back.
 
     An order, a survey and a margin look at the rail after their end, and raise NotDelivered if it doesn't deliver what it is commanded
     to; `delivered` has what was read last. `looks` says how; None doesn't look.
@@ -60,7 +62,7 @@ class Device:
 
     def __init__(self, bus: Bus, address: int, outputs: int = 1, passes: int = 3,
                  limits: Mapping[int, tuple[GivenVoltage, GivenVoltage] | None] | None = None, lacks: Iterable[str | int] = (),
-                 looks: Looks | None = Looks()) -> None:
+                 looks: Looks | None = Looks(), trims: bool = False) -> None:
         for name in ("write", "read"):
             if not callable(getattr(bus, name, None)):
                 raise TypeError(f"bus: {bus!r} has no call {name}: see pmhost.Bus")
@@ -73,6 +75,7 @@ class Device:
         # Whether it was said that limits gave no good answer.
         self.is_silence_told = False
         self.lacks = frozenset(str(it) if it in LOOKED_AT else NAMES[code_of(it)] for it in lacks)
+        self.trims = Trims(bus, self.host, self.lacks) if trims else None
         for output, pair in dict(limits or {}).items():
             if pair is None:
                 self.no_limits(output)
@@ -220,9 +223,11 @@ class Device:
         `after_order` hears how it ended.
 
         Raises how it ended, after the words of a job, if it has not reached what is wanted: a Refused, Differs, NoFormat, OtherSource or
-        Spent; and NotDelivered. If an order differs and the held word is `accept` near, and within the limits, that is wanted instead. A
-        margin at which the part acts on faults is judged by its own fault limit, as `margin` says, if it `is_guarded`."""
+        Spent; and NotDelivered, and TrimRefused of a part with trims. If an order differs and the held word is `accept` near, and within the limits,
+        that is wanted instead. A margin at which the part acts on faults is judged by its own fault limit, as `margin` says, if it `is_guarded`."""
         self.transfers, self.delivered = Transfers(), None
+        if self.trims is not None:
+            self.trims.forget()
         step = replace(step, host=0, looks=step.looks or self.looks)
         run = StepRun(self, step, tries, before_order)
         run.guarded = run.guarded if is_guarded else None

@@ -137,20 +137,36 @@ class NotDone(PmhostError):
         return type(self), (str(self), self.kind, self.word, self.possible, self.register)
 
 
-class MarginRefused(PmhostError):
-    """A margin at which the part acts on faults, and whose own fault limit, `register`, isn't known to be 1 % of what is commanded away: nothing
-    was ordered. `said` says why, and `advice` what to do, with the words that ignore faults."""
+class RailRefused(PmhostError):
+    """An order that isn't begun, since its rail may trip or leave its limits, by `register`. `said` says why, and `advice` what to do, with the words
+    that order it all the same."""
+
+    words = ""
 
     def __init__(self, register: str, said: str, advice: str) -> None:
         self.register, self.said, self.advice = register, said, advice
-        super().__init__(f"{said}: {self.do('ignore_faults=True')}")
+        super().__init__(f"{said}: {self.do(self.words)}")
 
     def __reduce__(self) -> tuple[object, ...]:
         return type(self), (self.register, self.said, self.advice)
 
-    def do(self, ignoring: str) -> str:
-        """What to do, with these words for what ignores faults."""
-        return self.advice.format(ignoring)
+    def do(self, words: str) -> str:
+        """What to do, with these words for what orders it all the same."""
+        return self.advice.format(words)
+
+
+class MarginRefused(RailRefused):
+    """A margin at which the part acts on faults, and whose own fault limit, `register`, isn't known to be 1 % of what is commanded away: nothing
+    was ordered."""
+
+    words = "ignore_faults=True"
+
+
+class TrimRefused(RailRefused):
+    """A voltage that lies outside the limits together with VOUT_TRIM, which READ_VOUT doesn't show to correct, or that isn't known: nothing was
+    ordered."""
+
+    words = 'Looks(trim="tell")'
 
 
 class Differs(NotDone):

@@ -6,6 +6,7 @@
     outputs = 2
     model = "LTC3880"         # MFR_MODEL has to begin with this
     lacks = ["VOUT_MIN"]      # registers that the part doesn't have
+    trims = true              # each output has VOUT_TRIM and VOUT_CAL_OFFSET
     ready = "EF:60"           # the part is ready if its byte EFh has these bits
     protect = "80"            # WRITE_PROTECT, written last; lifted if the part holds just this
 
@@ -23,7 +24,7 @@ from .values import LOOKED_AT, MISSABLE
 ADDRESS = re.compile(r"(?:0[xX])?([0-9A-Fa-f]{2})[hH]?\Z")
 NAME = re.compile(r"[A-Za-z0-9_.+-]{1,32}\Z")
 MODEL_BUS = "model"
-KEYS = ("bus", "address", "outputs", "model", "lacks", "ready", "protect")
+KEYS = ("bus", "address", "outputs", "model", "lacks", "trims", "ready", "protect")
 READY = re.compile("([0-9A-Fa-f]{2}):([0-9A-Fa-f]{2})")
 PROTECTIONS = ("80", "40", "20")
 MODEL = re.compile(r"[ -~]{1,32}\Z")
@@ -38,7 +39,7 @@ class BadRails(Exception):
 class BoardPart:
     """A part: its bus, `model` or the number of one of Linux, and its address, which are empty and 0 if the command line has them;
     how many outputs it has, what its MFR_MODEL begins with, the registers that it doesn't have, the byte and its bits by which it is
-    ready, and what WRITE_PROTECT is to be."""
+    ready, what WRITE_PROTECT is to be, and whether its outputs have VOUT_TRIM and VOUT_CAL_OFFSET."""
 
     name: str
     bus: str
@@ -48,6 +49,7 @@ class BoardPart:
     lacks: tuple[str, ...] = ()
     ready: tuple[int, int] | None = None
     protect: int | None = None
+    trims: bool = False
 
     @property
     def place(self) -> str:
@@ -120,7 +122,14 @@ def part_of(name: str, table: object) -> BoardPart:
     if "model" in table and (not isinstance(model, str) or not MODEL.match(model)):
         raise BadRails(f'{at}.model: give what MFR_MODEL begins with, as "LTC3880"')
     return BoardPart(name, str(bus), found, outputs, model, lacks_of(f"{at}.lacks", table.get("lacks", [])), ready_in(at, table),
-                     protect_of(f"{at}.protect", table.get("protect")))
+                     protect_of(f"{at}.protect", table.get("protect")), trims_of(f"{at}.trims", table.get("trims", False)))
+
+
+def trims_of(at: str, has_trims: object) -> bool:
+    """Whether a part's outputs have VOUT_TRIM and VOUT_CAL_OFFSET."""
+    if not isinstance(has_trims, bool):
+        raise BadRails(f"{at}: give true or false")
+    return has_trims
 
 
 def protect_of(at: str, byte: object) -> int | None:

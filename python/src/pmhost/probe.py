@@ -9,6 +9,7 @@ from .device import Device
 from .reads import TRIES, Read, Reads
 from .states import Bus
 from .transfers import Transfers
+from .trims import REGISTERS as TRIMS
 from .values import CODES, Format
 from .zeros import NotBelieved, guard
 
@@ -47,7 +48,7 @@ class FoundOutput:
 class Found:
     """What a part has. `unit` has the blocks that say which unit it is, of those that it has. `verdict` is why the host can't drive a part whose outputs couldn't be looked at; `page` says whether
     the part looks at the page, `faults` has every other reason why the host can't drive it, `doubt` why that isn't known,
-    `writes` what became of the two writes with a fault, `is_pec_optional` says that the part takes one without its packet error code and none
+    `has_trims` whether each output has VOUT_TRIM and VOUT_CAL_OFFSET, `writes` what became of the two writes with a fault, `is_pec_optional` says that the part takes one without its packet error code and none
     with a wrong one, `late` and `high` are those of `Reads`."""
 
     verdict: str = ""
@@ -57,6 +58,7 @@ class Found:
     outputs: list[FoundOutput] = field(default_factory=list)
     protect: Read = Read(None)
     page: str = ""
+    has_trims: bool = False
     writes: dict[str, str] = field(default_factory=dict)
     is_pec_optional: bool = False
     faults: list[str] = field(default_factory=list)
@@ -105,6 +107,7 @@ class Probe:
         if found.outputs:
             blocks = {name: reads.block(code) for name, code in UNIT_BLOCKS.items()}
             found.unit = {name: read.payload for name, read in blocks.items() if read.payload is not None}
+            found.has_trims = all(reads.code(code, 2, each.number).payload is not None for each in found.outputs for code in TRIMS.values())
         return found
 
     def _no_page(self) -> Read:

@@ -7,7 +7,7 @@ from typing import TYPE_CHECKING
 from .course import Job
 from .delivered import beyond_of
 from .device import FORMAT_UNKNOWN
-from .errors import SAYINGS, PlanRefused, Refused, refusal
+from .errors import SAYINGS, PlanRefused, Refused, TrimRefused, refusal
 from .rails import SETTINGS, Rail
 from .rounded import near_word
 from .sequence import Said, SequenceStep
@@ -68,6 +68,7 @@ class RailRun:
         self.may_order, self.is_judged = False, self.accept is None
         step = SequenceStep.sets(0, rail.output, board.wanted(rail), board.looks_of(rail) if board.may_write and board.looks else None)
         self.run = StepRun(self.part, replace(step, before=board.before(rail)), TRIES, self.before)
+        self.run.judged = board.may_write
         self.end: Said | None = None
 
     @property
@@ -96,6 +97,10 @@ class RailRun:
         except NotBelieved as doubt:
             self.part.restart()
             raise self.unheard(PROTECT, str(doubt)) from None
+        except TrimRefused as fault:
+            board.surveys[rail.name] = commanded(self.part, rail.output)
+            board.seen(rail, None, None)
+            raise Stopped(f"{rail.name}: {fault.said}") from None
         if end.kind == "nobody":
             raise self.unheard("VOUT_MODE", end.fault)
         self.end = end

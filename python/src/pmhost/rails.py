@@ -29,7 +29,7 @@ from typing import Callable, TypeVar
 
 from . import rail_order, voltages
 from .looks import Looks
-from .parts import MOST_OUTPUTS, NAME, BadRails, BoardPart, is_whole, lacks_of, part_of, protect_of
+from .parts import MOST_OUTPUTS, NAME, BadRails, BoardPart, is_whole, lacks_of, part_of, protect_of, trims_of
 
 # The settings of a rail, by their registers.
 SETTINGS = {"volts": "VOUT_COMMAND", "margin_high": "VOUT_MARGIN_HIGH", "margin_low": "VOUT_MARGIN_LOW", "max": "VOUT_MAX",
@@ -41,7 +41,7 @@ KEYS = ("output", "limits", "on", "accept", *SETTINGS, *rail_order.KEYS, *rail_o
 MOST_BYTES = 1 << 20
 LIMITS_EXAMPLE = '["0.85V", "0.95V"]'
 # What a file without a table of parts says of its one part.
-OF_ONE_PART = ("outputs", "lacks", "protect")
+OF_ONE_PART = ("outputs", "lacks", "trims", "protect")
 # The one part of a file that has no table of parts.
 ONLY = ""
 
@@ -122,7 +122,7 @@ def judged(found: dict[str, object]) -> Rails:
     faults: list[str] = []
     for key in found:
         if key not in (*OF_ONE_PART, "parts", "rails"):
-            raise BadRails(f"{key}: there are `outputs`, `lacks`, `protect`, `[parts.NAME]` and `[rails.NAME]`")
+            raise BadRails(f"{key}: there are `outputs`, `lacks`, `trims`, `protect`, `[parts.NAME]` and `[rails.NAME]`")
     parts = all_of("parts", found, part_of, "no parts: give a table for each, as [parts.u12]", faults) if "parts" in found else None
     rails = all_of("rails", found, lambda name, table: rail_of(name, table, parts is not None),
                    "no rails: give a table for each, as [rails.core]", faults)
@@ -162,7 +162,7 @@ def only_part(found: dict[str, object], rails: list[Rail], faults: list[str]) ->
         return {}
     try:
         return {ONLY: BoardPart(ONLY, "", 0, outputs, "", lacks_of("lacks", found.get("lacks", [])), None,
-                                protect_of("protect", found.get("protect")))}
+                                protect_of("protect", found.get("protect")), trims_of("trims", found.get("trims", False)))}
     except BadRails as fault:
         faults.append(str(fault))
         return {}

@@ -47,8 +47,8 @@ class Reads:
     """The bus of a part, over which nothing but FFh is no answer. `late` counts the requests that were answered at a second
     or third try only, `high` the answers of nothing but FFh."""
 
-    def __init__(self, bus: Bus, address: int) -> None:
-        self.bus, self.address = bus, address
+    def __init__(self, bus: Bus, address: int, tries: int = TRIES) -> None:
+        self.bus, self.address, self.tries = bus, address, tries
         self.late = self.high = 0
         self._unanswered: bytes | None = None
 
@@ -119,9 +119,9 @@ class Reads:
         return bytes([self.address << 1 | 1])
 
     def _try(self, request: bytes, count: int, payload: Callable[[bytes], bytes]) -> Read:
-        """What three tries give; `payload` judges what came after the read address, which stands in front."""
+        """What the tries give; `payload` judges what came after the read address, which stands in front."""
         last, why = b"", ""
-        for _ in range(TRIES):
+        for _ in range(self.tries):
             try:
                 came = self.read(request, count)
             except OSError as fault:

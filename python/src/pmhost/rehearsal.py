@@ -35,6 +35,7 @@ def unprotected(part: Device) -> Device:
     """A part as if its WRITE_PROTECT were 00, by a copy of its host that reads all anew. It is for what orders nothing."""
     found = Device(Unprotected(part.bus, part.host.address), part.host.address, 8, lacks=part.lacks, looks=part.looks)
     found.host = part.host.copy()
+    found.trims = part.trims
     found.host.restart()
     return found
 

@@ -300,8 +300,8 @@ class Sequence:
         return {LOOKED[code]: held for code, held in ((found.fault, found.fault_word), (found.warning, found.warning_word)) if code}
 
     def way_back(self) -> list[SequenceStep]:
-        """The steps that undo those that have begun, the newest first: those of a list of its own."""
-        return [SequenceStep.of(each.back) for each in self._records[: self.begun]][::-1]
+        """The steps that undo those that have begun, the newest first: those of a list of its own. One that was left before it began has none."""
+        return [SequenceStep.of(each.back) for each in self._records[: self.begun] if each.back.kind][::-1]
 
     def next(self) -> Sending | Said:
         """What comes next: a frame, or what the list says. NoStep and H4 if a step has what there isn't; then nothing changes."""

@@ -57,17 +57,20 @@ class StepLists:
 class StepRun:
     """A step of a part: a list of its own, or the one at a place of these lists. `before_order` hears of each order before its first frame: if it
     raises, or answers False, the order hasn't begun. `end` is how it ended, `delivered` what its rail was seen to do last, `held` has the words
-    that were taken in the place of those that were wanted. A margin is judged by its own fault limit if it is `guarded`."""
+    that were taken in the place of those that were wanted. A margin is judged by its own fault limit if it is `guarded`, and an order by the trim of
+    its output if the part has trims, unless that isn't `judged`."""
 
     def __init__(self, part: Device, step: SequenceStep, tries: int, before_order: Optional[Callable[[Job], object]] = None,
                  lists: Optional[StepLists] = None, place: int = 0, rules: Rules = Rules()) -> None:
         self.part, self.tries, self.before_order, self.place = part, tries, before_order, place
         self.step, self.is_alone = step.lacking(part.lacks), lists is None
         self.guarded = selected_by(step.byte) if step.act == "turns" and step.byte in MARGINS.values() else None
-        asks = before_order is not None or self.guarded is not None
+        self.trims = part.trims if not step.turns_off else None
+        asks = before_order is not None or self.guarded is not None or self.trims is not None
         self.lists = lists or StepLists([(part, self.step)], tries, replace(rules, asks=asks))
         # The order before which it stands.
         self._due: Optional[Said] = None
+        self.judged = True
         self.list, self.end, self.delivered, self.notes, self.held = self.lists.list, Said("", 0), None, list[str](), dict[str, int]()
 
     delivered: Optional[Delivered]
@@ -98,8 +101,8 @@ class StepRun:
     def carry_out(self, after_order: Optional[Callable[[Job, Step], object]] = None, ask: Optional[Callable[[], str]] = None,
                   accept: Optional[int] = None) -> Said:
         """Goes on to its end, or until `before_order` stops it. If an order differs and the held word is `accept` microvolts near, and within
-        the limits, the step begins anew to that word, once a register. `ask` is that of `Sequence.run`. MarginRefused, and NotBelieved if zeros
-        of WRITE_PROTECT aren't believed."""
+        the limits, the step begins anew to that word, once a register. `ask` is that of `Sequence.run`. MarginRefused, TrimRefused, and NotBelieved if
+        zeros of WRITE_PROTECT aren't believed."""
         def after(order: Job, step: Step) -> object:
             held = self._near(order.register, accept) if step.kind == "differs" else None
             if held is not None:
@@ -124,6 +127,8 @@ class StepRun:
         """The same, up to an order that differs and is near."""
         if self._due is not None and self._asked(self._due) is False:
             return
+        if self.trims is not None:
+            self.trims.ask(self.step.output, self._due is None)
         self.list = self.lists.at(self.place)
         self.end = self.list.run(self.lists.buses, self._told, after_order, self.part.transfers, ask)
         if self.end.kind in ("does", "fails"):
@@ -135,6 +140,8 @@ class StepRun:
         if said.kind == "order":
             if self.guarded is not None and self.step.looks is not None:
                 judge_margin(self.guarded, self.step, self.list.looked_at, self.part.host)
+            if self.trims is not None and self.judged:
+                self.trims.judge(self.step, self.part.host, self.step.looks)
             return self._asked(said)
         if said.kind == "does" and self.is_alone:
             self.see(said)
@@ -156,6 +163,8 @@ class StepRun:
         judge = functools.partial(self.list.judge, self.place - self.lists.first)
         self.notes += [note for note in limit_notes(self.step, judge, self.part.host) if note not in self.notes]
         self.delivered = delivered_of(said, self.step, self._heard, self.part.host, self.notes)
+        if self.trims is not None:
+            self.delivered.trims = self.trims.notes(self.step, self.part.host, self.delivered.verdict.microvolts)
 
 
 def look_at(part: Device, output: int, looks: Looks, before: Heard = Heard(), must: bool = False) -> Delivered:

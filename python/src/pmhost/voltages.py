@@ -98,3 +98,8 @@ def shown(number: int | None) -> str:
         return "beyond 10^9 V"
     whole, rest = divmod(abs(number), 1_000_000)
     return f"{'-' * (number < 0)}{whole}{f'.{rest:06d}'.rstrip('0').rstrip('.')}V"
+
+
+def signed(number: int) -> str:
+    """Microvolts that are added, in millivolts with their sign; few ones as they are."""
+    return f"{number / 1000:+.1f}mV" if abs(number) >= 100 else f"{number:+}uV"

@@ -44,7 +44,7 @@ class Place:
 @dataclass
 class Findings:
     """What the registers of an output say, by their names, what it commands, and what it delivers if it is commanded on. `differs` says that
-    VOUT_COMMAND holds another word than the file's, and none that its `accept` takes."""
+    VOUT_COMMAND holds another word than the file's, and none that its `accept` takes; `trims` is what is said of VOUT_TRIM and VOUT_CAL_OFFSET."""
 
     place: Place
     state: Commanded
@@ -52,6 +52,7 @@ class Findings:
     delivered: Delivered | None = None
     differs: bool = False
     lacks: frozenset[str] = frozenset()
+    trims: list[str] = field(default_factory=list)
 
     def bits(self, name: str) -> list[str]:
         """The bits that are 1 of a status register; none if it wasn't read."""
@@ -75,7 +76,8 @@ class Findings:
 def findings(part: Device, output: int, looks: Looks | None = None, place: Place | None = None) -> Findings:
     """Reads all that says why a rail isn't as it should be, which is given as long as `looks` says to deliver."""
     state, delivered = looked_at(part, output, looks or Looks())
-    seen = Findings(place or Place(str(output)), state, delivered=delivered if state.is_on else None, lacks=frozenset(LOOKED_AT) & part.lacks)
+    seen = Findings(place or Place(str(output)), state, delivered=delivered if state.is_on else None, lacks=frozenset(LOOKED_AT) & part.lacks,
+                    trims=[] if delivered is None else delivered.trims)
     form = part.host.format(output)
 
     def take(name: str) -> Reading:
@@ -201,8 +203,9 @@ def unlike_limits(seen: Findings) -> str:
     if delivered is None or delivered.verdict.kind != "outside" or state.limits is None:
         return ""
     least, most = map(voltages.shown, state.limits)
-    return (f"{seen.value('READ_VOUT')}, OUTSIDE {least} to {most}, though the output commands {seen.goal}: `off {place}`, then look at what else moves "
-            "it, as VOUT_TRIM, VOUT_CAL_OFFSET or its sense lines")
+    moves = f"{'; '.join(seen.trims)}: `off {place}`, then mend that, or look at its sense lines" if seen.trims else (
+        f"`off {place}`, then look at what else moves it, as VOUT_TRIM, VOUT_CAL_OFFSET or its sense lines")
+    return f"{seen.value('READ_VOUT')}, OUTSIDE {least} to {most}, though the output commands {seen.goal}: {moves}"
 
 
 def undelivered(seen: Findings) -> str:

@@ -203,9 +203,9 @@ fn a_list_over_two_parts_goes_up_and_comes_back() {
     let kinds = boards.told();
     assert!(matches!(kinds[..], [Verdict::Delivers { .. }, Verdict::Delivers { .. }, Verdict::WentOff]), "{kinds:?}");
     let old = Wishes { command: Wish::Word(0x1000), ..Wishes::default() };
-    assert_eq!(records[0].back().act(), Act::Sets(old));
-    assert_eq!((records[2].back().act(), records[2].back().looks()), (Act::Turns(0x80), None));
-    let back = [2, 1, 0].map(|at: usize| records[at].back());
+    assert_eq!(records[0].back().map(|back| back.act()), Some(Act::Sets(old)));
+    assert_eq!(records[2].back().map(|back| (back.act(), back.looks())), Some((Act::Turns(0x80), None)));
+    let back = [2, 1, 0].map(|at: usize| records[at].back().expect("it has begun"));
     assert_eq!(boards.end(&mut Sequence::new(COURSE_TRIES, Rules::default()).unwrap(), &back, &mut []), reached);
     assert_eq!(boards.words(), before);
 }
@@ -321,7 +321,7 @@ fn a_survey_orders_nothing_and_a_rest_undoes_it() {
     let mut records = [SequenceRecord::default()];
     let steps = [must(SequenceStep::new(0, 1, Act::Surveys))];
     assert_eq!(boards.end(&mut up(), &steps, &mut records).what, SequenceStop::Reached);
-    assert_eq!((records[0].back().act(), boards.parts[0].writes, records[0].status()), (Act::Rests, 0, Some(0)));
+    assert_eq!((records[0].back().map(|back| back.act()), boards.parts[0].writes, records[0].status()), (Some(Act::Rests), 0, Some(0)));
     // One that is off is good, unless it has to deliver.
     let off = SequenceStep::turns(0, 1, 0x00);
     assert_eq!(boards.end(&mut up(), &[off], &mut records).what, SequenceStop::Reached);

@@ -3,11 +3,11 @@
 use crate::checks::equal;
 use crate::sequences::part::Part;
 use crate::sequences::{DOWN, ListRow, MUST, PART, UP, after, check_lists, guard, off, over, sets};
-use pm_course::CourseEnd;
+use pm_course::{CourseEnd, FrameCourse};
 use pm_delivery::{Heard, Question, Verdict};
 use pm_host::{Job, Untold};
 use pm_sequence::{Act, End, Rules, Sequence, Step};
-use pm_stairs::StepEnd;
+use pm_stairs::{StepEnd, Under, WordAct, WordStep};
 use pm_table::{Cell, Reg};
 
 #[test]
@@ -143,6 +143,30 @@ fn a_restart_ends_a_list_that_leaves_steps(rt: HostRuntime) {
         &Act::Ended(End::Stopped(restarted)),
         &"an answer showed a restart",
     );
+}
+
+#[test]
+fn none_is_under_way_once_a_step_is_left(rt: HostRuntime) {
+    let under = Under {
+        step: WordStep {
+            output: 0,
+            act: WordAct::Turns(0x80),
+        },
+        course: FrameCourse::power(0, 0x80, 60),
+    };
+    for (begun, left) in [(true, 1), (false, 2)] {
+        let mut list = Sequence::new(60, UP).list;
+        list.begun = 1;
+        list.stairs.under = Some(under);
+        list.stairs.reading = !begun;
+        list.skip();
+        equal(
+            &rt,
+            &(list.begun, list.stairs.under, list.stairs.reading),
+            &(left, None, false),
+            &begun,
+        );
+    }
 }
 
 // STATUS_WORD gave a good answer.

@@ -49,7 +49,8 @@ COMMANDS = {
 - VOUT_MODE of output 0, of output 1 and so on up to the first that gives no good answer, and COEFFICIENTS for DIRECT;
 - of each output the six registers and ON_OFF_CONFIG, and then page 1F once more;
 - MFR_ID, MFR_MODEL, MFR_REVISION, MFR_SERIAL and IC_DEVICE_ID, as blocks;
-- WRITE_PROTECT, at 48 with OPERATION of output 0 before and after it, and a second time if zeros came.
+- WRITE_PROTECT, at 48 with OPERATION of output 0 before and after it, and a second time if zeros came;
+- VOUT_TRIM and VOUT_CAL_OFFSET of each output, up to the first that gives no good answer.
 
 A part may note in STATUS_CML that it was asked for what it lacks, and pull SMBALERT#; `clear 0` takes the note away.
 An answer of nothing but FF counts as none, and no good answer of an output's register is lost by that.

@@ -69,10 +69,11 @@ class Answer:
 
 
 def delivery_of(found: Delivered | None) -> dict[str, object]:
-    """What a rail does: the verdict, READ_VOUT in volts, and STATUS_WORD; each None if nothing was looked at."""
+    """What a rail does: the verdict, READ_VOUT in volts, and STATUS_WORD, each None if nothing was looked at; and what is said of its trims."""
     if found is None:
-        return {"delivery": None, "read_vout": None, "status_word": None}
-    return {"delivery": found.verdict.kind, "read_vout": number(found.verdict.microvolts), "status_word": in_digits(None, found.status)}
+        return {"delivery": None, "read_vout": None, "status_word": None, "trims": []}
+    return {"delivery": found.verdict.kind, "read_vout": number(found.verdict.microvolts), "status_word": in_digits(None, found.status),
+            "trims": found.trims}
 
 
 def number(microvolts: int | None) -> float | None:

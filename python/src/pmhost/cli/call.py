@@ -30,7 +30,7 @@ NOTHING = "nothing was written"
 LOOKS = Looks()
 PROBE_TELLS = "; pmhost probe says why"
 # The options that say where the one part is, and what it has: a board file has them for each part.
-OF_ONE_PART = ("bus", "address", "outputs", "limit", "no_limit", "lacks", "ready")
+OF_ONE_PART = ("bus", "address", "outputs", "limit", "no_limit", "lacks", "trims", "ready")
 
 
 def complain(words: str) -> None:
@@ -70,6 +70,7 @@ class Call:
         self.outputs: int | None = self._one("outputs")
         self.passes: int = self._one("passes") or PASSES
         self.lacks: tuple[str, ...] = self._one("lacks") or ()
+        self.has_trims = bool(self._all("trims"))
         self.trace_path: str | None = self._one("trace")
         self._log_path: str | None = self._one("log")
         self.delay: int = self._one("delay") or 0
@@ -79,7 +80,7 @@ class Call:
             bool(self._all(name)) for name in ("no_limit", "json", "force", "share_bus"))
         self.looks = Looks(self._one("fault_limits") or "refuse", self._one("power_good") or "judge",
                                          LOOKS.within if self._one("within") is None else self._one("within"),
-                                         LOOKS.settle if self._one("settle") is None else self._one("settle"))
+                                         LOOKS.settle if self._one("settle") is None else self._one("settle"), self._one("trim") or "refuse")
         self.limits: dict[int, tuple[int, int]] = {}
         for output, least, most in self._all("limit"):
             if output in self.limits:
@@ -140,8 +141,8 @@ class Call:
         too. BadCall."""
         for name in OF_ONE_PART if found.is_board else OF_ONE_PART[2:]:
             if self._all(name) and (name != "ready" or found.is_board):
-                what = {"lacks": "it stands", "ready": "it stands", "bus": "buses and addresses stand", "address": "buses and addresses stand"}.get(
-                    name, "outputs and limits stand")
+                what = {"bus": "buses and addresses stand", "address": "buses and addresses stand", "lacks": "it stands", "trims": "it stands",
+                        "ready": "it stands"}.get(name, "outputs and limits stand")
                 raise BadCall(f"{OPTIONS[name][0][-1]}: {what} in the file of {arguments.command}")
         if self._rails is not None and found.made_for() != self._rails.made_for():
             raise BadCall(f"{said(arguments)}: another file of this call has other {'parts, ' * found.is_board}outputs or limits")
@@ -152,7 +153,7 @@ class Call:
                                   "call of its own")
         else:
             self.outputs, self.limits, self.lacks = found.parts[ONLY].outputs, found.limits(ONLY), found.parts[ONLY].lacks
-            self.protect = found.parts[ONLY].protect
+            self.protect, self.has_trims = found.parts[ONLY].protect, found.parts[ONLY].trims
         self._rails = found
 
     def judge_write(self, arguments: argparse.Namespace, more: str = "") -> None:
@@ -192,7 +193,8 @@ class Call:
                 self._places = {part.name: Place(part, limits, options, BusTrace(self._trace, part.bus), log=self._log)
                                 for part, limits in self._rails.made_for()}
             else:
-                only = BoardPart(ONLY, self.bus or "", self.address or MODEL_ADDRESS, self.counted(), "", self.lacks, self._one("ready"), self.protect)
+                only = BoardPart(ONLY, self.bus or "", self.address or MODEL_ADDRESS, self.counted(), "", self.lacks, self._one("ready"), self.protect,
+                                 self.has_trims)
                 self._places = {ONLY: Place(only, self.limits, options, self._trace, self.outputs or max(MODEL_OUTPUTS, self.counted()),
                                             self._log)}
         return self._places

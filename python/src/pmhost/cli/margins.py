@@ -14,7 +14,7 @@ from ..course import CourseEnd, in_hexadecimal
 from ..cuts import cuts
 from ..delivered import Delivered, beyond_of, register_words
 from ..device import Device
-from ..errors import SAYINGS, MarginRefused, refusal
+from ..errors import SAYINGS, RailRefused, refusal
 from ..looks import Looks
 from ..operation import MARGINS, ON, margin_byte, selected_by
 from ..parts import BadRails
@@ -34,7 +34,7 @@ from .call import Call, said
 from .completion import FILES, completed_by
 from .names import IGNORE
 from .orders import IGNORING
-from .outcome import IGNORED, cell_words, limit_words, why_not, why_refused
+from .outcome import IGNORED, cell_words, limit_words, why_not, why_refused, with_advice
 from .parser import BadCall, bus_options, file_of, shown
 
 # A margin isn't to be selected at the end, whatever came.
@@ -80,7 +80,7 @@ class Row:
         found, state = self.delivered, self.state
         commands = "not known" if state.least is None or state.greatest is None else between(state.least, state.greatest)
         micro = found.verdict.microvolts
-        status = "-" if found.status is None else register_words("STATUS_WORD", found.status).partition(" ")[2]
+        status = "; ".join(["-" if found.status is None else register_words("STATUS_WORD", found.status).partition(" ")[2], *found.trims])
         point = f"{self.point}{IGNORED * bool(state.ignores_faults)}"
         return self.rail.name, point, commands, "-" if micro is None else voltages.shown(micro), status
 
@@ -251,13 +251,13 @@ class RailTest:
 
     @contextlib.contextmanager
     def stopping(self) -> Iterator[None]:
-        """Within it Stopped is raised if zeros aren't believed, or a margin may trip the rail."""
+        """Within it Stopped is raised if zeros aren't believed, or a margin may trip the rail, or leaves its limits by the trim."""
         try:
             yield
         except NotBelieved as silent:
             raise self.stopped(f"no good answer: {silent}") from None
-        except MarginRefused as near:
-            raise self.stopped(f"{near.said}: {near.do(IGNORE)}") from None
+        except RailRefused as fault:
+            raise self.stopped(with_advice(fault)) from None
 
     def why_ended(self, byte: int, end: CourseEnd) -> str:
         """Why a byte of OPERATION isn't reached."""

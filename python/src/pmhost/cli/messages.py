@@ -118,6 +118,19 @@ asked again for `--settle`, since a ramp takes time. This is tested, and not pro
                 "a register that this call ordered holds another word at its end; status 3",
                 "call again"),
     )),
+    Group("Trims", """A part may add VOUT_TRIM and VOUT_CAL_OFFSET to what it is commanded. Of a part with `--trims`, or with `trims = true` in its
+file, both are asked for once a rail before its first STATUS_WORD, each in one try, and again after a restart that was seen. An order is refused if
+command and trim together lie outside the limits. If the rail is on then, READ_VOUT is read twice first: if each time it is nearer to what is
+commanded than a quarter of the trim, the trim corrects, and nothing is refused. `off` asks for neither. This is tested, and not proved.""", (
+        Message("`..; VOUT_TRIM is +36.6mV`", "the trim counts, and command and trim lie within the limits"),
+        Message("`VOUT_TRIM is +36.6mV: command and trim are 0.9067V, above 0.9V`",
+                "of an order: nothing was ordered, status 1; of `survey`, `verify` and `why`, and with `--trim=tell`, it is only said",
+                "order another voltage, or write another trim; of a rail that is off, and whose trim corrects, `--trim=tell`"),
+        Message("`..; VOUT_TRIM is +36.6mV, which corrects`", "command and trim lie outside the limits, and READ_VOUT shows that the rail doesn't"),
+        Message("`..; VOUT_CAL_OFFSET is +0.5mV`", "an offset is said, and never judged"),
+        Message("`VOUT_TRIM gave no good answer: the rail may leave its limits`", "the same, since the trim isn't known",
+                "ask again; leave `--trims` out if the data sheet has none"),
+    )),
     Group("Standard error", """One line says why a command ended badly, as far as its transfers show it.""", (
         Message("`3 transfers failed, the last: No such device or address`",
                 "nobody acknowledged the address; of `i2c-gpio` also that the clock is held low",

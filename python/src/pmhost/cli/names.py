@@ -20,7 +20,7 @@ OF_A_RAIL = ("learn", "read", "survey", "set", "word", "on", "off", "margin", "c
 OF_ALL = ("survey", "why", "known", "band")
 # Those that go from rail to rail in the order of the file, which is a command of its own.
 IN_ORDER = ("on", "off")
-BACK, IGNORE = "--back", "--ignore-faults"
+BACK, IGNORE, TELL_TRIM = "--back", "--ignore-faults", "--trim=tell"
 ENDING = ".toml"
 
 

@@ -12,7 +12,8 @@ from ..back import Held
 from ..codes import CODES, code_of
 from ..course import OFF_TRIES, Job
 from ..device import Device
-from ..errors import MarginRefused, Refused, name_of
+from ..errors import RailRefused, Refused, TrimRefused, name_of
+from ..looks import Looks
 from ..models import why_another_model
 from ..operation import ANOTHER, MARGINS, OFF, ON, margin_byte
 from ..readings import KINDS
@@ -30,7 +31,7 @@ from .call import Call, said
 from .completion import completed_by
 from .names import BACK, IGNORE
 from .outcome import (DEVICE, REGISTERS, VOLTAGES, answer_of, cell_words, confirmed_alone, deliver, rail_words, read_notes_behind, refused,
-                      step_answer, tell_bad_end, why_not)
+                      step_answer, tell_bad_end, unordered_rail, why_not)
 from .parser import BadCall, bus_options, shown, whole
 
 # What each command sends beside reads, for an interruption to say.
@@ -393,9 +394,8 @@ def run_once(arguments: argparse.Namespace, register: str, run: StepRun) -> Step
 
     try:
         end = run.carry_out(after, call.only().ask_operation, accept_in(arguments))
-    except MarginRefused as fault:
-        return call.say(answer_of(arguments, part, register, "refused", status=1, text=f"refused, {register} wasn't ordered",
-                                  why=f"{fault.said}: {fault.do(IGNORE)}"))
+    except RailRefused as fault:
+        return call.say(unordered_rail(arguments, part, register, fault))
     except NotBelieved as doubt:
         return call.say(not_told(arguments, part, doubt))
     if end.kind == "nobody":
@@ -476,6 +476,12 @@ def note_way_back(arguments: argparse.Namespace) -> int:
     if byte & ON and not state.is_well:
         return call.say(answer_of(arguments, part, "OPERATION", "refused", status=1, text="refused, nothing was ordered",
                                   why=f"no way back: {why_not(state)}"))
+    if byte & ON and part.trims is not None:
+        try:
+            part.trims.judge(SequenceStep.turns(0, output, byte), part.host, Looks())
+        except TrimRefused as fault:
+            return call.say(answer_of(arguments, part, "OPERATION", "refused", status=1, text="refused, nothing was ordered",
+                                      why=f"no way back: {fault.said}"))
     call.back.note(Held(str(output) if call.named is None else call.named.name, call.part_name, output, {"OPERATION": byte}))
     return 0
 

@@ -8,7 +8,7 @@ from .. import voltages
 from ..course import CourseEnd, in_hexadecimal
 from ..delivered import Delivered, beyond_of
 from ..device import FORMAT_UNKNOWN, Device
-from ..errors import SAYINGS, PlanRefused, Refused, refusal
+from ..errors import SAYINGS, PlanRefused, RailRefused, Refused, TrimRefused, refusal
 from ..operation import avsbus, ignores_faults
 from ..rail_run import OUTSIDE
 from ..sequence import WHY
@@ -19,6 +19,7 @@ from ..values import CODES, Format
 from .again import RESTARTED
 from .answer import Answer, between, in_digits
 from .call import PROBE_TELLS, said
+from .names import IGNORE, TELL_TRIM
 from .readings import read_notes, read_protect
 
 DEVICE = "WRITE_PROTECT"
@@ -66,6 +67,16 @@ def refused(arguments: argparse.Namespace, part: Device, register: str | None, f
     elif fault.register:
         why = f"{fault.register}: {why_refused(arguments, commanded(part, arguments.output or 0), fault.letter) or why}"
     return answer_of(arguments, part, register, "refused", status=1, text=f"refused {refusal}", refusal=refusal, why=why)
+
+
+def unordered_rail(arguments: argparse.Namespace, part: Device, register: str, fault: RailRefused) -> Answer:
+    """An order wasn't begun, since its rail might trip or leave its limits."""
+    return answer_of(arguments, part, register, "refused", status=1, text=f"refused, {register} wasn't ordered", why=with_advice(fault))
+
+
+def with_advice(fault: RailRefused) -> str:
+    """Why that is so, and what to do."""
+    return f"{fault.said}: {fault.do(TELL_TRIM if isinstance(fault, TrimRefused) else IGNORE)}"
 
 
 def why_refused(arguments: argparse.Namespace, state: Commanded, letter: str) -> str:

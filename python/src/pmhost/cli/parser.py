@@ -192,6 +192,12 @@ OPTIONS: dict[str, tuple[tuple[str, ...], dict[str, Any]]] = {
                              "help": f"registers that the part doesn't have by its data sheet, of {', '.join(MISSABLE + LOOKED_AT)}; none if left "
                                      "out. A job on one is refused (L7). A rail is judged by STATUS_WORD and READ_VOUT, by one if the other is lacking; "
                                      "it isn't judged if both are"}),
+    "trims": (("--trims",), {"const": True,
+                             "help": "each output has VOUT_TRIM and VOUT_CAL_OFFSET, as the last line of `probe` says: the trim counts; neither is asked for "
+                                     "if left out, since a read of what a part lacks may pull SMBALERT#"}),
+    "trim": (("--trim",), {"choices": ("refuse", "tell"),
+                           "help": "what to do about a voltage that lies outside the limits together with VOUT_TRIM: refuse it, or only say so; refuse if left "
+                                   "out"}),
     "limit": (("--limit",), {"type": limit_of, "metavar": "O:LEAST:MOST",
                              "help": f"what the load of an output tolerates, as {LIMIT_EXAMPLE}, at most 1000V: no order beyond it is sent. An order "
                                      "needs it, or --no-limit (L8)"}),

@@ -77,7 +77,7 @@ class Place:
         """The part on the bus, through a host of its own."""
         if self._pmbus is None:
             bus, part = self.patient(), self.part
-            self._pmbus = Device(bus, part.address, part.outputs, self._options.passes, lacks=part.lacks, looks=None)
+            self._pmbus = Device(bus, part.address, part.outputs, self._options.passes, lacks=part.lacks, looks=None, trims=part.trims)
             if self._log is not None:
                 self._log.listen(self._pmbus.host, f"{part.name} bus {part.bus} address {part.address:02X}".strip(), self._pmbus.lacks)
             for output, pair in self.limits.items():

@@ -117,7 +117,7 @@ def give_of(call: Call, found: Found) -> str:
                *(["--delay", f"{call.delay}ms"] if call.delay else []),
                *([] if call.busy_timeout is None else ["--busy-timeout", f"{call.busy_timeout}ms"])]
     return " ".join(["pmhost", "-b", *place, *reached, "--outputs", str(len(found.outputs)), *(["--lacks", lacked] if lacked else []),
-                     *limits])
+                     *(["--trims"] if found.has_trims else []), *limits])
 
 
 def lines_of(found: Found, wants_writes: bool) -> list[str]:

@@ -183,9 +183,16 @@ def store(call: Call, board: Board, found: Answer, stores_all: bool) -> None:
     found.end = "acknowledged" if not found.status else "failed" if found.end == "failed" else "unknown"
     named = f" of {', '.join(stored)}" if any(stored) else ""
     found.text = f"store {found.end}" if found.status else (f"store{named} acknowledged; a restart loads what was stored, if no pin overrides "
-                                                            f"it, which `verify` shows after a power cycle{stood}")
+                                                            f"it, which `verify` shows after a power cycle{stood}{stored_on(board, stored)}")
     if found.status and stored:
         found.why += f"; stored before: {', '.join(stored)}"
+
+
+def stored_on(board: Board, parts: list[str]) -> str:
+    """In a file that has its rails in order: that those which are on come up by themselves, in no order of this host."""
+    on = [rail.name for rail in board.rails if rail.part in parts and board.parts[rail.part].host.rail(rail.output).is_on]
+    return (f"; OPERATION is stored as it is: at power-up {', '.join(on)} come up without this host, as ON_OFF_CONFIG, pins and TON_DELAY have it"
+            if on and any(rail.after for rail in board.rails) else "")
 
 
 def stop_of(board: Board, run: Any) -> tuple[str, int]:

@@ -10,13 +10,13 @@ from typing import Callable
 from ..course import Job
 from ..delivered import Delivered, why_not_before
 from ..device import Device
-from ..errors import Refused, refusal
+from ..errors import Refused, TrimRefused, refusal
 from ..models import why_other_model
-from ..operation import OFF, ON
+from ..operation import OFF, ON, selected_by
 from ..rails import Rail
 from ..sequence import Heard, SequenceStep
 from ..step_run import StepRun
-from ..survey import TRIES
+from ..survey import TRIES, read
 from ..transfers import Transfers
 from ..zeros import NotBelieved
 from . import orders
@@ -24,7 +24,7 @@ from .again import RESTARTED
 from .answer import Answer
 from .call import Call, said
 from .file_steps import AT_THE_END, FileSteps
-from .outcome import refused, step_answer
+from .outcome import refused, step_answer, unordered_rail
 from .signals import Later
 from .way import StairsFile
 
@@ -96,15 +96,22 @@ class WayUp:
         part.transfers = Transfers()
         try:
             end = run.carry_out(ask=self.call.only().ask_operation)
+            is_protected = orders.is_protected(end) and self.call.protection.is_in_the_way(rail.part)
+            if is_protected and part.trims is not None:
+                # It is judged as if that were lifted.
+                read(part, rail.output, selected_by(self.arguments.byte) or "")
+                part.trims.judge(run.step, part.host, looks)
         except NotBelieved as doubt:
             return self.call.say(orders.not_told(one, part, doubt))
+        except TrimRefused as fault:
+            return self.call.say(unordered_rail(one, part, "OPERATION", fault))
         if end.kind == "nobody":
             return self.call.say(self.call.nobody(one, end.fault))
         self.call.has_answered.add(rail.part)
         self.befores[rail.name] = run.before
         if self.is_on(rail):
             self.was_on.append(rail)
-        if orders.is_protected(end) and self.call.protection.is_in_the_way(rail.part) or end.kind in ("reached", "fails"):
+        if end.kind in ("reached", "fails") or is_protected:
             return 0
         if end.kind != "order":
             return self.call.say(step_answer(one, part, "OPERATION", run))

@@ -60,4 +60,4 @@ def lines_of(seen: Findings) -> list[str]:
     cells = [f"no good {name}" if word is None else f"{name} {word:02X}" for name, word in held]
     on_off, *voltages = [seen.found[name].words for name in BESIDE if name in seen.found]
     return ["; ".join(status) or "the part lacks STATUS_WORD", "; ".join([on_off, *cells]), "; ".join(voltages),
-            rail_words(seen.state)]
+            "; ".join([rail_words(seen.state), *seen.trims])]
