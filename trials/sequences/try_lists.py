@@ -4,9 +4,8 @@ the same frames, waits, orders that come next, verdicts and ends, to hear the sa
 
     trials/sequences/try_lists.py [--lists N] [--seed N] [--first N] [--plant N]
 
-Transfers are lost, damaged and falsely acknowledged; parts restart, are silent, lack registers and answer what nobody would expect. Some lists are
-broken off, and some are followed by their way back. The first difference is printed with its list and its last 30 frames. `--plant` plants one of
-ten bugs in the plain side, and ends where a list differs that doesn't differ without it.
+Transfers are lost, damaged and falsely acknowledged; parts restart, are exchanged, silent, lack registers, and answer what nobody expects. Some lists
+are broken off or followed by their way back. The first difference is printed with its list and last 30 frames. `--plant` plants one of ten bugs.
 """
 import collections
 import random
@@ -56,14 +55,17 @@ class World:
 
     def __init__(self, draw):
         self.draw, self.away = draw, 0
-        self.is_calm, self.rate, self.restarts = draw.random() < 0.5, draw.choice((0, 0, 0.01, 0.05, 0.2)), draw.choice((0, 0, 0, 0.01, 0.03))
-        self.parts = [ModelPart(0x40 + place, [self.output() for _ in range(draw.randint(1, 3))], draw.choice(((1, 0, 3), (100, -5, 1), (-2, 7, 2))),
-                                0 if self.is_calm else draw.choice((0,) * 6 + (0x80, 0x40, 0x20))) for place in range(draw.choice((1, 1, 2, 2, 3, 4)))]
+        self.is_calm, self.rate, self.restarts = draw.random() < 0.5, draw.choice((0, 0, 0.01, 0.05, 0.2)), draw.choice((0, 0, 0.01, 0.03))
+        self.parts = [self.part(place, draw.randint(1, 3)) for place in range(draw.choice((1, 1, 2, 2, 3, 4)))]
         self.answers = {(place, output, code): answer for place, part in enumerate(self.parts) for output in range(part.outputs)
                         for code, answer in self.rail().items()}
 
     def near(self, far):
-        return 0x1000 + self.draw.randint(-far, far)
+        return 0x1000 + self.draw.randint(-far, far) // 64 * 64
+
+    def part(self, place, outputs):
+        protect = 0 if self.is_calm else self.draw.choice((0,) * 6 + (0x80, 0x40, 0x20))
+        return ModelPart(0x40 + place, [self.output() for _ in range(outputs)], self.draw.choice(((1, 0, 3), (100, -5, 1), (-2, 7, 2))), protect)
 
     def output(self):
         low, command, high = sorted(self.near(0x180) for _ in range(3))
@@ -80,11 +82,12 @@ class World:
         return found | dict.fromkeys(draw.choice(((),) * 6 + ((0x79,), (0x8B,), (0x79, 0x8B))))
 
     def disturb(self):
-        """Now and then a part restarts or is away, or a register answers otherwise from now on."""
+        """Now and then a part restarts, is another one or away, or a register answers otherwise from now on."""
         draw, place = self.draw, self.draw.randrange(len(self.parts))
         output = draw.randrange(self.parts[place].outputs)
         if draw.random() < self.restarts:
             self.parts[place].restart()
+            self.parts[place] = self.part(place, self.parts[place].outputs) if draw.random() < 0.3 else self.parts[place]
         if draw.random() < self.rate / 10:
             self.away = draw.randint(1, 40)
         if draw.random() < self.rate / 5:
@@ -120,7 +123,7 @@ def drawn_hosts(draw, world):
     """The host of each part, for both sides."""
     hosts, parts = [], []
     for part in world.parts:
-        some = (None, (500000, 4000000)) if world.is_calm else (None, (500000, 4000000), (800000, 1200000), (950000, 1050000), UNKNOWN)
+        some = (None, (500000, 4000000)) if world.is_calm else (None, (500000, 4000000), (800000, 1200000), (937500, 1062500), UNKNOWN)
         limits, passes = [draw.choice(some) for _ in range(part.outputs)], draw.choice((1, 2, 3, 3))
         missing = [register for register in VOLTAGES[1:] if not world.is_calm and draw.random() < 0.08]
         hosts.append(Host(part.address, part.outputs, passes, map(register_of, missing)))
@@ -172,10 +175,10 @@ def line_of(sequence):
 class Differs(Exception):
     """What the library says, and what the plain side says."""
 
-    @classmethod
-    def unless_same(cls, found, wanted):
-        if found != wanted:
-            raise cls(found, wanted)
+
+def same(found, wanted):
+    if found != wanted:
+        raise Differs(found, wanted)
 
 
 def carried_out(world, parts, mine, theirs, said, most):
@@ -183,7 +186,7 @@ def carried_out(world, parts, mine, theirs, said, most):
     lines, came = mine.lines(), None
     for place in range(most):
         said.append((came, found := line_of(theirs)))
-        Differs.unless_same(found, lines.send(came))
+        same(found, lines.send(came))
         if found[0] == "ended" or place == most - 1:
             break
         came = world.transfer(*found[1:]) if found[0] == "frame" else None
@@ -195,9 +198,9 @@ def carried_out(world, parts, mine, theirs, said, most):
             part.told(("got", []) if part.sending_reads() else ("finished", False))
     for place, heard in mine.heard.items():
         by_name = {name.lower().removeprefix("vout_"): (it.asked, it.word if it.is_good else None, it.fault or "") for name, it in heard.items()}
-        Differs.unless_same({name: (it.asked, it.word, it.fault) for name, it in theirs.heard(place).heard.items()}, by_name)
+        same({name: (it.asked, it.word, it.fault) for name, it in theirs.heard(place).heard.items()}, by_name)
     for place, step in mine.backs.items():
-        Differs.unless_same(SequenceStep.of(theirs._records[place].back), step_of(step))
+        same(SequenceStep.of(theirs._records[place].back), step_of(step))
 
 
 def one_list(seed, number, counts):

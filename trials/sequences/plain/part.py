@@ -36,7 +36,6 @@ def kept(question):
 
 class Part(Host):
     """`limits` has UNKNOWN, None or a least and a most in microvolts of each output."""
-
     format, possible, sending = map(kept, (Host.format, Host.possible, Host.sending))
 
     def __init__(self, address, passes, limits, missing=()):
