@@ -25,8 +25,9 @@ from .rail_run import OUTSIDE, PROTECT, RailRun, Restarted, Setting, Stopped
 from .rails import BOUNDS, MARGINS, SETTINGS, WORDS, Rail
 from .sequence import Heard
 from .states import Step
+from .status import names_of
 from .step_run import StepRun
-from .stores import has_failed
+from .stores import MEMORY, cml, cml_words, has_failed
 from .survey import Commanded, answers, commanded, only_word, read
 from .values import Format
 
@@ -350,11 +351,19 @@ class Board:
         unsure = [f"{rail.name}: {why}" for rail in read if not wrong and (why := self.why_not_well(rail))]
         silent = [*dict.fromkeys(self.faults.values())]
         dead = [why for rail in read if (why := self.why_dead(rail)) and why not in unsure]
-        faults = [f"not as wanted: {', '.join(wrong)}"] * bool(wrong) + [str(each) for each in silent] + unsure + dead
+        forgetful = [] if self.may_write else [why for name in self.having_rails() if (why := self.why_forgetful(name))]
+        faults = [f"not as wanted: {', '.join(wrong)}"] * bool(wrong) + [str(each) for each in silent] + unsure + dead + forgetful
         if len(faults) == len(silent) == 1:
             raise silent[0]
         if faults:
             raise Stopped("; ".join(faults))
+
+    def why_forgetful(self, name: str) -> str:
+        """That a part says that its memory failed, whose STATUS_WORD said CML; nothing otherwise."""
+        seen = [found for rail in self.rails if rail.part == name and (found := self.delivered.get(rail.name)) is not None]
+        word = cml(self.parts[name]) if any("CML" in names_of("STATUS_WORD", found.status or 0) for found in seen) else None
+        return (f"{f'{name}: ' * bool(name)}{cml_words(word)}: the part says that its memory failed: its next start may bring other words"
+                if word is not None and word & MEMORY else "")
 
     def why_dead(self, rail: Rail) -> str:
         """Why a rail doesn't deliver. Stopped if something was ordered and its part restarted, which is said then."""

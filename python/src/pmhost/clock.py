@@ -1,7 +1,15 @@
-"""The clock: one function, which tests replace."""
+"""The clock: one function, which tests replace; and the time that what is done is given."""
 from __future__ import annotations
 
+import contextlib
 import time
+from typing import Iterator
+
+_ends: list[float] = []
+
+
+class Late(BaseException):
+    """The time of what was done is over."""
 
 
 def until(moment: float = 0.0) -> float:
@@ -13,5 +21,22 @@ def until(moment: float = 0.0) -> float:
 
 
 def wait(seconds: float) -> None:
-    """Waits."""
-    until(until() + seconds)
+    """Waits. Late once the time is over that `within` gives."""
+    moment = until() + seconds
+    if _ends and moment >= _ends[-1]:
+        until(_ends[-1])
+        raise Late
+    until(moment)
+
+
+@contextlib.contextmanager
+def within(milliseconds: int | None) -> Iterator[None]:
+    """What is done in it has so many milliseconds, all that it takes with None: the first wait that goes beyond them ends it by Late."""
+    if milliseconds is None:
+        yield
+        return
+    _ends.append(until() + milliseconds / 1000)
+    try:
+        yield
+    finally:
+        _ends.pop()

@@ -77,6 +77,11 @@ class Delivered:
         return self.is_missing and self.lacks >= set(self._needed)
 
     @property
+    def has_tripped(self) -> bool:
+        """Whether it went off though it is to be on, or a fault came."""
+        return self.is_bad and self.verdict.kind in ("off", "fault")
+
+    @property
     def status_words(self) -> str:
         """The status registers with the names of their bits, and which faults stood before the first order."""
         status, before = self.status or 0, self.before or 0

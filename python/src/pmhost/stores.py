@@ -9,7 +9,7 @@ from .status import names_of
 
 TEMPERATURE, MOST, CML = "READ_TEMPERATURE_1", 85, "STATUS_CML"
 # The bits of STATUS_CML by which what is stored isn't what was to be: DATA and MEMORY.
-FAILED = 0x50
+FAILED, MEMORY = 0x50, 0x10
 
 
 def too_hot(part: Device) -> str:
@@ -56,7 +56,7 @@ def why_failed(part: Device, before: int | None) -> str:
     if word is None:
         return ""
     if word & FAILED:
-        return f"{cml_words(word)}: the part says that {'its memory failed' if word & 0x10 else 'it refused the data'}"
+        return f"{cml_words(word)}: the part says that {'its memory failed' if word & MEMORY else 'it refused the data'}"
     new = word & ~(before or 0)
     return f"{cml_words(new)} came with the store" if before is not None and new else ""
 

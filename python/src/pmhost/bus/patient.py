@@ -41,7 +41,7 @@ class Waits:
         now = clock.until()
         if now >= self._deadline:
             return False
-        clock.until(min(now + self._next, self._deadline))
+        clock.wait(min(self._next, self._deadline - now))
         self._next *= 2
         return True
 

@@ -69,7 +69,10 @@ class WayBack:
         return status
 
 
-def words_of(held: Held, why: str) -> str:
-    """What became of a way back, in a sentence."""
-    return f"{held.name} isn't known to be back: {held.said} isn't confirmed: {why}" if why else f"{held.name} is back: {held.said} confirmed"
+def words_of(held: Held, why: str, has_tripped: bool = False) -> str:
+    """What became of a way back, in a sentence: of a rail that tripped only its words are back."""
+    if why:
+        return f"{held.name} isn't known to be back: {held.said} isn't confirmed: {why}"
+    return (f"{held.name} went off, and only its words are back: {held.said} confirmed; `off`, then `on`" if has_tripped else
+            f"{held.name} is back: {held.said} confirmed")
 

@@ -313,7 +313,7 @@ def margin_test(arguments: argparse.Namespace) -> int:
         why, status = str(stopped) if begun else f"{stopped}: nothing was ordered", RESTARTED if isinstance(stopped, Restarted) else 1
     for held, fault in call.back.go():
         begun[-1].is_back, status = not fault, 1 if fault else status
-        why += f"; {words_of(held, fault)}"
+        why += f"; {words_of(held, fault, bool(rows) and rows[-1].rail is begun[-1].rail and rows[-1].delivered.has_tripped)}"
     return tell(arguments, begun, rows, why, status)
 
 

@@ -32,7 +32,7 @@ from .completion import completed_by
 from .names import BACK, IGNORE
 from .outcome import (DEVICE, REGISTERS, VOLTAGES, answer_of, cell_words, confirmed_alone, deliver, rail_words, read_notes_behind, refused,
                       step_answer, tell_bad_end, unordered_rail, why_not)
-from .parser import BadCall, bus_options, shown, whole
+from .parser import BadCall, bus_options, shown, time_of, whole
 
 # What each command sends beside reads, for an interruption to say.
 STORES = "the user store may hold the old or the new settings of every output"
@@ -50,6 +50,10 @@ OUTPUT = whole(0, 7, "output")
 LEAVE_ON = "--leave-on"
 LEAVING: dict[str, Any] = {"action": "store_true",
                            "help": "of a board file: a way up that fails turns off what doesn't deliver; all that it turned on if left out"}
+# The time of a way up.
+DEADLINE = "--deadline"
+LATE: dict[str, Any] = {"type": time_of(3600, "deadline"), "metavar": "TIME",
+                        "help": "of a board file: after this time, as 2s, no rail is waited for and none is begun, and the way down begins; none if left out"}
 # The option of commands that store.
 CLEAR_FIRST = "--clear-first"
 CLEARING: dict[str, Any] = {"action": "store_true", "help": "clears DATA and MEMORY of STATUS_CML before; nothing is stored while they stand if left out"}
@@ -171,6 +175,7 @@ def add(commands: Any) -> None:
                                     "deliver before another one if left out")
         if name == "on":
             found.add_argument(LEAVE_ON, **LEAVING)
+            found.add_argument(DEADLINE, **LATE)
         bus_options(found)
     found = command("margin", margin, judge_margin)
     found.add_argument("output", **output)

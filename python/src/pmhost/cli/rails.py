@@ -129,11 +129,12 @@ def went_back(call: Call, board: Board, is_bad: bool) -> tuple[str, bool]:
     back. If all went well nothing is brought back any more."""
     if not is_bad:
         call.back.forget()
-    gone = call.back.go()
-    for held, _ in gone:
-        # What it was seen to do before says nothing of it now.
-        board.delivered.pop(held.name, None)
-    return "".join(f"; {words_of(*each)}" for each in gone), bool(gone) and not any(why for _, why in gone)
+    gone, said_of = call.back.go(), ""
+    for held, why in gone:
+        # What it was seen to do before says nothing of it now, but that it tripped.
+        seen = board.delivered.pop(held.name, None)
+        said_of += f"; {words_of(held, why, seen is not None and seen.has_tripped)}"
+    return said_of, bool(gone) and not any(why for _, why in gone)
 
 
 def answer(call: Call, board: Board, found: Answer, is_dry: bool, are_wanted: bool, stores_all: bool) -> int:

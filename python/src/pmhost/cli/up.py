@@ -15,7 +15,7 @@ from .again import RESTARTED
 from .answer import Answer
 from .call import said
 from .completion import FILES, completed_by
-from .orders import ACCEPT, LEAVE_ON, LEAVING
+from .orders import ACCEPT, DEADLINE, LATE, LEAVE_ON, LEAVING
 from .parser import bus_options, file_of
 from .rails import board_of, judge_file, told_of
 from .sequence import turn_off
@@ -30,6 +30,7 @@ def add(commands: Any) -> None:
     found.set_defaults(run=up, judge_file=judge_file, judge=way.judge, dry_run=False, goes_back=False, is_order=True, byte=ON, output=None)
     way.add(found, way.STAIRS["up"])
     found.add_argument(LEAVE_ON, **LEAVING)
+    found.add_argument(DEADLINE, **LATE)
     found.add_argument("--accept", **ACCEPT)
     bus_options(found)
 

@@ -67,6 +67,8 @@ def judge_none(arguments: argparse.Namespace) -> None:
         raise BadCall(f"{arguments.said}: --now is for the rails of a board file: give one, without the name of a rail")
     if getattr(arguments, "leave_on", False):
         raise BadCall(f"{arguments.said}: --leave-on is for the rails of a board file: give one, without the name of a rail")
+    if getattr(arguments, "deadline", None) is not None:
+        raise BadCall(f"{arguments.said}: --deadline is for the rails of a board file: give one, without the name of a rail")
     if getattr(arguments, "picture", None) is not None:
         raise BadCall(f"{arguments.said}: --picture draws the rails of a board file: give one, without the name of a rail")
 

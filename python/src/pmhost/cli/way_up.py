@@ -7,6 +7,7 @@ import copy
 from dataclasses import replace
 from typing import Callable
 
+from .. import clock
 from ..course import Job
 from ..delivered import Delivered, why_not_before
 from ..device import Device
@@ -60,7 +61,10 @@ class WayUp:
         if status := self.judge():
             return status
         try:
-            status = self.climb()
+            with clock.within(self.arguments.deadline):
+                status = self.climb()
+        except clock.Late:
+            return max(self.late(), self.stop())
         except BaseException:
             with Later():
                 self.go_down()
@@ -131,6 +135,7 @@ class WayUp:
         steps.look_at(AT_THE_END, self.rails[:-1])
         for rail in self.rails:
             one = steps.of_rail(rail)
+            clock.wait(0)
             with self.file.step(one, rail):
                 self.watch(one, rail)
                 fallen = steps.fallen(rail.name, self.file)
@@ -145,6 +150,11 @@ class WayUp:
         self.call.begin(self.arguments)
         fallen = steps.fallen(AT_THE_END, self.file)
         return self.fell(*fallen) if fallen else self.call.ordered.look(self.call)
+
+    def late(self) -> int:
+        """The deadline has passed. The status."""
+        self.call.begin(self.arguments)
+        return self.call.say(Answer(said(self.arguments), "late", "", 1, f"the deadline of {self.arguments.deadline / 1000:g}s has passed"))
 
     def move(self, one: argparse.Namespace, rail: Rail) -> int:
         """What comes before a rail is turned on: nothing. The status if it isn't to be."""
