@@ -76,8 +76,9 @@ class World:
     def rail(self):
         """What a rail answers beside its registers: limits, power good, and the status registers to which STATUS_WORD points."""
         draw, is_wide = self.draw, self.draw.random() < 0.6
-        words = {code: far if is_wide else self.near(0x200) for code, far in ((0x40, 0x7FFF), (0x42, 0x7FFF), (0x43, 0), (0x44, 0))}
-        found = {code: None if draw.random() < 0.1 else word.to_bytes(2, "little") for code, word in {**words, 0x5E: 0x0F00, 0x5F: 0x0E00}.items()}
+        words = {0x5E: 0x0F00, 0x5F: 0x0E00} | draw.choice([{}] * 12 + [{0x79: word} for word in (0x0800, 0x0800, 0x0040, 0x8000, 0x2004, 0x4010)])
+        words |= {code: far if is_wide else self.near(0x200) for code, far in ((0x40, 0x7FFF), (0x42, 0x7FFF), (0x43, 0), (0x44, 0))}
+        found = {code: None if draw.random() < 0.1 else word.to_bytes(2, "little") for code, word in words.items()}
         found |= {code: draw.choice((None, b"\0", b"\x10", b"\x82", b"\x20", b"\x44")) for code in (0x7A, 0x7B, 0x7C, 0x7D)}
         return found | dict.fromkeys(draw.choice(((),) * 6 + ((0x79,), (0x8B,), (0x79, 0x8B))))
 
@@ -233,7 +234,7 @@ def shown(line):
 
 def finds(plant, seed, number):
     """Whether a list differs with a planted bug, and doesn't without it."""
-    with mock.patch.object(*plant[1:]):
+    with mock.patch.object(*PLANTS[plant - 1][1:]):
         found = [*one_list(seed, number, collections.Counter())]
     return found and not [*one_list(seed, number, collections.Counter())]
 
@@ -245,9 +246,8 @@ def main():
     given, tally, counts = options.read(), Tally(), collections.Counter()
     numbers = range(given.first, given.first + given.lists)
     if given.plant:
-        plant = PLANTS[given.plant - 1]
-        found = next((number for number in numbers if finds(plant, given.seed, number)), "none")
-        tally.add(f"{plant[0]}, found by list {found}", int(found != "none"), int(found == "none"))
+        found = next((number for number in numbers if finds(given.plant, given.seed, number)), "none")
+        tally.add(f"{PLANTS[given.plant - 1][0]}, found by list {found}", int(found != "none"), int(found == "none"))
         return tally.end()
     for number in numbers:
         faults = [*one_list(given.seed, number, counts)]
