@@ -42,10 +42,9 @@ class Sequence:
                 yield "ended" if self.is_over else "told", place, *why
 
     def leaves(self, place):
-        if place == self.under:
-            self.under = None
-        else:
-            self.begun += 1
+        """None is under way once a step is left."""
+        self.begun += place != self.under
+        self.under = None
         self.left, self.coming, self.told = self.left + 1, None, None
         self.is_looked, self.is_waited, self.is_warned = True, False, False
 
