@@ -13,6 +13,7 @@ from pmhost._library import CALLS, library
 from pmhost.cli import orders
 from pmhost.cli.again import Ordered
 from pmhost.cli.place import Place
+from pmhost.cli.protection import Protection
 from pmhost.course import REGISTERS
 from pmhost.errors import HostRefused, name_of
 from pmhost.step_run import StepRun
@@ -236,7 +237,7 @@ class Rows(unittest.TestCase):
 
     def test_by_the_command(self):
         """What it asks for beside its course isn't in the rows: whether a part is there that gave its first job no answer, and what the part
-        noted behind a bad end; and what the rail does."""
+        noted behind a bad end; what the rail does; and that `off` lifts WRITE_PROTECT."""
         kept = []
 
         def keep(*words):
@@ -253,7 +254,7 @@ class Rows(unittest.TestCase):
                 for patch in (mock.patch.object(Place, "_made", lambda place: bus), mock.patch.object(Place, "ask_operation", lambda *_: ""),
                               mock.patch("pmhost.cli.outcome.read_notes", lambda *_: ""), mock.patch("pmhost.cli.call.Looks", lambda *_: None),
                               mock.patch("pmhost.cli.outcome.read_protect", lambda *_: ""), mock.patch.object(Place, "is_there", lambda _: False),
-                              mock.patch.object(Ordered, "look", lambda *_: 0),
+                              mock.patch.object(Ordered, "look", lambda *_: 0), mock.patch.object(Protection, "force", lambda *_: False),
                               mock.patch("pmhost.zeros.ask_operation", lambda *_: ""),
                               mock.patch("pmhost.survey.SURVEY_TRIES", row.tries), mock.patch.object(orders, "TRIES", row.tries),
                               mock.patch.object(orders, "OFF_TRIES", row.tries), mock.patch.object(orders, "StepRun", keep),

@@ -360,7 +360,7 @@ def accept_in(arguments: argparse.Namespace) -> int | None:
 
 def run_step(arguments: argparse.Namespace, register: str, step: SequenceStep, tries: int, is_guarded: bool = True) -> StepRun | int:
     """Carries a step out that orders a register, and looks at its rail; the status if it came to no end. If just the WRITE_PROTECT of the file is
-    in the way that is lifted, and the step carried out once more; any, if the output is to go off."""
+    in the way that is lifted, and the step carried out once more; any, of `off`."""
     call: Call = arguments.call
     part, protection = call.part(), call.protection
     protection.touch(call.part_name)
@@ -373,7 +373,7 @@ def run_step(arguments: argparse.Namespace, register: str, step: SequenceStep, t
         run.guarded = None
     ran = run_once(arguments, register, run)
     if (is_protected(run.end) and protection.lift(call.part_name)
-            or step.turns_off and run.end.kind == "differs" and protection.force(call.part_name)):
+            or arguments.command == "off" and run.end.kind == "differs" and protection.force(call.part_name)):
         return run_once(arguments, register, run.anew())
     return ran
 
