@@ -1,13 +1,2 @@
-pub mod BoundLemmas
-pub mod CapturingLemmas
-pub mod CarriedLemmas
-pub mod CountsLemmas
-pub mod EmptyLemmas
-pub mod EndLemmas
-pub mod GatheredLemmas
-pub mod HearingLemmas
-pub mod NumberLemmas
-pub mod PecLemmas
-pub mod PlainLemmas
-pub mod PutLemmas
-pub mod UsualLemmas
+pub mod Captures
+pub mod Shown

@@ -189,7 +189,7 @@ impl Capture {
 
 // Gathers what a line says that ends here, with its number, and has it heard, if it isn't skipped. A comment is noted if an option
 // changes what is shown.
-#[tactic(auto, using(crate::proofs::HearingLemmas::heard_one))]
+#[tactic(auto, using(crate::proofs::Captures::heard_one))]
 fn hear_line(
     heard: &mut HeardLines,
     options: &TellOptions,

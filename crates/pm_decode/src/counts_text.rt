@@ -44,7 +44,7 @@ fn push_plain_counts(text: &mut String, all: bool, heard: &HeardLines) -> Result
 }
 
 // A line for each other code, in ascending order.
-#[tactic(auto, using(crate::proofs::CountsLemmas::count_steps))]
+#[tactic(auto, using(crate::proofs::Shown::count_steps))]
 fn push_others(text: &mut String, others: &Others) -> Result<(), AllocError>
     ensures { OnOk result (string_bytes text.new ≡ string_bytes text.old ++ other_lines others.now 256) }
 {

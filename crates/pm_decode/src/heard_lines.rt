@@ -68,7 +68,7 @@ impl HeardLines {
 
     /// Appends what a line says to a text, with its number and without a line feed, and counts it. Takes memory for the
     /// text, and for a code, an output and an address that is new.
-    #[tactic(auto, using(crate::proofs::HearingLemmas::heard_one))]
+    #[tactic(auto, using(crate::proofs::Captures::heard_one))]
     pub(crate) fn hear(
         &mut self,
         options: &TellOptions,
@@ -104,7 +104,7 @@ impl HeardLines {
     }
 
     // Hears a line that could be read.
-    #[tactic(auto, using(crate::proofs::HearingLemmas::heard_one, crate::proofs::PecLemmas::good_said, crate::proofs::PecLemmas::good_whole, crate::proofs::PecLemmas::good_known))]
+    #[tactic(auto, using(crate::proofs::Captures::heard_one, crate::proofs::Shown::good_said, crate::proofs::Shown::good_whole, crate::proofs::Shown::good_known))]
     fn hear_packet(
         &mut self,
         options: &TellOptions,
@@ -136,7 +136,7 @@ impl HeardLines {
     }
 
     // Hears a line closely: packets without PEC are shown, or PAGE is followed.
-    #[tactic(auto, using(crate::proofs::PecLemmas::completed_said, crate::proofs::PecLemmas::usual_said))]
+    #[tactic(auto, using(crate::proofs::Shown::completed_said, crate::proofs::Shown::usual_said))]
     fn hear_closely(
         &mut self,
         options: &TellOptions,
@@ -173,7 +173,7 @@ impl HeardLines {
     }
 
     // Hears a packet by what it says; `lacks` is whether it lacks its PEC.
-    #[tactic(auto, using(crate::proofs::HearingLemmas::heard_one))]
+    #[tactic(auto, using(crate::proofs::Captures::heard_one))]
     fn hear_shown(
         &mut self,
         options: &TellOptions,
@@ -210,7 +210,7 @@ impl HeardLines {
     }
 
     // Hears a packet by what it says, as the command table has it or by its code and bytes.
-    #[tactic(auto, using(crate::proofs::HearingLemmas::heard_one))]
+    #[tactic(auto, using(crate::proofs::Captures::heard_one))]
     fn hear_told(
         &mut self,
         options: &TellOptions,

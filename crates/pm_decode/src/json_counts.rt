@@ -44,7 +44,7 @@ fn push_count(text: &mut String, code: u8, count: u64) -> Result<(), AllocError>
 }
 
 // An object for each other code, in ascending order.
-#[tactic(auto, using(crate::proofs::CountsLemmas::json_steps))]
+#[tactic(auto, using(crate::proofs::Shown::json_steps))]
 fn push_others(text: &mut String, others: &Others) -> Result<(), AllocError>
     ensures { OnOk result (string_bytes text.new ≡ string_bytes text.old ++ other_jsons others.now 256) }
 {

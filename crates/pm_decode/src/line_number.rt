@@ -47,7 +47,7 @@ impl LineNumber {
 }
 
 // Makes a number's digits those of the next one, if only the last digit changes; otherwise they stay.
-#[tactic(auto, using(crate::proofs::NumberLemmas::next_decimal))]
+#[tactic(auto, using(crate::proofs::Shown::next_decimal))]
 fn count_up(digits: &mut Vec<u8>) -> bool
     ensures up { result ≡ true → (number : ℕ) → number + 1 < 2 ^ 64 → digits.old.items ≡ decimal number
         → digits.new.items ≡ decimal (number + 1) }

@@ -223,7 +223,7 @@ fn tell_end(capture: &mut Capture, gathered: &mut ToldText) -> Result<(), AllocE
 }
 
 // What is written of a capture of no bytes.
-#[tactic(auto, using(crate::proofs::EmptyLemmas::empty_all))]
+#[tactic(auto, using(crate::proofs::Captures::empty_all))]
 fn empty_text(options: &TellOptions) -> &'static str
     ensures { result.now ≡ capture_text options.now [] }
 {

@@ -67,7 +67,7 @@ impl ToldText {
     }
 
     /// Gathers what a line says, with its number, and has it heard.
-    #[tactic(auto, using(crate::proofs::UsualLemmas::usual_told, crate::proofs::UsualLemmas::usual_heard))]
+    #[tactic(auto, using(crate::proofs::Shown::usual_told, crate::proofs::Shown::usual_heard))]
     pub(crate) fn hear(
         &mut self,
         heard: &mut HeardLines,
@@ -93,7 +93,7 @@ impl ToldText {
     }
 
     // Hears a usual packet, if no option changes what is shown.
-    #[tactic(auto, using(crate::proofs::UsualLemmas::fronts))]
+    #[tactic(auto, using(crate::proofs::Shown::fronts))]
     fn hear_usual(
         &mut self,
         heard: &mut HeardLines,

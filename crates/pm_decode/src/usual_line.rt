@@ -114,7 +114,7 @@ fn payload_of(bytes: &[u8]) -> Option<Payload>
 
 /// Appends the line of a usual packet to a text, with its number's digits and a line feed. If memory is refused, the
 /// text begins with what it was.
-#[tactic(auto, using(pm_lines::specs::Lemmas::Joins::joins, crate::proofs::UsualLemmas::fronts))]
+#[tactic(auto, using(pm_lines::specs::Lemmas::Joins::joins, crate::proofs::Shown::fronts))]
 pub(crate) fn push_usual(text: &mut Vec<u8>, digits: &[u8], usual: &Usual) -> Result<(), AllocError>
     ensures text { OnOk result (text.new.items ≡ text.old.items ++ (digits.now ++ (codes " " ++ (usual_text usual.now ++ codes "\n")))) }
     ensures front { take (length text.old.items) text.new.items ≡ text.old.items }
@@ -130,7 +130,7 @@ pub(crate) fn push_usual(text: &mut Vec<u8>, digits: &[u8], usual: &Usual) -> Re
 }
 
 // A space, the address, a space, and the page, if the packet names one.
-#[tactic(auto, using(pm_lines::specs::Lemmas::Joins::digit_joins, crate::proofs::UsualLemmas::fronts), unfolding(pm_lines::specs::Numbers::hex_byte))]
+#[tactic(auto, using(pm_lines::specs::Lemmas::Joins::digit_joins, crate::proofs::Shown::fronts), unfolding(pm_lines::specs::Numbers::hex_byte))]
 fn push_place(text: &mut Vec<u8>, addr: u8, page: Option<u8>) -> Result<(), AllocError>
     ensures text { OnOk result (text.new.items ≡ text.old.items ++ (codes " " ++ (hex_byte addr ++ (codes " " ++ page_text page)))) }
     ensures front { take (length text.old.items) text.new.items ≡ text.old.items }
@@ -161,7 +161,7 @@ fn push_place(text: &mut Vec<u8>, addr: u8, page: Option<u8>) -> Result<(), Allo
 }
 
 // What was answered, and a line feed.
-#[tactic(auto, using(pm_lines::specs::Lemmas::Joins::joins, crate::proofs::UsualLemmas::fronts), unfolding(pm_lines::specs::Numbers::hex_byte))]
+#[tactic(auto, using(pm_lines::specs::Lemmas::Joins::joins, crate::proofs::Shown::fronts), unfolding(pm_lines::specs::Numbers::hex_byte))]
 fn push_read(text: &mut Vec<u8>, payload: Payload) -> Result<(), AllocError>
     ensures text { OnOk result (text.new.items ≡ text.old.items ++ (carried_text true (payload_bytes payload) ++ codes "\n")) }
     ensures front { take (length text.old.items) text.new.items ≡ text.old.items }
@@ -181,7 +181,7 @@ fn push_read(text: &mut Vec<u8>, payload: Payload) -> Result<(), AllocError>
 }
 
 // What was written, and a line feed.
-#[tactic(auto, using(pm_lines::specs::Lemmas::Joins::joins, crate::proofs::UsualLemmas::fronts), unfolding(pm_lines::specs::Numbers::hex_byte))]
+#[tactic(auto, using(pm_lines::specs::Lemmas::Joins::joins, crate::proofs::Shown::fronts), unfolding(pm_lines::specs::Numbers::hex_byte))]
 fn push_written(text: &mut Vec<u8>, payload: Payload) -> Result<(), AllocError>
     ensures text { OnOk result (text.new.items ≡ text.old.items ++ (carried_text false (payload_bytes payload) ++ codes "\n")) }
     ensures front { take (length text.old.items) text.new.items ≡ text.old.items }

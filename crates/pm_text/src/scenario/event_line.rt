@@ -52,7 +52,7 @@ fn read_event(form: Form, fields: &mut Fields<'_>, event: &mut Event) -> Result<
 }
 
 // What follows the first word of a line that asks for an order: of the lines that are read here most do.
-#[tactic(auto, using(crate::proofs::LineLemmas::made_of_one))]
+#[tactic(auto, using(crate::proofs::Scenarios::made_of_one))]
 fn ordered(form: Form, fields: &mut Fields<'_>, event: &mut Event) -> Result<(), ScenarioFault>
     ensures { ReadsTo result event.new fields.new (made_into event_of (spec.order_rest form) fields.old) }
 {
@@ -62,7 +62,7 @@ fn ordered(form: Form, fields: &mut Fields<'_>, event: &mut Event) -> Result<(),
 }
 
 // A line that asks the host for a job.
-#[tactic(auto, unfolding(crate::specs::EventLines::job_line), using(crate::proofs::LineLemmas::made_of_one))]
+#[tactic(auto, unfolding(crate::specs::EventLines::job_line), using(crate::proofs::Scenarios::made_of_one))]
 fn asked(form: Form, fields: &mut Fields<'_>, event: &mut Event) -> Result<(), ScenarioFault>
     ensures { ReadsTo result event.new fields.new
         (one_of (lines_into event_of (job_lines form)) fields.old) }

@@ -60,7 +60,7 @@ impl LinePart {
     }
 
     // Takes four bytes more.
-    #[tactic(auto, using(crate::proofs::PartLemmas::four_taken))]
+    #[tactic(auto, using(crate::proofs::Pieces::four_taken))]
     fn take_four(&mut self, first: u8, second: u8, third: u8, fourth: u8)
         ensures { self.new ≡ part_takes (part_takes (part_takes (part_takes self.old first) second) third) fourth }
     {

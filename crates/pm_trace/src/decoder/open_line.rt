@@ -76,7 +76,7 @@ impl OpenLine {
 
     /// Takes further bytes up to the first line feed, and gives what is left: nothing, or what
     /// begins with that line feed.
-    #[tactic(auto, using(crate::proofs::PairLemmas::passes_none))]
+    #[tactic(auto, using(crate::proofs::Pieces::passes_none))]
     pub fn take_line<'a>(&mut self, bytes: &'a [u8]) -> &'a [u8]
         ensures passes { Passes self.old bytes.entry.now result.now self.new }
         ensures stops { IsAtLineFeed result.now }
@@ -97,7 +97,7 @@ impl OpenLine {
 
     // Takes at once what most lines have most of, pairs of digits with spaces between them, if they change
     // nothing but the part that goes on and the kind. Gives what is left.
-    #[tactic(auto, using(crate::proofs::PairLemmas::passes_none))]
+    #[tactic(auto, using(crate::proofs::Pieces::passes_none))]
     fn take_pairs<'a>(&mut self, bytes: &'a [u8]) -> &'a [u8]
         ensures { Passes self.old bytes.entry.now result.now self.new }
     {

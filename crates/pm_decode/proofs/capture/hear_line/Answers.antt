@@ -1,5 +1,5 @@
 use Rattle.std.proofs.Common.{◌∙◌, sym}
-use Rattle.pm_decode.proofs.HearingLemmas.{comment_noted}
+use Rattle.pm_decode.proofs.Captures.{comment_noted}
 use Rattle.pm_decode.proofs.capture.hear_line.Goals as goal
 
 pub returns-then-is_noted-clause-heard : goal.returns-then-is_noted-clause-heard

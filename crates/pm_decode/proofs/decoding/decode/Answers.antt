@@ -3,7 +3,7 @@ use Rattle.pm_lines.specs.Engine.{EngineEnds, over}
 use Rattle.pm_capture.specs.Options.{no_formats}
 use Rattle.pm_decode.specs.Outcome.{telling}
 use Rattle.pm_capture.specs.declared.options.TellOptions.{TellOptions}
-use Rattle.pm_decode.proofs.PlainLemmas.{plain_ends}
+use Rattle.pm_decode.proofs.Shown.{plain_ends}
 use Rattle.pm_decode.proofs.decoding.decode.Goals as goal
 
 pub returns-in-Ok-clause-ends : goal.returns-in-Ok-clause-ends

@@ -1,5 +1,5 @@
 use Rattle.std.proofs.lemmas.Result.{err_from_is_err_and}
-use Rattle.pm_decode.proofs.GatheredLemmas.{stops_memory, stops_too_long}
+use Rattle.pm_decode.proofs.Captures.{stops_memory, stops_too_long}
 use Rattle.pm_decode.proofs.telling.hear_bytes.Goals as goal
 
 pub returns-in_err-take-clause-stops : goal.returns-in_err-take-clause-stops

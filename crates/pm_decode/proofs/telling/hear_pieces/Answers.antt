@@ -2,9 +2,8 @@
 use Rattle.std.proofs.Common.{◌++◌, [], rules, arith}
 use Rattle.std.proofs.lemmas.Result.{err_from_is_err_and}
 use Rattle.pm_lines.specs.Engine.{over}
-use Rattle.pm_decode.proofs.PutLemmas.{due_at_fault, puts_all, read_at, why_at}
-use Rattle.pm_decode.proofs.EndLemmas.{broke_off, hears_at, lines_cut, stops_at}
-use Rattle.pm_decode.proofs.GatheredLemmas.{cut_off, gathered_more, gathered_none, grown_more, most_now, put_more}
+use Rattle.pm_decode.proofs.Captures.{due_at_fault, puts_all, read_at, why_at, broke_off, hears_at, lines_cut, stops_at, cut_off}
+use Rattle.pm_decode.proofs.Captures.{gathered_more, gathered_none, grown_more, most_now, put_more}
 use Rattle.pm_decode.proofs.telling.hear_pieces.Goals as goal
 
 pub reads-init : goal.reads-init

@@ -1,5 +1,5 @@
 use Rattle.pm_lines.specs.Engine.{over}
-use Rattle.pm_decode.proofs.EndLemmas.{as_engine}
+use Rattle.pm_decode.proofs.Captures.{as_engine}
 use Rattle.pm_decode.proofs.telling.tell.Goals as goal
 
 pub returns-clause-short : goal.returns-clause-short

@@ -3,8 +3,8 @@ use Rattle.std.proofs.lemmas.Result.{err_from_is_err_and}
 use Rattle.pm_lines.specs.Engine.{over}
 use Rattle.pm_decode.specs.CaptureText.{capture_text, counts_text}
 use Rattle.pm_decode.specs.Capturing.{kept_at_end, told_at_end}
-use Rattle.pm_decode.proofs.EndLemmas.{all_told, text_cut, unmade}
-use Rattle.pm_decode.proofs.GatheredLemmas.{whole_input, end_all, end_front, end_counts, end_memory, none_all, none_front, none_end}
+use Rattle.pm_decode.proofs.Captures.{all_told, text_cut, unmade, whole_input, end_all, end_front, end_counts, end_memory, none_all}
+use Rattle.pm_decode.proofs.Captures.{none_front, none_end}
 use Rattle.pm_decode.proofs.telling.tell_all.Goals as goal
 
 pub returns-in_err-put-clause-ends : goal.returns-in_err-put-clause-ends

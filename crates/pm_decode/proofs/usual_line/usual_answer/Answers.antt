@@ -1,5 +1,5 @@
 use Rattle.std.proofs.Common.{rules, refl}
-use Rattle.pm_decode.proofs.UsualLemmas.{usual_answered}
+use Rattle.pm_decode.proofs.Shown.{usual_answered}
 use Rattle.pm_decode.proofs.usual_line.usual_answer.Goals as goal
 
 pub returns : goal.returns

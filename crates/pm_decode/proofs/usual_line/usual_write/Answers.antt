@@ -1,5 +1,5 @@
 use Rattle.std.proofs.Common.{rules, refl}
-use Rattle.pm_decode.proofs.UsualLemmas.{usual_written}
+use Rattle.pm_decode.proofs.Shown.{usual_written}
 use Rattle.pm_decode.proofs.usual_line.usual_write.Goals as goal
 
 pub returns : goal.returns

@@ -1,5 +1,5 @@
 use Rattle.std.proofs.Common.{arith}
-use Rattle.pm_decode.proofs.CarriedLemmas.{carried_answered}
+use Rattle.pm_decode.proofs.Shown.{carried_answered}
 use Rattle.pm_decode.proofs.usual_packet.carried_read.Goals as goal
 
 pub returns : goal.returns

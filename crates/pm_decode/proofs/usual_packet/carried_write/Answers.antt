@@ -1,5 +1,5 @@
 use Rattle.std.proofs.Common.{arith}
-use Rattle.pm_decode.proofs.CarriedLemmas.{carried_written}
+use Rattle.pm_decode.proofs.Shown.{carried_written}
 use Rattle.pm_decode.proofs.usual_packet.carried_write.Goals as goal
 
 pub returns : goal.returns

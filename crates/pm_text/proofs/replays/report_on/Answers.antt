@@ -1,5 +1,5 @@
 use Rattle.std.proofs.Common.{sym}
-use Rattle.pm_text.proofs.ReplayLemmas.{read-some, replay-told}
+use Rattle.pm_text.proofs.Scenarios.{read-some, replay-told}
 use Rattle.pm_text.proofs.replays.report_on.Goals as goal
 
 pub returns-in_err-text-clause-memory : goal.returns-in_err-text-clause-memory

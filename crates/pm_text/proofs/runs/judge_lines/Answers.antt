@@ -1,5 +1,5 @@
 use Rattle.std.proofs.Common.{◌++◌, ◌∷◌, []}
-use Rattle.pm_text.proofs.EventLemmas.{judged-more}
+use Rattle.pm_text.proofs.Scenarios.{judged-more}
 use Rattle.pm_text.proofs.runs.judge_lines.Goals as goal
 
 pub lines-preserved : goal.lines-preserved

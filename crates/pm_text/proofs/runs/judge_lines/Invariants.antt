@@ -1,7 +1,7 @@
 use Rattle.std.proofs.Common.{◌≡◌, List, length}
 use Rattle.pm_world.specs.declared.event.Event.{Event}
 use Rattle.pm_text.specs.ScenarioText.{events_in}
-use Rattle.pm_text.proofs.EventLemmas.{after}
+use Rattle.pm_text.proofs.Scenarios.{after}
 use Rattle.pm_text.proofs.runs.judge_lines.Given as goal
 
 -- the lines so far are event lines

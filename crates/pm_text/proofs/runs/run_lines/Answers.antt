@@ -1,5 +1,5 @@
 use Rattle.std.proofs.Common.{◌∷◌, ◌^◌, ◌<◌, arith, rules}
-use Rattle.pm_text.proofs.EventLemmas.{one-more, room-left, stops-there}
+use Rattle.pm_text.proofs.Scenarios.{one-more, room-left, stops-there}
 use Rattle.pm_text.proofs.runs.run_lines.Goals as goal
 
 pub returns-in-Err : goal.returns-in-Err

@@ -1,6 +1,6 @@
 use Rattle.std.proofs.Common.{List, length}
 use Rattle.pm_world.specs.declared.event.Event.{Event}
-use Rattle.pm_text.proofs.EventLemmas.{SoFar}
+use Rattle.pm_text.proofs.Scenarios.{SoFar}
 use Rattle.pm_text.proofs.runs.run_lines.Given as goal
 
 -- the events of the lines so far were taken, one after another, and left this world

@@ -1,7 +1,7 @@
 use Rattle.std.proofs.Common.{◌∙◌, ap, sym}
 use Rattle.std.proofs.lemmas.Result.{err_from_is_err_and}
 use Rattle.pm_text.specs.ScenarioText.{header}
-use Rattle.pm_text.proofs.ReplayLemmas.{header-refused, lines-refused, run-lived, setup-refused}
+use Rattle.pm_text.proofs.Scenarios.{header-refused, lines-refused, run-lived, setup-refused}
 use Rattle.pm_text.proofs.runs.run_text.Goals as goal
 
 pub returns-in_err-head-clause-fault : goal.returns-in_err-head-clause-fault

@@ -1,6 +1,6 @@
 use Rattle.std.proofs.Common.{◌≡◌, ◌⊎◌, length}
 use Rattle.pm_text.specs.ScenarioText.{HasFirst, events_in}
-use Rattle.pm_text.proofs.EventLemmas.{after}
+use Rattle.pm_text.proofs.Scenarios.{after}
 use Rattle.pm_text.proofs.scenario.events_left.Given as goal
 
 -- the events that were read stand before those of the lines that are left, and no line was passed

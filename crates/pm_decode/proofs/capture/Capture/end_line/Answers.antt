@@ -1,8 +1,7 @@
 use Rattle.std.proofs.Common.{◌≡◌, ◌+◌, ◌≤◌, refl, subst, sym}
 use Rattle.pm_decode.specs.Captures.{kept_in}
 use Rattle.pm_decode.specs.Capturing.{Kept, heard_ended}
-use Rattle.pm_decode.proofs.BoundLemmas.{bounded_ended}
-use Rattle.pm_decode.proofs.HearingLemmas.{on_good}
+use Rattle.pm_decode.proofs.Captures.{bounded_ended, on_good}
 use Rattle.pm_decode.proofs.capture.Capture.end_line.Goals as goal
 
 pub returns-clause-kept : goal.returns-clause-kept

@@ -1,4 +1,4 @@
-use Rattle.pm_decode.proofs.BoundLemmas.{bounded_none}
+use Rattle.pm_decode.proofs.Captures.{bounded_none}
 use Rattle.pm_decode.proofs.capture.Capture.new.Goals as goal
 
 pub invariant_of-result : goal.invariant_of-result

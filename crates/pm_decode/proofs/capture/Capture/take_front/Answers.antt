@@ -1,7 +1,7 @@
 use Rattle.std.proofs.Common.{◌∙◌, ap, sym}
 use Rattle.pm_decode.specs.Captures.{kept_in}
 use Rattle.pm_decode.specs.Capturing.{next, told}
-use Rattle.pm_decode.proofs.CapturingLemmas.{next_none, told_none, next_ended, told_ended}
+use Rattle.pm_decode.proofs.Captures.{next_none, told_none, next_ended, told_ended}
 use Rattle.pm_decode.proofs.capture.Capture.take_front.Goals as goal
 
 pub returns-in_default-clause-kept : goal.returns-in_default-clause-kept

@@ -1,5 +1,5 @@
 use Rattle.std.proofs.Common.{rules}
-use Rattle.pm_decode.proofs.UsualLemmas.{gathered_as, usual_told_in}
+use Rattle.pm_decode.proofs.Shown.{gathered_as, usual_told_in}
 use Rattle.pm_decode.proofs.told_text.ToldText.hear.Goals as goal
 
 pub returns-clause-told : goal.returns-clause-told

@@ -2,7 +2,7 @@ use Rattle.std.proofs.Common.{rules}
 use Rattle.std.proofs.lemmas.Int.{to_z-of_z}
 use mir.Syntax.{w128}
 use mir.Val.{SFits}
-use Rattle.pm_text.proofs.FloorLemmas.{floor-is}
+use Rattle.pm_text.proofs.Scenarios.{floor-is}
 use Rattle.pm_text.proofs.report.outputs.microvolts.Goals as goal
 
 pub returns-clause-value : goal.returns-clause-value

@@ -1,5 +1,5 @@
 use Rattle.std.proofs.Common.{◌≡◌, ◌∙◌, ◌≤◌, ◌-◌, ◌++◌, ◌∷◌, [], drop, length, refl, rules, sym, take}
-use Rattle.pm_text.proofs.FrameLemmas.{pair_more, too_many}
+use Rattle.pm_text.proofs.Scenarios.{pair_more, too_many}
 use Rattle.pm_text.proofs.scenario.frames.frame_of.Goals as goal
 
 pub returns-then-is_err : goal.returns-then-is_err

@@ -1,7 +1,7 @@
 use Rattle.std.proofs.Common.{◌≡◌, List, length}
 use Rattle.pm_device.specs.declared.output_start.OutputStart.{OutputStart}
 use Rattle.pm_text.specs.ScenarioText.{output_line, outputs_in, starts_of}
-use Rattle.pm_text.proofs.OutputLemmas.{behind}
+use Rattle.pm_text.proofs.Scenarios.{behind}
 use Rattle.pm_text.proofs.scenario.header.outputs.Given as goal
 
 -- the outputs that were read stand before those of the lines that are left

@@ -1,5 +1,5 @@
 use Rattle.std.proofs.Common.{arith}
-use Rattle.pm_text.proofs.UsualLemmas.{eight-are}
+use Rattle.pm_text.proofs.Scenarios.{eight-are}
 use Rattle.pm_text.proofs.scenario.usual_line.behind_eight.Goals as goal
 
 pub returns-then-from_be_bytes-number : goal.returns-then-from_be_bytes-number

@@ -1,7 +1,7 @@
 use Rattle.std.proofs.Common.{◌∙◌, List, ap, ℕ}
 use Rattle.pm_text.specs.EventLines.{event_line}
 use Rattle.pm_text.specs.Readers.{line_as}
-use Rattle.pm_text.proofs.UsualLemmas.{deliver-reads, exchange-reads, finish-reads}
+use Rattle.pm_text.proofs.Scenarios.{deliver-reads, exchange-reads, finish-reads}
 use Rattle.pm_text.proofs.scenario.usual_line.usual_event.Goals as goal
 
 pub returns-then-is_deliver_whole : goal.returns-then-is_deliver_whole

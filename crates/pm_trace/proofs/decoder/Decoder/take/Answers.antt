@@ -1,6 +1,6 @@
 use Rattle.std.proofs.Common.{sym, inr, refl}
 use Rattle.std.proofs.lemmas.Result.{err_from_is_err_and}
-use Rattle.pm_trace.proofs.HoldingLemmas.{feeds_open, feeds_ended, ends_new}
+use Rattle.pm_trace.proofs.Pieces.{feeds_open, feeds_ended, ends_new}
 use Rattle.pm_trace.proofs.decoder.Decoder.take.Goals as goal
 
 pub returns-in_err-end_line-clause-refused : goal.returns-in_err-end_line-clause-refused

@@ -1,5 +1,5 @@
 use Rattle.std.proofs.Common.{◌∙◌, ap, not, refl}
-use Rattle.pm_trace.proofs.HoldingLemmas.{takes_inside}
+use Rattle.pm_trace.proofs.Pieces.{takes_inside}
 use Rattle.pm_trace.proofs.decoder.Decoder.take_bytes.Goals as goal
 
 pub returns : goal.returns

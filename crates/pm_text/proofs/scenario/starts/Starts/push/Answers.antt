@@ -2,7 +2,7 @@ use Rattle.std.proofs.Common.{◌≡◌, ◌≤◌, ◌++◌, ◌∷◌, [], len
 use Rattle.std.proofs.lemmas.List.{set_past}
 use Rattle.pm_text.specs.ScenarioText.{first_eight}
 use Rattle.pm_text.specs.declared.scenario.starts.Starts.{Starts}
-use Rattle.pm_text.proofs.OutputLemmas.{first_eight-push, length-first_eight, starts-made}
+use Rattle.pm_text.proofs.Scenarios.{first_eight-push, length-first_eight, starts-made}
 use Rattle.pm_text.proofs.scenario.starts.Starts.push.Goals as goal
 use Rattle.pm_text.proofs.scenario.starts.Starts.push.Goals.{then-place-lt8, else-place-lt8}
 

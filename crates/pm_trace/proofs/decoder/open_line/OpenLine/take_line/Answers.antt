@@ -1,4 +1,4 @@
-use Rattle.pm_trace.proofs.PairLemmas.{passes_one, passes_more}
+use Rattle.pm_trace.proofs.Pieces.{passes_one, passes_more}
 use Rattle.pm_trace.proofs.decoder.open_line.OpenLine.take_line.Goals as goal
 
 pub returns-then-first-eq10-clause-passes : goal.returns-then-first-eq10-clause-passes

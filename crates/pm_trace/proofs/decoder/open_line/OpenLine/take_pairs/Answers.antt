@@ -1,7 +1,7 @@
 use Rattle.std.proofs.Common.{◌≡◌, true, ap, sym, ◌∙◌, inl, inr}
 use Rattle.pm_trace.specs.OpenLines.{has_slash}
 use Rattle.pm_trace.specs.declared.decoder.line_kind.LineKind.TheVariants.{Packet}
-use Rattle.pm_trace.proofs.PairLemmas.{passed_written, passed_read}
+use Rattle.pm_trace.proofs.Pieces.{passed_written, passed_read}
 use Rattle.pm_trace.proofs.decoder.open_line.OpenLine.take_pairs.Goals as goal
 
 pub returns-in-None : goal.returns-in-None
