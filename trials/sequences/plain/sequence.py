@@ -42,10 +42,9 @@ class Sequence:
                 yield "ended" if self.is_over else "told", place, *why
 
     def leaves(self, place):
-        """None is under way once a step is left."""
-        self.begun += place != self.under
-        self.under = None
-        self.left, self.coming, self.told = self.left + 1, None, None
+        """The step is left, whether it has begun or not; none is under way then, so that the next one may begin."""
+        self.begun, self.left = place + 1, self.left + 1
+        self.under, self.coming, self.told = None, None, None
         self.is_looked, self.is_waited, self.is_warned = True, False, False
 
     def turn(self):
