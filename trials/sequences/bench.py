@@ -190,6 +190,10 @@ class Watch:
         byte, at = now[rail.cell], self.order.index(rail)
         self.since[rail.name], self.turned[rail.name] = self.now(), len(self.bus.are_reads)
         self.ways[rail.name].append(byte)
+        if self.command == "on" and byte == OFF == self.start[rail.cell]:
+            # A way up that failed goes down, and waits for nothing.
+            self.passed_by |= {each.name for each in self.order[at + 1:] if now[each.cell] != OFF}
+            return
         if byte not in {"on": (ON,), "off": (OFF,)}.get(self.command, self.way_of(self.start[rail.cell])):
             self._tell(f"{rail.name}: OPERATION came to {byte:02X}")
         if self.command == "on":

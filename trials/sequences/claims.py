@@ -19,6 +19,7 @@ POSSIBLE = re.compile(r"OPERATION unknown, (?:possible ([0-9A-F ]+)|any word is 
 MISSED = re.compile(r"(?:its format isn't known|[A-Z_]+ gave no good answer|no part answers|OPERATION of output 0 gave no good answer|what the output "
                     r"commands isn't known|not begun|refused \w\w \w+)(, nothing was ordered)?")
 COMMANDS = re.compile(rf"; the output commands {VOLT}(?: to {VOLT})?, within {VOLT} to {VOLT}")
+WOULD = re.compile(rf"; the output is commanded off, and would command {VOLT}(?: to {VOLT})?, within {VOLT} to {VOLT}")
 NOT_KNOWN = re.compile(r"; (?:its format isn't known|[A-Z_]+ gave no good answer|what the output commands isn't known(?:, since its format wasn't learned)?)")
 NOTE = re.compile(r"; [A-Z_, ]+ gave no good answer, and (?:is|are)n't judged")
 DELIVERS = re.compile(rf", delivers (?:{VOLT}|by STATUS_WORD)")
@@ -26,7 +27,9 @@ STATUS = re.compile(r"; (STATUS_\w+) ([0-9A-F]+)((?: [A-Z_]+,?)*)(?: and (STATUS
 SAID = re.compile(r"; (?:the part says that it is off|(?:delivery not known|commanded off; not known to be off): [A-Z_]+ gave no good answer: [\w ]+)")
 CODES = {"STATUS_WORD": 0x79, "STATUS_VOUT": 0x7A, "STATUS_IOUT": 0x7B, "STATUS_INPUT": 0x7C, "STATUS_TEMPERATURE": 0x7D, "READ_VOUT": 0x8B}
 # What the line of a list says of its rails.
-UNTOUCHED, NOT_OFF = re.compile(r"pmhost: on FILE: nothing was ordered of (.*)"), re.compile(r"pmhost: off FILE: not known to be off: (.*)")
+STOPPED, NOT_OFF = re.compile(r"pmhost: on FILE: (.*)"), re.compile(r"pmhost: off FILE: not known to be off: (.*)")
+FELL = re.compile(r"\w+ (?:went off after it delivered|doesn't deliver any more): |\w+ has to deliver first")
+STANDING = re.compile(r"(turned off again: |may be on: |left on: |on before, and left: |came on by itself: |nothing was ordered of |nothing was ordered)(.*)")
 WHY = re.compile(r"pmhost: (on|off) (\w+): (.+)")
 # Of a margin test.
 ROW = re.compile(rf"(\w+) +(nominal|high|low) +(?:{VOLT}(?: to {VOLT})?|not known) +(?:{VOLT}|-) +(?:([0-9A-F]{{4}})(?: .*)?|-)")
@@ -42,6 +45,8 @@ class Claims:
         self.call, self.watch, self.bus = call, call.watch, call.watch.bus
         self.rails = {rail.name: rail for rail in self.watch.order}
         self.said: list[str] = []
+        # The rails that a way up turned off again.
+        self.downs = {found[1] for line in call.lines if (found := re.match(r'(?:\{"command": ")?off (\w+)[:"]', line))} if call.watch.command == "on" else set()
 
     def faults(self) -> Iterator[str]:
         """What isn't so of its status and of each line."""
@@ -90,6 +95,11 @@ class Claims:
             for rail in self.watch.order:
                 if (self.held(rail) != OFF or rail.name in self.watch.passed_by) and rail.name not in named:
                     yield f"{rail.name} is on, or was as one before it went off, and isn't named"
+        if not self.is_json and self.watch.command == "on" and self.call.status:
+            named = [name for line in self.call.lines for name in re.findall(r"\w+", line) if re.search("may be on: |on before, and left: ", line)]
+            for rail in self.watch.order:
+                if self.held(rail) != OFF and rail.name not in named:
+                    yield f"{rail.name} is on, and isn't named"
         if not self.is_json and self.watch.command == "on" and self.call.status == 0:
             if sorted(self.said) != sorted(self.rails):
                 yield f"lines of {self.said} only"
@@ -109,15 +119,28 @@ class Claims:
         """What isn't so of a line."""
         if self.is_json and line.startswith("{"):
             yield from self.of_object(json.loads(line))
-        elif found := UNTOUCHED.fullmatch(line):
-            yield from (f"{name} was ordered" for name in found[1].split(", ") if not self.is_untouched(self.rails[name]))
+        elif found := STOPPED.fullmatch(line):
+            yield from () if FELL.match(found[1]) else (fault for each in found[1].split("; ") for fault in self.of_stop(each))
         elif found := re.fullmatch(r"(on|off) (\w+): (.*)", line):
             self.said.append(found[2])
-            yield from self.of_turn(self.rails[found[2]], found[3])
+            if found[1] == "off" or found[2] not in self.downs:
+                yield from self.of_turn(self.rails[found[2]], found[3])
         elif self.watch.command == "margin-test":
             yield from self.of_test(line)
         elif not NOT_OFF.fullmatch(line) and not WHY.fullmatch(line):
             yield "it is no line that is known here"
+
+    def of_stop(self, text: str) -> Iterator[str]:
+        """How rails stand behind a way up that failed."""
+        found = STANDING.fullmatch(text)
+        if not found:
+            yield f"{text!r} is nothing that is known here"
+            return
+        rails = [self.rails[name] for name in found[2].split(", ") if name]
+        if found[1].startswith("turned off"):
+            yield from (f"{rail.name} isn't off" for rail in rails if self.held(rail) != OFF)
+        if found[1].startswith("nothing"):
+            yield from (f"{rail.name} was ordered" for rail in rails or self.watch.order if not self.is_untouched(rail))
 
     def of_turn(self, rail: Rail, text: str) -> Iterator[str]:
         """What is said of a rail that was to be turned."""
@@ -145,7 +168,7 @@ class Claims:
         """What is said after that of what the output commands and of what the rail does."""
         commands = self.bus.parts[rail.address].voltage(rail.output).microvolts
         while text:
-            if found := COMMANDS.match(text):
+            if found := COMMANDS.match(text) or WOULD.match(text):
                 band = [microvolts(it) for it in found.groups() if it]
                 if not band[0] <= commands <= band[-3] or not band[-2] <= commands <= band[-1]:
                     yield f"the output commands {commands} uV"
@@ -206,8 +229,9 @@ class Claims:
                 yield f"{row['rail']} isn't back"
             if row["point"] != "back" and self.call.status == 0 and row["read_vout"] is None:
                 yield f"the status is 0, and {row['rail']} wasn't measured at {row['point']}"
-        rail = self.rails.get(str(found["command"]).split()[-1])
-        if rail is None:
+        command, name = str(found["command"]).split()[:2]
+        rail = self.rails.get(name)
+        if rail is None or command == "on" and name in self.downs:
             return
         part, held = self.bus.parts[rail.address], self.held(rail)
         commands = part.voltage(rail.output).microvolts

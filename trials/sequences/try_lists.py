@@ -1,5 +1,5 @@
 #!/usr/bin/env python3
-"""Random lists of steps, by the library and by the plain slow sequence of plain/: both get the same answers of model parts, and have to hand out
+"""Random lists of steps, by the library and by the plain slow sequence of plain_lists/: both get the same answers of model parts, and have to hand out
 the same frames, waits, orders that come next, verdicts and ends, to hear the same of rails, and to keep the same way back.
 
     trials/sequences/try_lists.py [--lists N] [--seed N] [--first N] [--plant N]
@@ -19,17 +19,17 @@ import paths  # noqa: E402, F401
 import program  # noqa: E402
 from tally import Tally  # noqa: E402
 
-import plain.look  # noqa: E402
-import plain.sequence as plain_side  # noqa: E402
-from plain.course import Course  # noqa: E402
-from plain.part import UNKNOWN, Part  # noqa: E402
+import plain_lists.look  # noqa: E402
+import plain_lists.sequence as plain_side  # noqa: E402
+from plain_lists.course import Course  # noqa: E402
+from plain_lists.part import UNKNOWN, Part  # noqa: E402
 from pmhost import Heard, Host, Looks, ModelPart, ModelPartBus, Output, Rules, Said, Sequence, SequenceStep  # noqa: E402
 from pmhost.errors import name_of  # noqa: E402
 from pmhost.voltages import of_microvolts  # noqa: E402
 from tests.plain.limits import VOLTAGES  # noqa: E402
 from tests.plain.packets import CODES, name_of as register_of, pec  # noqa: E402
 
-CODE_OF = CODES | {name: code for name, (code, _) in plain.look.ASKED.items()}
+CODE_OF = CODES | {name: code for name, (code, _) in plain_lists.look.ASKED.items()}
 BYTES = (0x80,) * 8 + (0x00, 0x00, 0x40, 0xA8, 0xA4, 0x98, 0x94, 0x88, 0x90, 0xB0)
 # How many milliseconds a rail is given, by the rounds that these have; wishes that are refused more often than not.
 SETTLE = {1: 0, 2: 10, 3: 30, 5: 150, 11: 10230}
@@ -44,8 +44,8 @@ PLANTS = [
     ("orders aren't judged by the fault limits", MINE, "judge", lambda self, step, place, wanted: None),
     ("a way back that would be refused isn't said", MINE, "why_no_way_back", lambda self, step, back: None),
     ("a step that turns off reads first", plain_side, "turns_off", lambda step: False),
-    ("a register is missing after one silent round", plain.look, "SILENT_ROUNDS", 1),
-    ("a rail that has to deliver needn't", plain_side, "does", lambda step, word: plain.look.does(step._replace(must=False), word)),
+    ("a register is missing after one silent round", plain_lists.look, "SILENT_ROUNDS", 1),
+    ("a rail that has to deliver needn't", plain_side, "does", lambda step, word: plain_lists.look.does(step._replace(must=False), word)),
     ("after orders all isn't read once more", Course, "is_carried_out", lambda self, part: False),
     ("WRITE_PROTECT isn't read before an output is turned on", Course, "turning", lambda self, part, job: job)]
 

@@ -3,8 +3,8 @@ from __future__ import annotations
 
 from typing import Optional
 
-# On at VOUT_COMMAND, and off at once. At the margins the part acts on faults, and at those of UNPROTECTED it ignores them.
-ON, OFF, MARGINS, UNPROTECTED = 0x80, 0x00, {"high": 0xA8, "low": 0x98}, {"high": 0xA4, "low": 0x94}
+# On at VOUT_COMMAND, off at once, and off by the part's own TOFF_DELAY and TOFF_FALL. At the margins the part acts on faults, and at those of UNPROTECTED it ignores them.
+ON, OFF, SOFT_OFF, MARGINS, UNPROTECTED = 0x80, 0x00, 0x40, {"high": 0xA8, "low": 0x98}, {"high": 0xA4, "low": 0x94}
 # The bits of which one is 1 where an output that is on isn't at VOUT_COMMAND, and the register that they select.
 ANOTHER = 0x30
 SELECTED = {0x00: "VOUT_COMMAND", 0x10: "VOUT_MARGIN_LOW", 0x20: "VOUT_MARGIN_HIGH"}

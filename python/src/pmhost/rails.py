@@ -14,7 +14,7 @@
 A rail has an output, its volts and its limits; margins, min and max (VOUT_MIN, VOUT_MAX) only if they are to be set. It is on,
 unless `on = false` says that it is off. `accept` is for a part that rounds: a held word that is this near is as wanted. Voltages are texts with their unit, exactly as they are written, to a whole microvolt.
 `after`, `wait` and `delivers` say a rail's place among the others (`rail_order`), `settle` and `settle_off` how long it takes to come up and to go
-down.
+down. With `off = "soft"` it is turned off by its part's own TOFF_DELAY and TOFF_FALL.
 
 A board with several parts has a table for each (`parts`), and `part = "u12"` in each rail. Without them the file is of one part, whose
 place is given on the command line: `lacks = ["VOUT_MIN"]` above the first rail names registers that it doesn't have, and without
@@ -29,6 +29,7 @@ from typing import Callable, TypeVar
 
 from . import rail_order, voltages
 from .looks import Looks
+from .operation import OFF, SOFT_OFF
 from .parts import MOST_OUTPUTS, NAME, BadRails, BoardPart, is_whole, lacks_of, part_of, protect_of, trims_of
 
 # The settings of a rail, by their registers.
@@ -37,7 +38,7 @@ SETTINGS = {"volts": "VOUT_COMMAND", "margin_high": "VOUT_MARGIN_HIGH", "margin_
 WORDS = ("volts", "margin_low", "margin_high")
 MARGINS = (SETTINGS["margin_high"], SETTINGS["margin_low"])
 BOUNDS = (SETTINGS["min"], SETTINGS["max"])
-KEYS = ("output", "limits", "on", "accept", *SETTINGS, *rail_order.KEYS, *rail_order.TIMES)
+KEYS = ("output", "limits", "on", "accept", *SETTINGS, *rail_order.KEYS, *rail_order.TIMES, "off")
 MOST_BYTES = 1 << 20
 LIMITS_EXAMPLE = '["0.85V", "0.95V"]'
 # What a file without a table of parts says of its one part.
@@ -52,7 +53,7 @@ Made = TypeVar("Made")
 class Rail:
     """A rail: its output of a part, its limits and its settings in whole microvolts, by their names, whether it is on, and how near a held
     word has to be to a setting, in microvolts. It comes after other rails, so many milliseconds later, and these may have to deliver. It takes
-    so many milliseconds to come up and to go down; None is what the call says."""
+    so many milliseconds to come up and to go down; None is what the call says. One that `is_soft` goes off by its part's own times."""
 
     name: str
     output: int
@@ -66,6 +67,11 @@ class Rail:
     delivers: bool = False
     settle: int | None = None
     settle_off: int | None = None
+    is_soft: bool = False
+
+    def off_byte(self, is_now: bool) -> int:
+        """The byte of OPERATION by which it goes off, now or as its file has it."""
+        return SOFT_OFF if self.is_soft and not is_now else OFF
 
     def looks(self, looks: Looks) -> Looks:
         """How it is looked at."""
@@ -217,13 +223,15 @@ def rail_of(name: str, table: object, has_parts: bool) -> Rail:
         raise BadRails(f"{at}.limits: give the least and the most, as {LIMITS_EXAMPLE}")
     if not isinstance(is_on, bool):
         raise BadRails(f"{at}.on: give true or false")
+    if table.get("off", "soft") != "soft":
+        raise BadRails(f'{at}.off: give "soft", or leave it out: the rail goes off at once then')
     least, most = (microvolts(f"{at}.limits", each) for each in pair)
     settings = {key: microvolts(f"{at}.{key}", table[key]) for key in SETTINGS if key in table}
     accept = microvolts(f"{at}.accept", table["accept"]) if "accept" in table else None
     if accept is not None and accept < 0:
         raise BadRails(f'{at}.accept: give how near is near enough, as "3mV"')
     rail = Rail(name, output, (least, most), settings, is_on, part, accept, *rail_order.place_of(at, table),
-                *rail_order.times_of(at, table))
+                *rail_order.times_of(at, table), "off" in table)
     judge(at, rail)
     return rail
 

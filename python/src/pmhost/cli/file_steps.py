@@ -32,7 +32,8 @@ class FileSteps:
         """The step of a rail, which begins so many milliseconds after the one before, of which these rails were turned on."""
         self.look_at(rail.name, before, {each.name for each in before if rail.delivers and each.name in rail.after}, wait)
         self.places[rail.name] = len(self.steps)
-        step = SequenceStep.turns(0, rail.output, self.arguments.byte, self.call.looks_of(rail))
+        byte = rail.off_byte(self.arguments.is_now) if self.is_down else self.arguments.byte
+        step = SequenceStep.turns(0, rail.output, byte, self.call.looks_of(rail))
         self._append(rail, replace(step, wait=0 if before else wait))
 
     def look_at(self, place: str, rails: list[Rail], having_to: set[str] = frozenset(), wait: int = 0) -> None:  # type: ignore[assignment]

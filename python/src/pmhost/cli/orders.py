@@ -457,7 +457,7 @@ def turn_off(arguments: argparse.Namespace) -> int:
         if part.run().kind != "done":
             return call.say(answer_of(arguments, part, "OPERATION", "unknown", status=1, text="not known to be off, and nothing was ordered",
                                       why=f"{why}; OPERATION: {part.transfers.why() or 'no good answer'}"))
-    status = turn(arguments, OFF)
+    status = turn(arguments, OFF if call.named is None else call.named.off_byte(arguments.is_now))
     return max(status, call.say(Answer(said(arguments), "other part", "", 1, why, arguments.output))) if why else status
 
 
