@@ -55,7 +55,7 @@ static void free_wait(void *context, uint32_t milliseconds) {
 
 /* A whole order by the loop of the header, over the bus of no cost, which waits for a busy part or doesn't. */
 static int order_by_loop(pm_host *host, const uint8_t *answer, uint16_t word, int is_patient) {
-    pm_patient bus = {free_write, free_read, &answer, free_now, free_wait, -1, 0, 0, 0};
+    pm_patient bus = {free_write, free_read, &answer, free_now, free_wait, -1, 0, 0, 0, 0, 0, 0};
     if (pm_host_order(host, 0, PM_VOUT_COMMAND, word))
         return 0;
     return (is_patient ? pm_patient_run(host, &bus) : pm_host_run(host, free_write, free_read, &answer)).kind == PM_DONE;

@@ -34,7 +34,8 @@ TRACES = [("what is shown",), ("what is shown with values", "--values"),
           ("what is shown with readings", "--values", "--readings=8C:direct:1:0:1"),
           ("what is shown with a list", "--values", "--vout=59:ulinear16:-9,ulinear16:-12"),
           ("what is shown of all codes", "--all"), ("what all codes say", "--all", "--values"),
-          ("what is shown with times", "--times"), ("what is shown with pages", "--pages", "--values")]
+          ("what is shown with times", "--times"), ("what is shown with pages", "--pages", "--values"),
+          ("what is shown of special addresses", "--mux=70"), ("what is shown of what happened", "--explain")]
 FILE = re.compile(r"(?:\.\./)?(?:crates|tools|trials|packaging|python|rust|mutants|docs|examples|bench)/[\w./-]*\w")
 
 

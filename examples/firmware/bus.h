@@ -1,4 +1,4 @@
-/* The bus as the firmware sees it: three functions, which a driver for a board's I2C controller has. Frames have the
+/* The bus as the firmware sees it: four functions, which a driver for a board's I2C controller has. Frames have the
  * address byte first, as the bus carries them; the PEC is data. */
 #ifndef BUS_H
 #define BUS_H
@@ -16,5 +16,8 @@ unsigned bus_read(const uint8_t *request, unsigned count, uint8_t *answer, unsig
 
 /* Waits for so many milliseconds, as HAL_Delay() or k_msleep() does. */
 void bus_wait(uint32_t milliseconds);
+
+/* Milliseconds of a clock that nobody sets, as HAL_GetTick() or k_uptime_get_32(). */
+uint32_t bus_clock(void);
 
 #endif

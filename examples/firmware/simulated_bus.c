@@ -6,12 +6,13 @@
 #include "pmpart.h"
 #include <string.h>
 
-enum { RESTARTS_EACH = 109 };
+enum { OUTPUTS = 4, RESTARTS_EACH = 503, FIRST_RESTART = 110 };
 
 typedef enum { NONE, FRAME_LOST, FRAME_CUT, FRAME_DAMAGED, ANSWER_LOST, ANSWER_DAMAGED, FALSE_ACKNOWLEDGEMENT } fault;
 
 static pm_part part;
 static unsigned transfers;
+static uint32_t clock_now; /* a transfer takes a millisecond */
 
 static unsigned draw(unsigned below) {
     static uint32_t drawn = 2463534242u;
@@ -21,27 +22,29 @@ static unsigned draw(unsigned below) {
     return (drawn >> 8) % below;
 }
 
-/* The part as it is made: both outputs at 1 V, with 4.5 V as their most. */
+/* The part as it is made: each output is off, at 1 V once it is on, with 4.5 V as its most. */
 static void make(void) {
-    static const pm_part_output output = {0x14, 0, 0x80, 0x1000, 0x4800, 0x1100, 0x0F00, 0x0000};
+    static const pm_part_output output = {0x14, 0, 0x00, 0x1000, 0x4800, 0x1100, 0x0F00, 0x0000};
     pm_part_config config;
     memset(&config, 0, sizeof config);
     config.address = 0x58;
-    config.outputs = 2;
+    config.outputs = OUTPUTS;
     config.m = 1;
-    config.starts[0] = config.starts[1] = output;
+    for (unsigned at = 0; at < OUTPUTS; at++)
+        config.starts[at] = output;
     pm_part_new(&part, &config);
 }
 
-/* What goes wrong with the next transfer: something in two of five. */
+/* What goes wrong with the next transfer: something in one of ten. */
 static fault next_fault(void) {
+    clock_now++;
     if (transfers++ == 0)
         make();
-    if (transfers % RESTARTS_EACH == 0) {
+    if (transfers % RESTARTS_EACH == FIRST_RESTART) {
         pm_part_restart(&part);
         console_put("  (the part restarts)\n");
     }
-    return draw(5) < 2 ? (fault)(1 + draw(6)) : NONE;
+    return draw(10) < 1 ? (fault)(1 + draw(6)) : NONE;
 }
 
 static void damage(uint8_t *bytes, unsigned count) {
@@ -49,12 +52,13 @@ static void damage(uint8_t *bytes, unsigned count) {
     bytes[place] ^= (uint8_t)(1 + draw(255));
 }
 
-/* Each rail is at what it commands. */
+/* Each rail is at what it commands, or at 0 V. */
 static void settle(void) {
-    for (uint8_t output = 0; output < 2; output++) {
-        uint16_t word = 0;
+    for (uint8_t output = 0; output < OUTPUTS; output++) {
+        uint16_t byte = 0, word = 0;
+        pm_part_word(&part, output, 0x01, &byte);
         pm_part_word(&part, output, 0x21, &word);
-        pm_part_set_reading(&part, output, 0x8B, word);
+        pm_part_set_reading(&part, output, 0x8B, byte & 0x80 ? word : 0);
     }
 }
 
@@ -97,5 +101,9 @@ unsigned bus_read(const uint8_t *request, unsigned count, uint8_t *answer, unsig
 }
 
 void bus_wait(uint32_t milliseconds) {
-    (void)milliseconds;
+    clock_now += milliseconds;
+}
+
+uint32_t bus_clock(void) {
+    return clock_now;
 }

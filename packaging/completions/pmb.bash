@@ -7,7 +7,7 @@ _pmb() {
         mapfile -t COMPREPLY < <(compgen -W "--format= --word= --micro= --help" -- "$word")
         compopt -o nospace
     elif [ "$command" = decode ]; then
-        mapfile -t COMPREPLY < <(compgen -W "--values --vout= --readings= --all --pages --gap= --long --times --json --help" -- "$word")
+        mapfile -t COMPREPLY < <(compgen -W "--values --vout= --readings= --all --pages --gap= --explain --long --times --json --part= --mux= --help" -- "$word")
         [[ ${COMPREPLY[0]-} != *= ]] || compopt -o nospace
     elif [ "$command" = check ]; then
         mapfile -t COMPREPLY < <(compgen -W "--lacks= --help" -- "$word")

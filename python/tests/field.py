@@ -106,6 +106,16 @@ class Early(Field):
         return answer
 
 
+class Lowered(Field):
+    """A part whose VOUT_OV_FAULT_LIMIT another master lowers to 0F00 once it was read."""
+
+    def hear(self, frame, ending):
+        answer = super().hear(frame, ending)
+        if answer and list(frame[1:3]) == [0x06, 2] and frame[4] == 0x40:
+            self.set("VOUT_OV_FAULT_LIMIT", 0x0F00, frame[3])
+        return answer
+
+
 class FieldBus:
     """The bus of a part, for a host in Python."""
 

@@ -46,7 +46,8 @@ FIRST_FILE = 77
 # What a rail answers: its limits, which nothing reaches, and READ_VOUT; and what else is asked beside the host's jobs.
 RAIL = {0x40: 0xFFFF, 0x42: 0xFFFF, 0x43: 0, 0x44: 0, 0x8B: None}
 TEMPERATURE = 0x8D
-LOOKS = {*RAIL, 0x5E, 0x5F, 0x79, 0x7B, 0x7C, 0x7D, TEMPERATURE}
+CONFIG = 0x02
+LOOKS = {*RAIL, CONFIG, 0x5E, 0x5F, 0x79, 0x7B, 0x7C, 0x7D, TEMPERATURE}
 WRITES, READS = CODES["PAGE_PLUS_WRITE"], CODES["PAGE_PLUS_READ"]
 SIGNALS = {
     "sigint": lambda: os.kill(os.getpid(), signal.SIGINT), "sigterm": lambda: os.kill(os.getpid(), signal.SIGTERM),
@@ -110,6 +111,8 @@ class Part:
     # Of a byte that isn't acknowledged, behind an address that is.
     refusal = errno.EREMOTEIO
     starts = (0x1000, 0x1000)
+    # ON_OFF_CONFIG of each output: None if it hasn't that.
+    config = 0x1E
 
     def __init__(self, modes=None, coefficients=(1, 0, 3), address=BASE["address"], protect=0, **words):
         self.make([*(modes or [0x14] * len(self.starts))], coefficients, address, protect, **words)
@@ -153,6 +156,8 @@ class Part:
         """What a rail answers that delivers what its output commands, and that no limit trips; nothing of what the converter answers."""
         output, code = request[3:]
         plain = self.converter.plain
+        if code == CONFIG and self.config is not None and output in plain.outputs and request[0] == 2 * plain.address:
+            return self.answer(request, [1, self.config])
         if code not in RAIL or output not in plain.outputs or request[0] != 2 * plain.address or (output, code) in self.converter.given:
             return None
         word, is_direct = RAIL[code], plain.setup["outputs"][output][0] == 0x40
@@ -395,13 +400,14 @@ class Wire:
     def hear(self, frame, ending):
         if self.goes_astray:
             frame = [frame[0] ^ 0x02, *frame[1:]]
-        answer, self.refusal = None, getattr(self.parts.get(frame[0] >> 1), "refusal", errno.ENXIO)
+        answer = None
         for address, part in self.parts.items():
             if address == frame[0] >> 1:
                 answer = part.hear(frame, ending)
             else:
                 stranger = part.hear_stranger(frame, ending) if hasattr(part, "hear_stranger") else None
                 assert stranger is None, (frame, stranger)
+        self.refusal = getattr(self.parts.get(frame[0] >> 1), "refusal", errno.ENXIO)
         return answer
 
 

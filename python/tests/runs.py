@@ -118,6 +118,8 @@ class Run:
         if self.board:
             places = [line.split(None, 2) for line in self.board]
             parts = {(int(bus), int(address, 16)): made(kind, address=int(address, 16)) for bus, address, kind in places}
+        for part in parts.values() if self.is_probe else ():
+            part.config = None
         for *place, output, register, word in self.cells:
             part = next(part for (_, address), part in parts.items() if not place or address == int(place[0], 16))
             part.converter.set((None if output == "None" else int(output), CODES[register]), int(word, 16))
@@ -133,8 +135,13 @@ class Run:
             found = BoardKernel(buses, self.mishaps.split(), faults=self.faults)
         else:
             found = kernel.FakeKernel(parts[7, 0x58], self.mishaps.split(), self.faults, self.functions)
-        found.strikes_looks, found.is_shared = self.looks == "struck", "--share-bus" in self.words.split()
+        found.strikes_looks, found.is_shared = self.looks == "struck" or self.is_probe, "--share-bus" in self.words.split()
         return found
+
+    @property
+    def is_probe(self):
+        """Whether it probes a part, which is asked for all that it has then."""
+        return "probe" in self.words.split()
 
     def made_part(self):
         """The one part of a run without several."""

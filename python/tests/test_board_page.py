@@ -77,7 +77,9 @@ class Examples(unittest.TestCase):
         self.assertEqual(called(words_of("read"), kernel.FakeKernel(part)), (0, COMMANDS["read"].prints, ""))
 
     def test_the_probe(self):
-        self.assertEqual(called(words_of("probe"), kernel.FakeKernel(odd_parts.Named()))[:2], (0, COMMANDS["probe"].prints))
+        part = odd_parts.Named()
+        part.config = None
+        self.assertEqual(called(words_of("probe"), kernel.FakeKernel(part))[:2], (0, COMMANDS["probe"].prints))
 
 
 class CommandLine(unittest.TestCase):
@@ -173,7 +175,8 @@ class Cases(unittest.TestCase):
 
     def test_an_output_that_is_off(self):
         self.assertEqual(self.ran(self.part(OPERATION=0x00), "set", "0", "3.3V"), (
-            0, "set 0: VOUT_COMMAND 34CD 3.300048V confirmed; the output is commanded off, and would command 3.300048V, within 3.135V to 3.465V", ""))
+            0, "set 0: VOUT_COMMAND 34CD 3.300048V confirmed; the output is commanded off, and would command 3.300048V, within 3.135V to 3.465V; "
+            "set; nothing to deliver", ""))
         for command, more in (("apply", "; stays changed, or may be: io.volts"), ("verify", "")):
             part = self.part(OPERATION=0x00, **({} if command == "apply" else {"VOUT_COMMAND": 0x34CD}))
             self.assertEqual(self.ran(part, command, "FILE"), (

@@ -105,8 +105,12 @@ class Linux(unittest.TestCase):
                 with self.assertRaises(NoTransfer):
                     bus.read(REQUEST, 4)
                 bus.read(REQUEST, 4)
-            self.assertEqual(file.read().decode(), "B0 05 04 00 21 CD 34 5A\n# failed: B0 06 02 00 21: 0 of 2 messages went\n"
+            self.assertEqual(file.read().decode(), "B0 05 04 00 21 CD 34 5A\n# failed (-5): B0 06 02 00 21: 0 of 2 messages went\n"
                                                    "B0 06 02 00 21 / B1 02 CD 34 B9\n")
+        with tempfile.NamedTemporaryFile() as file:
+            with self.bus("short0", trace=Trace(file.name, is_timed=True)) as bus, self.assertRaises(NoTransfer):
+                bus.read(REQUEST, 4)
+            self.assertRegex(file.read().decode(), r"^# failed at \d{16} \(-5\): B0 06 02 00 21: 0 of 2 messages went\n$")
         with self.assertRaisesRegex(NoBus, "^/nowhere/t: No such file or directory$"):
             self.bus(trace="/nowhere/t")
 
@@ -240,7 +244,7 @@ class Model(unittest.TestCase):
                 bus.write(FRAME)
             self.assertEqual(file.read().decode().splitlines(), [
                 "B0 05 04 00 21 CD 34 5A", "B0 06 02 00 21 / B1 02 CD 34 B9",
-                "# failed: B0 05 04 00 21 CD 34 5B: Remote I/O error", "# failed: B0 06 02 02 21: Remote I/O error"])
+                "# failed (-121): B0 05 04 00 21 CD 34 5B: Remote I/O error", "# failed (-121): B0 06 02 02 21: Remote I/O error"])
 
     def test_an_order_and_its_trace(self):
         with tempfile.NamedTemporaryFile() as file:
@@ -249,5 +253,5 @@ class Model(unittest.TestCase):
             with self.assertRaisesRegex(NoTransfer, "Remote I/O error"):
                 bus.read(bytes.fromhex("B006020721"), 4)
             bus.close()
-            self.assertEqual(file.read().decode().splitlines()[-1], "# failed: B0 06 02 07 21: Remote I/O error")
+            self.assertEqual(file.read().decode().splitlines()[-1], "# failed (-121): B0 06 02 07 21: Remote I/O error")
         self.assertEqual((bus.part.word(1, "VOUT_COMMAND"), repr(bus)), (0x34CD, "ModelBus(0x58)"))

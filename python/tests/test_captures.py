@@ -1,6 +1,7 @@
 """Captures of a bus as traces, with the times of their packets; frames as commands of i2ctransfer, and back, and run."""
 import hashlib
 import os
+import re
 import stat
 import subprocess
 import tempfile
@@ -119,6 +120,11 @@ class Traces(unittest.TestCase):
                 found = traced(form, capture(f"faults.{form}"), 0x58)
                 self.assertIn(line, found)
                 self.assertNotIn("B0", found)
+
+    def test_failed_transfers_have_their_times(self):
+        found = traced("linux", capture("faults.linux"), 0x58, None, clock_of("linux"))
+        for number in "-6", "-121", "1 of 2":
+            self.assertTrue(any(re.match(rf"# failed at \d+ \({number}\): B0", line) for line in found), found)
 
     @needs("pmb")
     def test_decode_counts_no_fault_that_nobody_made(self):

@@ -67,6 +67,23 @@ class Row:
         """The first frames of the jobs before the course; coefficients are a learn's second one."""
         return [token for token in self.before.split() if not token.startswith("c")]
 
+    @property
+    def frames(self):
+        """Its frames."""
+        return self.bus.split()
+
+    @property
+    def list_frames(self):
+        """Those of a list: before an order that turns the output on, and before that is refused for its limits, all is read anew."""
+        found, read = [], {}
+        for token in self.frames:
+            if token.startswith("w01=") and int(token[4:6], 16) & 0x80:
+                found += read.values()
+            found.append(token)
+            if token.startswith("r"):
+                read[token[1:3]] = token
+        return [*found, *(read.values() if self.kind == "power" and self.end.startswith("refused L5") else ())]
+
     def made_host(self):
         found = Host(0x58, int(self.said("outputs", "1")), int(self.said("passes", "1")), self.lacks)
         if self.limits:
@@ -115,16 +132,16 @@ class Row:
 
 
 class Script:
-    """A bus of which each frame is that of the next token, which says what comes back."""
+    """A bus of which each frame is that of the next token, which says what comes back: those before the course of a row, then these."""
 
-    def __init__(self, case, row):
-        self.case, self.row, self.tokens, self.page = case, row, row.before.split(), 0
+    def __init__(self, case, row, frames):
+        self.case, self.row, self.frames, self.tokens, self.page = case, row, frames, row.before.split(), 0
         self.has_turned = self.closed = False
 
     def turn(self):
         """Behind the jobs before the course: its own frames come."""
         self.case.assertEqual(self.tokens, [], "frames before the course are missing")
-        self.tokens, self.page, self.has_turned = self.row.bus.split(), self.row.output, True
+        self.tokens, self.page, self.has_turned = [*self.frames], self.row.output, True
 
     def take(self, frame, kinds):
         if not self.tokens and not self.has_turned:
@@ -186,7 +203,7 @@ class Rows(unittest.TestCase):
 
     def begun(self, row):
         """A host behind the jobs before its course, the course, and the bus."""
-        host, bus = row.made_host(), Script(self, row)
+        host, bus = row.made_host(), Script(self, row, row.frames)
         for token in row.jobs_before:
             code = int(token[1:3], 16)
             host.learn(0) if code == LEARN else host.check(0, code)
@@ -236,8 +253,8 @@ class Rows(unittest.TestCase):
         self.assertGreaterEqual(self.each(run), 60)
 
     def test_by_the_command(self):
-        """What it asks for beside its course isn't in the rows: whether a part is there that gave its first job no answer, and what the part
-        noted behind a bad end; what the rail does; and that `off` lifts WRITE_PROTECT."""
+        """As a list. What it asks for beside that isn't in the rows: whether a part is there that gave its first job no answer, and what the part
+        noted behind a bad end; what the rail does; what is read once more directly before it is turned on; and that `off` lifts WRITE_PROTECT."""
         kept = []
 
         def keep(*words):
@@ -245,7 +262,7 @@ class Rows(unittest.TestCase):
             return kept[-1]
 
         def run(row):
-            words, bus = row.command(), Script(self, row)
+            words, bus = row.command(), Script(self, row, row.list_frames)
             if words is None or "H4" in row.end:
                 return 0
             kept.clear()
@@ -258,7 +275,7 @@ class Rows(unittest.TestCase):
                               mock.patch("pmhost.zeros.ask_operation", lambda *_: ""),
                               mock.patch("pmhost.survey.SURVEY_TRIES", row.tries), mock.patch.object(orders, "TRIES", row.tries),
                               mock.patch.object(orders, "OFF_TRIES", row.tries), mock.patch.object(orders, "StepRun", keep),
-                              mock.patch("pmhost.survey.StepRun", keep),
+                              mock.patch("pmhost.survey.StepRun", keep), mock.patch("pmhost.turn_on.judge", lambda *_: None),
                               contextlib.redirect_stdout(out), contextlib.redirect_stderr(out)):
                     stack.enter_context(patch)
                 status = cli.main(words)
@@ -308,7 +325,7 @@ class Costs(unittest.TestCase):
 
     def test_a_device_takes_as_many(self):
         for more, call, wanted in (({}, lambda it: it.set_voltage(0, "3.3V"), 21), ({"looks": Looks(fault_limits="skip")}, lambda it: it.set_voltage(0, "3.3V"), 17),
-                                   ({}, lambda it: it.survey(0), 7), ({}, lambda it: it.set_voltage(0, "1V"), 8), ({}, lambda it: it.turn_off(0), 3)):
+                                   ({}, lambda it: it.survey(0), 7), ({}, lambda it: it.set_voltage(0, "1V"), 8), ({}, lambda it: it.turn_off(0), 4)):
             bus = Recorded(ModelPart(0x58, [Output()]))
             call(Device(bus, 0x58, limits={0: None}, **more))
             self.assertEqual(len(bus.frames), wanted)

@@ -2,8 +2,9 @@
 import itertools
 import random
 import unittest
+from unittest import mock
 
-from pmhost import Device, Differs, ModelPart, Unknown
+from pmhost import Course, Device, Differs, Host, ModelPart, ModelPartBus, Output, Unknown
 
 from .runs import called
 from .fixtures import ADDRESS, RAILS, Faulty, free
@@ -47,6 +48,19 @@ class Faults(unittest.TestCase):
         self.assertEqual(str(raised.exception), "check 0 VOUT_COMMAND at 58h: no good answer: 2 transfers failed, the last: "
                                                 "Remote I/O error")
         self.assertIsInstance(raised.exception.__cause__, OSError)
+
+    def test_an_order_that_turns_an_output_on_is_sent_once_a_job(self):
+        """By a job or a course: the part may have restarted since what it would command was judged. Another order goes in each pass."""
+        for byte, other, tries, count in ((0x80, 0x00, 7, 1), (0xA8, 0x80, 8, 1), (0x00, 0x80, 1, 3)):
+            for is_course in (False, True):
+                bus, host = ModelPartBus(ModelPart(ADDRESS, [Output(operation=other)])), free(Host(ADDRESS, 1, 3))
+                with self.subTest(byte=byte, is_course=is_course), mock.patch.object(bus, "write", return_value=False) as write:
+                    if is_course:
+                        host.run_course(Course.power(0, byte, tries), bus)
+                    else:
+                        host.order(0, "OPERATION", byte)
+                        host.run(bus)
+                    self.assertEqual(write.call_count, count)
 
     def test_no_confirmed_word_is_wrong_over_random_lives(self):
         draw = random.Random(1)

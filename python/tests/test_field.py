@@ -5,8 +5,9 @@ import os
 import pickle
 import threading
 import unittest
+from dataclasses import replace
 
-from pmhost import Device, LimitRefused, Looks, MarginRefused, ModelPart, ModelPartBus, NotDelivered, Output, PlanRefused, SequenceStep, Unknown
+from pmhost import Device, LimitRefused, Looks, MarginRefused, ModelPart, ModelPartBus, NotDelivered, Output, PlanRefused, Sequence, SequenceStep, Unknown
 
 from . import field_boards, field_calls
 from .field import ADDRESS, Field, FieldBus
@@ -135,7 +136,39 @@ class Api(unittest.TestCase):
     def test_nothing_is_read_before_an_off(self):
         part, device = self.device()
         device.turn_off(0)
-        self.assertEqual(part.lines, ["B0 05 03 00 01 00 8B", "B0 06 02 00 01 /", "B0 06 02 00 79 /"])
+        self.assertEqual(part.lines, ["B0 05 03 00 01 00 8B", "B0 06 02 00 01 /", "B0 06 02 00 79 /", "B0 06 02 00 02 /"])
+
+    def test_a_rail_that_is_off_has_nothing_to_deliver(self):
+        """It isn't delivered: one that is commanded on is, and one that was turned off went off."""
+        part, device = self.device(("OPERATION", 0))
+        for call, delivered, nothing in ((lambda: device.set_voltage(0, "1.05V"), False, True), (lambda: device.survey(0), False, True),
+                                         (lambda: device.turn_on(0), True, False), (lambda: device.turn_off(0), True, False)):
+            call()
+            self.assertEqual((device.delivered.is_delivered, device.delivered.has_nothing_to_deliver), (delivered, nothing))
+        for fields, kind in (((("ON_OFF_CONFIG", 0x16),), "still on"), ((("lacks", 0x79),), "not known")):
+            part, device = self.device(("OPERATION", 0), *fields)
+            with self.assertRaises(NotDelivered) as it:
+                device.set_voltage(0, "1.05V")
+            self.assertEqual((it.exception.kind, device.delivered.is_delivered, device.delivered.has_nothing_to_deliver), (kind, False, False))
+        for lacks in (("ON_OFF_CONFIG",), ("ON_OFF_CONFIG", "STATUS_WORD")):
+            part, device = self.device(("OPERATION", 0), lacks=lacks)
+            device.set_voltage(0, "1.05V")
+            self.assertEqual((device.delivered.is_delivered, device.delivered.has_nothing_to_deliver), (False, False))
+            self.assertEqual([line for line in part.lines if line.endswith(" 02 /")], [])
+
+    def test_a_list_whose_first_rail_falls_or_stays_off_is_not_reached(self):
+        """A rail is looked at again at the end of a list, and has to deliver."""
+        for fields, kind, verdict in (((), "reached", None), ((("trip_at", 25),), "fails", "off"), ((("is_run_low", 1),), "fails", "off")):
+            part, device = self.device(("OPERATION", 0), *fields)
+            part.set("OPERATION", 0, 1)
+            device.no_limits(1)
+            steps = [SequenceStep.turns(0, 0, 0x80, Looks()), SequenceStep.turns(0, 1, 0x80, Looks()), replace(SequenceStep.rests(0, 0, Looks()), must=True)]
+            end = Sequence([device.host], steps).run([device.bus])
+            self.assertEqual((end.kind, end.verdict and end.verdict.kind), (kind, verdict))
+        part, device = self.device(("OPERATION", 0))
+        steps = [SequenceStep.sets(0, 0, {"VOUT_COMMAND": "1.05V"}, Looks()), replace(SequenceStep.rests(0, 0, Looks()), must=True)]
+        end = Sequence([device.host], steps).run([device.bus])
+        self.assertEqual((end.kind, end.step, end.verdict.kind), ("fails", 1, "commanded off"))
 
     def test_off_of_a_part_that_stays_on_is_raised(self):
         _, device = self.device(("ON_OFF_CONFIG", 0x16))

@@ -56,7 +56,8 @@ class Row:
 
     @property
     def lacks(self):
-        return [({0x79: "STATUS_WORD", 0x8B: "READ_VOUT"} | NAMES)[int(code, 16)] for codes in self.all("lacks") for code in codes]
+        """ON_OFF_CONFIG too, since the rows are of all languages: that it is asked for has rows of field.txt."""
+        return ["ON_OFF_CONFIG", *[({0x79: "STATUS_WORD", 0x8B: "READ_VOUT"} | NAMES)[int(code, 16)] for codes in self.all("lacks") for code in codes]]
 
     @property
     def looks(self):
@@ -166,9 +167,8 @@ class ByTheCommand(unittest.TestCase):
 
     def options(self, row):
         limits = [f"--limit={output}:{least}:{most}" for output, (least, most) in row.limits.items()]
-        lacks = [f"--lacks={','.join(row.lacks)}"] * bool(row.lacks)
         looks = row.looks
-        return ["-b", "7", "-a", "58", "--outputs", "2", *limits, *lacks, f"--fault-limits={looks.fault_limits}",
+        return ["-b", "7", "-a", "58", "--outputs", "2", *limits, f"--lacks={','.join(row.lacks)}", f"--fault-limits={looks.fault_limits}",
                 f"--power-good={looks.power_good}", f"--delivers-within={looks.within / 10:g}%", f"--settle={looks.settle}ms"]
 
     def called(self, row, *options):

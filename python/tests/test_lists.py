@@ -237,7 +237,8 @@ def by_hand(made, buses):
                 return found
             continue
         try:
-            came = buses[made.place].read(found.frame, found.answer) if found.is_request else buses[made.place].write(found.frame)
+            bus = buses[made.place]
+            came = bus.read(found.frame, found.answer) if found.is_request else bus.write(found.frame)
         except OSError:
             came = b"" if found.is_request else False
         if found.is_request:

@@ -177,8 +177,8 @@ class Rows(unittest.TestCase):
         self.assertIn("core: back, OPERATION 80 confirmed", out)
 
     def test_a_restart_at_a_margin_is_told(self):
-        """At each transfer from the order of a margin to the order back: status 3, but between the reads after a look and the next order, where
-        each margin was measured and none is left."""
+        """At each transfer from the order of a margin to the order back: status 3, but from the last read before the next order to what is read back
+        of that, where each margin was measured and none is left."""
         status, orders, _, _ = self.run_test(kind=Near)
         part = self.part
         self.assertEqual((status, orders), (0, CORE + IO))
@@ -188,11 +188,12 @@ class Rows(unittest.TestCase):
                 status, _, _, err = self.run_test(kind=Near, mishaps=["ok"] * place + ["restart"])
                 with self.subTest(place=place):
                     if status == 0:
-                        self.assertLess(min(it for it in part.places if it >= place) - place, 7)
+                        self.assertLess(min(it for it in part.places if it >= place) - place, 3)
                     else:
                         self.assertEqual(status, 3, err)
-                        self.assertRegex(err, "(core|io): at (high|low|nominal): (u1 restarted: OPERATION is 80 now: call again|"
-                                         "OPERATION (A8|98): u1 restarted, or was exchanged: the same call again may end well)")
+                        self.assertRegex(err, "(core|io): (at (high|low|nominal): (u1 restarted: OPERATION is 80 now: call again|"
+                                         "OPERATION (A8|98): u1 restarted, or was exchanged: the same call again may end well)|"
+                                         "OPERATION is 80, and was (A8|98) when the order was judged)")
                     self.assertEqual(self.part.held(), [ON, ON])
                 ends.append(status)
         self.assertGreater(ends.count(3), 3 * ends.count(0))

@@ -1,4 +1,5 @@
 """A bus that waits for a busy part, over a clock that nobody waits for."""
+import contextlib
 import errno
 import re
 import tempfile
@@ -125,6 +126,15 @@ class Patience(unittest.TestCase):
         below = Scripted(errno.ENXIO)
         self.assertIs(below.over(0, 200).write(RESTORE), True)
         self.assertEqual(below.frames, [RESTORE, RESTORE, ASK])
+
+    def test_an_order_that_turns_an_output_on_is_sent_once(self):
+        """The part may come up meanwhile, with other words than those that were judged."""
+        on, off = (bytes.fromhex(f"B005030001{byte}") for byte in ("80", "00"))
+        for frame, count in ((on, 1), (off, 2)):
+            below, frame = Scripted(errno.ENXIO), frame + bytes([pec(frame)])
+            with contextlib.suppress(OSError):
+                below.over(0, 200).write(frame)
+            self.assertEqual(below.frames, [frame] * count + [ASK])
 
     def test_another_write_that_failed_is_not(self):
         for number in (errno.EREMOTEIO, errno.EIO, errno.ETIMEDOUT, errno.EAGAIN, errno.ENODEV):

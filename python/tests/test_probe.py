@@ -22,7 +22,7 @@ BEFORE = "the part may note in STATUS_CML that it was asked for what it lacks, a
 
 def asked(trace):
     """The page, and the code, of each request by PAGE_PLUS, and each other frame's bytes behind the address."""
-    frames = [bytes.fromhex(line.removeprefix("# failed: ").partition(":")[0].partition(" / ")[0]) for line in trace.splitlines()]
+    frames = [bytes.fromhex(re.sub(r"^# failed \(-\d+\): ", "", line).partition(":")[0].partition(" / ")[0]) for line in trace.splitlines()]
     return [(frame[3], frame[4]) if frame[1] == 0x06 else frame[1:] for frame in frames]
 
 

@@ -20,7 +20,9 @@ RUNNER = """import sys
 sys.path.insert(0, sys.argv[1])
 from tests import kernel
 from pmhost import cli
-sys.exit(cli.main(sys.argv[3:], kernel.FakeKernel(kernel.Part(), sys.argv[2].split())))
+part = kernel.Part()
+part.config = None
+sys.exit(cli.main(sys.argv[3:], kernel.FakeKernel(part, sys.argv[2].split())))
 """
 PART = "-b 7 -a 58 --outputs 2 --no-limit"
 ORDER = f"{PART} word 0 OPERATION 40"

@@ -159,7 +159,7 @@ class Frames(unittest.TestCase):
             self.assertEqual([it.begun for it in made][:-1], [0] * (len(steps) - 1))
 
     def test_no_rail_comes_before_another_one_where_the_bus_goes_away(self):
-        for place in range(0, 110, 3):
+        for place in range(0, 146, 3):
             with self.subTest(place=place):
                 status, orders, _, err = self.run_board("on", "FILE", mishaps=["ok"] * place + ["deaf"] * 60)
                 ups, downs = ways(orders)
@@ -168,7 +168,7 @@ class Frames(unittest.TestCase):
 
     def test_nothing_stays_on_after_a_restart_in_the_middle(self):
         """Each rail that was known to be off is off again, but where the part comes up on by itself."""
-        for place in range(0, 110, 2):
+        for place in range(0, 146, 2):
             with self.subTest(place=place):
                 status, orders, _, err = self.run_board("on", "FILE", mishaps=["ok"] * place + ["restart"])
                 ups, downs = ways(orders)
@@ -179,7 +179,7 @@ class Frames(unittest.TestCase):
     def test_a_restart_at_each_transfer(self):
         """Each call ends in a status of its own, and no rail comes before another."""
         ends = set()
-        for place in range(110):
+        for place in range(146):
             with self.subTest(place=place):
                 status, orders, _, err = self.run_board("on", "FILE", mishaps=["ok"] * place + ["restart"])
                 ups, downs = ways(orders)
@@ -189,11 +189,11 @@ class Frames(unittest.TestCase):
         self.assertLessEqual({0, 3}, ends)
 
     def test_off_goes_on_behind_a_rail_that_is_not_known_to_be_off(self):
-        """The bus is away for as long as one rail is tried: the others are off, and the one is named."""
+        """The bus is away for as long as one rail is tried twice: the others are off, and the one is named."""
         named = set()
         for place in range(18):
             part = Watched((0x80, 0x80, 0x80))
-            over = BoardKernel({7: {0x58: part}}, ["ok"] * place + ["deaf"] * 26)
+            over = BoardKernel({7: {0x58: part}}, ["ok"] * place + ["deaf"] * 52)
             over.strikes_looks = True
             with self.subTest(place=place), tempfile.NamedTemporaryFile("w", suffix=".toml") as file:
                 file.write(self.board)
@@ -269,7 +269,7 @@ class Silence(unittest.TestCase):
 
     def test_a_rail_is_seen_to_deliver_before_the_next_one_also_where_the_bus_was_away(self):
         statuses = set()
-        for place in range(50):
+        for place in range(74):
             for length in (9, 40):
                 status, orders, _, err = self.run_board(self.board, ["ok"] * place + ["deaf"] * length)
                 with self.subTest(place=place, length=length):

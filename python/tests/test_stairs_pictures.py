@@ -140,7 +140,7 @@ class Pictures(unittest.TestCase):
     def test_one_that_may_command_either_is_a_shade(self):
         """core is at its margin high as it is turned on, and nothing comes back."""
         shades = set()
-        for place in range(60):
+        for place in range(80):
             _, rows, _, drawn = self.drawn("on", starts=(0xA8, 0), mishaps=["ok"] * place + ["deaf"] * 400)
             # (the legend has one too)
             if any(it.get("fill") == drawing.LINE and it.get("fill-opacity") == re.findall(r"[\d.]+", SHADE)[0]

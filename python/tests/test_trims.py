@@ -66,7 +66,7 @@ class Api(unittest.TestCase):
     def test_off_is_never_refused_and_nothing_is_asked_before_it(self):
         part, device = self.device(("VOUT_TRIM", 300))
         device.turn_off(0)
-        self.assertEqual((part.lines, part.volts()), (["B0 05 03 00 01 00 8B", "B0 06 02 00 01 /", "B0 06 02 00 79 /"], 0))
+        self.assertEqual((part.lines, part.volts()), (["B0 05 03 00 01 00 8B", "B0 06 02 00 01 /", "B0 06 02 00 79 /", "B0 06 02 00 02 /"], 0))
         with self.assertRaises(TrimRefused):
             device.turn_on(0)
         self.assertEqual(part.volts(), 0)

@@ -5,6 +5,7 @@ use core::fmt;
 use crate::ffi;
 use crate::number::Format;
 use crate::packet::Bytes;
+use crate::patient::turns_on;
 use crate::refusal::{accepted, Refusal};
 
 /// A register of an output.
@@ -170,6 +171,13 @@ pub struct Possible {
 }
 
 impl Sending {
+    /// Whether this is a write that may be sent once only: OPERATION gets a byte with bit 7 set, which turns an output on or leaves it on. If nobody
+    /// heard it the part was away, and may have come up anew since: the list reads again, and orders once more. No patience may send it again.
+    #[must_use]
+    pub fn is_once(&self) -> bool {
+        matches!(self, Sending::Write(bytes) if turns_on(&bytes[1..]))
+    }
+
     pub(crate) fn of(found: ffi::SendingImage) -> Sending {
         let frame = Bytes::of(found.length, found.bytes);
         match found.kind {

@@ -40,6 +40,8 @@ pub enum NotHeard<E> {
     Bus(E),
     /// Nothing but FFh came: nobody gave that answer.
     Ones,
+    /// The deadline had passed: nothing was sent.
+    Late,
 }
 
 impl<E> fmt::Display for NotHeard<E> {
@@ -48,6 +50,7 @@ impl<E> fmt::Display for NotHeard<E> {
         to.write_str(match self {
             NotHeard::Bus(_) => "the transfer failed",
             NotHeard::Ones => "nothing but FFh",
+            NotHeard::Late => "the deadline has passed",
         })
     }
 }
@@ -57,7 +60,7 @@ impl<E: fmt::Debug> fmt::Debug for NotHeard<E> {
     fn fmt(&self, to: &mut fmt::Formatter<'_>) -> fmt::Result {
         let said = match self {
             NotHeard::Bus(error) => Some(error),
-            NotHeard::Ones => None,
+            NotHeard::Ones | NotHeard::Late => None,
         };
         words_and_source(to, self, said)
     }
@@ -67,7 +70,7 @@ impl<E: error::Error + 'static> error::Error for NotHeard<E> {
     fn source(&self) -> Option<&(dyn error::Error + 'static)> {
         match self {
             NotHeard::Bus(error) => Some(error),
-            NotHeard::Ones => None,
+            NotHeard::Ones | NotHeard::Late => None,
         }
     }
 }
@@ -78,15 +81,19 @@ impl<E: error::Error + 'static> error::Error for NotHeard<E> {
 /// Each write is followed by a question, a plain read of CAPABILITY after 10 ms and then after twice the wait each time, until an
 /// answer came that isn't of ones, or the patience is spent. So the next frame meets a part that is ready. A part may note each
 /// question as a BUSY fault and pull SMBALERT#: by [`Patient::with_ready`] it is asked for a byte of its own. A write whose
-/// address nobody acknowledged is sent again after such waits, but for a store, which wears the memory. A read is sent once. An
+/// address nobody acknowledged is sent again after such waits, but for a store, which wears the memory, and one that
+/// [`Sending::is_once`](crate::Sending::is_once) names. A read is sent once. An
 /// answer of nothing but FFh is an error: a bus that nobody drives is high, and no true answer of the host's jobs is of nothing
 /// but ones.
+///
+/// It keeps a deadline, too ([`Patient::set_deadline`]).
 #[derive(Debug)]
 pub struct Patient<B, C> {
     bus: B,
     clock: C,
     patience: Option<u32>,
     ready: Option<(u8, u8)>,
+    deadline: Option<u32>,
 }
 
 /// Waits from a moment on: how long the patience is, and the next wait.
@@ -103,7 +110,7 @@ where
 {
     /// Over a bus, with 200 ms of patience after a write, 1,000 ms after a restore and 5,000 ms after a store.
     pub fn new(bus: B, clock: C) -> Patient<B, C> {
-        Patient { bus, clock, patience: None, ready: None }
+        Patient { bus, clock, patience: None, ready: None, deadline: None }
     }
 
     /// With so many milliseconds of patience after every write; with 0 nothing is asked, and nothing sent again.
@@ -117,6 +124,35 @@ where
     #[must_use]
     pub fn with_ready(self, code: u8, mask: u8) -> Patient<B, C> {
         Patient { ready: Some((code, mask)), ..self }
+    }
+
+    /// From so many milliseconds on, less than 2^31, nothing is sent and nothing waited for, so that what is under way ends at once, as over
+    /// a bus that is away. `None` ends that: turn the rails off then.
+    pub fn set_deadline(&mut self, milliseconds: Option<u32>) {
+        let now = self.clock.now();
+        self.deadline = milliseconds.map(|left| now.wrapping_add(left));
+    }
+
+    /// Whether the deadline has passed.
+    pub fn is_late(&mut self) -> bool {
+        self.left() == 0
+    }
+
+    /// Waits for so many milliseconds, to the deadline at most.
+    pub fn wait(&mut self, milliseconds: u32) {
+        let left = self.left();
+        if left != 0 {
+            self.clock.wait(milliseconds.min(left));
+        }
+    }
+
+    /// The milliseconds that are left to the deadline.
+    fn left(&mut self) -> u32 {
+        let now = self.clock.now();
+        self.deadline.map_or(u32::MAX, |moment| match moment.wrapping_sub(now) {
+            left @ 1..=0x7FFF_FFFF => left,
+            _ => 0,
+        })
     }
 
     /// The bus below.
@@ -134,15 +170,16 @@ where
         self.bus
     }
 
-    /// Waits twice as long as the last time, to the end of the patience at most. False at once if that is over.
+    /// Waits twice as long as the last time, to the end of the patience at most. False at once if that or the deadline is over, and if it
+    /// comes meanwhile.
     fn has_waited(&mut self, waits: &mut Waits) -> bool {
         let passed = self.clock.now().wrapping_sub(waits.begun);
         if passed >= waits.patience {
             return false;
         }
-        self.clock.wait(waits.next.min(waits.patience - passed));
+        self.wait(waits.next.min(waits.patience - passed));
         waits.next = waits.next.saturating_mul(2);
-        true
+        !self.is_late()
     }
 
     fn is_ready(&mut self, address: u8) -> bool {
@@ -156,7 +193,9 @@ where
         self.ready.is_none() || Block::read_plain(address, code, 1, &came).is_ok_and(|byte| byte[0] & mask == mask)
     }
 
-    fn written(&mut self, address: u8, operations: &mut [Operation<'_>], command: Option<u8>) -> Result<(), B::Error> {
+    fn written(&mut self, address: u8, bytes: &[u8]) -> Result<(), B::Error> {
+        // A command without data is its code and the packet error code.
+        let command = if let [code, _] = bytes { Some(*code) } else { None };
         let patience = self.patience.unwrap_or(match command {
             Some(STORE_USER_ALL) => STORE_PATIENCE,
             Some(RESTORE_USER_ALL) => LONG_PATIENCE,
@@ -164,9 +203,10 @@ where
         });
         let mut again = Waits { begun: self.clock.now(), patience, next: FIRST_WAIT };
         let mut asked = again;
-        let mut ended = self.bus.transaction(address, operations);
-        while ended.as_ref().is_err_and(Unheard::is_unheard) && command != Some(STORE_USER_ALL) && self.has_waited(&mut again) {
-            ended = self.bus.transaction(address, operations);
+        let is_once = command == Some(STORE_USER_ALL) || turns_on(bytes);
+        let mut ended = self.bus.transaction(address, &mut [Operation::Write(bytes)]);
+        while ended.as_ref().is_err_and(Unheard::is_unheard) && !is_once && self.has_waited(&mut again) {
+            ended = self.bus.transaction(address, &mut [Operation::Write(bytes)]);
         }
         while self.has_waited(&mut asked) && !self.is_ready(address) {}
         ended
@@ -180,10 +220,11 @@ where
     type Error = NotHeard<B::Error>;
 
     fn transaction(&mut self, address: u8, operations: &mut [Operation<'_>]) -> Result<(), NotHeard<B::Error>> {
+        if self.is_late() {
+            return Err(NotHeard::Late);
+        }
         if let [Operation::Write(bytes)] = operations {
-            // A command without data is its code and the packet error code.
-            let command = if let [code, _] = bytes { Some(*code) } else { None };
-            return self.written(address, operations, command).map_err(NotHeard::Bus);
+            return self.written(address, bytes).map_err(NotHeard::Bus);
         }
         self.bus.transaction(address, operations).map_err(NotHeard::Bus)?;
         match operations.last() {
@@ -191,6 +232,11 @@ where
             _ => Ok(()),
         }
     }
+}
+
+/// Whether these bytes after the address give OPERATION a byte with bit 7 set, by PAGE_PLUS_WRITE.
+pub(crate) fn turns_on(bytes: &[u8]) -> bool {
+    matches!(bytes, [0x05, _, _, 0x01, byte, _] if byte & 0x80 != 0)
 }
 
 /// Whether there are bytes, and all of them are FFh.

@@ -70,17 +70,17 @@ pub enum Verdict {
 }
 
 impl Verdict {
-    /// Whether the output does what it is to, or isn't asked since it isn't commanded on.
+    /// Whether the output delivers what it commands, of a part without STATUS_WORD by its READ_VOUT; or went off after an order that turned it
+    /// off.
     #[must_use]
-    pub fn is_good(&self) -> bool {
-        matches!(
-            self,
-            Verdict::Delivers { .. }
-                | Verdict::DeliversByReadVout { .. }
-                | Verdict::WentOff
-                | Verdict::CommandedOff
-                | Verdict::NotKnownOn
-        )
+    pub fn is_delivered(&self) -> bool {
+        matches!(self, Verdict::Delivers { .. } | Verdict::DeliversByReadVout { .. } | Verdict::WentOff)
+    }
+
+    /// Whether there is nothing to deliver: the output is commanded off, and wasn't asked. A rail that is to be on isn't up then.
+    #[must_use]
+    pub fn has_nothing_to_deliver(&self) -> bool {
+        matches!(self, Verdict::CommandedOff)
     }
 
     /// READ_VOUT in microvolts, if it is known.

@@ -79,7 +79,7 @@ hosted() {
 # secure memory, which stands elsewhere.
 board() {
     local name=$1 program=$2 words=(); shift 2
-    case "$*" in *same.c*) words+=(-e 's/>= 6144/>= 4352/') ;; esac
+    case "$*" in *same.c*) words+=(-e 's/>= 8192/>= 4352/') ;; esac
     [ "$name" != cortex-m33 ] || words+=(-e 's/ORIGIN = 0x00000000/ORIGIN = 0x10000000/; s/ORIGIN = 0x20000000/ORIGIN = 0x30000000/')
     [ ${#words[@]} != 0 ] || { echo examples/firmware/cortex_m.ld; return; }
     sed "${words[@]}" examples/firmware/cortex_m.ld > "$program.ld"; echo "$program.ld"

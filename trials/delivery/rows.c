@@ -41,7 +41,7 @@ static const row rows[] = {
     {"the same, told alone", 'S', "t", TELL, 0, 5, 14, 0, 4, 0x79, 0, 0, 0x8860, NONE, 20, 1, 0, {0}},
     {"the same, not read", 'S', "t", SKIP, 0, 5, 14, 0, 4, 0x79, 0, 0, 0x8860, NONE, 16, 1, 0, {0}},
     {"fault limits that give no answer", 'S', "tf", REFUSE, 0, 5, 14, 0, 4, 0x79, 0, 0, 0x8860, NONE, 22, 1, 0, {0}},
-    {"a margin below the fault limits", 'm', "t", REFUSE, 0, 5, 1, 0, 1, 0, 0, 0, 0, 1149902, 20, 1, 0, {0}},
+    {"a margin below the fault limits", 'm', "t", REFUSE, 0, 5, 1, 0, 1, 0, 0, 0, 0, 1149902, 27, 1, 0, {0}},
     {"a margin at VOUT_OV_FAULT_LIMIT", 'm', "tH", REFUSE, 0, 5, 11, 0x68, 0, 0x40, 0, 0, 0x14CD, NONE, 12, 0, 0, {0}},
     {"two goals at fault limits", 'b', "", REFUSE, 0, 5, 11, 0x68, 0, 0x44, 0, 0, 0x0B33, NONE, 12, 0, 0, {0}},
     {"a goal at a fault limit, and one that isn't", 'B', "t", REFUSE, 0, 5, 11, 0x68, 0, 0x40, 0, 0, 0x14CD, NONE, 12, 0, 0, {0}},
@@ -80,8 +80,8 @@ static const row rows[] = {
     {"READ_VOUT with another PEC, and then no answer", 's', "d", REFUSE, 0, 3, 14, 0, 10, 0x8B, 0, 1, 0, NONE, 27, 1, 2, {0}},
     {"READ_VOUT with another PEC", 's', "p", REFUSE, 0, 1, 14, 0, 10, 0x8B, 0, 0x35, 0, NONE, 21, 1, 0, {0}},
     {"an older fault, and no answer before the order", 's', "bo", REFUSE, 0, 5, 14, 0, 5, 0x79, 5, 0, 0x8020, NONE, 22, 1, 0, {0}},
-    {"on", 'n', "", REFUSE, 0, 5, 1, 0, 1, 0, 0, 0, 0, 1000000, 19, 1, 0, {0}},
-    {"on, with a RUN pin that is low", 'n', "r", REFUSE, 0, 2, 14, 0, 4, 0x79, 0, 0, 0x0840, NONE, 19, 1, 1, {0}},
+    {"on", 'n', "", REFUSE, 0, 5, 1, 0, 1, 0, 0, 0, 0, 1000000, 25, 1, 0, {0}},
+    {"on, with a RUN pin that is low", 'n', "r", REFUSE, 0, 2, 14, 0, 4, 0x79, 0, 0, 0x0840, NONE, 25, 1, 1, {0}},
     {"off", 'o', "", REFUSE, 0, 5, 1, 0, 11, 0, 0, 0, 0, NONE, 2, 1, 0, {0}},
     {"off, and it stays on", 'o', "n", REFUSE, 0, 3, 14, 0, 12, 0x79, 0, 0, 0, NONE, 4, 1, 2, {0}},
     {"off, and STATUS_WORD gives no answer", 'o', "s", REFUSE, 0, 1, 14, 0, 10, 0x79, 0, 1, 0, NONE, 4, 1, 0, {0}},
@@ -258,7 +258,8 @@ static int differs(const pm_sequence_said *said) {
     return said->kind != now->end || said->number != now->number || said->verdict != now->verdict || said->code != now->code
         || said->bit != now->bit || said->fault != now->fault || said->word != now->word
         || (said->has_microvolts ? said->microvolts : NONE) != now->microvolts || reads != now->reads || writes != now->writes
-        || pauses != now->pauses;
+        || pauses != now->pauses || pm_has_nothing_to_deliver(said->verdict) != (now->verdict == 2)
+        || pm_is_delivered(said->verdict) != (now->verdict == 1 || now->verdict == 11 || now->verdict == 14);
 }
 
 static int begin(pm_host *host, uint16_t byte) {

@@ -1,5 +1,5 @@
-/* The firmware for two rails that docs/c.md shows, over the part in the field: what it answers, and at how many microvolts the
- * rails are then. */
+/* The firmware for two rails that docs/c.md shows, over the part in the field: what it answers, at how many microvolts the rails are then, and
+ * whether the way up had its five seconds at most, and the way down two. A transfer that fails takes 35 ms. */
 #include <inttypes.h>
 #include <stdio.h>
 
@@ -8,18 +8,30 @@
 int bring_up(void);
 uint8_t write_to_bus(void *context, const uint8_t *bytes, uint64_t count);
 uint64_t read_from_bus(void *context, const uint8_t *request, uint64_t count, uint8_t *answer, uint64_t room);
+uint32_t milliseconds(void *context);
 void wait_for(void *context, uint32_t milliseconds);
+
+enum { FAILED = 35000, MOST = 7000 }; /* microseconds of a transfer that fails; milliseconds of both ways */
 
 static field_part part;
 
 uint8_t write_to_bus(void *context, const uint8_t *bytes, uint64_t count) {
     (void)context;
-    return field_write(&part, bytes, count);
+    uint8_t answer = field_write(&part, bytes, count);
+    part.now += answer == 0xA5 ? 0 : FAILED;
+    return answer;
 }
 
 uint64_t read_from_bus(void *context, const uint8_t *request, uint64_t count, uint8_t *answer, uint64_t room) {
     (void)context;
-    return field_read(&part, request, count, answer, room);
+    uint64_t came = field_read(&part, request, count, answer, room);
+    part.now += came != 0 ? 0 : FAILED;
+    return came;
+}
+
+uint32_t milliseconds(void *context) {
+    (void)context;
+    return (uint32_t)(part.now / 1000);
 }
 
 void wait_for(void *context, uint32_t milliseconds) {
@@ -38,7 +50,7 @@ static void row(const char *name, uint8_t output, const char *what, int64_t valu
     ended = bring_up();
     for (uint8_t at = 0; at < 2; at++)
         (void)field_get(&part, at, "microvolts", &volts[at]);
-    printf("%s: %d, %" PRId64 " %" PRId64 "\n", name, ended, volts[0], volts[1]);
+    printf("%s: %d, %" PRId64 " %" PRId64 "%s\n", name, ended, volts[0], volts[1], milliseconds(NULL) > MOST ? ", late" : "");
 }
 
 int main(void) {
@@ -49,6 +61,7 @@ int main(void) {
     row("the RUN pin of the first is low", 0, "is_run_low", 1);
     row("writes are refused", 0, "WRITE_PROTECT", 0x80);
     row("the bus goes away for ever", 0, "away_at_write", 2);
+    row("the bus goes away with the first rail on", 0, "away_at_write", 3);
     for (int64_t at = 10; at < 100; at += 10) {
         char name[40];
         (void)snprintf(name, sizeof name, "a restart at frame %d", (int)at);

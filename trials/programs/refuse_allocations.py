@@ -109,6 +109,10 @@ def first_codes(count):
 
 
 # The arguments and the standard input of each run.
+# What `--explain` keeps: words of many registers, outputs and addresses, what may have written them, and transfers that failed.
+EXPLAINED = b"".join(b"%02X %02X / %02X 00\n%02X %02X / %02X 01\n# failed (-110): %02X %02X 00\n%02X 00 0%d\n%02X 16\n" % (
+    2 * address, code, 2 * address + 1, 2 * address, code, 2 * address + 1, 2 * address, code, 2 * address, code % 8, 2 * address)
+    for address in (0x40, 0x58, 0x59) for code in (0x01, 0x02, 0x20, *range(0x40, 0x50)))
 RUNS = [
     (["hear"], b"B0 05 04 00 21 CD 34 5A\n"),
     (["hear"], b"B0 05 04 01 21 CD 34 5A\n"),
@@ -154,6 +158,8 @@ RUNS = [
     (["decode"], b"99" * 300 + b"/" + b"99" * 300 + b"\n"),
     (["decode"], b"/\n" * 20_000),
     (["decode"], b"B0 03 46\n#\n" + b"/" * 1_048_577),
+    (["decode", "--explain"], EXPLAINED),
+    (["decode", "--explain", "--json", "--values"], EXPLAINED),
     (["number", "--format=linear11", "--word=87FF"], b""),
     (["number", "--format=ulinear16:-12", "--micro=3300000"], b""),
     (["number", "--format=direct:-1:5:-1", "--word=0003"], b""),
@@ -178,7 +184,7 @@ WANT_OF_MEMORY = b"pmb: X6 Memory\n"
 def wants_memory(arguments, found, whole):
     """Whether a result is want of memory, with nothing written, or by `decode` a first part of the text."""
     status, written, told = found
-    is_first_part = written == b"" or arguments == ["decode"] and whole[1].startswith(written)
+    is_first_part = written == b"" or arguments[:1] == ["decode"] and "--help" not in arguments and whole[1].startswith(written)
     return status == 1 and is_first_part and told == WANT_OF_MEMORY
 
 

@@ -448,7 +448,7 @@ B0 21 CD                                  58 code 21 VOUT_COMMAND write CD, no P
 B0 21 CD 34 * 01                          58 code 21 VOUT_COMMAND write CD 34 * 01, no PEC
 B0 88 / B1 00                             58 code 88 READ_VIN read 00, no PEC
 EE D4                                     77 code D4 send, no PEC
-10 D4                                     08 code D4 send, no PEC
+12 D4                                     09 code D4 send, no PEC
 = count code 21 2
 = count code 86 2
 = count code 88 1
@@ -814,20 +814,20 @@ OTHER_STATUS = """
 """
 
 TIMES = """
-1234 B0 03 46                             1234 us 58 CLEAR_FAULTS send
-0 B0 03 46                                0 us 58 CLEAR_FAULTS send
-007 B00346                                7 us 58 CLEAR_FAULTS send
-999999999999999999 B0 03 46               999999999999999999 us 58 CLEAR_FAULTS send
-000000000000000001 B0 03 46               1 us 58 CLEAR_FAULTS send
+1234 B0 03 46                             0 us 58 CLEAR_FAULTS send
+0 B0 03 46                                -1234 us 58 CLEAR_FAULTS send
+007 B00346                                -1227 us 58 CLEAR_FAULTS send
+999999999999999999 B0 03 46               999999999999998765 us 58 CLEAR_FAULTS send
+000000000000000001 B0 03 46               -1233 us 58 CLEAR_FAULTS send
 0000000000000000001 B0 03 46              X1 Syntax
 1000000000000000000 B0 03 46              X1 Syntax
 # B0 03 46
-1 B0 20 / B1 14 *                         1 us 58 VOUT_MODE read 14
-1                                         1 us -- write F1 NotOurs
-1 /                                       1 us -- write F1 NotOurs
+1 B0 20 / B1 14 *                         -1233 us 58 VOUT_MODE read 14
+1                                         -1233 us -- write F1 NotOurs
+1 /                                       -1233 us -- write F1 NotOurs
 1/ B0                                     X1 Syntax
 B0 03 46                                  X1 Syntax
-03 46                                     3 us 23 write F2 Short 1
+03 46                                     -1231 us 23 write F2 Short 1
 -1 B0 03 46                               X1 Syntax
 +1 B0 03 46                               X1 Syntax
 1.5 B0 03 46                              X1 Syntax
@@ -936,16 +936,16 @@ B0 88 / B1 00 D3           {"line":8,"address":"58","code":"88","name":"READ_VIN
 B0 20 14                   {"line":9,"address":"58","code":"20","name":"VOUT_MODE","direction":"write","payload":"14","pec":false}
 """),
     ("--times --json", """
-0012 B0 03 46              {"line":1,"time":12,"address":"58","code":"03","name":"CLEAR_FAULTS","direction":"send"}
-13                         {"line":2,"time":13,"direction":"write","fault":"F1 NotOurs"}
+0012 B0 03 46              {"line":1,"time":0,"address":"58","code":"03","name":"CLEAR_FAULTS","direction":"send"}
+13                         {"line":2,"time":1,"direction":"write","fault":"F1 NotOurs"}
 x                          {"line":3,"fault":"X1 Syntax"}
 14 B0 9                    {"line":4,"fault":"X2 BadHex"}
 = {"count":"CLEAR_FAULTS","lines":1}
 = {"lines":4,"accepted":1,"faults":1,"bad":2}
 """),
     ("--times --json --values", """
-13                         {"line":1,"time":13,"direction":"write","fault":"F1 NotOurs"}
-14 /                       {"line":2,"time":14,"direction":"write","packet":"/","fault":"F1 NotOurs"}
+13                         {"line":1,"time":0,"direction":"write","fault":"F1 NotOurs"}
+14 /                       {"line":2,"time":1,"direction":"write","packet":"/","fault":"F1 NotOurs"}
 """),
 ]
 
@@ -1359,11 +1359,11 @@ B0 21 CD 34 *                             58 VOUT_COMMAND write 34CD
 B0 00                                     58 code 00 PAGE send, no PEC
 B0 9                                      X2 BadHex
 B0 21 CD 34 *                             58 VOUT_COMMAND write 34CD
-10 00 02 *                                08 PAGE write 02
-10 06 02 07 15 / 11 00                    08 page 7 code 15 STORE_USER_ALL read, no PEC
-10 21 CD 34 *                             08 page 2? VOUT_COMMAND write 34CD
-10 96 / 11                                08 page 2? code 96 READ_POUT read, no PEC
-10 21 CD 34 *                             08 page 2? VOUT_COMMAND write 34CD
+12 00 02 *                                09 PAGE write 02
+12 06 02 07 15 / 13 00                    09 page 7 code 15 STORE_USER_ALL read, no PEC
+12 21 CD 34 *                             09 page 2? VOUT_COMMAND write 34CD
+12 96 / 13                                09 page 2? code 96 READ_POUT read, no PEC
+12 21 CD 34 *                             09 page 2? VOUT_COMMAND write 34CD
 """),
     # PAGE selects an output for all codes but some, also for those that are told by their code and bytes.
     ("--pages --all --values", """
@@ -1672,24 +1672,24 @@ B0 03                      {"line":7,"fault":"X1 Syntax"}
 """),
     # A pause, whose length `--gap` gives in milliseconds.
     ("--pages --times", """
-1000000 B0 00 01 *                        1000000 us 58 PAGE write 01
-2000000 B0 03 46                          2000000 us 58 page 1? CLEAR_FAULTS send
-2500000 B2 03 *                           2500000 us 59 CLEAR_FAULTS send
-3000001 B0 03 46                          3000001 us 58 CLEAR_FAULTS send
-3000002 B0 00 01 *                        3000002 us 58 PAGE write 01
-3500000 B0 88 / B1 00 D3 *                3500000 us 58 page 1? READ_VIN read D300
-4500000 B0 03 46                          4500000 us 58 page 1? CLEAR_FAULTS send
-4499999 B0 03 46                          4499999 us 58 CLEAR_FAULTS send
-4500000 B0 00 02 *                        4500000 us 58 PAGE write 02
-6000000 B0 00 / B1 01 *                   6000000 us 58 PAGE read 01
-6000000 B0 03 46                          6000000 us 58 page 1? CLEAR_FAULTS send
+1000000 B0 00 01 *                        0 us 58 PAGE write 01
+2000000 B0 03 46                          1000000 us 58 page 1? CLEAR_FAULTS send
+2500000 B2 03 *                           1500000 us 59 CLEAR_FAULTS send
+3000001 B0 03 46                          2000001 us 58 CLEAR_FAULTS send
+3000002 B0 00 01 *                        2000002 us 58 PAGE write 01
+3500000 B0 88 / B1 00 D3 *                2500000 us 58 page 1? READ_VIN read D300
+4500000 B0 03 46                          3500000 us 58 page 1? CLEAR_FAULTS send
+4499999 B0 03 46                          3499999 us 58 CLEAR_FAULTS send
+4500000 B0 00 02 *                        3500000 us 58 PAGE write 02
+6000000 B0 00 / B1 01 *                   5000000 us 58 PAGE read 01
+6000000 B0 03 46                          5000000 us 58 page 1? CLEAR_FAULTS send
 6000000 x                                 X2 BadHex
-6000000 B0 03 46                          6000000 us 58 CLEAR_FAULTS send
+6000000 B0 03 46                          5000000 us 58 CLEAR_FAULTS send
 """),
     ("--pages --times --gap=0", """
-5 B0 00 01 *                              5 us 58 PAGE write 01
-5 B0 03 46                                5 us 58 page 1? CLEAR_FAULTS send
-6 B0 03 46                                6 us 58 CLEAR_FAULTS send
+5 B0 00 01 *                              0 us 58 PAGE write 01
+5 B0 03 46                                0 us 58 page 1? CLEAR_FAULTS send
+6 B0 03 46                                1 us 58 CLEAR_FAULTS send
 """),
     ("--gap 2 --times --pages", """
 0 B0 00 01 *                              0 us 58 PAGE write 01
@@ -1868,29 +1868,46 @@ B0 96 / B1 34 12                          58 write F6 UnknownCode 1
 = lines 4 accepted 2 faults 2 bad 0
 """),
     ("--times", """
-1 B0 06 02 00 20 / B1 01 14 *             1 us 58 page 0 VOUT_MODE read 14
-20 B0 05 04 00 21 CD 34 5A                20 us 58 page 0 VOUT_COMMAND write 34CD
-300 B0 05 04 01 21 CD 34 5A               300 us 58 write F5 WrongPec 7
-4000 B0 96 / B1 34 12                     4000 us 58 write F6 UnknownCode 1
+1 B0 06 02 00 20 / B1 01 14 *             0 us 58 page 0 VOUT_MODE read 14
+20 B0 05 04 00 21 CD 34 5A                19 us 58 page 0 VOUT_COMMAND write 34CD
+300 B0 05 04 01 21 CD 34 5A               299 us 58 write F5 WrongPec 7
+4000 B0 96 / B1 34 12                     3999 us 58 write F6 UnknownCode 1
 = count VOUT_MODE 1
 = count VOUT_COMMAND 1
 = lines 4 accepted 2 faults 2 bad 0
 """),
     ("--json --times --long --all --vout=linear11 --values --pages --gap=5 --readings=linear11", """
-1 B0 06 02 00 20 / B1 01 14 *   {"line":1,"time":1,"address":"58","page":0,"code":"20","name":"VOUT_MODE","direction":"read","payload":"14","value":"ULINEAR16 -12"}
-20 B0 05 04 00 21 CD 34 5A      {"line":2,"time":20,"address":"58","page":0,"code":"21","name":"VOUT_COMMAND","direction":"write","payload":"CD 34","numerator":13517,"denominator":4096,"volts":3.300048}
-300 B0 05 04 01 21 CD 34 5A     {"line":3,"time":300,"address":"58","code":"05","direction":"write","packet":"B0 05 04 01 21 CD 34 5A","fault":"F5 WrongPec","place":7}
-4000 B0 96 / B1 34 12           {"line":4,"time":4000,"address":"58","code":"96","name":"READ_POUT","direction":"read","payload":"34 12","pec":false}
+1 B0 06 02 00 20 / B1 01 14 *   {"line":1,"time":0,"address":"58","page":0,"code":"20","name":"VOUT_MODE","direction":"read","payload":"14","value":"ULINEAR16 -12"}
+20 B0 05 04 00 21 CD 34 5A      {"line":2,"time":19,"address":"58","page":0,"code":"21","name":"VOUT_COMMAND","direction":"write","payload":"CD 34","numerator":13517,"denominator":4096,"volts":3.300048}
+300 B0 05 04 01 21 CD 34 5A     {"line":3,"time":299,"address":"58","code":"05","direction":"write","packet":"B0 05 04 01 21 CD 34 5A","fault":"F5 WrongPec","place":7}
+4000 B0 96 / B1 34 12           {"line":4,"time":3999,"address":"58","code":"96","name":"READ_POUT","direction":"read","payload":"34 12","pec":false}
 = {"count":"VOUT_MODE","lines":1}
 = {"count":"VOUT_COMMAND","lines":1}
 = {"code":"96","lines":1}
 = {"lines":4,"accepted":2,"other":1,"faults":1,"bad":0}
 """),
+    ("--mux=70,71 --part=61 --all --values", """
+# A write to a mux ends what is known; one without a byte doesn't.
+B0 20 / B1 14 *                           58 VOUT_MODE read 14 ULINEAR16 -12
+E0                                        70 mux send
+E2 / E3 02                                71 mux read 02
+B0 21 00 10 *                             58 VOUT_COMMAND write 1000 1 V
+E2 02                                     71 mux write 02
+B0 21 00 10 *                             58 VOUT_COMMAND write 1000
+C2 03 *                                   61 CLEAR_FAULTS send
+"""),
+    ("--mux=70", """
+E0 02                                     70 mux write 02
+10 B0 34 12                               08 host notify write B0 34 12
+"""),
+    ("--long", """
+10 B0 34 12                               08 write F5 WrongPec 3
+"""),
     ("--times --values --all", """
-1 B0 20 / B1 14 *                         1 us 58 VOUT_MODE read 14 ULINEAR16 -12
-1 B0 88 / B1 00 D3 *                      1 us 58 READ_VIN read D300 12 V?
-2 B0 88 / B1 00 D3                        2 us 58 READ_VIN read D300 12 V?, no PEC
-3 B0 88 / B1 00 D3 !                      3 us 58 read F5 WrongPec 3 bytes B0 88 / B1 00 D3 !
+1 B0 20 / B1 14 *                         0 us 58 VOUT_MODE read 14 ULINEAR16 -12
+1 B0 88 / B1 00 D3 *                      0 us 58 READ_VIN read D300 12 V?
+2 B0 88 / B1 00 D3                        1 us 58 READ_VIN read D300 12 V?, no PEC
+3 B0 88 / B1 00 D3 !                      2 us 58 read F5 WrongPec 3 bytes B0 88 / B1 00 D3 !
 = count VOUT_MODE 1
 = count READ_VIN 2
 = lines 4 accepted 3 other 0 faults 1 bad 0
@@ -1997,9 +2014,9 @@ B0 21 00 10 *                             58 page 1? VOUT_COMMAND write 1000
 # A general call, and a write to a zone, are for all parts.
 B0 00 01 *                                58 PAGE write 01
 B0 20 / B1 17 *                           58 page 1? VOUT_MODE read 17 ULINEAR16 -9
-6E 96                                     37 code 96 READ_POUT send, no PEC
+6E 96                                     37 ZONE_WRITE write 96
 B0 21 00 10 *                             58 page 1? VOUT_COMMAND write 1000 8 V
-6E 00 01                                  37 PAGE write 01, no PEC
+6E 00 01                                  37 ZONE_WRITE write 00 01
 B0 21 00 10 *                             58 VOUT_COMMAND write 1000
 
 # One answer of another code ends by chance in its PEC: the part sends none.
@@ -2064,8 +2081,21 @@ B0 8C / B1 10 CA *                        {"line":3,"address":"58","code":"8C","
 """), ("--values", """
 # A write to a zone is for all parts, whatever option is given.
 B0 20 / B1 14 *                           58 VOUT_MODE read 14 ULINEAR16 -12
-6E 16 *                                   37 RESTORE_USER_ALL send
+6E 16                                     37 ZONE_WRITE write 16
 B0 21 00 10 *                             58 VOUT_COMMAND write 1000
+
+# Addresses that are kept for something else, until a part answers there.
+10 B0 34 12                               08 host notify write B0 34 12
+18 / 19 B0                                0C alert response read B0
+50 21 / 51 00 10                          28 ZONE_READ write 21 read 00 10
+C2 02 1D                                  61 ARP write 02 1D
+C2 78 / C3 40                             61 ARP write 78 read 40
+C2 78 / C3 40 *                           61 STATUS_BYTE read 40 OFF
+C2 03 *                                   61 CLEAR_FAULTS send
+18 78 / 19 40 *                           0C alert response write 78 read 40 *
+= count STATUS_BYTE 1
+= count CLEAR_FAULTS 1
+= lines 8 accepted 2 faults 0 special 6 bad 0
 
 # A hint names what is missing.
 B0 20 / B1 14 *                           58 VOUT_MODE read 14 ULINEAR16 -12
@@ -2087,7 +2117,7 @@ B0 00 01 *                                {"line":7,"address":"58","code":"00","
 """), ("--times", """
 # With any option a refused packet is shown so.
 # byte 1 wasn't acknowledged
-5 B0 03 *                                 5 us 58 CLEAR_FAULTS send, byte 1 not acknowledged
+5 B0 03 *                                 0 us 58 CLEAR_FAULTS send, byte 1 not acknowledged
 = lines 1 accepted 0 faults 0 refused 1 bad 0
 """)]
 
@@ -2107,11 +2137,11 @@ WHOLE = [
     ("--json", b"#\n\n   \n", 0, '{"lines":0,"accepted":0,"faults":0,"bad":0}\n'),
     ("--values", b"\r\n  \r\n# x\r\nB0 03 46\r\n\r", 0,
      "4 58 CLEAR_FAULTS send\ncount CLEAR_FAULTS 1\nlines 1 accepted 1 faults 0 bad 0\n"),
-    ("--times", b"  5   B0 03 46  \r", 0, "1 5 us 58 CLEAR_FAULTS send\ncount CLEAR_FAULTS 1\nlines 1 accepted 1 faults 0 bad 0\n"),
-    ("--times", b"5\tB0 03 46\n5", 1, "1 X1 Syntax\n2 5 us -- write F1 NotOurs\nlines 2 accepted 0 faults 1 bad 1\n"),
+    ("--times", b"  5   B0 03 46  \r", 0, "1 0 us 58 CLEAR_FAULTS send\ncount CLEAR_FAULTS 1\nlines 1 accepted 1 faults 0 bad 0\n"),
+    ("--times", b"5\tB0 03 46\n5", 1, "1 X1 Syntax\n2 0 us -- write F1 NotOurs\nlines 2 accepted 0 faults 1 bad 1\n"),
     ("--times", b" #\n5\r\r\n5", 1,
-     "1 X1 Syntax\n2 X1 Syntax\n3 5 us -- write F1 NotOurs\nlines 3 accepted 0 faults 1 bad 2\n"),
-    ("--times --values", b"5", 0, "1 5 us -- write F1 NotOurs\nlines 1 accepted 0 faults 1 bad 0\n"),
+     "1 X1 Syntax\n2 X1 Syntax\n3 0 us -- write F1 NotOurs\nlines 3 accepted 0 faults 1 bad 2\n"),
+    ("--times --values", b"5", 0, "1 0 us -- write F1 NotOurs\nlines 1 accepted 0 faults 1 bad 0\n"),
     ("--values", b"B0\tB0", 1, "1 X2 BadHex\nlines 1 accepted 0 faults 0 bad 1\n", NO_PACKET),
     ("--all", b"B0" * 301, 1, "1 X1 Syntax\nlines 1 accepted 0 other 0 faults 0 bad 1\n", NO_PACKET),
     ("--all", b"B0D4" + b"05" * 298, 0, f"1 58 code D4 write {' '.join(['05'] * 298)}, no PEC\ncount code D4 1\n"
@@ -2127,7 +2157,7 @@ WHOLE = [
     ("--values --vout=ulinear16:0", b"B0 06 02 00 21 / B1 02 E9 03 C6\n", 0, "1 58 page 0 VOUT_COMMAND read 03E9 1001 V\n"
      "count VOUT_COMMAND 1\nlines 1 accepted 1 faults 0 bad 0\n"),
     ("--times", ORDER + b"x\n", 1, "1 X1 Syntax\n2 X1 Syntax\nlines 2 accepted 0 faults 0 bad 2\n", NO_TIME),
-    ("--times", ORDER + b"9 B0 00\n", 1, "1 X1 Syntax\n2 9 us 58 write F2 Short 2\nlines 2 accepted 0 faults 1 bad 1\n"),
+    ("--times", ORDER + b"9 B0 00\n", 1, "1 X1 Syntax\n2 0 us 58 write F2 Short 2\nlines 2 accepted 0 faults 1 bad 1\n"),
     ("--values", b"1234567 " + ORDER + b"B0 00\n", 1, "1 X2 BadHex\n2 58 write F2 Short 2 bytes B0 00\n"
      "lines 2 accepted 0 faults 1 bad 1\n", NO_PACKET),
     ("--all", b"1234567 " + ORDER + b"B0 D0\n", 1, "1 X2 BadHex\n2 58 code D0 send, no PEC\ncount code D0 1\n"
@@ -2139,7 +2169,7 @@ WHOLE = [
     ("--long", b"B0 03", 0, "1 58 write F2 Short 2\nlines 1 accepted 0 faults 1 bad 0\n", NO_PEC),
     ("--pages", b"B0 00 01\n# a loss\nB0 21 CD 34\n", 0, "1 58 write F2 Short 3\n3 58 write F2 Short 4\n"
      "lines 2 accepted 0 faults 2 bad 0\n", NO_PEC),
-    ("--times", b"5 B0 05 04 00 21 CD 34\n6 B0 9\n", 1, "1 5 us 58 write F2 Short 7\n2 X2 BadHex\n"
+    ("--times", b"5 B0 05 04 00 21 CD 34\n6 B0 9\n", 1, "1 0 us 58 write F2 Short 7\n2 X2 BadHex\n"
      "lines 2 accepted 0 faults 1 bad 1\n", NO_PEC),
     ("--values", b"B0 03\nB0 9\n", 1, "1 58 write F2 Short 2 bytes B0 03\n2 X2 BadHex\nlines 2 accepted 0 faults 1 bad 1\n", NO_PACKET),
     ("--values", b"B0 03\nB0 03 00\n", 0, "1 58 write F2 Short 2 bytes B0 03\n2 58 write F5 WrongPec 2 bytes B0 03 00\n"
@@ -2171,6 +2201,8 @@ WHOLE = [
 BAD_VOUT = "bad vout: give linear11, ulinear16:N or direct:M:B:R, or a list, as 58:ulinear16:-12,linear11"
 BAD_READINGS = "bad readings: give one to eight, as 8C:linear11,58:8D:direct:1:0:3"
 BAD_GAP = "bad gap: give 0 to 1000000 milliseconds"
+BAD_PART = "bad part: give addresses from 08 to 77 without 0C, as 61,28"
+BAD_MUX = "bad mux: give addresses from 08 to 77 without 0C, as 70,71"
 
 # Faulty command lines, and the one line that is said; None for a text of the parser's own.
 REFUSED = [
@@ -2192,7 +2224,11 @@ REFUSED = [
     ("--times --gap=5", "give --gap with --pages and --times"),
     *((f"--pages --times --gap={gap}", BAD_GAP) for gap in (
         "", "x", "+1", "-1", "-0", "1.5", "1,5", "0x5", "5ms", "1000001", "10000000", "00000005")),
+    *((f"--{name}={text}", said) for name, said in (("part", BAD_PART), ("mux", BAD_MUX)) for text in (
+        "", ",", "7", "0C", "0c", "07", "78", "70,", ",70", "70,,71", "0x70", "070", "E0", "7g", "-1")),
+    ("--mux=70 --mux=x", BAD_MUX), ("--mux=x --part=61", BAD_MUX), ("--part", None), ("--mux", None),
     # The first in this order.
+    ("--mux=x --part=x --gap=x", "give --gap with --pages and --times"), ("--mux=x --part=x", BAD_PART),
     ("--gap=x --readings=x --vout=x", "give --vout with --values"), ("--gap=x --readings=x", "give --readings with --values"),
     ("--gap=x --readings=x --vout=x --values", BAD_VOUT), ("--gap=x --readings=x --values", BAD_READINGS),
     ("--values --values", None), ("--all --all", None), ("--json --json", None), ("--long --long", None), ("--times --times", None),
@@ -2206,4 +2242,5 @@ TAKEN = [f"--values --readings={','.join(['77:8d:linear11'] * 8)}", "--values --
          "--values --readings=88:linear11,08:8D:direct:32767:-32768:-12", "--values --readings=77/8D/linear11,58/88:direct:1/0/3",
          "--values --vout=ulinear16/-16", "--values --vout=direct/1:0/-12", "--values --vout=08:linear11,77/ulinear16:15,linear11",
          f"--values --vout={','.join(['5a:direct:1:0:3'] * 8)}",
+         "--part=61 --part=28,37 --mux=70", "--mux=70 --mux=71 --mux=70,72", "--part 61",
          "--pages", "--pages --times", "--pages --times --gap=0000005", "--pages --times --gap=1000000", "--gap=0 --times --pages"]

@@ -27,7 +27,9 @@ STATUS = re.compile(r"; (STATUS_\w+) ([0-9A-F]+)((?: [A-Z_]+,?)*)(?: and (STATUS
 SAID = re.compile(r"; (?:the part says that it is off|(?:delivery not known|commanded off; not known to be off): [A-Z_]+ gave no good answer: [\w ]+)")
 CODES = {"STATUS_WORD": 0x79, "STATUS_VOUT": 0x7A, "STATUS_IOUT": 0x7B, "STATUS_INPUT": 0x7C, "STATUS_TEMPERATURE": 0x7D, "READ_VOUT": 0x8B}
 # What the line of a list says of its rails.
-STOPPED, NOT_OFF = re.compile(r"pmhost: on FILE: (.*)"), re.compile(r"pmhost: off FILE: not known to be off: (.*)")
+STOPPED = re.compile(r"pmhost: on FILE: (.*)")
+# The rails that aren't known to be off, and those that went off out of order.
+NOT_OFF = re.compile(r"pmhost: off FILE: (?:not known to be off: ([^;]*))?(?:; )?(?:off only at the end, since nothing was acknowledged before: (.*))?")
 FELL = re.compile(r"\w+ (?:went off after it delivered|doesn't deliver any more): |\w+ has to deliver first")
 STANDING = re.compile(r"(turned off again: |may be on: |left on: |on before, and left: |came on by itself: |nothing was ordered of |nothing was ordered)(.*)")
 WHY = re.compile(r"pmhost: (on|off) (\w+): (.+)")
@@ -91,7 +93,8 @@ class Claims:
     def of_rails(self) -> Iterator[str]:
         """What the lines leave out."""
         if self.watch.command == "off":
-            named = [name for line in self.call.lines if (found := NOT_OFF.fullmatch(line)) for name in found[1].split(", ")]
+            named = [name for line in self.call.lines if (found := NOT_OFF.fullmatch(line)) for names in found.groups("")
+                     for name in names.split(", ")]
             for rail in self.watch.order:
                 if (self.held(rail) != OFF or rail.name in self.watch.passed_by) and rail.name not in named:
                     yield f"{rail.name} is on, or was as one before it went off, and isn't named"
@@ -154,6 +157,9 @@ class Claims:
                 yield f"OPERATION is {self.held(rail):02X}"
         elif found := MISSED.fullmatch(text):
             if found[1] and not self.is_untouched(rail):
+                yield "the rail was ordered"
+        elif found := re.fullmatch("refused, OPERATION wasn't ordered( again)?", text):
+            if not found[1] and not self.is_untouched(rail):
                 yield "the rail was ordered"
         elif text != "not known to be off":
             yield "it is no line that is known here"

@@ -5,7 +5,7 @@ the same frames, waits, orders that come next, verdicts and ends, to hear the sa
     trials/sequences/try_lists.py [--lists N] [--seed N] [--first N] [--plant N]
 
 Transfers are lost, damaged and falsely acknowledged; parts restart, are exchanged, silent, lack registers, and answer what nobody expects. Some lists
-are broken off or followed by their way back. The first difference is printed with its list and last 30 frames. `--plant` plants one of ten bugs.
+are broken off or followed by their way back. The first difference is printed with its list and last 30 frames. `--plant` plants one of twelve bugs.
 """
 import collections
 import random
@@ -35,7 +35,7 @@ BYTES = (0x80,) * 8 + (0x00, 0x00, 0x40, 0xA8, 0xA4, 0x98, 0x94, 0x88, 0x90, 0xB
 SETTLE = {1: 0, 2: 10, 3: 30, 5: 150, 11: 10230}
 FAR = [("word", 0x4000), ("word", 0), ("microvolts", 3300000), ("microvolts", -100000)]
 
-# Ten bugs of the plain side: what is wrong, whose it is, its name, and what stands in its place.
+# Twelve bugs of the plain side: what is wrong, whose it is, its name, and what stands in its place.
 MINE, BEGINS = plain_side.Sequence, plain_side.Sequence.begins
 PLANTS = [
     ("a look at the end of a step is left out", MINE, "looks_after", lambda self, step: setattr(self, "is_looked", True) or []),
@@ -47,6 +47,8 @@ PLANTS = [
     ("a register is missing after one silent round", plain_lists.look, "SILENT_ROUNDS", 1),
     ("a rail that has to deliver needn't", plain_side, "does", lambda step, word: plain_lists.look.does(step._replace(must=False), word)),
     ("after orders all isn't read once more", Course, "is_carried_out", lambda self, part: False),
+    ("nothing is read anew before an output is turned on", plain_side, "turns_on", lambda job: False),
+    ("an order that turns on is written in each pass", plain_side, "is_unsent", lambda job, writes: False),
     ("WRITE_PROTECT isn't read before an output is turned on", Course, "turning", lambda self, part, job: job)]
 
 

@@ -45,7 +45,7 @@ THIRD = ["address 58", "PAGE_PLUS_WRITE", "count", "page 1", "VOUT_COMMAND", "da
 PECS = ["PEC right", "PEC right", "PEC 5A, 4C would be right", "PEC right", "PEC right", "PEC right", "PEC right"]
 
 
-def reader(vout="", readings=""):
+def reader(*options):
     """The part of the decoder that needs no sigrok, from its folder."""
     import importlib.util
     name = "pmbus"
@@ -55,7 +55,7 @@ def reader(vout="", readings=""):
         package = importlib.util.module_from_spec(spec)
         package.__path__ = [os.path.join(FOLDER, name)]
         sys.modules[name] = package
-    return importlib.import_module(f"{name}.packets").Reader(vout, readings)
+    return importlib.import_module(f"{name}.packets").Reader(*options)
 
 
 def parts_in(line):
@@ -96,14 +96,16 @@ def random_faults(decode, seed, texts):
             readings = ",".join(dice.choice(draw_captures.WHERE) + dice.choice(draw_captures.READING_FORMATS) for _ in range(2))
         lines = [draw_captures.packet_line(dice, 0) for _ in range(60)]
         lines = [line for line in lines if not isinstance(parts_of(line), str) and parts_of(line)[0]]
-        words = ["--all", "--values", *([f"--vout={vout}"] if vout else []), *([f"--readings={readings}"] if readings else [])]
-        told, decoder = decode(b"\n".join(lines), words)[1].splitlines(), reader(vout, readings)
+        parts, muxes = (dice.choice(["", "", *draw_captures.ADDRESSES]) for _ in range(2))
+        given = {"vout": vout, "readings": readings, "part": parts, "mux": muxes}
+        words = ["--all", "--values", *(f"--{name}={text}" for name, text in given.items() if text)]
+        told, decoder = decode(b"\n".join(lines), words)[1].splitlines(), reader(*given.values())
         for number, line in enumerate(lines, 1):
             write, read = parts_of(line)
             found, wanted = decoder.tell(write, read).text, wanted_words(told[number - 1].partition(" ")[2] + " ", write, read)
             count += 1
             if found != wanted.rstrip(" "):
-                yield f"{line!r} with vout {vout!r} and readings {readings!r} gives {found!r}, and not {wanted!r}"
+                yield f"{line!r} with {given} gives {found!r}, and not {wanted!r}"
     print(f"  {count} random packets")
 
 
@@ -267,6 +269,7 @@ def byte_faults():
     for options, said in ((":address=B0", "address: give two hexadecimal digits, as 58"),
                           (":vout=linear16", "vout: give linear11, ulinear16/N or direct/M/B/R, or of an address 58/linear11; + parts them"),
                           (":vout=78/x/linear11", "vout: give linear11, "),
+                          (":muxes=0C", "muxes: give addresses from 08 to 77 without 0C, as 70+71"), (":parts=5", "parts: give addresses"),
                           (":readings=ulinear16/1", "readings: give linear11 or direct/M/B/R")):
         found, errors = sigrok(drawn, options)
         if found or said not in errors:

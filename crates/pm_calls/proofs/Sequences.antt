@@ -22,8 +22,7 @@ use Rattle.pm_stairs.specs.Frames.{course_open, shows_restart}
 use Rattle.pm_stairs.specs.Sequence.{heard_with}
 use Rattle.pm_sequence.specs.declared.sequence.Act.{Act}
 use Rattle.pm_sequence.specs.declared.sequence.Sequence.{Sequence}
-use Rattle.pm_sequence.specs.Frames.{alone, course, heard as hears_course, nothing, Hears, HearsAt}
-use Rattle.pm_sequence.specs.Sequence.{with_list}
+use Rattle.pm_sequence.specs.Frames.{alone, course, heard as hears_course, list_heard, nothing, unheard as unheard_by, Hears, HearsAt}
 use Rattle.pm_memory.specs.declared.guard_image.GuardImage.{GuardImage}
 use Rattle.pm_memory.specs.Guard.{guard_of, limits_kept, registers_held}
 use Rattle.pm_memory.specs.Hosted.{IsThere, guard_in}
@@ -85,11 +84,7 @@ pub unheard : (g : Guarded) (q : Sequence) (entry : Entry) (fault : Untold) →
 unheard g q entry fault why = by (course_open q.list.stairs) refl where
   by : (o : Option FrameCourse) → course_open q.list.stairs ≡ o → Unheard g q entry
   by None shut = record { is = q; fault = NothingSent; hears = nothing shut }
-  by (Some named) own = record {
-    is = with_list q (heard_with q.list named (shows_restart g entry));
-    fault = fault;
-    hears = hears_course named named (Err fault) g own (why named);
-  }
+  by (Some named) own = record { is = q; fault = fault; hears = unheard_by named fault own (why named) }
 
 -- the host and the course whose job was named last hear what became of the frame of the stage at which the open job stands
 pub record Told (g : Guarded) (q : Sequence) (entry : Entry) (step : Step) (next : Guarded) (is : Sequence) : Type 0 where
@@ -101,7 +96,7 @@ pub told-at : (g next : Guarded) (q is : Sequence) (at : Stage) (told : Told_) (
     Told g q (entry_told told) heard.step next is
 told-at g next q _ at told heard opened waits some (course named after own tells) = record {
   step-is = tells.step;
-  hears = subst (λ (b : Bool). Hears g q (entry_told told) (Ok tt) next (with_list q (heard_with q.list after b)))
-      (sym (restart-at g at told opened)) (hears_course named after (Ok tt) next own (hears-by g next named after at told heard opened waits tells));
+  hears = subst (λ (b : Bool). Hears g q (entry_told told) (Ok tt) next (list_heard q (entry_told told) (heard_with q.list after b)))
+      (sym (restart-at g at told opened)) (hears_course named after next own (hears-by g next named after at told heard opened waits tells));
 }
 told-at g next q _ at told heard opened waits some (alone none tells) = let wrong = rw none at some in cc

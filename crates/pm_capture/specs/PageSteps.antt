@@ -141,6 +141,7 @@ marks_by ones lacks None = record {
   is_restart = false;
   is_forbidden = false;
   phase = None;
+  changed = None;
 }
 marks_by ones lacks (Some step) = record {
   ones = ones;
@@ -151,6 +152,7 @@ marks_by ones lacks (Some step) = record {
   is_restart = is_restart step.used (contradicted step.place step.used);
   is_forbidden = is_forbidden step.place step.used;
   phase = step.phase;
+  changed = None;
 }
 
 -- a packet wasn't refused, and is shown as good, or by its code and bytes, or has the right PEC

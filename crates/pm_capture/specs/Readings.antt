@@ -1,13 +1,11 @@
 -- What a line of a capture reads as: the packet's bytes, as `pm_trace` reads them, and with times the number that
 -- stands before them. The forms are this project's own choice.
-use Rattle.std.specs.Prelude.{ℕ, zero, suc, ◌+◌, ◌-◌, ◌*◌, nat_le, is_some, ℤ, pos, negsuc, Bool, true, false, not, ◌&&◌, ◌||◌, ◌==◌, nat_eq, nat_lt, if◌then◌else◌, List, [], ◌∷◌, codes, drop, length, map, filter, slice_index, take, ◌/◌, ◌%◌, Option, Some, None, Result, Ok, Err}
+use Rattle.std.specs.Prelude.{ℕ, zero, suc, ◌+◌, ◌-◌, ◌*◌, ◌^◌, nat_le, is_some, ℤ, pos, negsuc, Bool, true, false, not, ◌&&◌, ◌||◌, ◌==◌, nat_eq, nat_lt, if◌then◌else◌, List, [], ◌∷◌, codes, drop, length, map, filter, slice_index, take, ◌/◌, ◌%◌, Option, Some, None, Result, Ok, Err}
 use Rattle.std.specs.List.{enumerate_from, starts_with}
 use Rattle.pm_lines.specs.Digits.{signed_of}
 use Rattle.pm_lines.specs.Pairs.{pair_of}
 use Rattle.pm_lines.specs.Lines.{Numbered, is_skipped, is_space, lines_of}
-use Rattle.pm_trace.specs.Pages.{is_of_all, is_paging, touch_of}
-use Rattle.pm_trace.specs.declared.touch.Touch.{Touch}
-use Rattle.pm_trace.specs.declared.touch.Touch.TheVariants.{Nothing, AsksPage, WritesPage, WritesMode, Restores}
+use Rattle.pm_trace.specs.Pages.{is_paging, touch_of}
 use Rattle.pm_trace.specs.Marks.{before}
 use Rattle.pm_trace.specs.Trace.{Judged, line_read, parts_judged, reading_judged}
 use Rattle.pm_trace.specs.declared.line_fault.LineFault.{LineFault}
@@ -17,7 +15,13 @@ use Rattle.pm_packets.specs.Otherwise.{address_otherwise, is_accepted, judged_an
 use Rattle.pm_packets.specs.declared.answers.Ones.{Ones}
 use Rattle.pm_capture.specs.declared.comment.Remark.{Remark}
 use Rattle.pm_capture.specs.declared.comment.Remark.TheVariants.{Elsewhere, Refuses, Shows, Loss}
+use Rattle.pm_capture.specs.declared.comment.Failure.{Failure}
+use Rattle.pm_capture.specs.declared.comment.Note.{Note}
 use Rattle.pm_capture.specs.declared.comment.ShownPacket.{ShownPacket}
+use Rattle.pm_capture.specs.declared.comment.Why.{Why}
+use Rattle.pm_capture.specs.declared.comment.Why.TheVariants as why
+use Rattle.pm_capture.specs.WordChanges.{word_change}
+use Rattle.pm_capture.specs.declared.special.Special.{Special}
 use Rattle.pm_capture.specs.Options.{notes_comments}
 use Rattle.pm_capture.specs.declared.options.TellOptions.{TellOptions}
 
@@ -107,19 +111,6 @@ behind_slash (byte ∷ next ∷ []) = []
 behind_slash (byte ∷ next ∷ last ∷ rest) =
     if byte == 32 && (next == 47 && last == 32) then rest else behind_slash (next ∷ last ∷ rest)
 
--- a packet that may change PAGE or VOUT_MODE
-abbrev pub is_touching : Touch → Bool
-is_touching Nothing = false
-is_touching AsksPage = false
-is_touching WritesPage = true
-is_touching (WritesMode named) = true
-is_touching Restores = true
-
--- a general call, or a write to a zone, of such a packet
-abbrev pub is_to_all : List ℕ → Bool → Bool
-is_to_all write is_read = nat_lt 0 (length write)
-    && (is_of_all (slice_index write 0 / 2) && is_touching (touch_of write is_read))
-
 -- a read part follows these bytes
 abbrev pub is_read_shown : List ℕ → ℕ → Bool
 is_read_shown text count = starts_with nat_eq (drop (3 * count - 1) text) (codes " /")
@@ -131,13 +122,15 @@ packet_shown is_failed is_read bytes = record {
   code = slice_index bytes 1;
   touch = touch_of bytes is_read;
   has_pages = is_paging bytes false;
+  has_data = nat_le 2 (length bytes);
   is_failed_read = is_failed && (is_read && nat_le 2 (length bytes));
+  changes = word_change bytes;
 }
 
 -- one that is written to an address
 abbrev pub write_shown : Bool → Bool → List ℕ → Remark
 write_shown is_failed is_read bytes = if slice_index bytes 0 % 2 == 1 then Elsewhere
-    else (if is_to_all bytes is_read then Loss else Shows (packet_shown is_failed is_read bytes))
+    else Shows (packet_shown is_failed is_read bytes)
 
 -- a part of another device follows, or a third part
 abbrev pub is_joined : ℕ → List ℕ → Option ℕ → Bool
@@ -157,11 +150,12 @@ transfer_by is_failed text (first ∷ rest) = if is_together first (behind_slash
 abbrev pub transfer_shown : Bool → List ℕ → Remark
 transfer_shown is_failed text = transfer_by is_failed text (bytes_shown 6 text)
 
--- the number that a text begins with, of at most four digits, and what follows the space behind it. 48 is `0`.
-abbrev pub place_shown : ℕ → List ℕ → Option (ℕ × List ℕ)
-place_shown so_far [] = None
-place_shown so_far (byte ∷ rest) = if byte == 32 then Some (so_far, rest)
-    else (if nat_le 48 byte && (nat_le byte 57 && nat_lt so_far 1000) then place_shown (10 * so_far + (byte - 48)) rest else None)
+-- the number that a text begins with, behind `so_far` and of at most one digit more than `most`, and what follows the space behind
+-- it. 48 is `0`.
+abbrev pub number_shown : ℕ → ℕ → List ℕ → Option (ℕ × List ℕ)
+number_shown most so_far [] = None
+number_shown most so_far (byte ∷ rest) = if byte == 32 then Some (so_far, rest)
+    else (if nat_le 48 byte && (nat_le byte 57 && nat_lt so_far most) then number_shown most (10 * so_far + (byte - 48)) rest else None)
 
 -- the refusal that a text says behind `# byte `
 abbrev pub refusal_by : Option (ℕ × List ℕ) → Remark
@@ -186,13 +180,42 @@ is_packet_comment text = starts_with nat_eq text (codes "# no stop: ")
 
 -- what a comment says, as `pmhost capture` writes them, by its first bytes
 abbrev pub remark_in : List ℕ → Remark
-remark_in text = if starts_with nat_eq text (codes "# byte ") then refusal_by (place_shown 0 (drop 7 text))
+remark_in text = if starts_with nat_eq text (codes "# byte ") then refusal_by (number_shown 1000 0 (drop 7 text))
     else (if is_missing text then Loss
     else (if starts_with nat_eq text (codes "# failed") then transfer_shown true (behind_colon text)
     else (if is_packet_comment text then transfer_shown false (behind_colon text) else Elsewhere)))
 
-abbrev pub remark_of : List ℕ → Remark
-remark_of line = remark_in (take 63 line)
+-- the reason of a failure that a text begins with, as a number of Linux
+abbrev pub why_in : List ℕ → Why
+why_in text = if starts_with nat_eq text (codes "(-6)") || starts_with nat_eq text (codes "(-121)") then why.NotAcknowledged
+    else (if starts_with nat_eq text (codes "(-110)") then why.TimedOut
+    else (if starts_with nat_eq text (codes "(-11)") then why.LostArbitration
+    else (if starts_with nat_eq text (codes "(-16)") then why.Busy
+    else (if starts_with nat_eq text (codes "(-5)") then why.BusError else why.Unsaid))))
+
+abbrev pub why_words : Why → List ℕ
+why_words why.NotAcknowledged = codes "not acknowledged"
+why_words why.TimedOut = codes "timed out"
+why_words why.LostArbitration = codes "lost the arbitration"
+why_words why.Busy = codes "the bus was busy"
+why_words why.BusError = codes "bus error"
+why_words why.Unsaid = codes "no reason is given"
+
+abbrev pub failure_at : Option (ℕ × List ℕ) → Failure
+failure_at None = record { time = None; why = why.Unsaid }
+failure_at (Some shown) = record { time = Some shown.0; why = why_in shown.1 }
+
+-- the transfer that a comment says failed, by its first bytes: its time, of at most 18 digits, stands before the reason
+abbrev pub failure_in : List ℕ → Option Failure
+failure_in text = if starts_with nat_eq text (codes "# failed at ") then Some (failure_at (number_shown (10 ^ 17) 0 (drop 12 text)))
+    else (if starts_with nat_eq text (codes "# failed (") then Some (record { time = None; why = why_in (drop 9 text) })
+    else (if starts_with nat_eq text (codes "# failed: ") then Some (record { time = None; why = why.Unsaid }) else None))
+
+abbrev pub note_in : List ℕ → Note
+note_in text = record { remark = remark_in text; failure = failure_in text }
+
+abbrev pub note_of : List ℕ → Note
+note_of line = note_in (take 63 line)
 
 -- comments are noted if an option changes what is shown
 abbrev pub is_noted : Bool → List ℕ → Bool
@@ -200,13 +223,15 @@ is_noted notes line = notes && is_comment line
 
 -- ---- the lines
 
--- what a line is: one that is shown, by what it reads as, or a comment that is noted
+-- What a line is: one that is shown, by what it reads as, or a comment that is noted. A packet whose address is no part's is set
+-- aside, for what the address is.
 pub data Said : Type 0 where
   Told : Reading → Said
-  Noted : Remark → Said
+  Aside : Special → Reading → Said
+  Noted : Note → Said
 
 abbrev pub said_of : TellOptions → List ℕ → Said
-said_of options line = if is_noted (notes_comments options) line then Noted (remark_of line) else Told (reading_of options.times line)
+said_of options line = if is_noted (notes_comments options) line then Noted (note_of line) else Told (reading_of options.times line)
 
 -- a line's number, and what the line says
 abbrev pub Entry : Type 0

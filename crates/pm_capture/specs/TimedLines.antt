@@ -5,8 +5,8 @@ use Rattle.std.specs.List.{fold, list_any}
 use Rattle.pm_lines.specs.Lines.{has_bytes, is_line_feed, is_space, without_return}
 use Rattle.pm_trace.specs.OpenLines.{is_skipped_kind, line_of, line_takes, open_read}
 use Rattle.pm_trace.specs.Parts.{part_of, part_takes}
-use Rattle.pm_capture.specs.Readings.{Reading, Said, Told, Noted, behind_word, first_word, is_comment, remark_in, time_in, timed}
-use Rattle.pm_capture.specs.declared.comment.Remark.{Remark}
+use Rattle.pm_capture.specs.Readings.{Reading, Said, Told, Noted, behind_word, first_word, is_comment, note_in, time_in, timed}
+use Rattle.pm_capture.specs.declared.comment.Note.{Note}
 use Rattle.pm_capture.specs.declared.timed_line.TimedLine.{TimedLine}
 
 -- the bytes of a line that may be a packet's: of a comment only the first byte, which says that it is one
@@ -83,15 +83,15 @@ timed_read line = if line.times
     else record { time = None; parts = open_read line.packet }
 
 -- what a comment with these first bytes says
-abbrev pub head_remark : List ℕ → Remark
-head_remark head = remark_in (take 63 (without_return head))
+abbrev pub head_note : List ℕ → Note
+head_note head = note_in (take 63 (without_return head))
 
 -- it says nothing, or what it is
 abbrev pub passes_timed : Bool → TimedLine → Bool
 passes_timed pages line = not (pages && line.has_mark) && skips_timed line
 
 abbrev pub timed_said : Bool → TimedLine → Said
-timed_said pages line = if pages && line.has_mark then Noted (head_remark line.head) else Told (timed_read line)
+timed_said pages line = if pages && line.has_mark then Noted (head_note line.head) else Told (timed_read line)
 
 -- ---- bytes of a piece
 

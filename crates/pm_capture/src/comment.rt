@@ -1,13 +1,17 @@
 //! Comments of a capture while their bytes come.
 ghost use Rattle.std.specs.Prelude.{◌≡◌, drop, take};
-ghost use Rattle.std.specs.Prelude.{◌+◌, ◌++◌, ◌≤◌, ◌<◌, length, option_map};
-ghost use Rattle.pm_capture.specs.Readings.{behind_colon as spec_behind_colon, behind_slash as spec_behind_slash, behind_space as spec_behind_space, bytes_shown, first_byte, is_missing as spec_is_missing, is_packet_comment as spec_is_packet_comment, is_read_shown as spec_is_read_shown, is_to_all as spec_is_to_all, is_together as spec_is_together, is_touching as spec_is_touching, packet_shown as spec_packet_shown, place_shown as spec_place_shown, refusal_by, remark_in as spec_remark_in, transfer_shown as spec_transfer_shown, write_shown as spec_write_shown};
+ghost use Rattle.std.specs.Prelude.{◌+◌, ◌*◌, ◌++◌, ◌≤◌, ◌<◌, IfSome, length, option_map};
+ghost use Rattle.pm_capture.specs.Readings.{behind_colon as spec_behind_colon, behind_slash as spec_behind_slash, behind_space as spec_behind_space, bytes_shown, first_byte, is_missing as spec_is_missing, is_packet_comment as spec_is_packet_comment, is_read_shown as spec_is_read_shown, is_together as spec_is_together, packet_shown as spec_packet_shown, failure_at as spec_failure_at, failure_in as spec_failure_in, note_in as spec_note_in, number_shown as spec_number_shown, refusal_by, why_in as spec_why_in, remark_in as spec_remark_in, transfer_shown as spec_transfer_shown, write_shown as spec_write_shown};
 
+use crate::word_change::{WordChange, word_change};
 use arrayvec::ArrayVec;
 use pm_lines::{pair_of, without_carriage_return};
 use pm_packets::Refusal;
-use pm_trace::{Touch, is_of_all, is_paging, touch_of};
+use pm_trace::{Touch, is_paging, touch_of};
 use std::marker::Model;
+
+/// A time has at most one digit more than this.
+const MOST_TIME: u64 = 100_000_000_000_000_000;
 
 /// A packet that a comment shows, by its first bytes.
 #[derive(Clone, Copy, Debug, PartialEq, Eq)]
@@ -20,8 +24,62 @@ pub struct ShownPacket {
     pub touch: Touch,
     /// It shows that its part has pages.
     pub has_pages: bool,
+    /// A byte follows the address.
+    pub has_data: bool,
     /// It is a read that failed.
     pub is_failed_read: bool,
+    /// What it may write of the words of registers.
+    pub changes: WordChange,
+}
+
+/// Why a transfer failed, as Linux names it.
+#[derive(Clone, Copy, Debug, PartialEq, Eq)]
+pub enum Why {
+    /// ENXIO and EREMOTEIO: the address, or a byte, wasn't acknowledged.
+    NotAcknowledged,
+    /// ETIMEDOUT.
+    TimedOut,
+    /// EAGAIN: another master was faster.
+    LostArbitration,
+    /// EBUSY.
+    Busy,
+    /// EIO.
+    BusError,
+    /// A number that none of these is, or none.
+    Unsaid,
+}
+
+impl Why {
+    ghost use Rattle.pm_capture.specs.Readings.{why_words};
+
+    /// The reason in words.
+    pub fn words(self) -> &'static str
+        ensures { result.now ≡ why_words self }
+    {
+        match self {
+            Why::NotAcknowledged => "not acknowledged",
+            Why::TimedOut => "timed out",
+            Why::LostArbitration => "lost the arbitration",
+            Why::Busy => "the bus was busy",
+            Why::BusError => "bus error",
+            Why::Unsaid => "no reason is given",
+        }
+    }
+}
+
+/// A transfer that failed.
+#[derive(Clone, Copy, Debug)]
+pub struct Failure {
+    /// Its time, in microseconds, if the comment has one.
+    pub time: Option<u64>,
+    pub why: Why,
+}
+
+/// What a comment says, and the transfer that it says failed.
+#[derive(Clone, Copy, Debug)]
+pub struct Note {
+    pub remark: Remark,
+    pub failure: Option<Failure>,
 }
 
 /// What a comment says, as `pmhost capture` writes them.
@@ -33,7 +91,7 @@ pub enum Remark {
     Refuses(Refusal),
     /// `# failed (-6): B0 00 / B1` and `# no stop: B0 00 01` show a packet that failed or was cut.
     Shows(ShownPacket),
-    /// Packets are missing, or one is shown that may have been of any part, or a transfer with parts of several devices.
+    /// Packets are missing, or a transfer is shown with parts of several devices.
     Loss,
 }
 
@@ -53,7 +111,7 @@ impl Model for CommentHead {
 
 impl CommentHead {
     ghost use Rattle.std.specs.Prelude.{[], length, nat_lt, not};
-    ghost use Rattle.pm_capture.specs.TimedLines.{head_remark, head_takes};
+    ghost use Rattle.pm_capture.specs.TimedLines.{head_note, head_takes};
 
     /// No byte.
     pub fn new() -> CommentHead
@@ -88,10 +146,10 @@ impl CommentHead {
     }
 
     /// What the comment says.
-    pub fn remark(&self) -> Remark
-        ensures { result ≡ head_remark self.now }
+    pub fn note(&self) -> Note
+        ensures { result ≡ head_note self.now }
     {
-        remark_in(front(without_carriage_return(&self.bytes)))
+        note_in(front(without_carriage_return(&self.bytes)))
     }
 }
 
@@ -100,6 +158,72 @@ fn front(text: &[u8]) -> &[u8]
     ensures { result.now ≡ take 63 text.now }
 {
     if text.len() < 63 { text } else { &text[..63] }
+}
+
+// What a comment with these first bytes says, and the transfer that failed.
+fn note_in(text: &[u8]) -> Note
+    ensures { result ≡ spec_note_in text.now }
+{
+    Note {
+        remark: remark_in(text),
+        failure: failure_in(text),
+    }
+}
+
+// The transfer that a comment with these first bytes says failed.
+fn failure_in(text: &[u8]) -> Option<Failure>
+    ensures { result ≡ spec_failure_in text.now }
+{
+    if text.starts_with(b"# failed at ") {
+        Some(failure_at(number_shown(MOST_TIME, 0, behind(text, 12))))
+    } else if text.starts_with(b"# failed (") {
+        Some(Failure {
+            time: None,
+            why: why_in(behind(text, 9)),
+        })
+    } else if text.starts_with(b"# failed: ") {
+        Some(Failure {
+            time: None,
+            why: Why::Unsaid,
+        })
+    } else {
+        None
+    }
+}
+
+// A transfer that failed at a time, and what follows that.
+fn failure_at(shown: Option<(u64, &[u8])>) -> Failure
+    ensures { result ≡ spec_failure_at (option_map (λ shown. (shown.0, shown.1.now)) shown.entry) }
+{
+    match shown {
+        Some((time, rest)) => Failure {
+            time: Some(time),
+            why: why_in(rest),
+        },
+        None => Failure {
+            time: None,
+            why: Why::Unsaid,
+        },
+    }
+}
+
+// The reason that a text begins with, as a number of Linux in parentheses.
+fn why_in(text: &[u8]) -> Why
+    ensures { result ≡ spec_why_in text.now }
+{
+    if text.starts_with(b"(-6)") || text.starts_with(b"(-121)") {
+        Why::NotAcknowledged
+    } else if text.starts_with(b"(-110)") {
+        Why::TimedOut
+    } else if text.starts_with(b"(-11)") {
+        Why::LostArbitration
+    } else if text.starts_with(b"(-16)") {
+        Why::Busy
+    } else if text.starts_with(b"(-5)") {
+        Why::BusError
+    } else {
+        Why::Unsaid
+    }
 }
 
 // What a comment with these first bytes says.
@@ -121,18 +245,18 @@ fn remark_in(text: &[u8]) -> Remark
 
 // The refusal that a text says behind `# byte `.
 fn refusal_in(text: &[u8]) -> Remark
-    ensures { result ≡ refusal_by (spec_place_shown 0 text.now) }
+    ensures { result ≡ refusal_by (spec_number_shown 1000 0 text.now) }
 {
-    match place_shown(0, text) {
+    match number_shown(1000, 0, text) {
         Some((place, rest)) if rest.starts_with(b"wasn't acknowledged") => {
             Remark::Refuses(Refusal {
-                place,
+                place: place as u16,
                 of_answer: false,
             })
         }
         Some((place, rest)) if rest.starts_with(b"of the answer wasn't acknowledged") => {
             Remark::Refuses(Refusal {
-                place,
+                place: place as u16,
                 of_answer: true,
             })
         }
@@ -141,9 +265,11 @@ fn refusal_in(text: &[u8]) -> Remark
 }
 
 // The number that a text begins with, behind these digits, and what follows the space behind it.
-fn place_shown<'a>(so_far: u16, text: &'a [u8]) -> Option<(u16, &'a [u8])>
-    requires { so_far < 10000 }
-    ensures { option_map (λ shown. (shown.0, shown.1.now)) result ≡ spec_place_shown so_far text.entry.now }
+fn number_shown<'a>(most: u64, so_far: u64, text: &'a [u8]) -> Option<(u64, &'a [u8])>
+    requires few { most ≤ MOST_TIME }
+    requires so_far { so_far < 10 * most }
+    ensures number { option_map (λ shown. (shown.0, shown.1.now)) result ≡ spec_number_shown most so_far text.entry.now }
+    ensures few { IfSome result (λ shown. shown.0 < 10 * most) }
 {
     let [byte, rest @ ..] = text else {
         return None;
@@ -151,10 +277,10 @@ fn place_shown<'a>(so_far: u16, text: &'a [u8]) -> Option<(u16, &'a [u8])>
     if *byte == b' ' {
         return Some((so_far, rest));
     }
-    if *byte < b'0' || *byte > b'9' || so_far >= 1000 {
+    if *byte < b'0' || *byte > b'9' || so_far >= most {
         return None;
     }
-    place_shown(10 * so_far + u16::from(*byte - b'0'), rest)
+    number_shown(most, 10 * so_far + u64::from(*byte - b'0'), rest)
 }
 
 // Whether the comment says that packets are missing, or that a transfer had more than two parts, or a second one of another device.
@@ -270,8 +396,6 @@ fn write_shown(is_failed: bool, is_read: bool, bytes: &[u8]) -> Remark
     let first = bytes.first().copied().unwrap_or(0);
     if first % 2 == 1 {
         Remark::Elsewhere
-    } else if is_to_all(bytes, is_read) {
-        Remark::Loss
     } else {
         Remark::Shows(packet_shown(is_failed, is_read, bytes))
     }
@@ -286,25 +410,10 @@ fn packet_shown(is_failed: bool, is_read: bool, bytes: &[u8]) -> ShownPacket
         code: bytes.get(1).copied().unwrap_or(0),
         touch: touch_of(bytes, is_read),
         has_pages: is_paging(bytes, false),
+        has_data: bytes.len() >= 2,
+        changes: word_change(bytes),
         is_failed_read: is_failed && is_read && bytes.len() >= 2,
     }
-}
-
-/// Whether a packet is a general call, or a write to a zone, that may change PAGE or VOUT_MODE of any part.
-pub fn is_to_all(write: &[u8], is_read: bool) -> bool
-    ensures { result ≡ spec_is_to_all write.now is_read }
-{
-    match write {
-        [first, ..] => is_of_all(*first / 2) && is_touching(touch_of(write, is_read)),
-        [] => false,
-    }
-}
-
-// Whether a packet may change PAGE or VOUT_MODE.
-fn is_touching(touch: Touch) -> bool
-    ensures { result ≡ spec_is_touching touch }
-{
-    !matches!(touch, Touch::Nothing | Touch::AsksPage)
 }
 
 // Whether a part of another device follows, which begins a text, or a third part.

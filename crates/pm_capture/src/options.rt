@@ -1,5 +1,6 @@
 ghost use Rattle.std.specs.Prelude.{◌≡◌};
 
+use crate::addresses::Addresses;
 use pm_values::GivenFormats;
 
 /// How a capture is shown.
@@ -19,8 +20,14 @@ pub struct TellOptions {
     pub json: bool,
     /// PAGE is followed: a packet that acts on an output and names none is shown with the one that it reaches.
     pub pages: bool,
+    /// Failed transfers are shown in their places, and words that changed with nothing that writes them are marked.
+    pub explain: bool,
     /// With times and pages: after a pause of an address of more than so many microseconds its page isn't known any more.
     pub gap: u64,
+    /// The addresses that are parts, whatever SMBus keeps them for.
+    pub parts: Addresses,
+    /// The addresses of muxes.
+    pub muxes: Addresses,
 }
 
 impl TellOptions {
@@ -42,7 +49,10 @@ impl TellOptions {
             times: false,
             json: false,
             pages: false,
+            explain: false,
             gap: 0,
+            parts: Addresses::none(),
+            muxes: Addresses::none(),
         }
     }
 
@@ -50,7 +60,14 @@ impl TellOptions {
     pub fn notes_comments(&self) -> bool
         ensures { result ≡ notes_comments self.now }
     {
-        self.values | self.all | self.times | self.json | self.pages
+        self.values
+            | self.all
+            | self.times
+            | self.json
+            | self.pages
+            | self.explain
+            | self.parts.any
+            | self.muxes.any
     }
 
     /// Whether no option changes what is shown.

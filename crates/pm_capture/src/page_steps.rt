@@ -41,6 +41,8 @@ pub struct Marks {
     pub is_forbidden: bool,
     /// The phase that it reads.
     pub phase: Option<u8>,
+    /// The line of the read before, which gave another word with nothing in between that writes it.
+    pub changed: Option<u64>,
 }
 
 /// The packet of a line as it comes; `lost` is whether nobody answered a code that its address answered before.
@@ -231,6 +233,7 @@ impl Marks {
             is_restart: false,
             is_forbidden: false,
             phase: None,
+            changed: None,
         }
     }
 
@@ -247,6 +250,7 @@ impl Marks {
             is_restart: is_restart(step),
             is_forbidden: step.place.is_forbidden(step.used),
             phase: step.phase,
+            changed: None,
         }
     }
 }

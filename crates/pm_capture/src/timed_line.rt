@@ -2,7 +2,7 @@
 ghost use Rattle.std.specs.Prelude.{◌≡◌};
 ghost use Rattle.pm_capture.specs.Readings.{time_in as spec_time_in};
 
-use crate::comment::{CommentHead, Remark};
+use crate::comment::{CommentHead, Note};
 use pm_lines::{read_i64, without_carriage_return};
 use pm_packets::Packet;
 use pm_trace::{LineFault, LinePart, OpenLine};
@@ -39,7 +39,7 @@ impl TimedLine {
     ghost use Rattle.pm_trace.specs.OpenLines.{open_read};
     ghost use Rattle.pm_trace.specs.OpenLines.{IsAtLineFeed};
     ghost use Rattle.pm_capture.specs.ShownReadings.{parts_in, reading_in};
-    ghost use Rattle.pm_capture.specs.TimedLines.{PassesTimed, begun_with, head_remark, is_told, skips_timed, timed_of, timed_read, timed_takes, word_ended};
+    ghost use Rattle.pm_capture.specs.TimedLines.{PassesTimed, begun_with, head_note, is_told, skips_timed, timed_of, timed_read, timed_takes, word_ended};
 
     /// A line without bytes.
     #[tactic(auto, unfolding(crate::specs::TimedLines::timed_of))]
@@ -199,10 +199,10 @@ impl TimedLine {
     }
 
     /// What a comment says.
-    pub fn remark(&self) -> Remark
-        ensures { result ≡ head_remark self.now.head }
+    pub fn note(&self) -> Note
+        ensures { result ≡ head_note self.now.head }
     {
-        self.head.remark()
+        self.head.note()
     }
 
     /// Whether the line is skipped, if it ends here.

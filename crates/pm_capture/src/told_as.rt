@@ -46,8 +46,8 @@ pub fn change_in(marks: &Marks, line: &PacketLine<'_>) -> ModeChange
     mode_change(is_clear(marks.ones, line), marks.page, touch)
 }
 
-// Whether a packet wasn't refused, and is shown as good, or by its code and bytes, or has the right PEC.
-fn is_clear(ones: Ones, line: &PacketLine<'_>) -> bool
+/// Whether a packet wasn't refused, and is shown as good, or by its code and bytes, or has the right PEC.
+pub(crate) fn is_clear(ones: Ones, line: &PacketLine<'_>) -> bool
     ensures { result ≡ spec_is_clear ones line.now.other (judged_in line.now.shown.now) (packet_in line.now.packet) }
 {
     !ones.is_refused() && (is_told(line) || line.packet.has_pec())

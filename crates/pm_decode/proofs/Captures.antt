@@ -2,6 +2,7 @@
 use Rattle.std.specs.Fmt.{digits}
 use Rattle.std.specs.Io.KnownBytes.{Appends, Consumes, IsAtEnd}
 use Rattle.std.specs.List.{filter_map, enumerate_from, fold}
+use Rattle.std.specs.Option.{option_or}
 use Rattle.std.specs.Prelude.{slice_index, MatchResult}
 use Rattle.std.proofs.lemmas.List.Sums.{fold-append}
 use Rattle.std.proofs.Common.{◌≡◌, ◌+◌, ◌≤◌, Bool, false, [], ap, arith, ℕ, true, if◌then◌else◌, cond, ◌&&◌, List, ◌∷◌, ◌++◌, Option, Some}
@@ -27,24 +28,24 @@ use Rattle.pm_trace.specs.Marks.{ended, since}
 use Rattle.pm_trace.specs.Pages.{Pages, nowhere, pages_by}
 use Rattle.pm_trace.specs.Trace.{Judged, ToldLine, Accepted, Faulty, BadSyntax, BadHex}
 use Rattle.pm_packets.specs.{Otherwise.is_refused, declared.answers.Ones.Ones}
-use Rattle.pm_capture.specs.{Options.notes_comments, declared.comment.Remark.Remark, declared.options.TellOptions.TellOptions}
+use Rattle.pm_capture.specs.{Options.notes_comments, declared.comment.Note.Note, declared.options.TellOptions.TellOptions}
 use Rattle.pm_capture.specs.{declared.page_steps.Marks.Marks, declared.page_steps.PageStep.PageStep}
-use Rattle.pm_capture.specs.{declared.timed_line.TimedLine.TimedLine}
+use Rattle.pm_capture.specs.{declared.special.Special.Special, declared.timed_line.TimedLine.TimedLine}
 use Rattle.pm_capture.specs.Lemmas.TimedLines.{timed_of-snoc, timed_passes, timed_says}
 use Rattle.pm_capture.specs.PageSteps.{is_lost, is_received, judged_address, marks_by, marks_in, step_by, step_for, used_by}
 use Rattle.pm_capture.specs.Readings.{Entry, Reading, Told, Noted, is_without_pec, judged_as, judged_by, other_address, entries_of}
 use Rattle.pm_capture.specs.Readings.{entry_of, is_heard, is_passed, said_of}
-use Rattle.pm_capture.specs.TimedLines.{timed_of, head_remark, passes_timed, timed_said, PassesTimed, timed_takes}
+use Rattle.pm_capture.specs.TimedLines.{timed_of, head_note, passes_timed, timed_said, PassesTimed, timed_takes}
 use Rattle.pm_json.specs.JsonText.{key, number_field}
 use Rattle.pm_decode.specs.{Outcome.telling, declared.telling.TellEnd.TellEnd}
-use Rattle.pm_decode.specs.CaptureText.{line_text, lines_text, told_line, capture_text, counts_text, empty_by, json_counts, other_lines}
+use Rattle.pm_decode.specs.CaptureText.{aside_line, line_text, lines_text, read_line, told_line, capture_text, counts_text, empty_by, json_counts, other_lines}
 use Rattle.pm_decode.specs.CaptureText.{plain_counts, totals_line, capture_end}
 use Rattle.pm_decode.specs.Capturing.{IsBounded, Kept, entry_ended, heard_ended, kept_at_end, kept_of, kept_takes, line_ended, next, said}
 use Rattle.pm_decode.specs.Capturing.{said_text, text_ended, told, told_at_end, most_bytes}
-use Rattle.pm_decode.specs.Hearing.{HeardLines, heard_lines, unheard, Heard, Known, answers_read, heard_all, heard_as, heard_of, heard_with}
-use Rattle.pm_decode.specs.Hearing.{known_by, known_from, known_told, more_if, more_refused, ones_in, refusals, other_code, other_code_in}
-use Rattle.pm_decode.specs.Hearing.{taught_read, told_in, told_unless, unknown, told_end}
-use Rattle.pm_decode.specs.Hints.{beyond_by, lacking_by, paging_by}
+use Rattle.pm_decode.specs.Hearing.{HeardLines, heard_lines, unheard, Heard, Known, answers_read, asides, heard_all, heard_as, heard_aside, heard_of, heard_told, heard_with}
+use Rattle.pm_decode.specs.Hearing.{is_aside, known_by, known_from, known_told, more_aside, more_if, more_refused, ones_in, part_seen, refusals, other_code, other_code_in, special_in}
+use Rattle.pm_decode.specs.Hearing.{marks_with, since as time_since, taught_read, told_in, told_unless, unknown, told_end, words_told}
+use Rattle.pm_decode.specs.Hints.{beyond_by, lacking_by, paging_by, timed_by}
 use Rattle.pm_decode.specs.JsonCounts.{other_jsons, totals_json}
 use Rattle.pm_decode.specs.LongEngine.{IsWhole, LongEnds}
 use Rattle.pm_decode.specs.WrittenCaptures.{Gathered, Hears, StopsBytes, StopsHearing, WrittenCapture}
@@ -105,6 +106,19 @@ refusals-snoc (first ∷ lines) last = ap (more_refused first.0) (refusals-snoc 
     by false true = refl
     by false false = refl
 
+-- how many were set aside
+asides-snoc : (lines : List Heard) (last : Heard) → asides (lines ++ last ∷ []) ≡ more_aside last (asides lines)
+asides-snoc [] last = refl
+asides-snoc (first ∷ lines) last = ap (more_aside first) (asides-snoc lines last)
+    ∙ by (is_aside first.1.1 && not (is_refused first.0)) (is_aside last.1.1 && not (is_refused last.0))
+  where
+    by : (one other : Bool) → cond one (cond other (asides lines + 1) (asides lines) + 1) (cond other (asides lines + 1) (asides lines))
+        ≡ cond other (cond one (asides lines + 1) (asides lines) + 1) (cond one (asides lines + 1) (asides lines))
+    by true true = refl
+    by true false = refl
+    by false true = refl
+    by false false = refl
+
 -- one line more is heard
 pub heard_of-snoc : (options : TellOptions) (entries : List Entry) (entry : Entry)
     → heard_of options (entries ++ entry ∷ []) ≡ heard_with options (heard_of options entries) entry
@@ -116,6 +130,7 @@ heard_of-snoc options entries entry = λ i. record {
   others = (ap (λ l. counted (filter_map (other_code options.all) l)) (heard_all-snoc options unknown entries entry)
       ∙ others (other_code options.all last) refl) i;
   refused = (ap refusals (heard_all-snoc options unknown entries entry) ∙ refusals-snoc before last) i;
+  special = (ap asides (heard_all-snoc options unknown entries entry) ∙ asides-snoc before last) i;
 }
   where
     before : List Heard
@@ -154,7 +169,7 @@ heard_of-snoc options entries entry = λ i. record {
 
 -- a line that is shown is one more that is counted
 pub heard_one : (options : TellOptions) (heard : HeardLines) (number : ℕ) (reading : Reading)
-    → heard_lines (heard_with options heard (number, Told reading)) ≡ heard_lines heard + 1
+    → heard_lines (heard_told options number reading heard) ≡ heard_lines heard + 1
 heard_one options heard number reading =
     by (is_refused ones) (other_code_in options.all ones reading.parts) (judged_as options.all ones reading.parts) refl refl
   where
@@ -174,15 +189,49 @@ heard_one options heard number reading =
     by : (refused : Bool) (other : Option ℕ) (judged : Judged) → is_refused ones ≡ refused
         → other_code_in options.all ones reading.parts ≡ other
         → lines_in (counts_with heard.counts (cond refused None (told_unless other (number, judged)))) + total_of (more_if heard.others other)
-        + cond refused (heard.refused + 1) heard.refused ≡ heard_lines heard + 1
+        + cond refused (heard.refused + 1) heard.refused + heard.special ≡ heard_lines heard + 1
     by true None judged is other_is = omega arith
     by true (Some code) judged is other_is = absurd (cc (none reading.parts is, other_is))
     by false None judged is other_is = let more = one judged in omega (arith, more)
     by false (Some code) judged is other_is = omega (arith, total_one_more heard.others code)
 
+-- a line that is set aside is one more, too
+pub aside_one : (options : TellOptions) (number : ℕ) (time : Option ℕ) (special : Special) (ones : Ones) (parts : Result TraceLine LineFault) (heard : HeardLines)
+    → heard_lines (heard_aside options number time special ones parts heard) ≡ heard_lines heard + 1
+aside_one options number time special ones parts heard = by (is_refused ones)
+  where
+    by : (refused : Bool) → lines_in heard.counts + total_of heard.others + cond refused (heard.refused + 1) heard.refused
+        + cond (not refused) (heard.special + 1) heard.special ≡ heard_lines heard + 1
+    by true = omega arith
+    by false = omega arith
+
+module _ (options : TellOptions) (heard : HeardLines) (number : ℕ) (time : Option ℕ) (parts : TraceLine) where
+  -- a line is shown as a packet to a part if its address is none that is kept for something else
+  pub seen_told : None ≡ special_in options heard.known (Ok parts)
+      → heard_told options number (record { time = time; parts = Ok parts })
+      (record heard { known = part_seen options (Ok parts) heard.known })
+      ≡ heard_with options heard (number, Told (record { time = time; parts = Ok parts }))
+  seen_told none = rw (sym none) refl
+
+  pub line_told : (known : Known) → None ≡ special_in options known (Ok parts)
+      → read_line options (part_seen options (Ok parts) known) number time (Ok parts)
+      ≡ line_text options known (number, Told (record { time = time; parts = Ok parts }))
+  line_told known none = rw (sym none) refl
+
+  -- otherwise it is set aside
+  pub seen_aside : (special : Special) → Some special ≡ special_in options heard.known (Ok parts)
+      → heard_aside options number time special (ones_in options heard.known (Ok parts)) (Ok parts) heard
+      ≡ heard_with options heard (number, Told (record { time = time; parts = Ok parts }))
+  seen_aside special is = rw (sym is) refl
+
+  pub line_aside : (special : Special) → Some special ≡ special_in options heard.known (Ok parts)
+      → aside_line options.json special (ones_in options heard.known (Ok parts)) number (time_since heard.known.first time) (Ok parts)
+      ≡ line_text options heard.known (number, Told (record { time = time; parts = Ok parts }))
+  line_aside special is = rw (sym is) refl
+
 -- a comment is heard by what it says, if comments are noted
 pub comment_heard : (options : TellOptions) (heard : HeardLines) (number : ℕ) (line : TimedLine)
-    → (notes_comments options && line.has_mark) ≡ true → heard_with options heard (number, Noted (head_remark line.head))
+    → (notes_comments options && line.has_mark) ≡ true → heard_with options heard (number, Noted (head_note line.head))
     ≡ cond (passes_timed (notes_comments options) line) heard (heard_with options heard (number, timed_said (notes_comments options) line))
 comment_heard options heard number line noted = rw noted refl
 
@@ -214,6 +263,10 @@ module _ (options : TellOptions) (number : ℕ) (time : Option ℕ) (parts : Tra
         refused = if notes_comments options then None else known.refused;
         paging = paging_by options number judged known.paging;
         lacking = lacking_by options.all parts known.lacking;
+        timed = timed_by options number parts known.timed;
+        first = option_or known.first time;
+        words = words_told options number marks parts known.words;
+        parts = known.parts;
       } ≡ known_told options number time ones (Ok parts) known
   known_on_page lost ones lacks judged other step marks pages lost_is ones_is judged_is other_is lacks_is step_is marks_is =
       rw (marks_is, step_is, lost_is, other_is, judged_is, pages) refl
@@ -231,6 +284,12 @@ module _ (options : TellOptions) (number : ℕ) (time : Option ℕ) (parts : Tra
   marks_on_page lost ones lacks judged other step marks pages lost_is ones_is judged_is other_is lacks_is step_is marks_is =
       rw (marks_is, step_is, lost_is, lacks_is, other_is, judged_is, ones_is, pages) refl
 
+-- what a comment says is shown by that
+comment_told : (options : TellOptions) (known : Known) (number : ℕ) (line : TimedLine)
+    → (notes_comments options && line.has_mark) ≡ true → line_text options known (number, Noted (head_note line.head))
+    ≡ cond (passes_timed (notes_comments options) line) [] (line_text options known (number, timed_said (notes_comments options) line))
+comment_told options known number line noted = rw noted refl
+
 -- what follows from a good end, of that end
 pub on_good : {T E P Q : Type 0} (result : Result T E) → (P → Q) → OnOk result P → OnOk result Q
 on_good (Ok value) follows good = follows good
@@ -238,13 +297,22 @@ on_good (Err fault) follows good = tt
 
 -- a comment was heard, if comments are noted
 pub comment_noted : {E : Type 0} (result : Result (Unit {0}) E) (options : TellOptions) (heard new : HeardLines) (number : ℕ)
-    (line : TimedLine) (remark : Remark) → (notes_comments options && line.has_mark) ≡ true → remark ≡ head_remark line.head
-    → OnOk result ((each : TellOptions) → new ≡ heard_with each heard (number, Noted remark))
+    (line : TimedLine) (note : Note) → (notes_comments options && line.has_mark) ≡ true → note ≡ head_note line.head
+    → OnOk result (new ≡ heard_with options heard (number, Noted note))
     → OnOk result (new
     ≡ cond (passes_timed (notes_comments options) line) heard (heard_with options heard (number, timed_said (notes_comments options) line)))
-comment_noted (Ok done) options heard new number line remark noted is heard_is = heard_is options
+comment_noted (Ok done) options heard new number line note noted is heard_is = heard_is
     ∙ ap (λ r. heard_with options heard (number, Noted r)) is ∙ comment_heard options heard number line noted
-comment_noted (Err fault) options heard new number line remark noted is heard_is = tt
+comment_noted (Err fault) options heard new number line note noted is heard_is = tt
+
+pub comment_gathered : {E : Type 0} (result : Result (Unit {0}) E) (options : TellOptions) (known : Known) (old new : List ℕ) (number : ℕ)
+    (line : TimedLine) (note : Note) → (notes_comments options && line.has_mark) ≡ true → note ≡ head_note line.head
+    → OnOk result (new ≡ old ++ line_text options known (number, Noted note))
+    → OnOk result (new ≡ old
+    ++ cond (passes_timed (notes_comments options) line) [] (line_text options known (number, timed_said (notes_comments options) line)))
+comment_gathered (Ok done) options known old new number line note noted is told_is = told_is
+    ∙ ap (λ r. old ++ line_text options known (number, Noted r)) is ∙ ap (λ l. old ++ l) (comment_told options known number line noted)
+comment_gathered (Err fault) options known old new number line note noted is told_is = tt
 
 -- a packet was shown on its page, and what it says of PAGE was learned: what is known then, and the text
 module _ (options : TellOptions) (number : ℕ) (time : Option ℕ) (parts : TraceLine) (self : Known) (lost : Bool) (ones : Ones) (lacks : Bool)
@@ -265,6 +333,9 @@ module _ (options : TellOptions) (number : ℕ) (time : Option ℕ) (parts : Tra
         refused = if notes_comments options then None else self.refused;
         paging = paging_by options number judged self.paging;
         lacking = lacking_by options.all parts self.lacking;
+        timed = timed_by options number parts self.timed;
+        first = option_or self.first time;
+        words = words_told options number marks parts self.words;
       }
       → OnOk result (pages ≡ pages_by number step.addr step.place step.used told.pages)
       → OnOk result (record told { pages = pages } ≡ known_told options number time ones (Ok parts) self)
@@ -277,6 +348,10 @@ module _ (options : TellOptions) (number : ℕ) (time : Option ℕ) (parts : Tra
         refused = (told_is i).refused;
         paging = (told_is i).paging;
         lacking = (told_is i).lacking;
+        timed = (told_is i).timed;
+        first = (told_is i).first;
+        words = (told_is i).words;
+        parts = (told_is i).parts;
       })
       ∙ known_on_page options number time parts self lost ones lacks judged other step marks follows lost_is ones_is judged_is other_is
       lacks_is step_is marks_is
@@ -291,11 +366,11 @@ module _ (options : TellOptions) (number : ℕ) (time : Option ℕ) (parts : Tra
       → lacks ≡ is_without_pec options.all ones parts
       → step ≡ step_by options.gap time self.pages lost ones parts judged other
       → marks ≡ marks_by ones lacks (Some step)
-      → after ≡ before ++ told_line options self.taught marks number time (Ok parts)
+      → after ≡ before ++ told_line options self.taught (marks_with options self.words marks parts) number (time_since self.first time) (Ok parts)
       → OnOk result (after
-      ≡ before ++ line_text options self (number, Told (record { time = time; parts = Ok parts })))
+      ≡ before ++ read_line options self number time (Ok parts))
   page_told (Ok done) before after follows lost_is ones_is judged_is other_is lacks_is step_is marks_is text_is = text_is
-      ∙ ap (λ (m : Marks). before ++ told_line options self.taught m number time (Ok parts))
+      ∙ ap (λ (m : Marks). before ++ told_line options self.taught (marks_with options self.words m parts) number (time_since self.first time) (Ok parts))
       (marks_on_page options number time parts self lost ones lacks judged other step marks follows lost_is ones_is judged_is other_is
       lacks_is step_is marks_is)
   page_told (Err fault) before after follows lost_is ones_is judged_is other_is lacks_is step_is marks_is text_is = tt

@@ -1,5 +1,6 @@
 -- What is shown and counted of a packet, usual or not.
 use Rattle.std.specs.List.{filter_map, enumerate_from}
+use Rattle.std.specs.{Option.option_or}
 use Rattle.std.specs.Prelude.{decimal, flat_map, is_some, nat_lt}
 use Rattle.std.proofs.{Math.ListN.set, lemmas.Bool.Decides.nat_tests, lemmas.Result.IfOk-equal}
 use Rattle.std.proofs.Common.{◌≡◌, ◌∙◌, ℕ, ◌+◌, Bool, false, List, [], ◌∷◌, ◌++◌, map, filter, codes, Some, None, Result, Ok, Err, refl}
@@ -41,8 +42,9 @@ use Rattle.pm_decode.specs.{Outcome.telling, declared.telling.TellEnd.TellEnd, d
 use Rattle.pm_decode.specs.CaptureText.{capture_end, capture_text, counts_text, line_text, lines_text, plain_counts, plain_line, told_line}
 use Rattle.pm_decode.specs.CaptureText.{totals_line, other_line, other_lines}
 use Rattle.pm_decode.specs.Capturing.{said, said_text}
-use Rattle.pm_decode.specs.Hearing.{HeardLines, Known, heard_all, heard_of, known_by, ones_in, other_code, other_code_in, refusals, told_as}
+use Rattle.pm_decode.specs.Hearing.{Heard, HeardLines, Known, asides, heard_all, heard_as, heard_of, is_aside, known_by, ones_in, other_code, refusals}
 use Rattle.pm_decode.specs.Hearing.{told_in, unknown, heard_with}
+use Rattle.pm_decode.specs.Hints.{first_if, is_timed}
 use Rattle.pm_decode.specs.JsonCounts.{other_json, other_jsons}
 use Rattle.pm_decode.specs.UsualLines.{IsUsual, code_counted, usual_text}
 
@@ -82,9 +84,9 @@ ends_alone options run (Err (BadHex line)) (sound, why, front, (whole, made), le
 ends_alone options run (Err (Setup reason)) (sound, why, front, (whole, made), left) =
     (sound, why, front, (whole, ap made_alone made), left)
 
-module _ (formats : GivenFormats) (long : Bool) (gap : ℕ) where
+module _ (formats : GivenFormats) (long : Bool) (gap : ℕ) (parts_named muxes : List Bool) where
   abbrev plain : TellOptions
-  plain = plain_options formats long gap
+  plain = plain_options formats long gap parts_named muxes
 
   -- a line by what it reads as
   pub line_by : (known : Known) (number : ℕ) (parts : Result TraceLine LineFault)
@@ -106,21 +108,24 @@ module _ (formats : GivenFormats) (long : Bool) (gap : ℕ) where
       ap (λ l. l ++ lines_text plain rest (map (entry_of plain) lines)) (line_by known line.0 (line_read line.1))
       ∙ ap (λ l. trace_line (told_of line) ++ l) (lines_by rest lines)
 
+  -- a line as it is heard
+  abbrev heard_plain : Known → ℕ → Result TraceLine LineFault → Heard
+  heard_plain known number parts = heard_as plain known (number, Told (record { time = None; parts = parts }))
+
   -- no line has another code
-  no_code : (known : Known) (parts : Result TraceLine LineFault) → other_code_in false (ones_in plain known parts) parts ≡ None
-  no_code known (Ok parts) = refl
-  no_code known (Err fault) = refl
+  no_code : (known : Known) (number : ℕ) (parts : Result TraceLine LineFault) → other_code false (heard_plain known number parts) ≡ None
+  no_code known number (Ok parts) = refl
+  no_code known number (Err fault) = refl
 
   no_codes : (known : Known) (lines : List Numbered)
       → filter_map (other_code false) (heard_all plain known (map (entry_of plain) lines)) ≡ []
   no_codes known [] = refl
   no_codes known (line ∷ lines) =
-      rw (no_code known (line_read line.1)) (no_codes (known_by plain known (entry_of plain line)) lines)
+      rw (no_code known line.0 (line_read line.1)) (no_codes (known_by plain known (entry_of plain line)) lines)
 
   -- what is shown of a line if packets without PEC aren't shown
   told_plain : (known : Known) (number : ℕ) (parts : Result TraceLine LineFault)
-      → told_as false (ones_in plain known parts) number (Told (record { time = None; parts = parts }))
-      ≡ Some (number, reading_judged parts)
+      → told_in false (heard_plain known number parts) ≡ Some (number, reading_judged parts)
   told_plain known number (Ok parts) = refl
   told_plain known number (Err fault) = refl
 
@@ -131,7 +136,7 @@ module _ (formats : GivenFormats) (long : Bool) (gap : ℕ) where
   as_told known (line ∷ lines) = rw (told_plain known line.0 (line_read line.1))
       (ap (λ l. told_of line ∷ l) (as_told (known_by plain known (entry_of plain line)) lines))
 
-  -- none was refused
+  -- none was refused, nor set aside
   one_taken : (known : Known) (parts : Result TraceLine LineFault) → is_refused (ones_in plain known parts) ≡ false
   one_taken known (Ok parts) = refl
   one_taken known (Err fault) = refl
@@ -140,6 +145,15 @@ module _ (formats : GivenFormats) (long : Bool) (gap : ℕ) where
   none_refused known [] = refl
   none_refused known (line ∷ lines) =
       rw (one_taken known (line_read line.1)) (none_refused (known_by plain known (entry_of plain line)) lines)
+
+  one_kept : (known : Known) (number : ℕ) (parts : Result TraceLine LineFault) → is_aside (heard_plain known number parts).1.1 ≡ false
+  one_kept known number (Ok parts) = refl
+  one_kept known number (Err fault) = refl
+
+  none_aside : (known : Known) (lines : List Numbered) → asides (heard_all plain known (map (entry_of plain) lines)) ≡ 0
+  none_aside known [] = refl
+  none_aside known (line ∷ lines) =
+      rw (one_kept known line.0 (line_read line.1)) (none_aside (known_by plain known (entry_of plain line)) lines)
 
   heard_by : (lines : List Numbered) → (heard_of plain (map (entry_of plain) lines)).counts ≡ counts_of (map told_of lines)
   unfolding heard_of
@@ -153,23 +167,29 @@ module _ (formats : GivenFormats) (long : Bool) (gap : ℕ) where
   unfolding heard_of
   taken_by lines = none_refused unknown lines
 
-  -- the counts
-  totals_by : (heard : HeardLines) → heard.others ≡ [] → heard.refused ≡ 0 → totals_line false heard ≡ trace_totals heard.counts
-  unfolding totals_line trace_totals
-  totals_by heard none taken =
-      let count : lines_in heard.counts + 0 + 0 ≡ lines_in heard.counts = omega arith in
-      rw (none, taken) (rw count (simp append_assoc))
+  kept_by : (lines : List Numbered) → (heard_of plain (map (entry_of plain) lines)).special ≡ 0
+  unfolding heard_of
+  kept_by lines = none_aside unknown lines
 
-  counts_by : (heard : HeardLines) → heard.others ≡ [] → heard.refused ≡ 0 → counts_text plain heard ≡ trace_counts heard.counts
+  -- the counts
+  totals_by : (heard : HeardLines) → heard.others ≡ [] → heard.refused ≡ 0 → heard.special ≡ 0
+      → totals_line false heard ≡ trace_totals heard.counts
+  unfolding totals_line trace_totals
+  totals_by heard none taken kept =
+      let count : lines_in heard.counts + 0 + 0 + 0 ≡ lines_in heard.counts = omega arith in
+      rw (none, taken, kept) (rw count (simp append_assoc))
+
+  counts_by : (heard : HeardLines) → heard.others ≡ [] → heard.refused ≡ 0 → heard.special ≡ 0
+      → counts_text plain heard ≡ trace_counts heard.counts
   unfolding plain_counts
-  counts_by heard none taken = ap (λ l. flat_map count_line heard.counts.codes ++ l) (totals_by heard none taken)
+  counts_by heard none taken kept = ap (λ l. flat_map count_line heard.counts.codes ++ l) (totals_by heard none taken kept)
 
   pub plain_text : (text : List ℕ) → capture_text plain text ≡ trace_text text
   unfolding capture_text trace_text entries_of trace_of unskipped_from
   plain_text text =
       let lines = unskipped_from 1 text in
       ap (λ l. l ++ counts_text plain (heard_of plain (map (entry_of plain) lines))) (lines_by unknown lines)
-      ∙ ap (λ l. told_lines (map told_of lines) ++ l) (counts_by (heard_of plain (map (entry_of plain) lines)) (others_by lines) (taken_by lines))
+      ∙ ap (λ l. told_lines (map told_of lines) ++ l) (counts_by (heard_of plain (map (entry_of plain) lines)) (others_by lines) (taken_by lines) (kept_by lines))
       ∙ ap (λ c. told_lines (map told_of lines) ++ trace_counts c) (heard_by lines)
 
   -- the lines that ended
@@ -258,18 +278,27 @@ module _ (addr : ℕ) (message : Message) (page : Option ℕ) (code : ℕ) (payl
 
 -- ---- its line, if no option changes what is shown
 
-plain_parts : (values all times json pages : Bool) → not (values || (all || (times || (json || pages)))) ≡ true
-    → (values ≡ false) × (all ≡ false) × (times ≡ false) × (json ≡ false) × (pages ≡ false)
-plain_parts false false false false false is = (refl, refl, refl, refl, refl)
-plain_parts true all times json pages is = absurd (true≢false (sym is))
-plain_parts false true times json pages is = absurd (true≢false (sym is))
-plain_parts false false true json pages is = absurd (true≢false (sym is))
-plain_parts false false false true pages is = absurd (true≢false (sym is))
-plain_parts false false false false true is = absurd (true≢false (sym is))
+plain_parts : (values all times json pages explain parts muxes : Bool)
+    → not (values || (all || (times || (json || (pages || (explain || (parts || muxes))))))) ≡ true
+    → (values ≡ false) × (all ≡ false) × (times ≡ false) × (json ≡ false) × (pages ≡ false) × (explain ≡ false) × (parts ≡ false) × (muxes ≡ false)
+plain_parts false false false false false false false false is = (refl, refl, refl, refl, refl, refl, refl, refl)
+plain_parts true all times json pages explain parts muxes is = absurd (true≢false (sym is))
+plain_parts false true times json pages explain parts muxes is = absurd (true≢false (sym is))
+plain_parts false false true json pages explain parts muxes is = absurd (true≢false (sym is))
+plain_parts false false false true pages explain parts muxes is = absurd (true≢false (sym is))
+plain_parts false false false false true explain parts muxes is = absurd (true≢false (sym is))
+plain_parts false false false false false true parts muxes is = absurd (true≢false (sym is))
+plain_parts false false false false false false true muxes is = absurd (true≢false (sym is))
+plain_parts false false false false false false false true is = absurd (true≢false (sym is))
 
-plain_is : (options : TellOptions) → is_plain options ≡ true → plain_options options.formats options.long options.gap ≡ options
+-- options that change nothing are these
+abbrev plain_of : TellOptions → TellOptions
+plain_of options = plain_options options.formats options.long options.gap options.parts.named options.muxes.named
+
+plain_is : (options : TellOptions) → is_plain options ≡ true → plain_of options ≡ options
 plain_is options is =
-    let (values, all, times, json, pages) = plain_parts options.values options.all options.times options.json options.pages is in
+    let (values, all, times, json, pages, explain, parts, muxes) = plain_parts options.values options.all options.times options.json options.pages
+    options.explain options.parts.any options.muxes.any is in
     λ i. record {
       values = sym values i;
       formats = options.formats;
@@ -278,7 +307,10 @@ plain_is options is =
       times = sym times i;
       json = sym json i;
       pages = sym pages i;
+      explain = sym explain i;
       gap = options.gap;
+      parts = record { named = options.parts.named; any = sym parts i };
+      muxes = record { named = options.muxes.named; any = sym muxes i };
     }
 
 pub usual_told : (options : TellOptions) (known : Known) (number : ℕ) (usual : Usual) (parts : TraceLine) → is_plain options ≡ true
@@ -290,8 +322,13 @@ usual_told options known number usual parts plain is =
     ap (λ l. decimal number ++ (codes " " ++ (l ++ codes "\n"))) (sym (is.text number))
     ∙ ap (λ l. decimal number ++ l) (sym (append_assoc (codes " ") text (codes "\n")))
     ∙ sym (append_assoc (decimal number) (codes " " ++ text) (codes "\n"))
-    ∙ sym (line_by options.formats options.long options.gap known number (Ok parts))
+    ∙ sym (line_by options.formats options.long options.gap options.parts.named options.muxes.named known number (Ok parts))
     ∙ ap (λ o. line_text o known (number, Told (record { time = None; parts = Ok parts }))) (plain_is options plain)
+
+-- a packet without a time leaves the first one
+no_time : (first : Option ℕ) → option_or first None ≡ first
+no_time None = refl
+no_time (Some time) = refl
 
 pub usual_heard : (options : TellOptions) (heard : HeardLines) (number : ℕ) (usual : Usual) (parts : TraceLine) → is_plain options ≡ true
     → IsUsual usual (parts_judged parts.write parts.read) → record heard { counts = code_counted heard.counts usual.code }
@@ -299,6 +336,7 @@ pub usual_heard : (options : TellOptions) (heard : HeardLines) (number : ℕ) (u
 usual_heard options heard number usual parts plain is =
     let lacks : Bool = lacks_pec Answer parts.write parts.read in
     let kept = ap (λ c. cond c heard.known.lacking (heard.known.lacking && lacks)) is.good in
+    let untimed = ap (λ c. cond c heard.known.timed (first_if heard.known.timed (is_timed parts) number)) is.good in
     (λ i. record {
       known = record {
         taught = sym (is.taught number heard.known.taught) i;
@@ -308,10 +346,15 @@ usual_heard options heard number usual parts plain is =
         refused = heard.known.refused;
         paging = heard.known.paging;
         lacking = sym kept i;
+        timed = sym untimed i;
+        first = sym (no_time heard.known.first) i;
+        words = heard.known.words;
+        parts = heard.known.parts;
       };
       counts = sym (is.counted heard.counts) i;
       others = heard.others;
       refused = heard.refused;
+      special = heard.special;
     }) ∙ ap (λ o. heard_with o heard (number, Told (record { time = None; parts = Ok parts }))) (plain_is options plain)
 
 -- a usual line by what it reads as

@@ -1,6 +1,7 @@
 -- What is written of a capture: a line for each of its lines that isn't skipped, a line for each code that was
 -- carried, and the counts. The forms are this project's own choice; names are printed as in PMBus 1.3 Part II.
-use Rattle.std.specs.Prelude.{ℕ, zero, suc, Bool, true, false, ◌&&◌, ◌==◌, length, if◌then◌else◌, nat_eq, List, [], ◌∷◌, ◌++◌, flat_map, decimal, codes, Option, Some, None, Result, Ok, Err}
+use Rattle.std.specs.Prelude.{ℕ, ℤ, zero, suc, ◌/◌, Bool, true, false, ◌&&◌, ◌==◌, drop, length, if◌then◌else◌, nat_eq, List, [], ◌∷◌, ◌++◌, flat_map, decimal, codes, option_map, slice_index, Option, Some, None, Result, Ok, Err}
+use Rattle.std.specs.Fmt.{signed_decimal}
 use Rattle.std.specs.Map.{lookup}
 use Rattle.pm_lines.specs.Numbers.{hex_byte}
 use Rattle.pm_trace.specs.Counts.{total_of}
@@ -8,7 +9,7 @@ use Rattle.pm_trace.specs.Trace.{Judged, Accepted, Faulty, BadSyntax, BadHex, re
 use Rattle.pm_trace.specs.TraceText.{count_line, judged_text, message_text}
 use Rattle.pm_trace.specs.declared.line_fault.LineFault.{LineFault}
 use Rattle.pm_trace.specs.declared.trace_line.TraceLine.{TraceLine}
-use Rattle.pm_packets.specs.Otherwise.{is_heeded, ones_text, other_text, spaced}
+use Rattle.pm_packets.specs.Otherwise.{carried_by, is_heeded, ones_text, other_text, spaced}
 use Rattle.pm_packets.specs.declared.answers.Ones.{Ones}
 use Rattle.pm_packets.specs.declared.answers.Ones.TheVariants.{Answer, Doubtful, Nobody, Refused}
 use Rattle.pm_packets.specs.declared.answers.Refusal.{Refusal}
@@ -18,11 +19,15 @@ use Rattle.pm_frame.specs.declared.message.Message.{Message}
 use Rattle.pm_values.specs.Taught.{Taught, is_assumed}
 use Rattle.pm_values.specs.ValueText.{known_text}
 use Rattle.pm_values.specs.Values.{packet_value}
-use Rattle.pm_decode.specs.Hearing.{HeardLines, Known, heard_lines, heard_of, known_by, ones_in, told_end, unknown}
-use Rattle.pm_json.specs.JsonText.{judged_fields, lack_field, marks_fields, number_field_if, other_fields, text_field}
+use Rattle.pm_decode.specs.Hearing.{HeardLines, Known, heard_lines, heard_of, known_by, marks_shown, ones_in, seen_as, since, told_end, unknown}
+use Rattle.pm_json.specs.JsonText.{address_field, judged_fields, lack_field, marks_fields, other_fields, other_payload_by, received_field, signed_field_if, text_field}
 use Rattle.pm_decode.specs.JsonCounts.{count_json, other_jsons, totals_json}
 use Rattle.pm_capture.specs.PageSteps.{marks_in}
-use Rattle.pm_capture.specs.Readings.{Entry, Said, Told, Noted, entries_of, judged_by, other_address}
+use Rattle.pm_capture.specs.Readings.{Entry, Said, Told, Aside, Noted, entries_of, judged_by, other_address, why_words}
+use Rattle.pm_capture.specs.Specials.{special_words}
+use Rattle.pm_capture.specs.declared.comment.Failure.{Failure}
+use Rattle.pm_capture.specs.declared.comment.Why.{Why}
+use Rattle.pm_capture.specs.declared.special.Special.{Special}
 use Rattle.pm_capture.specs.declared.options.TellOptions.{TellOptions}
 use Rattle.pm_capture.specs.declared.page_steps.Marks.{Marks}
 use Rattle.pm_decode.specs.declared.telling.TellEnd.{TellEnd}
@@ -88,6 +93,11 @@ forbidden_text forbidden = if forbidden then codes ", WRITE_PROTECT forbids it" 
 unfoldable pub two_lines : ℕ → ℕ → List ℕ
 two_lines line number = decimal line ++ (codes " and " ++ decimal number)
 
+-- what follows a read that gives another word than the one before, with nothing in between that writes it
+abbrev pub changed_text : ℕ → Option ℕ → List ℕ
+changed_text number None = []
+changed_text number (Some line) = codes " CHANGED? lines " ++ two_lines line number
+
 abbrev pub wrong_text : ℕ → Option ℕ → List ℕ
 wrong_text number None = []
 wrong_text number (Some line) = codes " WRONG PAGE? lines " ++ two_lines line number
@@ -99,7 +109,7 @@ phase_text (Some phase) = codes ", phase " ++ decimal phase
 
 abbrev pub marks_text : ℕ → Marks → List ℕ
 marks_text number marks = phase_text marks.phase
-    ++ (received_text marks.ones ++ (forbidden_text marks.is_forbidden ++ wrong_text number marks.wrong))
+    ++ (received_text marks.ones ++ (forbidden_text marks.is_forbidden ++ (wrong_text number marks.wrong ++ changed_text number marks.changed)))
 
 -- ---- a line
 
@@ -129,18 +139,18 @@ abbrev pub packet_text : TellOptions → Taught → Marks → ℕ → TraceLine 
 packet_text options taught marks number parts =
     packet_text_by options taught marks number parts (other_address options.all marks.ones parts)
 
-abbrev pub time_text : Option ℕ → List ℕ
+abbrev pub time_text : Option ℤ → List ℕ
 time_text None = []
-time_text (Some time) = codes " " ++ (decimal time ++ codes " us")
+time_text (Some time) = codes " " ++ (signed_decimal time ++ codes " us")
 
 -- what follows a line's number
-abbrev pub reading_text : TellOptions → Taught → Marks → ℕ → Option ℕ → Result TraceLine LineFault → List ℕ
+abbrev pub reading_text : TellOptions → Taught → Marks → ℕ → Option ℤ → Result TraceLine LineFault → List ℕ
 reading_text options taught marks number time (Ok parts) =
     time_text time ++ (codes " " ++ packet_text options taught marks number parts)
 reading_text options taught marks number time (Err fault) = codes " " ++ judged_text number (reading_judged (Err fault))
 
 -- a line as it is shown to a person
-unfoldable pub plain_line : TellOptions → Taught → Marks → ℕ → Option ℕ → Result TraceLine LineFault → List ℕ
+unfoldable pub plain_line : TellOptions → Taught → Marks → ℕ → Option ℤ → Result TraceLine LineFault → List ℕ
 plain_line options taught marks number time parts = decimal number
     ++ (reading_text options taught marks number time parts ++ codes "\n")
 
@@ -152,31 +162,91 @@ packet_fields_by options taught marks number parts None = judged_fields options.
 packet_fields_by options taught marks number parts (Some addr) =
     other_fields (otherwise_by options marks addr) parts.write parts.read ++ marks_fields number (length parts.write) marks
 
-abbrev pub reading_fields : TellOptions → Taught → Marks → ℕ → Option ℕ → Result TraceLine LineFault → List ℕ
-reading_fields options taught marks number time (Ok parts) = number_field_if (codes "time") time
+abbrev pub reading_fields : TellOptions → Taught → Marks → ℕ → Option ℤ → Result TraceLine LineFault → List ℕ
+reading_fields options taught marks number time (Ok parts) = signed_field_if (codes "time") time
     ++ packet_fields_by options taught marks number parts (other_address options.all marks.ones parts)
 reading_fields options taught marks number time (Err fault) =
     text_field (codes "fault") (judged_text number (reading_judged (Err fault)))
 
 -- a line as an object of JSON
-unfoldable pub json_line : TellOptions → Taught → Marks → ℕ → Option ℕ → Result TraceLine LineFault → List ℕ
+unfoldable pub json_line : TellOptions → Taught → Marks → ℕ → Option ℤ → Result TraceLine LineFault → List ℕ
 json_line options taught marks number time parts = codes "{\"line\":" ++ (decimal number
     ++ (reading_fields options taught marks number time parts ++ codes "}\n"))
 
 -- a line with a line feed, by what the lines before it taught, and by its marks
-unfoldable pub told_line : TellOptions → Taught → Marks → ℕ → Option ℕ → Result TraceLine LineFault → List ℕ
+unfoldable pub told_line : TellOptions → Taught → Marks → ℕ → Option ℤ → Result TraceLine LineFault → List ℕ
 told_line options taught marks number time parts = if options.json
     then json_line options taught marks number time parts else plain_line options taught marks number time parts
 
--- what is written of a line by what is known before it: nothing of a comment
+-- ---- a packet whose address is no part's
+
+-- what follows the address byte of a packet
+abbrev pub behind_first : List ℕ → List ℕ
+behind_first bytes = drop 1 bytes
+
+-- as it is shown to a person
+unfoldable pub aside_words : Special → Ones → ℕ → TraceLine → List ℕ
+aside_words special ones addr parts = hex_byte addr ++ (codes " " ++ (special_words special
+    ++ (carried_by (behind_first parts.write) (option_map behind_first parts.read) ++ received_text ones)))
+
+unfoldable pub aside_plain : Special → Ones → ℕ → Option ℤ → TraceLine → List ℕ
+aside_plain special ones number time parts = decimal number ++ (time_text time ++ (codes " "
+    ++ (aside_words special ones (slice_index parts.write 0 / 2) parts ++ codes "\n")))
+
+-- as an object of JSON
+unfoldable pub aside_fields : Special → Ones → ℕ → TraceLine → List ℕ
+aside_fields special ones addr parts = address_field (Some addr) ++ (text_field (codes "special") (special_words special)
+    ++ (other_payload_by (behind_first parts.write) (option_map behind_first parts.read)
+    ++ received_field (length parts.write) ones))
+
+unfoldable pub aside_json : Special → Ones → ℕ → Option ℤ → TraceLine → List ℕ
+aside_json special ones number time parts = codes "{\"line\":" ++ (decimal number ++ (signed_field_if (codes "time") time
+    ++ (aside_fields special ones (slice_index parts.write 0 / 2) parts ++ codes "}\n")))
+
+abbrev pub aside_line : Bool → Special → Ones → ℕ → Option ℤ → Result TraceLine LineFault → List ℕ
+aside_line json special ones number time (Ok parts) =
+    if json then aside_json special ones number time parts else aside_plain special ones number time parts
+aside_line json special ones number time (Err fault) = []
+
+-- ---- a transfer that failed
+
+-- as it is shown to a person
+unfoldable pub plain_failed : ℕ → Option ℤ → Why → List ℕ
+plain_failed number time why = decimal number ++ (time_text time ++ (codes " failed: " ++ (why_words why ++ codes "\n")))
+
+-- as an object of JSON
+unfoldable pub json_failed : ℕ → Option ℤ → Why → List ℕ
+json_failed number time why = codes "{\"line\":" ++ (decimal number
+    ++ (signed_field_if (codes "time") time ++ (text_field (codes "failed") (why_words why) ++ codes "}\n")))
+
+abbrev pub failed_line : Bool → ℕ → Option ℤ → Why → List ℕ
+failed_line json number time why = if json then json_failed number time why else plain_failed number time why
+
+-- with its time if lines have times
+abbrev pub failed_text : TellOptions → Option ℕ → ℕ → Option Failure → List ℕ
+failed_text options first number None = []
+failed_text options first number (Some failure) =
+    failed_line options.json number (if options.times then since first failure.time else None) failure.why
+
+abbrev pub noted_line : TellOptions → Option ℕ → ℕ → Option Failure → List ℕ
+noted_line options first number failure = if options.explain then failed_text options first number failure else []
+
+-- ---- lines
+
+-- what is written of a packet to a part, by what is known before it
+abbrev pub read_line : TellOptions → Known → ℕ → Option ℕ → Result TraceLine LineFault → List ℕ
+read_line options known number time parts = told_line options known.taught (marks_shown options known.words
+    (marks_in options known.pages known.answers (ones_in options known parts) time parts) parts) number (since known.first time) parts
+
+-- what is written of a line by what is known before it: of a comment only that a transfer failed
 abbrev pub said_line : TellOptions → Known → ℕ → Said → List ℕ
-said_line options known number (Told reading) = told_line options known.taught
-    (marks_in options known.pages known.answers (ones_in options known reading.parts) reading.time reading.parts) number reading.time
-    reading.parts
-said_line options known number (Noted remark) = []
+said_line options known number (Told reading) = read_line options known number reading.time reading.parts
+said_line options known number (Aside special reading) =
+    aside_line options.json special (ones_in options known reading.parts) number (since known.first reading.time) reading.parts
+said_line options known number (Noted note) = noted_line options known.first number note.failure
 
 abbrev pub line_text : TellOptions → Known → Entry → List ℕ
-line_text options known entry = said_line options known entry.0 entry.1
+line_text options known entry = said_line options known entry.0 (seen_as options known entry.1)
 
 -- what is written of lines one after another
 abbrev pub lines_text : TellOptions → Known → List Entry → List ℕ
@@ -207,14 +277,18 @@ others_total all others = if all then codes " other " ++ decimal (total_of other
 abbrev pub refused_total : ℕ → List ℕ
 refused_total refused = if refused == 0 then [] else codes " refused " ++ decimal refused
 
-abbrev pub faults_text : ℕ → ℕ → ℕ → List ℕ
-faults_text faults refused bad =
-    codes " faults " ++ (decimal faults ++ (refused_total refused ++ (codes " bad " ++ (decimal bad ++ codes "\n"))))
+-- how many went to an address that is no part's, if one did
+abbrev pub special_total : ℕ → List ℕ
+special_total special = if special == 0 then [] else codes " special " ++ decimal special
+
+abbrev pub faults_text : ℕ → ℕ → ℕ → ℕ → List ℕ
+faults_text faults refused special bad = codes " faults " ++ (decimal faults
+    ++ (refused_total refused ++ (special_total special ++ (codes " bad " ++ (decimal bad ++ codes "\n")))))
 
 unfoldable pub totals_line : Bool → HeardLines → List ℕ
 totals_line all heard = codes "lines " ++ (decimal (heard_lines heard) ++ (codes " accepted "
     ++ (decimal heard.counts.accepted ++ (others_total all heard.others
-    ++ faults_text heard.counts.faults heard.refused heard.counts.bad))))
+    ++ faults_text heard.counts.faults heard.refused heard.special heard.counts.bad))))
 
 -- the counts as they are shown to a person, and as objects of JSON
 unfoldable pub plain_counts : Bool → HeardLines → List ℕ

@@ -1,6 +1,8 @@
 -- What is said besides of a capture that was shown whole: a voltage that is ordered beyond 1000 V by the format that was given,
--- lines of which none is what the options say that lines are, packets that all lack their PEC, and PAGE that isn't followed. This project's own choice.
-use Rattle.std.specs.Prelude.{ℕ, Bool, false, ◌==◌, ◌&&◌, ◌||◌, nat_lt, not, is_some, unsigned_abs, if◌then◌else◌, List, [], ◌∷◌, replicate, Option, Some, None}
+-- lines of which none is what the options say that lines are, a line that begins with its time, packets that all lack their PEC, and PAGE
+-- that isn't followed. This project's own choice.
+use Rattle.std.specs.Prelude.{ℕ, ◌/◌, ◌%◌, Bool, false, ◌==◌, ◌&&◌, ◌||◌, nat_lt, not, is_some, unsigned_abs, if◌then◌else◌, List, [], ◌∷◌, drop, length, replicate, take, Option, Some, None}
+use Rattle.std.specs.List.{list_all}
 use Rattle.pm_frame.specs.declared.message.Message.{Message}
 use Rattle.pm_frame.specs.declared.message.Message.TheVariants.{WriteByte}
 use Rattle.pm_table.specs.Codes as command
@@ -78,6 +80,22 @@ writes_page judged = false
 abbrev pub paging_by : TellOptions → ℕ → Judged → Option ℕ → Option ℕ
 paging_by options number judged before =
     if options.values && not options.pages then first_if before (writes_page judged) number else before
+
+-- ---- times
+
+-- a byte of two decimal digits
+abbrev pub is_digits : ℕ → Bool
+is_digits byte = nat_lt (byte / 16) 10 && nat_lt (byte % 16) 10
+
+-- a packet would be good without its first eight bytes, which are the 16 digits of a time in microseconds
+abbrev pub is_timed : TraceLine → Bool
+is_timed parts = nat_lt 8 (length parts.write)
+    && (list_all is_digits (take 8 parts.write) && is_accepted (parts_judged (drop 8 parts.write) parts.read))
+
+-- the first line of such a packet, if lines have no times
+abbrev pub timed_by : TellOptions → ℕ → TraceLine → Option ℕ → Option ℕ
+timed_by options number parts before = if options.times || is_accepted (parts_judged parts.write parts.read)
+    then before else first_if before (is_timed parts) number
 
 -- ---- packets without PEC
 

@@ -28,11 +28,14 @@ others_json all others = if all then number_field (codes "other") (total_of othe
 abbrev pub refused_json : ℕ → List ℕ
 refused_json refused = if refused == 0 then [] else number_field (codes "refused") refused
 
-abbrev pub faults_json : ℕ → ℕ → ℕ → List ℕ
-faults_json faults refused bad =
-    number_field (codes "faults") faults ++ (refused_json refused ++ (number_field (codes "bad") bad ++ codes "}\n"))
+abbrev pub special_json : ℕ → List ℕ
+special_json special = if special == 0 then [] else number_field (codes "special") special
+
+abbrev pub faults_json : ℕ → ℕ → ℕ → ℕ → List ℕ
+faults_json faults refused special bad = number_field (codes "faults") faults
+    ++ (refused_json refused ++ (special_json special ++ (number_field (codes "bad") bad ++ codes "}\n")))
 
 unfoldable pub totals_json : Bool → HeardLines → List ℕ
 totals_json all heard = codes "{\"lines\":" ++ (decimal (heard_lines heard)
     ++ (number_field (codes "accepted") heard.counts.accepted ++ (others_json all heard.others
-    ++ faults_json heard.counts.faults heard.refused heard.counts.bad)))
+    ++ faults_json heard.counts.faults heard.refused heard.special heard.counts.bad)))

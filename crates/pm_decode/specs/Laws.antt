@@ -7,5 +7,5 @@ use Rattle.pm_decode.specs.CaptureText.{capture_text}
 
 -- what is shown without an option that changes it is what `pm_trace` shows of the same text
 abbrev pub PlainCapturesAreTraces : Type 0
-PlainCapturesAreTraces = (formats : GivenFormats) (long : Bool) (gap : ℕ) (text : List ℕ) →
-    capture_text (plain_options formats long gap) text ≡ trace_text text
+PlainCapturesAreTraces = (formats : GivenFormats) (long : Bool) (gap : ℕ) (parts muxes : List Bool) (text : List ℕ) →
+    capture_text (plain_options formats long gap parts muxes) text ≡ trace_text text

@@ -206,7 +206,8 @@ fn hear_line(
     ensures few { heard_lines heard.new ≤ heard_lines heard.old + 1 }
 {
     if is_noted(options, line) {
-        return heard.note(number, line.remark());
+        let said = line.note();
+        return gathered.note(heard, options, number, &said);
     }
     if line.is_skipped() {
         return Ok(());

@@ -1,7 +1,7 @@
 //! The text of the counts.
 ghost use Rattle.std.specs.Prelude.{◌≡◌, ◌+◌, ◌<◌, ◌++◌, ◌^◌, OnOk, string_bytes};
 ghost use Rattle.pm_trace.specs.Counts.{total_of};
-ghost use Rattle.pm_decode.specs.CaptureText.{counts_text, faults_text, json_counts, other_line, other_lines, others_total, plain_counts, refused_total, totals_line};
+ghost use Rattle.pm_decode.specs.CaptureText.{counts_text, faults_text, json_counts, other_line, other_lines, others_total, plain_counts, refused_total, special_total, totals_line};
 ghost use Rattle.pm_decode.specs.Hearing.{heard_lines};
 
 use crate::heard_lines::HeardLines;
@@ -81,17 +81,23 @@ fn push_totals(text: &mut String, all: bool, heard: &HeardLines) -> Result<(), A
     text.push_str(" accepted ")?;
     push_decimal(text, accepted)?;
     push_others_total(text, all, heard.others())?;
-    push_faults(text, faults, heard.refused(), bad)
+    push_faults(text, faults, heard, bad)
 }
 
-// The end of that line: how many lines had a fault, were refused and were bad.
+// The end of that line: how many lines had a fault, were refused, went to no part and were bad.
 #[tactic(auto, using(pm_lines::specs::Lemmas::Joins::joins))]
-fn push_faults(text: &mut String, faults: u64, refused: u64, bad: u64) -> Result<(), AllocError>
-    ensures { OnOk result (string_bytes text.new ≡ string_bytes text.old ++ faults_text faults refused bad) }
+fn push_faults(
+    text: &mut String,
+    faults: u64,
+    heard: &HeardLines,
+    bad: u64,
+) -> Result<(), AllocError>
+    ensures { OnOk result (string_bytes text.new ≡ string_bytes text.old ++ faults_text faults heard.now.refused heard.now.special bad) }
 {
     text.push_str(" faults ")?;
     push_decimal(text, faults)?;
-    push_refused(text, refused)?;
+    push_refused(text, heard.refused())?;
+    push_special(text, heard.special())?;
     text.push_str(" bad ")?;
     push_decimal(text, bad)?;
     text.push_str("\n")
@@ -119,4 +125,16 @@ fn push_refused(text: &mut String, refused: u64) -> Result<(), AllocError>
     }
     text.push_str(" refused ")?;
     push_decimal(text, refused)
+}
+
+// How many packets went to an address that is no part's, if one did.
+#[tactic(auto, using(pm_lines::specs::Lemmas::Joins::joins))]
+fn push_special(text: &mut String, special: u64) -> Result<(), AllocError>
+    ensures { OnOk result (string_bytes text.new ≡ string_bytes text.old ++ special_total special) }
+{
+    if special == 0 {
+        return Ok(());
+    }
+    text.push_str(" special ")?;
+    push_decimal(text, special)
 }

@@ -6,10 +6,11 @@ ghost use Rattle.pm_packets.specs.Otherwise.{is_accepted};
 ghost use Rattle.pm_capture.specs.Readings.{is_without_pec, judged_by, other_address};
 ghost use Rattle.pm_capture.specs.ShownReadings.{packet_in};
 
+use crate::aside_text::push_aside;
 use crate::known::Known;
 use crate::line_text::push_bad_line;
 use pm_capture::{
-    LineReading, Marks, PacketLine, Remark, TellOptions, bad_shown, completed_if, is_plain,
+    LineReading, Marks, Note, PacketLine, Special, TellOptions, bad_shown, completed_if, is_plain,
     is_to_all, told_code,
 };
 use pm_packets::{Others, address_otherwise, shown_with};
@@ -25,6 +26,8 @@ pub(crate) struct HeardLines {
     others: Others,
     // How many packets were refused.
     refused: u64,
+    // How many packets went to an address that is no part's.
+    special: u64,
 }
 
 impl Model for HeardLines {
@@ -32,18 +35,18 @@ impl Model for HeardLines {
 
     ghost Value = { HeardLines };
 
-    ghost view = { λ h. record { known = h.known; counts = h.tally; others = h.others; refused = h.refused } };
+    ghost view = { λ h. record { known = h.known; counts = h.tally; others = h.others; refused = h.refused; special = h.special } };
 }
 
 impl HeardLines {
     ghost use Rattle.std.specs.Prelude.{◌+◌, ◌<◌, ◌≤◌, ◌^◌, ◌++◌, codes, OnOk, Ok, string_bytes};
     ghost use Rattle.pm_trace.specs.Counts.{lines_in};
     ghost use Rattle.std.specs.Prelude.{◌&&◌, if◌then◌else◌};
-    ghost use Rattle.pm_decode.specs.CaptureText.{line_text};
+    ghost use Rattle.pm_decode.specs.CaptureText.{aside_line, line_text, read_line};
     ghost use Rattle.pm_decode.specs.CaptureText.{told_line};
     ghost use Rattle.pm_packets.specs.Answers.{ones_of};
     ghost use Rattle.pm_packets.specs.declared.answers.Ones.TheVariants.{Answer};
-    ghost use Rattle.pm_decode.specs.Hearing.{answers_read, counted_with, heard_lines, heard_with, known_read, ones_in, taught_read, unheard};
+    ghost use Rattle.pm_decode.specs.Hearing.{answers_read, counted_with, heard_aside, heard_lines, heard_told, heard_with, known_read, ones_in, since, taught_read, unheard};
     ghost use Rattle.pm_packets.specs.Otherwise.{content_of};
     ghost use Rattle.pm_decode.specs.Hints.{beyond_by, lacking_by};
     ghost use Rattle.pm_decode.specs.UsualLines.{code_counted};
@@ -63,6 +66,7 @@ impl HeardLines {
             tally: Tally::new(alloc),
             others: Others::new(alloc),
             refused: 0,
+            special: 0,
         }
     }
 
@@ -93,7 +97,7 @@ impl HeardLines {
                     ones: self.known.ones(options, packet, &shown),
                     other: None,
                 };
-                self.hear_packet(options, &line, text)
+                self.hear_readable(options, &line, text)
             }
             Err(fault) => {
                 push_bad_line(text, options, number, *fault)?;
@@ -101,6 +105,59 @@ impl HeardLines {
                 self.tally.count(&bad_shown(*fault))
             }
         }
+    }
+
+    // Hears a line that could be read: a packet to a part, or to an address that is no part's.
+    #[tactic(auto, using(crate::proofs::Captures::seen_told, crate::proofs::Captures::seen_aside, crate::proofs::Captures::heard_one))]
+    fn hear_readable(
+        &mut self,
+        options: &TellOptions,
+        line: &PacketLine<'_>,
+        text: &mut String,
+    ) -> Result<(), AllocError>
+        requires few { heard_lines self.old + 1 < 2 ^ 64 }
+        requires shown { judged_in line.now.shown.now
+            ≡ parts_judged line.now.packet.write.now (option_map (λ bytes. bytes.now) line.now.packet.read) }
+        requires ones { line.now.ones ≡ ones_in options.now self.old.known (Ok (packet_in line.now.packet)) }
+        requires plain { line.now.other ≡ None }
+        ensures text { OnOk result (string_bytes text.new ++ codes "\n" ≡ string_bytes text.old
+            ++ line_text options.now self.old.known
+            (line.now.number, Told (record { time = line.now.time; parts = Ok (packet_in line.now.packet) }))) }
+        ensures heard { OnOk result (self.new
+            ≡ heard_with options.now self.old (line.now.number, Told (record { time = line.now.time; parts = Ok (packet_in line.now.packet) }))) }
+        ensures few { heard_lines self.new ≤ heard_lines self.old + 1 }
+    {
+        match self.known.special(options, line) {
+            None => self.hear_packet(options, line, text),
+            Some(special) => self.hear_aside(options, special, line, text),
+        }
+    }
+
+    // Hears a packet to an address that is no part's.
+    fn hear_aside(
+        &mut self,
+        options: &TellOptions,
+        special: Special,
+        line: &PacketLine<'_>,
+        text: &mut String,
+    ) -> Result<(), AllocError>
+        requires few { heard_lines self.old + 1 < 2 ^ 64 }
+        ensures text { OnOk result (string_bytes text.new ++ codes "\n" ≡ string_bytes text.old
+            ++ aside_line options.now.json special line.now.ones line.now.number (since self.old.known.first line.now.time)
+            (Ok (packet_in line.now.packet))) }
+        ensures heard { OnOk result (self.new
+            ≡ heard_aside options.now line.now.number line.now.time special line.now.ones (Ok (packet_in line.now.packet)) self.old) }
+        ensures few { heard_lines self.new ≤ heard_lines self.old + 1 }
+    {
+        let since = self.known.since(line.time);
+        push_aside(text, options.json, special, since, line)?;
+        self.known.set_aside(options, special, line);
+        if line.ones.is_refused() {
+            self.refused += 1;
+        } else {
+            self.special += 1;
+        }
+        Ok(())
     }
 
     // Hears a line that could be read.
@@ -117,10 +174,9 @@ impl HeardLines {
         requires ones { line.now.ones ≡ ones_in options.now self.old.known (Ok (packet_in line.now.packet)) }
         requires plain { line.now.other ≡ None }
         ensures text { OnOk result (string_bytes text.new ++ codes "\n" ≡ string_bytes text.old
-            ++ line_text options.now self.old.known
-            (line.now.number, Told (record { time = line.now.time; parts = Ok (packet_in line.now.packet) }))) }
+            ++ read_line options.now self.old.known line.now.number line.now.time (Ok (packet_in line.now.packet))) }
         ensures heard { OnOk result (self.new
-            ≡ heard_with options.now self.old (line.now.number, Told (record { time = line.now.time; parts = Ok (packet_in line.now.packet) }))) }
+            ≡ heard_told options.now line.now.number (record { time = line.now.time; parts = Ok (packet_in line.now.packet) }) self.old) }
         ensures few { heard_lines self.new ≤ heard_lines self.old + 1 }
     {
         if options.pages
@@ -149,10 +205,9 @@ impl HeardLines {
         requires ones { line.now.ones ≡ ones_in options.now self.old.known (Ok (packet_in line.now.packet)) }
         requires plain { line.now.other ≡ None }
         ensures text { OnOk result (string_bytes text.new ++ codes "\n" ≡ string_bytes text.old
-            ++ line_text options.now self.old.known
-            (line.now.number, Told (record { time = line.now.time; parts = Ok (packet_in line.now.packet) }))) }
+            ++ read_line options.now self.old.known line.now.number line.now.time (Ok (packet_in line.now.packet))) }
         ensures heard { OnOk result (self.new
-            ≡ heard_with options.now self.old (line.now.number, Told (record { time = line.now.time; parts = Ok (packet_in line.now.packet) }))) }
+            ≡ heard_told options.now line.now.number (record { time = line.now.time; parts = Ok (packet_in line.now.packet) }) self.old) }
         ensures few { heard_lines self.new ≤ heard_lines self.old + 1 }
     {
         match completed_if(options.all, line) {
@@ -187,10 +242,9 @@ impl HeardLines {
         requires ones { line.now.ones ≡ ones_in options.now self.old.known (Ok (packet_in line.now.packet)) }
         requires plain { line.now.other ≡ None }
         ensures text { OnOk result (string_bytes text.new ++ codes "\n" ≡ string_bytes text.old
-            ++ line_text options.now self.old.known
-            (line.now.number, Told (record { time = line.now.time; parts = Ok (packet_in line.now.packet) }))) }
+            ++ read_line options.now self.old.known line.now.number line.now.time (Ok (packet_in line.now.packet))) }
         ensures heard { OnOk result (self.new
-            ≡ heard_with options.now self.old (line.now.number, Told (record { time = line.now.time; parts = Ok (packet_in line.now.packet) }))) }
+            ≡ heard_told options.now line.now.number (record { time = line.now.time; parts = Ok (packet_in line.now.packet) }) self.old) }
         ensures few { heard_lines self.new ≤ heard_lines self.old + 1 }
     {
         match other_if(options.all, line) {
@@ -224,10 +278,9 @@ impl HeardLines {
         requires ones { line.now.ones ≡ ones_in options.now self.old.known (Ok (packet_in line.now.packet)) }
         requires other { line.now.other ≡ other_address options.now.all line.now.ones (packet_in line.now.packet) }
         ensures text { OnOk result (string_bytes text.new ++ codes "\n" ≡ string_bytes text.old
-            ++ line_text options.now self.old.known
-            (line.now.number, Told (record { time = line.now.time; parts = Ok (packet_in line.now.packet) }))) }
+            ++ read_line options.now self.old.known line.now.number line.now.time (Ok (packet_in line.now.packet))) }
         ensures heard { OnOk result (self.new
-            ≡ heard_with options.now self.old (line.now.number, Told (record { time = line.now.time; parts = Ok (packet_in line.now.packet) }))) }
+            ≡ heard_told options.now line.now.number (record { time = line.now.time; parts = Ok (packet_in line.now.packet) }) self.old) }
         ensures few { heard_lines self.new ≤ heard_lines self.old + 1 }
     {
         if options.pages {
@@ -270,11 +323,16 @@ impl HeardLines {
     }
 
     /// Hears a comment, with its number. Takes memory for an address that is new.
-    pub(crate) fn note(&mut self, number: u64, remark: Remark) -> Result<(), AllocError>
-        ensures heard { OnOk result ((options : TellOptions) → self.new ≡ heard_with options self.old (number, Noted remark)) }
+    pub(crate) fn note(
+        &mut self,
+        options: &TellOptions,
+        number: u64,
+        note: &Note,
+    ) -> Result<(), AllocError>
+        ensures heard { OnOk result (self.new ≡ heard_with options.now self.old (number, Noted note.now)) }
         ensures few { heard_lines self.new ≡ heard_lines self.old }
     {
-        self.known.note(number, remark)
+        self.known.note(options, number, note)
     }
 
     /// How many lines there were.
@@ -283,7 +341,7 @@ impl HeardLines {
         ensures { result ≡ heard_lines self.now }
     {
         let (lines, _, _, _) = self.tally.lines();
-        lines + self.others.total() + self.refused
+        lines + self.others.total() + self.refused + self.special
     }
 
     /// What is known after the lines.
@@ -305,6 +363,13 @@ impl HeardLines {
         ensures { result ≡ self.now.refused }
     {
         self.refused
+    }
+
+    /// How many packets went to an address that is no part's.
+    pub(crate) fn special(&self) -> u64
+        ensures { result ≡ self.now.special }
+    {
+        self.special
     }
 
     /// How often other codes were carried.

@@ -1,18 +1,20 @@
 //! What is said besides of a capture that was shown whole.
+ghost use Rattle.std.specs.List.{list_all};
 ghost use Rattle.std.specs.Prelude.{◌≡◌, ◌<◌, ◌^◌, None, false, if◌then◌else◌, option_map};
 ghost use Rattle.pm_trace.specs.ShownLines.{judged_in};
 ghost use Rattle.pm_trace.specs.Trace.{parts_judged};
+ghost use Rattle.pm_packets.specs.Otherwise.{is_accepted};
 ghost use Rattle.pm_capture.specs.ShownReadings.{packet_in};
-ghost use Rattle.pm_decode.specs.Hearing.{heard_lines, hint_by, is_none_told, is_without_any_pec as spec_is_without_any_pec, lines_hint as spec_lines_hint};
-ghost use Rattle.pm_decode.specs.Hints.{beyond_by, first_if, has_entry as spec_has_entry, has_vout as spec_has_vout, is_beyond as spec_is_beyond, is_huge as spec_is_huge, is_huge_value as spec_is_huge_value, lacking_by, paging_by, writes_page as spec_writes_page};
+ghost use Rattle.pm_decode.specs.Hearing.{heard_lines, first_hint as spec_first_hint, hint_by, is_none_told, is_without_any_pec as spec_is_without_any_pec, lines_hint as spec_lines_hint};
+ghost use Rattle.pm_decode.specs.Hints.{beyond_by, first_if, has_entry as spec_has_entry, has_vout as spec_has_vout, is_digits as spec_is_digits, is_timed as spec_is_timed, is_beyond as spec_is_beyond, is_huge as spec_is_huge, is_huge_value as spec_is_huge_value, lacking_by, paging_by, timed_by, writes_page as spec_writes_page};
 
 use crate::heard_lines::HeardLines;
 use pm_capture::{PacketLine, TellOptions};
 use pm_frame::Message;
 use pm_num::Frac;
-use pm_packets::{Ones, completed_part};
+use pm_packets::{Ones, Packet, completed_part};
 use pm_table::Code;
-use pm_trace::Shown;
+use pm_trace::{Shown, packet_shown};
 use pm_values::{
     GivenFormat, GivenFormats, GoodPacket, Lessons, Unit, Value, millionths, packet_value,
 };
@@ -22,6 +24,8 @@ use pm_values::{
 pub enum Hint {
     /// The line of this number is the first one that orders a voltage beyond 1000 V by the format that was given.
     Beyond(u64),
+    /// The line of this number is the first one that begins with its time, where lines were read without times.
+    Timed(u64),
     /// With times each line was bad: none was a time and a packet.
     NoTimes,
     /// Without times no line was a good packet, and one was bad, as if lines begin with times.
@@ -37,13 +41,25 @@ pub(crate) fn hint_of(options: &TellOptions, heard: &HeardLines) -> Option<Hint>
     requires { heard_lines heard.now < 2 ^ 64 }
     ensures { result ≡ hint_by options.now heard.now }
 {
-    if let Some(line) = heard.known().beyond() {
-        return Some(Hint::Beyond(line));
-    }
-    match lines_hint(options.times, heard) {
+    match first_hint(options.times, heard) {
         None if is_without_any_pec(options.all, heard) => Some(Hint::NoPec),
         None => heard.known().paging().map(Hint::Paging),
         hint => hint,
+    }
+}
+
+// What an order beyond 1000 V says, or else a line that begins with its time, or else bad lines.
+fn first_hint(times: bool, heard: &HeardLines) -> Option<Hint>
+    requires { heard_lines heard.now < 2 ^ 64 }
+    ensures { result ≡ spec_first_hint heard.now.known.beyond heard.now.known.timed
+        (if is_none_told heard.now then spec_lines_hint times heard.now.counts.faults else None) }
+{
+    if let Some(line) = heard.known().beyond() {
+        return Some(Hint::Beyond(line));
+    }
+    match heard.known().timed() {
+        Some(line) => Some(Hint::Timed(line)),
+        None => lines_hint(times, heard),
     }
 }
 
@@ -116,6 +132,49 @@ pub(crate) fn first_paging(
         None if options.values && !options.pages && writes_page(line.shown) => Some(line.number),
         _ => before,
     }
+}
+
+/// The first line that begins with its time, where lines have none; `before` is the first one before it.
+pub(crate) fn first_timed(
+    options: &TellOptions,
+    number: u64,
+    packet: &Packet<'_>,
+    before: Option<u64>,
+) -> Option<u64>
+    ensures { result ≡ timed_by options.now number (packet_in packet.now) before }
+{
+    match before {
+        None if !options.times && is_timed(packet) && !is_good(packet) => Some(number),
+        _ => before,
+    }
+}
+
+// Whether a packet is good as it is.
+fn is_good(packet: &Packet<'_>) -> bool
+    ensures { result ≡ is_accepted (parts_judged packet.now.write.now (option_map (λ bytes. bytes.now) packet.now.read)) }
+{
+    matches!(
+        packet_shown(packet.write, packet.read),
+        Shown::Accepted { .. }
+    )
+}
+
+// Whether a packet would be good without its first eight bytes, which are the 16 digits of a time.
+fn is_timed(packet: &Packet<'_>) -> bool
+    ensures { result ≡ spec_is_timed (packet_in packet.now) }
+{
+    if packet.write.len() < 9 {
+        return false;
+    }
+    let (time, write) = packet.write.split_at(8);
+    are_digits(time) && matches!(packet_shown(write, packet.read), Shown::Accepted { .. })
+}
+
+// Whether each byte is two decimal digits.
+fn are_digits(bytes: &[u8]) -> bool
+    ensures { result ≡ list_all spec_is_digits bytes.now }
+{
+    bytes.iter().all(|byte| *byte / 16 < 10 && *byte % 16 < 10)
 }
 
 // Whether a packet is a good write of PAGE.

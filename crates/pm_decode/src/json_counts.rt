@@ -3,7 +3,7 @@ ghost use Rattle.std.specs.Prelude.{◌≡◌, ◌<◌, ◌++◌, ◌^◌, OnOk,
 ghost use Rattle.std.specs.Map.{lookup};
 ghost use Rattle.pm_decode.specs.CaptureText.{json_counts};
 ghost use Rattle.pm_decode.specs.Hearing.{heard_lines};
-ghost use Rattle.pm_decode.specs.JsonCounts.{count_json, faults_json, other_json, other_jsons, others_json, refused_json, totals_json};
+ghost use Rattle.pm_decode.specs.JsonCounts.{count_json, faults_json, other_json, other_jsons, others_json, refused_json, special_json, totals_json};
 
 use crate::heard_lines::HeardLines;
 use pm_json::push_number_field;
@@ -80,7 +80,7 @@ fn push_totals(text: &mut String, all: bool, heard: &HeardLines) -> Result<(), A
     push_decimal(text, heard.lines())?;
     push_number_field(text, "accepted", accepted)?;
     push_others_total(text, all, heard.others())?;
-    push_faults(text, faults, heard.refused(), bad)
+    push_faults(text, faults, heard, bad)
 }
 
 // How often other codes were carried.
@@ -94,13 +94,19 @@ fn push_others_total(text: &mut String, all: bool, others: &Others) -> Result<()
     push_number_field(text, "other", others.total())
 }
 
-// The end of that object: how many lines had a fault, were refused and were bad.
+// The end of that object: how many lines had a fault, were refused, went to no part and were bad.
 #[tactic(auto, using(pm_lines::specs::Lemmas::Joins::joins))]
-fn push_faults(text: &mut String, faults: u64, refused: u64, bad: u64) -> Result<(), AllocError>
-    ensures { OnOk result (string_bytes text.new ≡ string_bytes text.old ++ faults_json faults refused bad) }
+fn push_faults(
+    text: &mut String,
+    faults: u64,
+    heard: &HeardLines,
+    bad: u64,
+) -> Result<(), AllocError>
+    ensures { OnOk result (string_bytes text.new ≡ string_bytes text.old ++ faults_json faults heard.now.refused heard.now.special bad) }
 {
     push_number_field(text, "faults", faults)?;
-    push_refused(text, refused)?;
+    push_refused(text, heard.refused())?;
+    push_special(text, heard.special())?;
     push_number_field(text, "bad", bad)?;
     text.push_str("}\n")
 }
@@ -113,4 +119,14 @@ fn push_refused(text: &mut String, refused: u64) -> Result<(), AllocError>
         return Ok(());
     }
     push_number_field(text, "refused", refused)
+}
+
+// How many packets went to an address that is no part's, if one did.
+fn push_special(text: &mut String, special: u64) -> Result<(), AllocError>
+    ensures { OnOk result (string_bytes text.new ≡ string_bytes text.old ++ special_json special) }
+{
+    if special == 0 {
+        return Ok(());
+    }
+    push_number_field(text, "special", special)
 }

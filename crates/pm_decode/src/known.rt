@@ -1,5 +1,7 @@
 //! What is known after the lines of a capture.
-ghost use Rattle.std.specs.Prelude.{◌≡◌, Bool, None, option_map};
+ghost use Rattle.std.specs.Option.{option_or};
+ghost use Rattle.std.specs.Prelude.{◌≡◌, ◌<◌, Bool, None, option_map};
+ghost use Rattle.pm_capture.specs.Specials.{shows_part as spec_shows_part};
 ghost use Rattle.pm_trace.specs.ShownLines.{judged_in};
 ghost use Rattle.pm_trace.specs.Trace.{parts_judged};
 ghost use Rattle.pm_capture.specs.Options.{notes_comments};
@@ -7,14 +9,15 @@ ghost use Rattle.pm_decode.specs.Hearing.{first_refusal as spec_first_refusal};
 ghost use Rattle.pm_capture.specs.Readings.{is_without_pec};
 ghost use Rattle.pm_capture.specs.ShownReadings.{packet_in};
 
-use crate::hints::{first_beyond, first_paging, still_lacking};
-use crate::line_text::push_packet_line;
+use crate::hints::{first_beyond, first_paging, first_timed, still_lacking};
+use crate::line_text::{push_failed, push_packet_line};
 use pm_capture::{
-    Marks, NOWHERE, PacketLine, Remark, ShownPacket, TellOptions, address_in, change_in, is_beside,
-    is_checked, is_lost, is_lost_shown, is_received, is_told, page_step, shown_change, shown_use,
-    shows_pages,
+    Addresses, Marks, NOWHERE, Note, PacketLine, Remark, ShownPacket, Special, TellOptions,
+    WordRead, Words, address_in, aside_ends_all, change_in, completed_if, is_beside, is_checked,
+    is_lost, is_lost_shown, is_part_answer, is_received, is_told, kept_for, page_step,
+    shown_change, shown_ends_all, shown_use, shows_pages, special_of, written_to,
 };
-use pm_packets::{Answers, Ones, Packet, Refusal};
+use pm_packets::{Answers, Ones, Packet, Refusal, shown_with};
 use pm_trace::{PageUse, Pages, Shown};
 use pm_values::Lessons;
 use std::alloc::{AllocError, Global};
@@ -34,6 +37,14 @@ pub(crate) struct Known {
     paging: Option<u64>,
     // Each packet that isn't good would be with its PEC.
     lacking: bool,
+    // The first line that begins with its time, where lines have none.
+    timed: Option<u64>,
+    // The time of the first packet, if lines have times.
+    first: Option<u64>,
+    // The words of registers that were read, if failed transfers and words that changed are shown.
+    words: Words,
+    // The addresses that SMBus keeps for something else, and that answered as parts.
+    parts: Addresses,
 }
 
 impl Model for Known {
@@ -41,20 +52,19 @@ impl Model for Known {
 
     ghost Value = { Known };
 
-    ghost view = { λ k. record { taught = k.lessons; pages = k.pages; beyond = k.beyond; answers = k.answers; refused = k.refused; paging = k.paging; lacking = k.lacking } };
+    ghost view = { λ k. record { taught = k.lessons; pages = k.pages; beyond = k.beyond; answers = k.answers; refused = k.refused; paging = k.paging; lacking = k.lacking; timed = k.timed; first = k.first; words = k.words; parts = k.parts } };
 }
 
 impl Known {
     ghost use Rattle.std.specs.Prelude.{◌++◌, codes, OnOk, Ok, string_bytes, true};
-    ghost use Rattle.std.specs.Prelude.{if◌then◌else◌};
-    ghost use Rattle.pm_decode.specs.CaptureText.{line_text};
-    ghost use Rattle.pm_decode.specs.CaptureText.{told_line};
+    ghost use Rattle.std.specs.Prelude.{if◌then◌else◌, is_some};
+    ghost use Rattle.pm_decode.specs.CaptureText.{noted_line, read_line, told_line};
     ghost use Rattle.pm_trace.specs.declared.pages.PageUse.TheVariants.{Beside};
     ghost use Rattle.pm_capture.specs.PageSteps.{used_by};
-    ghost use Rattle.pm_capture.specs.Readings.{other_address};
-    ghost use Rattle.pm_capture.specs.Readings.{Told, judged_by};
-    ghost use Rattle.pm_decode.specs.Hearing.{answered_as, answers_read, known_lost, known_noted, known_shown, known_told, ones_in, taught_read, unknown};
-    ghost use Rattle.pm_decode.specs.Hints.{beyond_by, lacking_by, paging_by};
+    ghost use Rattle.pm_capture.specs.Readings.{judged_by, other_address};
+    ghost use Rattle.pm_capture.specs.Words.{word_read as spec_word_read, words_heard};
+    ghost use Rattle.pm_decode.specs.Hearing.{answered_as, answers_read, known_aside, known_lost, known_noted, known_remarked, known_shown, known_told, marks_with, ones_in, part_seen, since, special_in, taught_read, unknown, words_told};
+    ghost use Rattle.pm_decode.specs.Hints.{beyond_by, lacking_by, paging_by, timed_by};
 
     /// Before the first line. Takes no memory.
     pub(crate) fn new(alloc: Global) -> Known
@@ -68,6 +78,10 @@ impl Known {
             beyond: None,
             paging: None,
             lacking: true,
+            timed: None,
+            first: None,
+            words: Words::new(alloc),
+            parts: Addresses::none(),
         }
     }
 
@@ -77,6 +91,7 @@ impl Known {
     {
         self.pages.lose(number);
         self.lessons.lose(number);
+        self.words.lose(number);
     }
 
     /// A line couldn't be read.
@@ -103,8 +118,7 @@ impl Known {
         requires other { line.now.other ≡ other_address options.now.all line.now.ones (packet_in line.now.packet) }
         requires ones { line.now.ones ≡ ones_in options.now self.old (Ok (packet_in line.now.packet)) }
         ensures text { OnOk result (string_bytes text.new ++ codes "\n" ≡ string_bytes text.old
-            ++ line_text options.now self.old
-            (line.now.number, Told (record { time = line.now.time; parts = Ok (packet_in line.now.packet) }))) }
+            ++ read_line options.now self.old line.now.number line.now.time (Ok (packet_in line.now.packet))) }
         ensures known { OnOk result (self.new
             ≡ known_told options.now line.now.number line.now.time line.now.ones (Ok (packet_in line.now.packet)) self.old) }
     {
@@ -131,8 +145,7 @@ impl Known {
         requires time { line.now.time ≡ None }
         requires used { (lost : Bool) → used_by lost line.now.ones (packet_in line.now.packet) (judged_in line.now.shown.now) line.now.other ≡ Beside }
         ensures text { OnOk result (string_bytes text.new ++ codes "\n" ≡ string_bytes text.old
-            ++ line_text options.now self.old
-            (line.now.number, Told (record { time = line.now.time; parts = Ok (packet_in line.now.packet) }))) }
+            ++ read_line options.now self.old line.now.number line.now.time (Ok (packet_in line.now.packet))) }
         ensures known { OnOk result (self.new
             ≡ known_told options.now line.now.number line.now.time line.now.ones (Ok (packet_in line.now.packet)) self.old) }
     {
@@ -156,8 +169,7 @@ impl Known {
         requires other { line.now.other ≡ other_address options.now.all line.now.ones (packet_in line.now.packet) }
         requires ones { line.now.ones ≡ ones_in options.now self.old (Ok (packet_in line.now.packet)) }
         ensures text { OnOk result (string_bytes text.new ++ codes "\n" ≡ string_bytes text.old
-            ++ line_text options.now self.old
-            (line.now.number, Told (record { time = line.now.time; parts = Ok (packet_in line.now.packet) }))) }
+            ++ read_line options.now self.old line.now.number line.now.time (Ok (packet_in line.now.packet))) }
         ensures known { OnOk result (self.new
             ≡ known_told options.now line.now.number line.now.time line.now.ones (Ok (packet_in line.now.packet)) self.old) }
     {
@@ -181,7 +193,7 @@ impl Known {
         requires other { line.now.other ≡ other_address options.now.all marks.now.ones (packet_in line.now.packet) }
         requires lacks { marks.now.lacks ≡ is_without_pec options.now.all marks.now.ones (packet_in line.now.packet) }
         ensures text { OnOk result (string_bytes text.new ++ codes "\n" ≡ string_bytes text.old
-            ++ told_line options.now self.old.taught marks.now line.now.number line.now.time (Ok (packet_in line.now.packet))) }
+            ++ told_line options.now self.old.taught (marks_with options.now self.old.words marks.now (packet_in line.now.packet)) line.now.number (since self.old.first line.now.time) (Ok (packet_in line.now.packet))) }
         ensures known { OnOk result (self.new ≡ record self.old {
           taught = taught_read options.now line.now.number marks.now (Ok (packet_in line.now.packet)) self.old.taught;
           beyond = beyond_by options.now self.old.taught marks.now.reached line.now.number (judged_in line.now.shown.now) self.old.beyond;
@@ -189,17 +201,71 @@ impl Known {
           refused = if notes_comments options.now then None else self.old.refused;
           paging = paging_by options.now line.now.number (judged_in line.now.shown.now) self.old.paging;
           lacking = lacking_by options.now.all (packet_in line.now.packet) self.old.lacking;
+          timed = timed_by options.now line.now.number (packet_in line.now.packet) self.old.timed;
+          first = option_or self.old.first line.now.time;
+          words = words_told options.now line.now.number marks.now (packet_in line.now.packet) self.old.words;
         }) }
     {
-        push_packet_line(text, options, &self.lessons, marks, line)?;
+        let read = self.word_read(options.explain, marks, line);
+        let shown_marks = Marks {
+            changed: self.words.changed(read),
+            ..*marks
+        };
+        let since = self.since(line.time);
+        push_packet_line(text, options, &self.lessons, &shown_marks, since, line)?;
         self.beyond = first_beyond(options, &self.lessons, marks.reached, line, self.beyond);
         self.paging = first_paging(options, line, self.paging);
         self.lacking = still_lacking(options.all, line, self.lacking);
+        self.timed = first_timed(options, line.number, &line.packet, self.timed);
+        self.first = self.first.or(line.time);
         if options.notes_comments() {
             self.refused = None;
         }
+        self.hear_words(options.explain, marks, read, line)?;
         self.hear_answer(options, marks, line)?;
         self.learn(options, marks, line)
+    }
+
+    // The read of a register, if words that changed are shown.
+    fn word_read(&self, explain: bool, marks: &Marks, line: &PacketLine<'_>) -> Option<WordRead>
+        ensures { result ≡ (if explain then spec_word_read self.now.words marks.now line.now.other (judged_in line.now.shown.now)
+            (packet_in line.now.packet) else None) }
+    {
+        if explain {
+            self.words.read(marks, line)
+        } else {
+            None
+        }
+    }
+
+    // Hears what a packet writes and reads of registers, if words that changed are shown.
+    fn hear_words(
+        &mut self,
+        explain: bool,
+        marks: &Marks,
+        read: Option<WordRead>,
+        line: &PacketLine<'_>,
+    ) -> Result<(), AllocError>
+        requires { explain ≡ true → read ≡ spec_word_read self.old.words marks.now line.now.other (judged_in line.now.shown.now)
+            (packet_in line.now.packet) }
+        ensures { OnOk result (self.new ≡ record self.old {
+          words = if explain then words_heard line.now.number marks.now line.now.other
+              (judged_in line.now.shown.now) (packet_in line.now.packet) self.old.words else self.old.words;
+        }) }
+    {
+        if explain {
+            self.words.hear(marks, read, line)
+        } else {
+            Ok(())
+        }
+    }
+
+    /// A time, counted from the first one.
+    pub(crate) fn since(&self, time: Option<u64>) -> Option<i128>
+        ensures { result ≡ since self.now.first time }
+    {
+        let time = time?;
+        Some(i128::from(time) - i128::from(self.first.unwrap_or(time)))
     }
 
     // Hears what a clear packet says of answers.
@@ -256,6 +322,53 @@ impl Known {
         self.lessons.learn(line.number, marks.reached, line.shown)
     }
 
+    /// What the address of a packet is, if that is no part's. If it is a part's that SMBus keeps for something else, and the packet
+    /// shows so, that is noted.
+    pub(crate) fn special(
+        &mut self,
+        options: &TellOptions,
+        line: &PacketLine<'_>,
+    ) -> Option<Special>
+        requires shown { judged_in line.now.shown.now
+            ≡ parts_judged line.now.packet.write.now (option_map (λ bytes. bytes.now) line.now.packet.read) }
+        requires ones { line.now.ones ≡ ones_in options.now self.old (Ok (packet_in line.now.packet)) }
+        ensures special { result ≡ special_in options.now self.old (Ok (packet_in line.now.packet)) }
+        ensures noted { self.new ≡ (if is_some result then self.old else part_seen options.now (Ok (packet_in line.now.packet)) self.old) }
+    {
+        if !options.notes_comments() {
+            return None;
+        }
+        let addr = written_to(line.packet.write)?;
+        if kept_for(addr).is_none() {
+            return special_of(options, false, addr);
+        }
+        let answers = shows_part(options.all, line);
+        let special = special_of(options, self.parts.has(addr) || answers, addr);
+        if special.is_none() && answers {
+            self.parts = self.parts.with(addr);
+        }
+        special
+    }
+
+    /// Hears a packet in this line to an address that is no part's.
+    pub(crate) fn set_aside(
+        &mut self,
+        options: &TellOptions,
+        special: Special,
+        line: &PacketLine<'_>,
+    )
+        ensures { self.new ≡ known_aside options.now line.now.number special line.now.time (Ok (packet_in line.now.packet)) self.old }
+    {
+        if aside_ends_all(special, &line.packet) {
+            self.lose(line.number);
+        } else {
+            self.words.hear_aside(line.number, line.packet.write);
+        }
+        self.refused = None;
+        self.timed = first_timed(options, line.number, &line.packet, self.timed);
+        self.first = self.first.or(line.time);
+    }
+
     /// How a packet was received that says so.
     pub(crate) fn ones(&self, options: &TellOptions, packet: &Packet<'_>, shown: &Shown<'_>) -> Ones
         requires { judged_in shown.now ≡ parts_judged packet.now.write.now (option_map (λ bytes. bytes.now) packet.now.read) }
@@ -282,14 +395,60 @@ impl Known {
         }
     }
 
+    /// Appends that a transfer failed, if a comment with this number says so and that is shown.
+    pub(crate) fn push_note(
+        &self,
+        options: &TellOptions,
+        number: u64,
+        note: &Note,
+        text: &mut String,
+    ) -> Result<(), AllocError>
+        ensures { OnOk result (string_bytes text.new
+            ≡ string_bytes text.old ++ noted_line options.now self.now.first number note.now.failure) }
+    {
+        match &note.failure {
+            Some(failure) if options.explain => {
+                let time = if options.times { failure.time } else { None };
+                push_failed(text, options.json, number, self.since(time), failure.why)
+            }
+            _ => Ok(()),
+        }
+    }
+
     /// Hears a comment, with its number. Takes memory for an address that is new.
-    pub(crate) fn note(&mut self, number: u64, remark: Remark) -> Result<(), AllocError>
-        ensures { OnOk result (self.new ≡ known_noted number remark self.old) }
+    pub(crate) fn note(
+        &mut self,
+        options: &TellOptions,
+        number: u64,
+        note: &Note,
+    ) -> Result<(), AllocError>
+        ensures { OnOk result (self.new ≡ known_noted options.now number note.now self.old) }
+    {
+        self.hear_remark(options, number, note.remark)?;
+        if let Some(failure) = &note.failure {
+            self.first = self.first.or(failure.time);
+        }
+        Ok(())
+    }
+
+    // Hears what a comment says.
+    fn hear_remark(
+        &mut self,
+        options: &TellOptions,
+        number: u64,
+        remark: Remark,
+    ) -> Result<(), AllocError>
+        ensures { OnOk result (self.new ≡ known_remarked options.now number remark self.old) }
     {
         match remark {
             Remark::Elsewhere => Ok(()),
             Remark::Refuses(refusal) => {
                 self.refused = first_refusal(self.refused, refusal);
+                Ok(())
+            }
+            Remark::Shows(shown)
+                if shown_ends_all(options, self.parts.has(shown.first / 2), &shown) => {
+                self.lose(number);
                 Ok(())
             }
             Remark::Shows(shown) => {
@@ -311,6 +470,7 @@ impl Known {
         self.lessons
             .forget(number, Some(addr), shown_change(lost, shown))?;
         self.lessons.see_pages(Some(addr), shown.has_pages)?;
+        self.words.hear_shown(number, lost, shown)?;
         self.pages.learn_shown(number, addr, shown_use(lost, shown))
     }
 
@@ -328,6 +488,13 @@ impl Known {
         self.paging
     }
 
+    /// The first line that begins with its time, where lines have none.
+    pub(crate) fn timed(&self) -> Option<u64>
+        ensures { result ≡ self.now.timed }
+    {
+        self.timed
+    }
+
     /// Whether each packet that wasn't good would have been with its PEC.
     pub(crate) fn is_lacking(&self) -> bool
         ensures { result ≡ self.now.lacking }
@@ -343,5 +510,21 @@ fn first_refusal(before: Option<Refusal>, refusal: Refusal) -> Option<Refusal>
     match before {
         Some(before) => Some(before),
         None => Some(refusal),
+    }
+}
+
+// Whether a packet is a clear answer as parts give it.
+#[tactic(auto, using(crate::proofs::Shown::completed_said, crate::proofs::Shown::usual_said))]
+fn shows_part(all: bool, line: &PacketLine<'_>) -> bool
+    requires shown { judged_in line.now.shown.now
+        ≡ parts_judged line.now.packet.write.now (option_map (λ bytes. bytes.now) line.now.packet.read) }
+    ensures { result ≡ spec_shows_part all line.now.ones (packet_in line.now.packet) }
+{
+    if !is_received(&line.packet, line.ones) {
+        return false;
+    }
+    match completed_if(all, line) {
+        Some(part) => is_part_answer(&shown_with(line.packet.write, line.packet.is_read(), &part)),
+        None => is_part_answer(line.shown),
     }
 }

@@ -25,6 +25,7 @@
 //! Tests: crates/pm_tool_tests
 #![tactic(auto)]
 
+mod aside_text;
 mod capture;
 mod counts_text;
 mod decoding;
@@ -43,5 +44,5 @@ mod usual_packet;
 pub use decoding::decode;
 pub use hints::Hint;
 pub use laws::plain_captures_are_traces;
-pub use pm_capture::TellOptions;
+pub use pm_capture::{Addresses, TellOptions};
 pub use telling::{TellEnd, tell};

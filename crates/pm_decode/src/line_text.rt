@@ -1,20 +1,20 @@
 //! The text of a line.
-ghost use Rattle.std.specs.Prelude.{◌≡◌, ◌++◌, ℕ, Option, Err, Ok, OnOk, codes, decimal, option_map, string_bytes};
+ghost use Rattle.std.specs.Prelude.{◌≡◌, ◌++◌, ℤ, Option, Err, Ok, OnOk, codes, decimal, option_map, string_bytes};
 ghost use Rattle.pm_trace.specs.ShownLines.{judged_in};
 ghost use Rattle.pm_trace.specs.Trace.{reading_judged};
 ghost use Rattle.pm_trace.specs.TraceText.{judged_text};
 ghost use Rattle.pm_values.specs.Taught.{Taught};
-ghost use Rattle.pm_decode.specs.CaptureText.{assumed_text, bytes_text, extra_text, forbidden_text, json_line, lack_text, marks_text, phase_text, plain_line, meaning_text, otherwise_by as spec_otherwise_by, packet_fields_by, packet_text_by, reached_text, read_bytes_text, received_text, refused_words as spec_refused_words, time_text, told_line, two_lines, wrong_text};
+ghost use Rattle.pm_decode.specs.CaptureText.{assumed_text, bytes_text, changed_text, extra_text, failed_line, forbidden_text, json_failed, plain_failed, json_line, lack_text, marks_text, phase_text, plain_line, meaning_text, otherwise_by as spec_otherwise_by, packet_fields_by, packet_text_by, reached_text, read_bytes_text, received_text, refused_words as spec_refused_words, time_text, told_line, two_lines, wrong_text};
 ghost use Rattle.pm_capture.specs.Readings.{judged_by, other_address};
 ghost use Rattle.pm_capture.specs.ShownReadings.{packet_in};
 ghost use Rattle.pm_capture.specs.declared.page_steps.Marks.{Marks};
 
-use pm_capture::{Marks, PacketLine, TellOptions};
+use pm_capture::{Marks, PacketLine, TellOptions, Why};
 use pm_json::{
-    push_judged_fields, push_lack_field, push_marks_fields, push_number_field_if,
-    push_other_fields, push_text_field,
+    push_judged_fields, push_lack_field, push_marks_fields, push_other_fields,
+    push_signed_field_if, push_text_field,
 };
-use pm_lines::{TextFault, push_decimal, push_hex};
+use pm_lines::{TextFault, push_decimal, push_hex, push_signed};
 use pm_packets::{Ones, Otherwise, Packet, ones_words, push_otherwise, push_spaced};
 use pm_trace::{LineFault, Shown, push_packet, push_shown};
 use pm_values::{GoodPacket, Lessons, packet_value, push_known};
@@ -28,7 +28,7 @@ pub(crate) fn push_bad_line(
     number: u64,
     fault: LineFault,
 ) -> Result<(), AllocError>
-    ensures { OnOk result ((taught : Taught) (marks : Marks) (time : Option ℕ) → string_bytes text.new ++ codes "\n"
+    ensures { OnOk result ((taught : Taught) (marks : Marks) (time : Option ℤ) → string_bytes text.new ++ codes "\n"
         ≡ string_bytes text.old ++ told_line options.now taught marks number time (Err fault)) }
 {
     if options.json {
@@ -46,7 +46,7 @@ fn push_bad_json(
     number: u64,
     fault: LineFault,
 ) -> Result<(), AllocError>
-    ensures { OnOk result ((taught : Taught) (marks : Marks) (time : Option ℕ) → string_bytes text.new ++ codes "\n"
+    ensures { OnOk result ((taught : Taught) (marks : Marks) (time : Option ℤ) → string_bytes text.new ++ codes "\n"
         ≡ string_bytes text.old ++ json_line options.now taught marks number time (Err fault)) }
 {
     text.push_str("{\"line\":")?;
@@ -63,7 +63,7 @@ fn push_bad_plain(
     number: u64,
     fault: LineFault,
 ) -> Result<(), AllocError>
-    ensures { OnOk result ((taught : Taught) (marks : Marks) (time : Option ℕ) → string_bytes text.new ++ codes "\n"
+    ensures { OnOk result ((taught : Taught) (marks : Marks) (time : Option ℤ) → string_bytes text.new ++ codes "\n"
         ≡ string_bytes text.old ++ plain_line options.now taught marks number time (Err fault)) }
 {
     push_decimal(text, number)?;
@@ -81,6 +81,57 @@ fn fault_words(number: u64, fault: LineFault) -> &'static str
     }
 }
 
+/// Appends the line of a transfer that failed to a text, with its number and time.
+pub(crate) fn push_failed(
+    text: &mut String,
+    json: bool,
+    number: u64,
+    time: Option<i128>,
+    why: Why,
+) -> Result<(), AllocError>
+    ensures { OnOk result (string_bytes text.new ≡ string_bytes text.old ++ failed_line json number time why) }
+{
+    if json {
+        push_failed_json(text, number, time, why)
+    } else {
+        push_failed_plain(text, number, time, why)
+    }
+}
+
+// A transfer that failed as an object of JSON.
+#[tactic(auto, using(pm_lines::specs::Lemmas::Joins::joins), unfolding(crate::specs::CaptureText::json_failed))]
+fn push_failed_json(
+    text: &mut String,
+    number: u64,
+    time: Option<i128>,
+    why: Why,
+) -> Result<(), AllocError>
+    ensures { OnOk result (string_bytes text.new ≡ string_bytes text.old ++ json_failed number time why) }
+{
+    text.push_str("{\"line\":")?;
+    push_decimal(text, number)?;
+    push_signed_field_if(text, "time", time)?;
+    push_text_field(text, "failed", why.words())?;
+    text.push_str("}\n")
+}
+
+// A transfer that failed as it is shown to a person.
+#[tactic(auto, using(pm_lines::specs::Lemmas::Joins::joins), unfolding(crate::specs::CaptureText::plain_failed))]
+fn push_failed_plain(
+    text: &mut String,
+    number: u64,
+    time: Option<i128>,
+    why: Why,
+) -> Result<(), AllocError>
+    ensures { OnOk result (string_bytes text.new ≡ string_bytes text.old ++ plain_failed number time why) }
+{
+    push_decimal(text, number)?;
+    push_time(text, time)?;
+    text.push_str(" failed: ")?;
+    text.push_str(why.words())?;
+    text.push_str("\n")
+}
+
 /// Appends a packet's line to a text, with its number and without a line feed: as the command table has the packet, or by
 /// its address, code and bytes.
 #[tactic(auto, unfolding(crate::specs::CaptureText::told_line))]
@@ -89,17 +140,18 @@ pub(crate) fn push_packet_line(
     options: &TellOptions,
     lessons: &Lessons,
     marks: &Marks,
+    since: Option<i128>,
     line: &PacketLine<'_>,
 ) -> Result<(), AllocError>
     requires shown { judged_in line.now.shown.now ≡ judged_by options.now.all marks.now.ones (packet_in line.now.packet) }
     requires other { line.now.other ≡ other_address options.now.all marks.now.ones (packet_in line.now.packet) }
     ensures { OnOk result (string_bytes text.new ++ codes "\n" ≡ string_bytes text.old
-        ++ told_line options.now lessons.now marks.now line.now.number line.now.time (Ok (packet_in line.now.packet))) }
+        ++ told_line options.now lessons.now marks.now line.now.number since (Ok (packet_in line.now.packet))) }
 {
     if options.json {
-        push_packet_json(text, options, lessons, marks, line)
+        push_packet_json(text, options, lessons, marks, since, line)
     } else {
-        push_packet_plain(text, options, lessons, marks, line)
+        push_packet_plain(text, options, lessons, marks, since, line)
     }
 }
 
@@ -110,16 +162,17 @@ fn push_packet_json(
     options: &TellOptions,
     lessons: &Lessons,
     marks: &Marks,
+    since: Option<i128>,
     line: &PacketLine<'_>,
 ) -> Result<(), AllocError>
     requires shown { judged_in line.now.shown.now ≡ judged_by options.now.all marks.now.ones (packet_in line.now.packet) }
     requires other { line.now.other ≡ other_address options.now.all marks.now.ones (packet_in line.now.packet) }
     ensures { OnOk result (string_bytes text.new ++ codes "\n" ≡ string_bytes text.old
-        ++ json_line options.now lessons.now marks.now line.now.number line.now.time (Ok (packet_in line.now.packet))) }
+        ++ json_line options.now lessons.now marks.now line.now.number since (Ok (packet_in line.now.packet))) }
 {
     text.push_str("{\"line\":")?;
     push_decimal(text, line.number)?;
-    push_number_field_if(text, "time", line.time)?;
+    push_signed_field_if(text, "time", since)?;
     push_packet_fields(text, options, lessons, marks, line)?;
     text.push_str("}")
 }
@@ -157,15 +210,16 @@ fn push_packet_plain(
     options: &TellOptions,
     lessons: &Lessons,
     marks: &Marks,
+    since: Option<i128>,
     line: &PacketLine<'_>,
 ) -> Result<(), AllocError>
     requires shown { judged_in line.now.shown.now ≡ judged_by options.now.all marks.now.ones (packet_in line.now.packet) }
     requires other { line.now.other ≡ other_address options.now.all marks.now.ones (packet_in line.now.packet) }
     ensures { OnOk result (string_bytes text.new ++ codes "\n" ≡ string_bytes text.old
-        ++ plain_line options.now lessons.now marks.now line.now.number line.now.time (Ok (packet_in line.now.packet))) }
+        ++ plain_line options.now lessons.now marks.now line.now.number since (Ok (packet_in line.now.packet))) }
 {
     push_decimal(text, line.number)?;
-    push_time(text, line.time)?;
+    push_time(text, since)?;
     text.push_str(" ")?;
     push_packet_text(text, options, lessons, marks, line)
 }
@@ -251,7 +305,8 @@ fn push_marks(text: &mut String, number: u64, marks: &Marks) -> Result<(), Alloc
     push_phase(text, marks.phase)?;
     push_received(text, marks.ones)?;
     push_forbidden(text, marks.is_forbidden)?;
-    push_wrong_if(text, number, marks.wrong)
+    push_wrong_if(text, number, marks.wrong)?;
+    push_changed_if(text, number, marks.changed)
 }
 
 // What follows a reading of a phase.
@@ -266,9 +321,9 @@ fn push_phase(text: &mut String, phase: Option<u8>) -> Result<(), AllocError>
     push_decimal(text, u64::from(phase))
 }
 
-// What follows a packet of which a byte wasn't acknowledged.
+/// What follows a packet of which a byte wasn't acknowledged.
 #[tactic(auto, using(pm_lines::specs::Lemmas::Joins::joins))]
-fn push_received(text: &mut String, ones: Ones) -> Result<(), AllocError>
+pub(crate) fn push_received(text: &mut String, ones: Ones) -> Result<(), AllocError>
     ensures { OnOk result (string_bytes text.new ≡ string_bytes text.old ++ received_text ones) }
 {
     let Ones::Refused(refusal) = ones else {
@@ -301,22 +356,32 @@ fn push_forbidden(text: &mut String, is_forbidden: bool) -> Result<(), AllocErro
     }
 }
 
+// What follows a read in this line that gives another word than the one before, if it does.
+fn push_changed_if(text: &mut String, number: u64, changed: Option<u64>) -> Result<(), AllocError>
+    ensures { OnOk result (string_bytes text.new ≡ string_bytes text.old ++ changed_text number changed) }
+{
+    match changed {
+        None => Ok(()),
+        Some(line) => push_lines(text, " CHANGED? lines ", number, line),
+    }
+}
+
 // What follows a packet in this line for the earlier one that it contradicts, if there is one.
 fn push_wrong_if(text: &mut String, number: u64, wrong: Option<u64>) -> Result<(), AllocError>
     ensures { OnOk result (string_bytes text.new ≡ string_bytes text.old ++ wrong_text number wrong) }
 {
     match wrong {
         None => Ok(()),
-        Some(line) => push_wrong(text, number, line),
+        Some(line) => push_lines(text, " WRONG PAGE? lines ", number, line),
     }
 }
 
-// What follows a packet in this line that contradicts an earlier one.
+// Words, and the two lines that they speak of.
 #[tactic(auto, using(pm_lines::specs::Lemmas::Joins::joins))]
-fn push_wrong(text: &mut String, number: u64, line: u64) -> Result<(), AllocError>
-    ensures { OnOk result (string_bytes text.new ≡ string_bytes text.old ++ wrong_text number (Some line)) }
+fn push_lines(text: &mut String, words: &str, number: u64, line: u64) -> Result<(), AllocError>
+    ensures { OnOk result (string_bytes text.new ≡ string_bytes text.old ++ (words.now ++ two_lines line number)) }
 {
-    text.push_str(" WRONG PAGE? lines ")?;
+    text.push_str(words)?;
     push_two_lines(text, line, number)
 }
 
@@ -330,16 +395,16 @@ fn push_two_lines(text: &mut String, line: u64, number: u64) -> Result<(), Alloc
     push_decimal(text, number)
 }
 
-// The time of a packet, if it is known.
+/// The time of a packet, from the first one on, if it is known.
 #[tactic(auto, using(pm_lines::specs::Lemmas::Joins::joins))]
-fn push_time(text: &mut String, time: Option<u64>) -> Result<(), AllocError>
+pub(crate) fn push_time(text: &mut String, time: Option<i128>) -> Result<(), AllocError>
     ensures { OnOk result (string_bytes text.new ≡ string_bytes text.old ++ time_text time) }
 {
     let Some(time) = time else {
         return Ok(());
     };
     text.push_str(" ")?;
-    push_decimal(text, time)?;
+    push_signed(text, time)?;
     text.push_str(" us")
 }
 

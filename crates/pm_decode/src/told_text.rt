@@ -4,7 +4,7 @@ use crate::capture::Capture;
 use crate::heard_lines::HeardLines;
 use crate::line_number::LineNumber;
 use crate::usual_line::{Usual, push_usual, usual_of};
-use pm_capture::{LineReading, TellOptions};
+use pm_capture::{LineReading, Note, TellOptions};
 use std::alloc::{AllocError, Global};
 use std::marker::Model;
 
@@ -31,7 +31,7 @@ impl ToldText {
     ghost use Rattle.pm_decode.specs.UsualLines.{code_counted, usual_text};
     ghost use Rattle.pm_decode.specs.CaptureText.{counts_text, line_text};
     ghost use Rattle.pm_decode.specs.Hearing.{heard_lines, heard_with};
-    ghost use Rattle.pm_capture.specs.Readings.{Told};
+    ghost use Rattle.pm_capture.specs.Readings.{Noted, Told};
     ghost use Rattle.pm_capture.specs.ShownReadings.{reading_in};
 
     /// No line. Takes no memory.
@@ -139,6 +139,29 @@ impl ToldText {
         self.line.clear();
         heard.hear(options, number, line, &mut self.line)?;
         self.line.push_str("\n")?;
+        self.text.extend_from_slice(self.line.as_str().as_bytes())
+    }
+
+    /// Gathers what a comment says of a transfer that failed, with its number, and has it heard.
+    pub(crate) fn note(
+        &mut self,
+        heard: &mut HeardLines,
+        options: &TellOptions,
+        number: u64,
+        note: &Note,
+    ) -> Result<(), AllocError>
+        ensures told { OnOk result (self.new
+            ≡ self.old ++ line_text options.now heard.old.known (number, Noted note.now)) }
+        ensures heard { OnOk result (heard.new ≡ heard_with options.now heard.old (number, Noted note.now)) }
+        ensures unchanged { OnErr result (self.new ≡ self.old) }
+        ensures few { heard_lines heard.new ≡ heard_lines heard.old }
+    {
+        self.line.clear();
+        let pushed = heard
+            .known()
+            .push_note(options, number, note, &mut self.line);
+        pushed?;
+        heard.note(options, number, note)?;
         self.text.extend_from_slice(self.line.as_str().as_bytes())
     }
 

@@ -1,24 +1,24 @@
 -- What a hearing leaves and what a request is answered, by its ending and its code.
-use Rattle.std.specs.{List.list_all, Prelude.nat_lt}
-use Rattle.std.specs.Option.{option_map_or, option_map, option_or}
+use Rattle.std.specs.{Prelude.nat_lt}
+use Rattle.std.specs.Option.{option_map_or, option_or}
 use Rattle.std.proofs.lemmas.Bool.Decides.{nat_tests}
 use Rattle.std.proofs.Common.{◌≡◌, ℕ, ◌<◌, ◌≤◌, Bool, true, false, cond, ◌&&◌, List, refl, sym, ◌∙◌, ap, arith, eqb, ltb, not, ◌||◌}
-use Rattle.std.proofs.Common.{is_some, Option, Some, None, [], ◌∷◌, subst, zero, suc, ◌+◌, ◌*◌, ◌/◌, ◌%◌, length, take, ap₂, ◌≢◌, ◌-◌}
+use Rattle.std.proofs.Common.{Option, Some, None, [], ◌∷◌, subst, zero, suc, ◌+◌, ◌*◌, ◌/◌, ◌%◌, length, take, ap₂, ◌≢◌, ◌-◌}
 use Rattle.std.proofs.Common.{get_or}
-use Rattle.std.proofs.lemmas.Bool.{lt-ltb, and_parts, eqb-true, not-true, or_parts, cond-true, or_right, ne_eqb, or_from}
-use Rattle.pm_table.specs.{Protection.is_allowed, Rules.rule, declared.cell.Cell.Cell, declared.reg.Reg.Reg}
-use Rattle.pm_table.specs.Cell.{cell_at, cell_accepts, cell_code, is_operation, is_protection, is_voltage, register_code, register_of}
+use Rattle.std.proofs.lemmas.Bool.{lt-ltb, cond-true, or_right, ne_eqb, or_from}
+use Rattle.pm_table.specs.{Protection.is_allowed, Rules.rule, declared.cell.Cell.Cell}
+use Rattle.pm_table.specs.Cell.{cell_at, cell_accepts, cell_code, is_operation, is_protection, is_voltage, register_code}
 use Rattle.pm_table.specs.Codes as command
-use Rattle.pm_table.specs.Commands.{Line, Row, rows, line_among, line_of, is_ever_written, is_written, payload_length, is_paged, is_known}
+use Rattle.pm_table.specs.Commands.{line_of, payload_length, is_known}
 use Rattle.pm_table.specs.Commands.{is_read}
 use Rattle.pm_table.specs.Laws.{PayloadsAreShort, RegistersAreInTheTable}
 use Rattle.pm_table.specs.declared.cell.Cell.TheVariants.{Protect, Out}
 use Rattle.pm_frame.specs.{declared.fault.FrameFault.FrameFault, declared.fault.FrameFault.TheVariants.NotOurs}
-use Rattle.pm_frame.specs.{declared.message.Message.Message, declared.message.Payload.Payload}
+use Rattle.pm_frame.specs.{declared.message.Message.Message}
 use Rattle.pm_frame.specs.Fault.{write_fault, request_fault, address_fault, opening_fault, length_fault, carried_count_fault, size_fault}
 use Rattle.pm_frame.specs.Fault.{pec_fault, carried_fault, plain_fault, block_request_fault}
-use Rattle.pm_frame.specs.Laws.{WritesAreExact, RequestsAreExact}
-use Rattle.pm_frame.specs.Layout.{AreBytes, IsWrite, fits_layout, is_read_message, IsRequest, IsAnswer, answer_length, write_address}
+use Rattle.pm_frame.specs.Laws.{RequestsAreExact}
+use Rattle.pm_frame.specs.Layout.{is_read_message, IsRequest, IsAnswer, answer_length, write_address}
 use Rattle.pm_frame.specs.Layout.{read_address, is_carried}
 use Rattle.pm_frame.specs.View.{message_in, message_code, payload_in}
 use Rattle.pm_frame.specs.declared.fault.FrameFault.TheVariants as frame
@@ -29,22 +29,21 @@ use Rattle.pm_model.specs.Settings.{Words, word_at}
 use Rattle.pm_device.specs.{Start.has_direct, declared.act.Act.Act, declared.config.Config.Config, declared.converter.Ending.Ending}
 use Rattle.pm_device.specs.{declared.converter.Heard.Heard, declared.fault.DeviceFault.DeviceFault, declared.verdict.Verdict.Verdict}
 use Rattle.pm_device.specs.Effect as effect
-use Rattle.pm_device.specs.Effect.{Event, Hearing, Outcome, Heard as EffectHeard, Restarted, Reading, kept_in}
-use Rattle.pm_device.specs.Held.{Held, CmlFaults, value_for, is_output_reading, output_readings, place_among}
+use Rattle.pm_device.specs.Effect.{Event, Hearing, Heard as EffectHeard, Restarted, Reading, kept_in}
+use Rattle.pm_device.specs.Held.{Held, CmlFaults, value_for}
 use Rattle.pm_device.specs.History.{faults_by, after, next, now, without_requests, is_for_other, without_others}
-use Rattle.pm_device.specs.Laws.{AnswersWith, is_device_code, AreRequestsAlike, AreWritesAlike, PastsAreFollowed}
+use Rattle.pm_device.specs.Laws.{AnswersWith, PastsAreFollowed}
 use Rattle.pm_device.specs.Reply.{reply_to, reply_of, answer_bytes, plain_register, register_bytes, register_word, payload_for}
 use Rattle.pm_device.specs.Status.{CmlBit, Command, Data, Pec, OtherCommunication, fault_bit, cml_at, with_bit, act_clears_cml}
 use Rattle.pm_device.specs.Status.{is_output_cut, marked, status_vout, kept, vout_in, cml_in, sets_cml}
 use Rattle.pm_device.specs.Verdict.{verdict_of, act_in, act_verdict, answers_coefficients, fault_verdict, is_accepted, names_no_output}
 use Rattle.pm_device.specs.Verdict.{output_in, read_verdict, selects_no_output, unless_faulty, write_verdict, written_word, payload_word}
 use Rattle.pm_device.specs.Verdict.{is_answered}
-use Rattle.pm_device.specs.declared.act.Act.TheVariants.{Put, Select, ClearFaults, ClearVout, ClearCml, Store, Restore}
 use Rattle.pm_device.specs.declared.converter.Ending.TheVariants.{Stop, Restart}
 use Rattle.pm_device.specs.declared.converter.Heard.TheVariants.{Silent, Taken, Refused, Answer}
 use Rattle.pm_device.specs.declared.fault.DeviceFault.TheVariants.{UnsupportedCode, UnsupportedData, BadPage, Protected}
 use Rattle.pm_device.specs.declared.verdict.Verdict.TheVariants.{Ignores, Refuses, Takes, Answers}
-use Rattle.pm_device.proofs.Past.{cut_at-each_output, vout-shows, request-not_taken, heard-write}
+use Rattle.pm_device.proofs.Past.{cut_at-each_output, vout-shows, request-not_taken}
 
 -- What a hearing leaves, by its answer.
 
@@ -166,81 +165,6 @@ now-shows config past output few there cut =
 
 -- Which replies come after which endings, and for which codes.
 
--- what passes for every row of the command table passes for the line of a code
-pub line-passes : (test : ℕ → Line → Bool) (among : List Row) (code : ℕ) (line : Line) →
-    list_all (λ row. test row.code row.line) among ≡ true → line_among among code ≡ Some line → test code line ≡ true
-line-passes test [] code line all is = cc
-line-passes test (row ∷ others) code line all is =
-    let parts = and_parts (test row.code row.line) (list_all (λ row. test row.code row.line) others) all in
-    go (eqb code row.code) refl parts.0 (λ found. line-passes test others code line parts.1 found) is
-  where
-    go : (b : Bool) → eqb code row.code ≡ b → test row.code row.line ≡ true →
-        (line_among others code ≡ Some line → test code line ≡ true) →
-        cond b (Some row.line) (line_among others code) ≡ Some line → test code line ≡ true
-    go true same passes rest found =
-        let one : row.line ≡ line = cc in
-        subst (λ l. test code l ≡ true) one (subst (λ n. test n row.line ≡ true) (sym (eqb-true code row.code same)) passes)
-    go false same passes rest found = rest found
-
--- a code that is written has an act, but for PAGE_PLUS_WRITE, which only carries one
-has-act : ℕ → ℕ → ℕ → Line → Bool
-has-act output word code line =
-    not (is_ever_written line.protection) || (eqb code command.page_plus_write || is_some (act_in code output word))
-
--- a code that is written has an act
-written-act : (code output word : ℕ) → is_written code ≡ true → eqb code command.page_plus_write ≡ false →
-    act_in code output word ≡ None → ⊥
-unfolding line_of has-act
-written-act code output word written plain none = go (line_of code) refl written where
-  last : (writes carries some : Bool) → (not writes || (carries || some)) ≡ true → writes ≡ true → carries ≡ false → some ≡ true
-  last true true some p w c = cc
-  last true false some p w c = p
-  last false carries some p w c = cc
-
-  go : (found : Option Line) → line_of code ≡ found → option_map_or (λ l. is_ever_written l.protection) found false ≡ true → ⊥
-  go None is w = cc
-  go (Some line) is w =
-      let passes : has-act output word code line ≡ true = line-passes (has-act output word) rows code line refl is in
-      let some = last (is_ever_written line.protection) (eqb code command.page_plus_write) (is_some (act_in code output word)) passes w
-      plain in
-      let not_some : is_some (act_in code output word) ≡ false = ap (λ a. is_some a) none in
-      cc
-
--- the code of a message that writes is written, and isn't PAGE_PLUS_WRITE
-IsWrittenCode : ℕ → Type 0
-IsWrittenCode code = (is_written code ≡ true) × (eqb code command.page_plus_write ≡ false)
-
--- the code of a plain packet
-plain-code : (code : ℕ) (rest : Bool) → (is_written code && not (eqb code command.page_plus_write) && rest) ≡ true → IsWrittenCode code
-unfolding IsWrittenCode
-plain-code code rest e =
-    let plain = (and_parts (is_written code && not (eqb code command.page_plus_write)) rest e).0 in
-    let parts = and_parts (is_written code) (not (eqb code command.page_plus_write)) plain in
-    (parts.0, not-true (eqb code command.page_plus_write) parts.1)
-
--- the code of each packet that writes
-write-code : (message : Message) → is_read_message message ≡ false → fits_layout message ≡ true → IsWrittenCode (message_code message)
-unfolding IsWrittenCode
-write-code (SendByte code) writes fits = unfold IsWrittenCode in plain-code code _ fits
-write-code (WriteByte code byte) writes fits = unfold IsWrittenCode in plain-code code _ fits
-write-code (WriteWord code word) writes fits = unfold IsWrittenCode in plain-code code _ fits
-write-code (PagePlusWrite page code payload) writes fits =
-    let both = (and_parts (not
-    (eqb code command.page || eqb code command.page_plus_write || eqb code command.page_plus_read || eqb code command.coefficients) &&
-    is_written code) _ fits).0 in
-    let parts = and_parts (not
-    (eqb code command.page || eqb code command.page_plus_write || eqb code command.page_plus_read || eqb code command.coefficients))
-    (is_written code) both in
-    let none = not-true (eqb code command.page || eqb code command.page_plus_write || eqb code command.page_plus_read || eqb code
-    command.coefficients) parts.0 in
-    let three = (or_parts (eqb code command.page || eqb code command.page_plus_write || eqb code command.page_plus_read)
-    (eqb code command.coefficients) none).0 in
-    let two = (or_parts (eqb code command.page || eqb code command.page_plus_write) (eqb code command.page_plus_read) three).0 in
-    (parts.1, (or_parts (eqb code command.page) (eqb code command.page_plus_write) two).1)
-write-code (ReadCommand code) writes fits = cc
-write-code (PagePlusRead page code) writes fits = cc
-write-code (ReadCoefficients code side) writes fits = cc
-
 -- the reply to what an act results in: a refusal that isn't K2, or that it is taken
 act-reply : (held : Held) (away allowed accepted : Bool) (act : Act) → Heard
 act-reply held away allowed accepted act =
@@ -256,15 +180,6 @@ act-not_answer held false false accepted act items e = cc
 act-not_answer held false true false act items e = cc
 act-not_answer held false true true act items e = cc
 
--- what an act comes to is not K2
-act-not_unknown : (held : Held) (away allowed accepted : Bool) (act : Act) →
-    act-reply held away allowed accepted act ≡ Refused UnsupportedCode → ⊥
-unfolding act-reply
-act-not_unknown held true allowed accepted act e = cc
-act-not_unknown held false false accepted act e = cc
-act-not_unknown held false true false act e = cc
-act-not_unknown held false true true act e = cc
-
 -- no fault is answered
 pub fault-not_answer : (held : Held) (fault : FrameFault) (items : List ℕ) →
     reply_to held (fault_verdict fault) ≡ Answer (record { items = items }) → ⊥
@@ -276,18 +191,6 @@ fault-not_answer held (frame.WrongPec place) items e = cc
 fault-not_answer held (frame.UnknownCode place) items e = cc
 fault-not_answer held (frame.WrongDirection place) items e = cc
 fault-not_answer held (frame.Nested place) items e = cc
-
--- K2 is the refusal of one fault
-fault-unknown : (held : Held) (fault : FrameFault) → reply_to held (fault_verdict fault) ≡ Refused UnsupportedCode →
-    (place : ℕ) × (fault ≡ frame.UnknownCode place)
-fault-unknown held frame.NotOurs e = cc
-fault-unknown held (frame.Short place) e = cc
-fault-unknown held (frame.Long place) e = cc
-fault-unknown held (frame.WrongCount place) e = cc
-fault-unknown held (frame.WrongPec place) e = cc
-fault-unknown held (frame.UnknownCode place) e = (place, refl)
-fault-unknown held (frame.WrongDirection place) e = cc
-fault-unknown held (frame.Nested place) e = cc
 
 -- a stop is never answered
 pub stop-not_answer : (held : Held) (bytes items : List ℕ) → reply_of held bytes Stop ≡ Answer (record { items = items }) → ⊥
@@ -319,88 +222,6 @@ restart-not_taken held bytes e = go (verdict_of held.config held.words held.page
   go (Refuses fault) is h = cc
   go (Answers request) is h = cc
   go (Takes act) is h = request-not_taken held.config held.words held.page bytes act is
-
--- K2 for a write comes of its fault alone
-pub write-unknown : WritesAreExact → (held : Held) (bytes : List ℕ) → AreBytes bytes →
-    reply_of held bytes Stop ≡ Refused UnsupportedCode →
-    (place : ℕ) × (write_fault held.config.addr bytes ≡ Some (frame.UnknownCode place))
-unfolding reply_of verdict_of act-reply IsWrittenCode
-write-unknown exact held bytes are e = go (write_fault held.config.addr bytes) refl e where
-  known : (message : Message) → IsWrite held.config.addr message bytes →
-      reply_to held (write_verdict held.config held.words held.page message) ≡ Refused UnsupportedCode → ⊥
-  known message h r =
-      acts (act_in (message_code message) (output_in held.page message) (written_word message)) refl r
-    where
-      acts : (found : Option Act) →
-          act_in (message_code message) (output_in held.page message) (written_word message) ≡ found →
-          reply_to held (option_map_or (λ act. act_verdict held.config.count (word_at held.words Protect) message act) found
-          (Refuses UnsupportedCode))
-          ≡ Refused UnsupportedCode → ⊥
-      acts None is x =
-          let code = write-code message h.writes h.fits in
-          written-act (message_code message) (output_in held.page message) (written_word message) code.0 code.1 is
-      acts (Some act) is x =
-          act-not_unknown held (names_no_output held.config.count message || selects_no_output held.config.count act)
-          (is_allowed (word_at held.words Protect) (message_code message)) (is_accepted act) act x
-
-  go : (fault : Option FrameFault) → write_fault held.config.addr bytes ≡ fault →
-      reply_to held (unless_faulty fault (write_verdict held.config held.words held.page (message_in bytes))) ≡ Refused UnsupportedCode →
-      (place : ℕ) × (write_fault held.config.addr bytes ≡ Some (frame.UnknownCode place))
-  go (Some fault) is h =
-      let one = fault-unknown held fault h in (one.0, is ∙ ap (λ f. Some f) one.1)
-  go None is h =
-      let some = exact.faultless held.config.addr bytes are is in
-      let places = exact.places held.config.addr some.0 bytes some.1 in
-      absurd (known some.0 some.1
-      (subst (λ m. reply_to held (write_verdict held.config held.words held.page m) ≡ Refused UnsupportedCode) places h))
-
--- what a request results in is never K2
-request-known : (held : Held) (request : Message) → is_read_message request ≡ true →
-    reply_to held (read_verdict held.config request) ≡ Refused UnsupportedCode → ⊥
-request-known held (ReadCommand code) reads e = cc
-request-known held (PagePlusRead page code) reads e = go (ltb page held.config.count) e where
-  go : (b : Bool) → reply_to held (cond b (Answers (PagePlusRead page code)) (Refuses BadPage)) ≡ Refused UnsupportedCode → ⊥
-  go true h = cc
-  go false h = cc
-request-known held (ReadCoefficients code side) reads e = go (answers_coefficients held.config code side) e where
-  go : (b : Bool) → reply_to held (cond b (Answers (ReadCoefficients code side)) (Refuses UnsupportedData)) ≡ Refused UnsupportedCode → ⊥
-  go true h = cc
-  go false h = cc
-request-known held (SendByte code) reads e = cc
-request-known held (WriteByte code byte) reads e = cc
-request-known held (WriteWord code word) reads e = cc
-request-known held (PagePlusWrite page code payload) reads e = cc
-
--- K2 for a request comes of its fault alone
-pub read-unknown : RequestsAreExact → (held : Held) (bytes : List ℕ) →
-    reply_of held bytes Restart ≡ Refused UnsupportedCode →
-    (place : ℕ) × (request_fault held.config.addr bytes ≡ Some (frame.UnknownCode place))
-unfolding reply_of verdict_of
-read-unknown exact held bytes e = go (request_fault held.config.addr bytes) refl e where
-  go : (fault : Option FrameFault) → request_fault held.config.addr bytes ≡ fault →
-      reply_to held (unless_faulty fault (read_verdict held.config (message_in bytes))) ≡ Refused UnsupportedCode →
-      (place : ℕ) × (request_fault held.config.addr bytes ≡ Some (frame.UnknownCode place))
-  go (Some fault) is h =
-      let one = fault-unknown held fault h in (one.0, is ∙ ap (λ f. Some f) one.1)
-  go None is h =
-      let some = exact.faultless held.config.addr bytes is in
-      let places = exact.places held.config.addr some.0 bytes some.1 in
-      absurd (request-known held some.0 some.1.reads
-      (subst (λ m. reply_to held (read_verdict held.config m) ≡ Refused UnsupportedCode) places h))
-
--- a write of an unknown code is refused so
-pub unknown-write : (held : Held) (bytes : List ℕ) (place : ℕ) →
-    write_fault held.config.addr bytes ≡ Some (frame.UnknownCode place) → reply_of held bytes Stop ≡ Refused UnsupportedCode
-unfolding reply_of verdict_of
-unknown-write held bytes place e =
-    ap (λ fault. reply_to held (unless_faulty fault (write_verdict held.config held.words held.page (message_in bytes)))) e
-
--- likewise for a request
-pub unknown-read : (held : Held) (bytes : List ℕ) (place : ℕ) →
-    request_fault held.config.addr bytes ≡ Some (frame.UnknownCode place) → reply_of held bytes Restart ≡ Refused UnsupportedCode
-unfolding reply_of verdict_of
-unknown-read held bytes place e =
-    ap (λ fault. reply_to held (unless_faulty fault (read_verdict held.config (message_in bytes)))) e
 
 -- What a request is answered.
 
@@ -567,220 +388,6 @@ read-back table (Out output register) word e =
         payload_word (payload_in (take n (word % 256 ∷ word / 256 ∷ []))) ≡ word
     go true n is h = rw is (two-bytes word)
     go false n is h = rw is (one-byte word (operation-byte word h))
-
--- The codes of the device, which act and answer alike whatever output a page names.
-
--- a code is one of those that act on an output, or read something of one
-is_of_output : ℕ → Bool
-is_of_output code =
-    eqb code command.clear_faults || eqb code command.status_vout || eqb code command.vout_mode
-    || eqb code command.status_byte || eqb code command.status_word || is_output_reading code || is_some (register_of code)
-
--- each row of the table says so
-is_told : ℕ → Line → Bool
-is_told code line = is_paged line.scope || not (is_of_output code)
-
--- what a code of the device isn't
-record IsOfDevice (code : ℕ) : Type 0 where
-  clears : eqb code command.clear_faults ≡ false
-  vout : eqb code command.status_vout ≡ false
-  mode : eqb code command.vout_mode ≡ false
-  byte : eqb code command.status_byte ≡ false
-  word : eqb code command.status_word ≡ false
-  reading : is_output_reading code ≡ false
-  register : register_of code ≡ None
-
--- what isn't some is none
-none-found : {A : Type 0} (found : Option A) → is_some found ≡ false → found ≡ None
-none-found None e = refl
-none-found (Some x) e = cc
-
--- a code of the device is none of the codes that the output has
-of-device : (code : ℕ) → is_device_code code ≡ true → IsOfDevice code
-unfolding line_of is_told is_of_output
-of-device code e = parts (go (line_of code) refl e) where
-  told : (paged of_output : Bool) → (paged || not of_output) ≡ true → not paged ≡ true → of_output ≡ false
-  told false false t p = refl
-  told false true t p = cc
-  told true of_output t p = cc
-
-  go : (found : Option Line) → line_of code ≡ found → option_map_or (λ line. not (is_paged line.scope)) found false ≡ true
-      → is_of_output code ≡ false
-  go None is p = cc
-  go (Some line) is p =
-      let passes : is_told code line ≡ true = line-passes is_told rows code line refl is in
-      told (is_paged line.scope) (is_of_output code) passes p
-
-  parts : is_of_output code ≡ false → IsOfDevice code
-  parts none =
-      let h = or_parts _ _ none in
-      let f = or_parts _ _ h.0 in
-      let k = or_parts _ _ f.0 in
-      let d = or_parts _ _ k.0 in
-      let b = or_parts _ _ d.0 in
-      let a = or_parts _ _ b.0 in
-      record {
-        clears = a.0;
-        vout = a.1;
-        mode = b.1;
-        byte = d.1;
-        word = k.1;
-        reading = f.1;
-        register = none-found (register_of code) h.1;
-      }
-
--- the act of such a code
-act-alike : (code output other word : ℕ) → IsOfDevice code → act_in code output word ≡ act_in code other word
-act-alike code output other word h =
-    go (eqb code command.page) (eqb code command.clear_faults) (eqb code command.status_vout) (rest output (register_of code))
-    (rest other (register_of code)) (h.clears, h.vout)
-    (ap (λ found. rest output found) h.register ∙ sym (ap (λ found. rest other found) h.register))
-  where
-    -- the act of the other codes, where this register's cell is meant
-    rest : ℕ → Option Reg → Option Act
-    rest named found =
-        cond (eqb code command.status_cml) (Some (ClearCml word))
-        (cond (eqb code command.store_user_all) (Some Store)
-        (cond (eqb code command.restore_user_all) (Some Restore) (option_map (λ cell. Put cell word)
-        (cond (eqb code command.write_protect) (Some Protect) (option_map (λ register. Out named register) found)))))
-
-    go : (a b c : Bool) (one two : Option Act) → (b ≡ false) × (c ≡ false) → one ≡ two →
-        cond a (Some (Select word)) (cond b (Some (ClearFaults output)) (cond c (Some (ClearVout output word)) one))
-        ≡ cond a (Some (Select word)) (cond b (Some (ClearFaults other)) (cond c (Some (ClearVout other word)) two))
-    go true b c one two facts e = refl
-    go false false false one two facts e = e
-    go false true c one two facts e = let wrong : true ≡ false = facts.0 in cc
-    go false false true one two facts e = let wrong : true ≡ false = facts.1 in cc
-
--- a plain write of such a code, and a carried one
-plain-alike : (config : Config) (words : Words) (page other : ℕ) (message : Message) →
-    is_device_code (message_code message) ≡ true →
-    write_verdict config words page message ≡ write_verdict config words other message
-plain-alike config words page other message device =
-    ap (λ found. option_map_or (λ act. act_verdict config.count (word_at words Protect) message act) found (Refuses UnsupportedCode))
-    (act-alike (message_code message) (output_in page message) (output_in other message) (written_word message)
-    (of-device (message_code message) device))
-
-module _ (config : Config) (words : Words) (page : ℕ) where
-  -- what the act of a carried write results in, where its page is there
-  come : ℕ → Act → Verdict
-  come code act =
-      cond (selects_no_output config.count act) (Refuses BadPage)
-      (cond (not (is_allowed (word_at words Protect) code)) (Refuses Protected)
-      (cond (not (is_accepted act)) (Refuses UnsupportedData) (Takes act)))
-
-  -- a carried write whose page is there results in that
-  carried-there : (output code : ℕ) (payload : Payload) → output < config.count →
-      write_verdict config words page (PagePlusWrite output code payload)
-      ≡ option_map_or (come code) (act_in code output (payload_word payload)) (Refuses UnsupportedCode)
-  unfolding come
-  carried-there output code payload here =
-      ap (λ b. option_map_or (λ act.
-      cond (not b || selects_no_output config.count act) (Refuses BadPage)
-      (cond (not (is_allowed (word_at words Protect) code)) (Refuses Protected)
-      (cond (not (is_accepted act)) (Refuses UnsupportedData) (Takes act))))
-      (act_in code output (payload_word payload)) (Refuses UnsupportedCode)) (lt-ltb output config.count here)
-
-  -- a carried write of a code of the device acts alike on two outputs that are there
-  carried-alike : (output other code : ℕ) (payload : Payload) →
-      is_device_code code ≡ true → output < config.count → other < config.count →
-      write_verdict config words page (PagePlusWrite output code payload)
-      ≡ write_verdict config words page (PagePlusWrite other code payload)
-  carried-alike output other code payload device here there =
-      carried-there output code payload here
-      ∙ (ap (λ found. option_map_or (come code) found (Refuses UnsupportedCode))
-      (act-alike code output other (payload_word payload) (of-device code device))
-      ∙ sym (carried-there other code payload there))
-
--- what such a code reads as
-pub read-alike : (held : Held) (output other code : ℕ) → is_device_code code ≡ true →
-    register_word held output code ≡ register_word held other code
-read-alike held output other code device =
-    let h = of-device code device in
-    let vout = h.vout in
-    let mode = h.mode in
-    let byte = h.byte in
-    let word = h.word in
-    let reading = none-found (place_among output_readings code) h.reading in
-    let register = h.register in
-    simp (vout, mode, byte, word, reading, register)
-
--- two hearings that come to one are answered alike, and leave the same
-come-alike : (held : Held) (bytes others : List ℕ) (ending : Ending) →
-    verdict_of held.config held.words held.page bytes ending ≡ verdict_of held.config held.words held.page others ending →
-    (reply_of held bytes ending ≡ reply_of held others ending)
-    × (next held (Hearing bytes ending) ≡ next held (Hearing others ending))
-unfolding reply_of next
-come-alike held bytes others ending same = (ap (reply_to held) same, ap (λ verdict. after held (EffectHeard verdict)) same)
-
--- two carried writes
-pub carried-heard : WritesAreExact → (held : Held) (bytes others : List ℕ) → AreWritesAlike held bytes others →
-    (reply_of held bytes Stop ≡ reply_of held others Stop)
-    × (next held (Hearing bytes Stop) ≡ next held (Hearing others Stop))
-carried-heard exact held bytes others h =
-    come-alike held bytes others Stop (heard-write exact held (PagePlusWrite h.page h.code h.payload) bytes h.one
-    ∙ (carried-alike held.config held.words held.page h.page h.other h.code h.payload h.device h.there.0 h.there.1
-    ∙ sym (heard-write exact held (PagePlusWrite h.other h.code h.payload) others h.two)))
-
--- what a converter holds, with another page selected
-moved : Held → ℕ → Held
-moved held page = record held { page = page }
-
--- a verdict that isn't answered by bytes is answered alike with another page selected
-reply-moved : (held : Held) (page : ℕ) (verdict : Verdict) →
-    ((items : List ℕ) → reply_to held verdict ≢ Answer (record { items = items })) →
-    reply_to held verdict ≡ reply_to (moved held page) verdict
-reply-moved held page (Answers request) not_answer = absurd (not_answer (answer_bytes held request) refl)
-reply-moved held page verdict not_answer = refl
-
--- what a verdict came to leaves the same, except PAGE
-after-moved : (held : Held) (page : ℕ) (outcome : Outcome) →
-    after held outcome ≡ record (after (moved held page) outcome) { page = (after held outcome).page }
-unfolding after moved
-after-moved held page (EffectHeard (Takes (Select selected))) = refl
-after-moved held page outcome = refl
-
--- a plain write
-pub plain-heard : WritesAreExact → (held : Held) (page : ℕ) (message : Message) (bytes : List ℕ) →
-    is_device_code (message_code message) ≡ true → IsWrite held.config.addr message bytes →
-    let other = record held { page = page } in
-    (reply_of held bytes Stop ≡ reply_of other bytes Stop)
-    × (next held (Hearing bytes Stop) ≡ record (next other (Hearing bytes Stop)) { page = (next held (Hearing bytes Stop)).page })
-unfolding reply_of next moved
-plain-heard exact held page message bytes device h =
-    let verdict = verdict_of held.config held.words held.page bytes Stop in
-    let same : verdict ≡ verdict_of held.config held.words page bytes Stop = heard-write exact held message bytes h
-    ∙ (plain-alike held.config held.words held.page page message device ∙ sym (heard-write exact (moved held page) message bytes h)) in (
-      reply-moved held page verdict (stop-not_answer held bytes) ∙ ap (reply_to (moved held page)) same,
-      after-moved held page (EffectHeard verdict)
-          ∙ ap (λ v. record (after (moved held page) (EffectHeard v)) { page = (after held (EffectHeard verdict)).page }) same,
-    )
-
--- a request that is answered leaves all
-leaves-read : (held : Held) (bytes items : List ℕ) → reply_of held bytes Restart ≡ Answer (record { items = items }) →
-    next held (Hearing bytes Restart) ≡ held
-leaves-read held bytes items e =
-    next-answered held bytes Restart (λ other. let wrong = sym e ∙ other in cc) (λ other. let wrong = sym e ∙ other in cc)
-    (λ fault other. let wrong = sym e ∙ other in cc)
-
--- two requests
-pub asked-alike : RequestsAreExact → PayloadsAreShort → (held : Held) (bytes others : List ℕ) →
-    (h : AreRequestsAlike held bytes others) →
-    ((payload : List ℕ) × AnswersWith held bytes (PagePlusRead h.page h.code) payload
-    × AnswersWith held others (PagePlusRead h.other h.code) payload)
-    × (next held (Hearing bytes Restart) ≡ next held (Hearing others Restart))
-asked-alike exact short held bytes others h =
-    let one = request-answered exact short held (PagePlusRead h.page h.code) bytes h.one (lt-ltb h.page held.config.count h.there.0) in
-    let two = request-answered exact short held (PagePlusRead h.other h.code) others h.two
-    (lt-ltb h.other held.config.count h.there.1) in (
-      (
-        register_bytes h.code (register_word held h.page h.code),
-        one,
-        subst (AnswersWith held others (PagePlusRead h.other h.code))
-            (ap (register_bytes h.code) (read-alike held h.other h.page h.code h.device)) two,
-      ),
-      leaves-read held bytes one.0 one.1 ∙ sym (leaves-read held others two.0 two.1),
-    )
 
 -- What a hearing that a repeated start ended leaves.
 

@@ -1,35 +1,32 @@
 -- What the laws of this crate say, each by a name that a crate above takes it by. A past is a list
 -- of events, newest first.
-use Rattle.std.specs.Prelude.{◌≡◌, ◌≢◌, ◌⊎◌, ◌↔◌, ◌<◌, ◌≤◌, ℕ, Bool, false, List, [], ◌∷◌, not, ◌&&◌, ◌||◌, true, nat_lt, if◌then◌else◌}
+use Rattle.std.specs.Prelude.{◌≡◌, ◌≢◌, ◌⊎◌, ◌↔◌, ◌<◌, ◌≤◌, ℕ, false, List, [], ◌∷◌, not, ◌&&◌, ◌||◌, true, nat_lt, if◌then◌else◌}
 use Rattle.std.specs.Prelude.{Some, None}
-use Rattle.std.specs.Option.{option_map_or}
 use Rattle.pm_table.specs.declared.cell.Cell.{Cell}
 use Rattle.pm_table.specs.declared.cell.Cell.TheVariants.{Protect}
 use Rattle.pm_table.specs.Cell.{cell_at, cell_accepts, cell_code, IsCell}
 use Rattle.pm_table.specs.Codes as command
-use Rattle.pm_table.specs.Commands.{is_paged, line_of}
 use Rattle.pm_table.specs.Coefficients.{coefficient_bytes}
 use Rattle.pm_table.specs.Protection.{is_allowed}
-use Rattle.pm_frame.specs.declared.fault.FrameFault.TheVariants.{UnknownCode}
 use Rattle.pm_frame.specs.declared.message.Message.{Message}
 use Rattle.pm_frame.specs.declared.message.Message.TheVariants.{WriteByte, PagePlusWrite, ReadCommand, PagePlusRead, ReadCoefficients}
 use Rattle.pm_frame.specs.declared.message.Payload.{Payload}
-use Rattle.pm_frame.specs.Fault.{write_fault, request_fault}
-use Rattle.pm_frame.specs.Layout.{AreBytes, IsWrite, IsRequest, IsAnswer, write_address, read_address}
+use Rattle.pm_frame.specs.Fault.{write_fault}
+use Rattle.pm_frame.specs.Layout.{IsWrite, IsRequest, IsAnswer, write_address, read_address}
 use Rattle.pm_frame.specs.View.{payload_in, message_code}
 use Rattle.pm_model.specs.Settings.{AreWords, word_at, with_word, with_outputs}
 use Rattle.pm_model.specs.Commanded.{is_cut}
 use Rattle.pm_device.specs.declared.config.Config.{Config}
 use Rattle.pm_device.specs.declared.fault.DeviceFault.{DeviceFault}
-use Rattle.pm_device.specs.declared.fault.DeviceFault.TheVariants.{UnsupportedCode, UnsupportedData}
+use Rattle.pm_device.specs.declared.fault.DeviceFault.TheVariants.{UnsupportedData}
 use Rattle.pm_device.specs.declared.converter.Ending.{Ending}
 use Rattle.pm_device.specs.declared.converter.Ending.TheVariants.{Stop, Restart}
 use Rattle.pm_device.specs.declared.converter.Heard.TheVariants.{Silent, Taken, Answer, Refused}
-use Rattle.pm_device.specs.Held.{Held, no_faults, is_device_reading, is_output_reading, mode_for, reading_at, value_for}
+use Rattle.pm_device.specs.Held.{Held, is_device_reading, is_output_reading, mode_for, reading_at, value_for}
 use Rattle.pm_device.specs.Start.{IsSound, config_fault, has_direct}
 use Rattle.pm_device.specs.Verdict.{is_answered, names_no_output, output_in, payload_word, verdict_of, write_verdict, written_word}
-use Rattle.pm_device.specs.Effect.{Event, Hearing, Reading, Restarted, kept_in, kept_after}
-use Rattle.pm_device.specs.Status.{CmlBit, fault_bit, with_bit, cml_at, cml_in, cut_at, vout_in, marked, status_byte, status_cml}
+use Rattle.pm_device.specs.Effect.{Event, Hearing, kept_in, kept_after}
+use Rattle.pm_device.specs.Status.{CmlBit, fault_bit, with_bit, cml_at, cml_in, vout_in, marked, status_byte, status_cml}
 use Rattle.pm_device.specs.Status.{status_vout, status_word}
 use Rattle.pm_device.specs.Reply.{payload_for, register_bytes, register_word, reply_of}
 use Rattle.pm_device.specs.History.{AreHeard, IsEverHad, WasCarried, loaded_word, stored_word, next, now, start_of}
@@ -105,36 +102,6 @@ pub record RefusalsSetOneBit : Type 0 where
       reply_of held bytes ending ≡ Taken →
       cml_at (next held (Hearing bytes ending)).faults bit ≡ true →
       cml_at held.faults bit ≡ true
-
--- What an event leaves of the readings and of what is latched. A hearing and a restart leave the readings
--- (`heard`, `restarted`), and another reading changes nothing else (`measured`). A write that is taken clears
--- at most STATUS_VOUT of the output that it acts on, and of that output only where its code is CLEAR_FAULTS or
--- STATUS_VOUT (`others`, `vout`). It leaves STATUS_CML where its code is neither CLEAR_FAULTS nor STATUS_CML
--- (`cml`), and CLEAR_FAULTS, of whichever output, clears all of STATUS_CML (`clears`).
-pub record LatchesStay : Type 0 where
-  pub heard : (held : Held) (bytes : List ℕ) (ending : Ending) →
-      (next held (Hearing bytes ending)).readings ≡ held.readings
-  pub restarted : (held : Held) → (next held Restarted).readings ≡ held.readings
-  pub measured : (held : Held) (output code word : ℕ) →
-      next held (Reading output code word)
-      ≡ record held { readings = (next held (Reading output code word)).readings }
-  pub others : (held : Held) (message : Message) (bytes : List ℕ) (output : ℕ) →
-      IsWrite held.config.addr message bytes → reply_of held bytes Stop ≡ Taken →
-      output ≢ output_in held.page message → output < 8 → cut_at held.cut output ≡ true →
-      cut_at (next held (Hearing bytes Stop)).cut output ≡ true
-  pub vout : (held : Held) (message : Message) (bytes : List ℕ) (output : ℕ) →
-      IsWrite held.config.addr message bytes → reply_of held bytes Stop ≡ Taken →
-      message_code message ≢ command.clear_faults → message_code message ≢ command.status_vout →
-      output < 8 → cut_at held.cut output ≡ true →
-      cut_at (next held (Hearing bytes Stop)).cut output ≡ true
-  pub cml : (held : Held) (message : Message) (bytes : List ℕ) →
-      IsWrite held.config.addr message bytes → reply_of held bytes Stop ≡ Taken →
-      message_code message ≢ command.clear_faults → message_code message ≢ command.status_cml →
-      (next held (Hearing bytes Stop)).faults ≡ held.faults
-  pub clears : (held : Held) (message : Message) (bytes : List ℕ) →
-      IsWrite held.config.addr message bytes → reply_of held bytes Stop ≡ Taken →
-      message_code message ≡ command.clear_faults →
-      (next held (Hearing bytes Stop)).faults ≡ no_faults
 
 -- What a converter keeps of what an event makes of it, the words of the cells, the store and PAGE, is
 -- `kept_after` the event (`kept`), so the rest speaks of each call of `hear`. A request and a faulty write
@@ -274,63 +241,6 @@ pub record RepliesFollowEndings : Type 0 where
   pub stop : (held : Held) (bytes items : List ℕ) →
       reply_of held bytes Stop ≢ Answer (record { items = items })
   pub restart : (held : Held) (bytes : List ℕ) → reply_of held bytes Restart ≢ Taken
-
--- K2 comes exactly for a code that isn't in the command table.
-pub record UnknownCodesAreRefused : Type 0 where
-  pub write : (held : Held) (bytes : List ℕ) → AreBytes bytes →
-      (reply_of held bytes Stop ≡ Refused UnsupportedCode)
-      ↔ ((place : ℕ) × (write_fault held.config.addr bytes ≡ Some (UnknownCode place)))
-  pub read : (held : Held) (bytes : List ℕ) →
-      (reply_of held bytes Restart ≡ Refused UnsupportedCode)
-      ↔ ((place : ℕ) × (request_fault held.config.addr bytes ≡ Some (UnknownCode place)))
-
--- the code stands in the command table, and acts on the device and not on one output
-abbrev pub is_device_code : ℕ → Bool
-is_device_code code = option_map_or (λ line. not (is_paged line.scope)) (line_of code) false
-
--- two writes that carry one code of the device and one payload, each with a page that exists
-pub record AreWritesAlike (held : Held) (bytes others : List ℕ) : Type 0 where
-  pub page : ℕ
-  pub other : ℕ
-  pub code : ℕ
-  pub payload : Payload
-  pub device : is_device_code code ≡ true
-  pub there : (page < held.config.count) × (other < held.config.count)
-  pub one : IsWrite held.config.addr (PagePlusWrite page code payload) bytes
-  pub two : IsWrite held.config.addr (PagePlusWrite other code payload) others
-
--- two requests that carry one code of the device, each with a page that exists
-pub record AreRequestsAlike (held : Held) (bytes others : List ℕ) : Type 0 where
-  pub page : ℕ
-  pub other : ℕ
-  pub code : ℕ
-  pub device : is_device_code code ≡ true
-  pub there : (page < held.config.count) × (other < held.config.count)
-  pub one : IsRequest held.config.addr (PagePlusRead page code) bytes
-  pub two : IsRequest held.config.addr (PagePlusRead other code) others
-
--- A code of the device acts and answers alike on every page that exists, and whatever PAGE is. Two writes
--- that carry it are answered alike, and the converter holds the same after the one as after the other
--- (`carried`). A plain write of it is answered alike whatever PAGE is, and what the converter holds after
--- it differs in no more than PAGE (`plain`). Two requests that carry it are answered with one payload, and
--- the converter holds the same after both (`asked`): their answers differ in the PEC alone, which covers
--- the page. The code reads as the same word at each output (`read`).
-pub record DeviceCodesIgnorePages : Type 0 where
-  pub carried : (held : Held) (bytes others : List ℕ) → AreWritesAlike held bytes others →
-      (reply_of held bytes Stop ≡ reply_of held others Stop)
-      × (next held (Hearing bytes Stop) ≡ next held (Hearing others Stop))
-  pub plain : (held : Held) (page : ℕ) (message : Message) (bytes : List ℕ) →
-      is_device_code (message_code message) ≡ true → IsWrite held.config.addr message bytes →
-      let moved = record held { page = page } in
-      (reply_of held bytes Stop ≡ reply_of moved bytes Stop)
-      × (next held (Hearing bytes Stop)
-      ≡ record (next moved (Hearing bytes Stop)) { page = (next held (Hearing bytes Stop)).page })
-  pub asked : (held : Held) (bytes others : List ℕ) → (h : AreRequestsAlike held bytes others) →
-      ((payload : List ℕ) × AnswersWith held bytes (PagePlusRead h.page h.code) payload
-      × AnswersWith held others (PagePlusRead h.other h.code) payload)
-      × (next held (Hearing bytes Restart) ≡ next held (Hearing others Restart))
-  pub read : (held : Held) (output other code : ℕ) → is_device_code code ≡ true →
-      register_word held output code ≡ register_word held other code
 
 -- A hearing that a repeated start ended, whatever its bytes, changes nothing but latched bits of STATUS_CML (`alone`), of
 -- which it clears none (`rises`): so every setting, the store and PAGE stay (`kept`), and the readings and the latches of

@@ -2,7 +2,7 @@
 //! each is the contract of a function that does nothing, or calls laws of the crates below. A past
 //! is a list of events, newest first. What each says in full stands in `specs/Laws.antt`.
 
-ghost use Rattle.pm_device.specs.Laws.{DeviceCodesIgnorePages, FramesForOthersAreSilent, LatchesStay, PastsAreFollowed, ReadsAreAnswered, RefusalsSetOneBit, RegistersSayWhatCallsSay, RepliesFollowEndings, RequestsLatchAtMost, SoundConfigurationsHaveNoFault, UnknownCodesAreRefused, WordsHaveAnOrigin, WritesReachOneCell};
+ghost use Rattle.pm_device.specs.Laws.{FramesForOthersAreSilent, PastsAreFollowed, ReadsAreAnswered, RefusalsSetOneBit, RegistersSayWhatCallsSay, RepliesFollowEndings, RequestsLatchAtMost, SoundConfigurationsHaveNoFault, WordsHaveAnOrigin, WritesReachOneCell};
 
 use pm_frame::{requests_are_exact, writes_are_exact};
 use pm_model::{outputs_stand_alone, settings_are_a_map};
@@ -46,16 +46,6 @@ pub fn refusals_set_one_bit()
     ensures { RefusalsSetOneBit }
 {}
 
-/// What is measured stays over every hearing and every restart. What is latched stays over a write that is
-/// taken, but for what CLEAR_FAULTS and writes of STATUS_VOUT and STATUS_CML clear. An output that is
-/// switched off and on, a limit or a margin that is written, and WRITE_PROTECT clear nothing.
-pub fn latches_stay()
-    ensures { LatchesStay }
-{
-    // A frame without a fault is the write that it spells.
-    writes_are_exact();
-}
-
 /// What the words of the cells, the store and PAGE are after one frame. A write of a cell's code, plain or
 /// carried, reaches that cell if its page is there, WRITE_PROTECT allows the code and the cell accepts the
 /// word. A write of PAGE selects an output. STORE_USER_ALL copies the outputs' words to the store and
@@ -89,27 +79,6 @@ pub fn registers_say_what_calls_say()
 pub fn replies_follow_endings()
     ensures { RepliesFollowEndings }
 {}
-
-/// K2 comes exactly for a code that isn't in the command table.
-pub fn unknown_codes_are_refused()
-    ensures { UnknownCodesAreRefused }
-{
-    // A frame without a fault is what it spells, whose code is written or read.
-    writes_are_exact();
-    requests_are_exact();
-}
-
-/// A code of the device, as STATUS_CML, acts and answers alike on every page that exists, and whatever PAGE is. Two frames that
-/// differ in such a page only are answered alike, requests with one payload. The converter holds the same after the one as after
-/// the other.
-pub fn device_codes_ignore_pages()
-    ensures { DeviceCodesIgnorePages }
-{
-    // A frame without a fault is what it spells, and a word has the bytes of its code.
-    writes_are_exact();
-    requests_are_exact();
-    payloads_are_short();
-}
 
 /// A hearing that a repeated start ended, as the request of a read of any code is, changes no setting, no store, no PAGE,
 /// no reading and no latch of STATUS_VOUT. It latches a bit of STATUS_CML at most. What is held after any past is, but

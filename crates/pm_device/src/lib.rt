@@ -64,10 +64,9 @@ pub use converter::{Converter, Ending, Heard};
 pub use fault::DeviceFault;
 pub use image::{ConfigImage, LatchesImage, OutputImage, PartImage, ReadingsImage};
 pub use laws::{
-    device_codes_ignore_pages, frames_for_others_are_silent, latches_stay, pasts_are_followed,
-    reads_are_answered, refusals_set_one_bit, registers_say_what_calls_say, replies_follow_endings,
-    requests_latch_at_most, sound_configurations_have_no_fault, unknown_codes_are_refused,
-    words_have_an_origin, writes_reach_one_cell,
+    frames_for_others_are_silent, pasts_are_followed, reads_are_answered, refusals_set_one_bit,
+    registers_say_what_calls_say, replies_follow_endings, requests_latch_at_most,
+    sound_configurations_have_no_fault, words_have_an_origin, writes_reach_one_cell,
 };
 pub use output_start::OutputStart;
 pub use readings::{DEVICE_READINGS, OUTPUT_READINGS, is_reading};

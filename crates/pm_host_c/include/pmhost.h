@@ -740,7 +740,8 @@ void pm_sequence_new(pm_sequence *sequence, uint16_t tries, uint8_t rules);
  * step: their `back`, that of the newest step that has begun first, are the list of the way back, without those of kind 0: such a step was
  * left before it began. Without PM_KEEPS_BACK `room` may be less, and nothing is kept of the steps beyond. With all but PM_OK the frame is
  * PM_NOTHING.
- *   PM_OK           the frame goes on the bus of that host, and stays the same until pm_sequence_write_ended or pm_sequence_read_ended
+ *   PM_OK           the frame goes on the bus of that host, and stays the same until pm_sequence_write_ended or pm_sequence_read_ended. Directly
+ *                   before a write that pm_is_once names all is read anew that decides what its output would command
  *   PM_AGAIN        ask at once, by the host at sequence->host, which may be another
  *   PM_WAIT         ask again once sequence->said.milliseconds have passed: the wait of a step, or the time that a rail is given
  *   PM_ASKED        with PM_ASKS: sequence->said says which order comes next. Nothing has begun. Asked again it begins, if it is still due
@@ -793,6 +794,12 @@ typedef uint64_t (*pm_read)(void *context, const uint8_t *request, uint64_t coun
 
 /* Waits for so many milliseconds. */
 typedef void (*pm_wait_ms)(void *context, uint32_t milliseconds);
+
+/* Whether a write may be sent once only: OPERATION gets a byte with bit 7 set, which turns an output on or leaves it on. If nobody heard it
+ * the part was away, and may have come up anew since: the list reads again, and orders once more. No patience of yours may send it again. */
+static inline int pm_is_once(const uint8_t *bytes, uint64_t count) {
+    return count == 7 && bytes[1] == 0x05 && bytes[4] == 0x01 && (bytes[5] & 0x80) != 0;
+}
 
 /* Sends a write, and answers whether it was acknowledged. */
 static inline uint8_t pm_was_acked(const pm_sending *frame, pm_write write, void *context) {
@@ -856,8 +863,8 @@ static inline pm_course_end pm_host_run_course(pm_host *host, pm_course *course,
     return end;
 }
 
-/* Steps whose rails are looked at: READ_VOUT may be 5 % away, and all is asked seven times at most. One sets VOUT_COMMAND, the other gives
- * OPERATION a byte. Change their fields as you want. */
+/* Steps whose rails are looked at: READ_VOUT may be 5 % away, and all is asked seven times at most. One sets VOUT_COMMAND, one gives
+ * OPERATION a byte, and one orders nothing. Change their fields as you want. */
 static inline pm_sequence_step pm_sets(uint8_t host, uint8_t output, int32_t microvolts) {
     pm_sequence_step step;
     unsigned at;
@@ -880,6 +887,18 @@ static inline pm_sequence_step pm_turns(uint8_t host, uint8_t output, uint8_t by
     step.command.kind = PM_STAY;
     return step;
 }
+static inline pm_sequence_step pm_surveys(uint8_t host, uint8_t output) {
+    pm_sequence_step step = pm_turns(host, output, 0);
+    step.kind = PM_STEP_SURVEYS;
+    return step;
+}
+
+/* Whether a verdict is that the rail delivers, of a part without STATUS_WORD by its READ_VOUT, or went off after an order that turned it off;
+ * and whether nothing was to be delivered: the output is commanded off, and a rail that is to be on isn't up. */
+static inline int pm_is_delivered(uint8_t verdict) {
+    return verdict == PM_DELIVERS || verdict == PM_DELIVERS_BY_READ_VOUT || verdict == PM_WENT_OFF;
+}
+static inline int pm_has_nothing_to_deliver(uint8_t verdict) { return verdict == PM_COMMANDED_OFF; }
 
 /* Hears what a sequence says: its answer is PM_WAIT, PM_ASKED, PM_TOLD or PM_NO_WAY_BACK, and sequence->said says the rest. 0 stops the loop
  * there; any other number lets it go on. */

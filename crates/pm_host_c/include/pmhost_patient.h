@@ -3,9 +3,12 @@
  * a plain read of CAPABILITY after 10 ms, and then after twice the wait each time. It ends with an answer that isn't of
  * ones, or with the patience. The next frame then meets a part that is ready. A part may note each question as a BUSY fault and
  * pull SMBALERT#: a `ready_code` has it asked for a byte of its own instead. A write whose address nobody acknowledged
- * (PM_UNHEARD) is sent again after such waits; a store isn't, since it wears the memory. A read is sent once. An answer of
+ * (PM_UNHEARD) is sent again after such waits; a store isn't, since it wears the memory, nor a write that pm_is_once names. A read is sent once. An answer of
  * nothing but FFh is handed over as none: a bus that nobody drives is high, and no true answer of the host's jobs is of nothing but
  * ones.
+ *
+ * It keeps a deadline, too: from that moment on nothing is sent and nothing waited for, so that what is under way ends at once, as over a
+ * bus that is away. Then turn the rails off, with has_deadline 0.
  *
  * This is C of a header, tried beside rows (trials/c/rows/patient_rows.c), and not proved. It keeps what pm_write and pm_read
  * of pmhost.h ask for: a question is a request that a repeated start ends, which changes no setting. */
@@ -35,6 +38,9 @@ typedef struct {
     uint8_t has_stored; /* of pm_patient_run: a store was sent in this job */
     uint8_t ready_code; /* 0 to ask for CAPABILITY; otherwise the part is ready if a plain read of this code's byte, by a right PEC, */
     uint8_t ready_mask; /* has all of these bits */
+    uint8_t has_deadline; /* not 0: `deadline` counts */
+    uint8_t is_late;      /* set to 1 as something isn't sent or waited for because of it */
+    uint32_t deadline;    /* a moment of `now`, less than 2^31 ms ahead */
 } pm_patient;
 
 /* Waits from a moment on: how long the patience is, and the next wait. */
@@ -58,15 +64,36 @@ static inline uint32_t pm_patience(const pm_patient *bus, const uint8_t *bytes, 
     return (uint32_t)(command == 0x15 ? PM_STORE_PATIENCE : command == 0x16 ? PM_LONG_PATIENCE : PM_PATIENCE);
 }
 
-/* Waits twice as long as the last time, to the end of the patience at most. 0 at once if that is over. */
-static inline int pm_waited(const pm_patient *bus, pm_waits *waits) {
+/* The milliseconds that are left to the deadline; 0 if it has passed. */
+static inline uint32_t pm_time_left(pm_patient *bus) {
+    uint32_t left = bus->deadline - bus->now(bus->context);
+    if (!bus->has_deadline)
+        return 0xFFFFFFFF;
+    if (left == 0 || left > 0x7FFFFFFF) {
+        bus->is_late = 1;
+        return 0;
+    }
+    return left;
+}
+
+/* A pm_wait_ms, to the deadline at most; the context is a pm_patient. */
+static inline void pm_patient_wait(void *context, uint32_t milliseconds) {
+    pm_patient *bus = (pm_patient *)context;
+    uint32_t left = pm_time_left(bus);
+    if (left != 0)
+        bus->wait(bus->context, milliseconds < left ? milliseconds : left);
+}
+
+/* Waits twice as long as the last time, to the end of the patience at most. 0 at once if that or the deadline is over, and if it comes
+ * meanwhile. */
+static inline int pm_waited(pm_patient *bus, pm_waits *waits) {
     uint32_t passed = bus->now(bus->context) - waits->begun;
     if (passed >= waits->patience)
         return 0;
     uint32_t left = waits->patience - passed;
-    bus->wait(bus->context, waits->next < left ? waits->next : left);
+    pm_patient_wait(bus, waits->next < left ? waits->next : left);
     waits->next *= 2;
-    return 1;
+    return pm_time_left(bus) != 0;
 }
 
 /* Asks once whether the part is ready. */
@@ -91,11 +118,11 @@ static inline uint8_t pm_patient_write(void *context, const uint8_t *bytes, uint
     pm_patient *bus = (pm_patient *)context;
     pm_waits again = {bus->now(bus->context), pm_patience(bus, bytes, count), PM_FIRST_WAIT}, asked = again;
     int is_store = count == 3 && bytes[1] == 0x15;
-    if (is_store && bus->has_stored)
-        return PM_NOT_ACKED; /* a later pass of a store, which isn't sent */
+    if ((is_store && bus->has_stored) || pm_time_left(bus) == 0)
+        return PM_NOT_ACKED; /* a later pass of a store, or it is late: it isn't sent */
     bus->has_stored = (uint8_t)(bus->has_stored || is_store);
     uint8_t ended = bus->write(bus->context, bytes, count);
-    while (ended == PM_UNHEARD && !is_store && pm_waited(bus, &again))
+    while (ended == PM_UNHEARD && !is_store && !pm_is_once(bytes, count) && pm_waited(bus, &again))
         ended = bus->write(bus->context, bytes, count);
     while (pm_waited(bus, &asked) && !pm_is_ready(bus, bytes[0])) {
     }
@@ -105,6 +132,8 @@ static inline uint8_t pm_patient_write(void *context, const uint8_t *bytes, uint
 /* A pm_read; the context is a pm_patient. */
 static inline uint64_t pm_patient_read(void *context, const uint8_t *request, uint64_t count, uint8_t *answer, uint64_t room) {
     pm_patient *bus = (pm_patient *)context;
+    if (pm_time_left(bus) == 0)
+        return 0;
     uint64_t came = bus->read(bus->context, request, count, answer, room);
     return came <= room && pm_is_ones(answer, came) ? 0 : came;
 }

@@ -1,5 +1,6 @@
 //! Sequences, frame after frame, over parts that are written by hand: how each ends, and what was sent.
 
+mod fresh;
 mod part;
 mod rules;
 
@@ -27,6 +28,10 @@ pub(crate) const PART: Part = Part {
     is_dead: false,
     frames: 0,
     writes: 0,
+    restarts: None,
+    silent: 0,
+    loses: 0,
+    codes: [0; 96],
 };
 
 pub(crate) const LOOKS: Looks = Looks {
@@ -74,6 +79,11 @@ pub(crate) fn sets(host: u8, output: u8, microvolts: i64, looks: Looks) -> Step 
 // A step that turns an output off.
 pub(crate) fn off(host: u8, output: u8, looks: Looks) -> Step {
     step_of(host, output, Does::Turns(0x00), looks)
+}
+
+// A step that turns an output on.
+pub(crate) fn on(host: u8, output: u8, looks: Looks) -> Step {
+    step_of(host, output, Does::Turns(0x80), looks)
 }
 
 fn step_of(host: u8, output: u8, act: Does, looks: Looks) -> Step {

@@ -51,6 +51,10 @@ abbrev pub number_field_if : List ℕ → Option ℕ → List ℕ
 number_field_if name None = []
 number_field_if name (Some number) = number_field name number
 
+abbrev pub signed_field_if : List ℕ → Option ℤ → List ℕ
+signed_field_if name None = []
+signed_field_if name (Some number) = signed_field name number
+
 -- bytes in hexadecimal with a space between two of them
 abbrev pub hex_words : List ℕ → List ℕ
 hex_words [] = []
@@ -246,13 +250,13 @@ other_fields otherwise write read = address_field (Some otherwise.addr)
 abbrev pub lack_field : Ones → Bool → List ℕ
 lack_field ones lacks = if lacks then ones_fields ones else []
 
--- the field of a packet that contradicts a line: the two lines
-unfoldable pub lines_field : ℕ → ℕ → List ℕ
-lines_field line number = key (codes "wrong") ++ (codes "[" ++ (decimal line ++ (codes "," ++ (decimal number ++ codes "]"))))
+-- the field of this name of a packet that contradicts a line: the two lines
+unfoldable pub lines_field : List ℕ → ℕ → ℕ → List ℕ
+lines_field name line number = key name ++ (codes "[" ++ (decimal line ++ (codes "," ++ (decimal number ++ codes "]"))))
 
-abbrev pub wrong_field : ℕ → Option ℕ → List ℕ
-wrong_field number None = []
-wrong_field number (Some line) = lines_field line number
+abbrev pub lines_field_if : List ℕ → ℕ → Option ℕ → List ℕ
+lines_field_if name number None = []
+lines_field_if name number (Some line) = lines_field name line number
 
 -- the field of a packet of which a byte wasn't acknowledged, and whose write part has so many bytes: the byte's place in the packet
 abbrev pub refused_field : ℕ → Refusal → List ℕ
@@ -271,7 +275,8 @@ forbidden_field forbidden = if forbidden then codes ",\"forbidden\":true" else [
 
 abbrev pub marks_fields : ℕ → ℕ → Marks → List ℕ
 marks_fields number written marks = number_field_if (codes "phase") marks.phase
-    ++ (received_field written marks.ones ++ (forbidden_field marks.is_forbidden ++ wrong_field number marks.wrong))
+    ++ (received_field written marks.ones ++ (forbidden_field marks.is_forbidden
+    ++ (lines_field_if (codes "wrong") number marks.wrong ++ lines_field_if (codes "changed") number marks.changed)))
 
 -- ---- a line
 

@@ -1,7 +1,7 @@
 //! The fields of objects of JSON.
 ghost use Rattle.std.specs.Prelude.{◌≡◌, ◌++◌, OnOk, codes, string_bytes};
 ghost use Rattle.pm_lines.specs.Numbers.{hex_byte};
-ghost use Rattle.pm_json.specs.JsonText.{address_field, bytes_field, fault_code, hex_words, key, number_field, number_field_if, signed_field, text_field};
+ghost use Rattle.pm_json.specs.JsonText.{address_field, bytes_field, fault_code, hex_words, key, number_field, number_field_if, signed_field, signed_field_if, text_field};
 
 use pm_lines::{push_decimal, push_hex, push_signed};
 use pm_packets::push_spaced;
@@ -70,7 +70,7 @@ pub(crate) fn push_signed_field(
 }
 
 /// Appends a field with a number, if there is one.
-pub fn push_number_field_if(
+pub(crate) fn push_number_field_if(
     text: &mut String,
     name: &str,
     number: Option<u64>,
@@ -79,6 +79,20 @@ pub fn push_number_field_if(
 {
     match number {
         Some(number) => push_number_field(text, name, number),
+        None => Ok(()),
+    }
+}
+
+/// Appends a field with a number that may be negative, if there is one.
+pub fn push_signed_field_if(
+    text: &mut String,
+    name: &str,
+    number: Option<i128>,
+) -> Result<(), AllocError>
+    ensures { OnOk result (string_bytes text.new ≡ string_bytes text.old ++ signed_field_if name.now number) }
+{
+    match number {
+        Some(number) => push_signed_field(text, name, number),
         None => Ok(()),
     }
 }
@@ -113,7 +127,7 @@ pub(crate) fn push_bytes_field(
 }
 
 /// Appends the field of an address, if there is one.
-pub(crate) fn push_address_field(text: &mut String, addr: Option<u8>) -> Result<(), AllocError>
+pub fn push_address_field(text: &mut String, addr: Option<u8>) -> Result<(), AllocError>
     ensures { OnOk result (string_bytes text.new ≡ string_bytes text.old ++ address_field addr) }
 {
     match addr {

@@ -21,7 +21,7 @@ mod marks;
 mod otherwise;
 mod value;
 
-pub use fields::{push_number_field, push_number_field_if, push_text_field};
+pub use fields::{push_address_field, push_number_field, push_signed_field_if, push_text_field};
 pub use judged::push_judged_fields;
-pub use marks::{push_lack_field, push_marks_fields};
-pub use otherwise::push_other_fields;
+pub use marks::{push_lack_field, push_marks_fields, push_received_field};
+pub use otherwise::{push_other_fields, push_other_payload};

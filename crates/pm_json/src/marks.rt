@@ -1,6 +1,6 @@
 //! The fields of what a packet is marked with.
 ghost use Rattle.std.specs.Prelude.{◌≡◌, ◌++◌, OnOk, length, string_bytes};
-ghost use Rattle.pm_json.specs.JsonText.{forbidden_field, lack_field, lines_field, marks_fields, ones_fields as spec_ones_fields, pec_fields as spec_pec_fields, received_field, wrong_field};
+ghost use Rattle.pm_json.specs.JsonText.{forbidden_field, lack_field, lines_field, lines_field_if, marks_fields, ones_fields as spec_ones_fields, pec_fields as spec_pec_fields, received_field};
 
 use crate::fields::{push_key, push_number_field, push_number_field_if};
 use pm_capture::Marks;
@@ -22,11 +22,12 @@ pub fn push_marks_fields(
     push_number_field_if(text, "phase", marks.phase.map(u64::from))?;
     push_received_field(text, write, marks.ones)?;
     push_forbidden_field(text, marks.is_forbidden)?;
-    push_wrong_field(text, number, marks.wrong)
+    push_lines_field_if(text, "wrong", number, marks.wrong)?;
+    push_lines_field_if(text, "changed", number, marks.changed)
 }
 
-// Appends the field of a packet of which a byte wasn't acknowledged: the byte's place in the packet.
-fn push_received_field(text: &mut String, write: &[u8], ones: Ones) -> Result<(), AllocError>
+/// Appends the field of a packet of which a byte wasn't acknowledged: the byte's place in the packet.
+pub fn push_received_field(text: &mut String, write: &[u8], ones: Ones) -> Result<(), AllocError>
     ensures { OnOk result (string_bytes text.new ≡ string_bytes text.old ++ received_field (length write.now) ones) }
 {
     let Ones::Refused(refusal) = ones else {
@@ -56,22 +57,27 @@ fn push_forbidden_field(text: &mut String, is_forbidden: bool) -> Result<(), All
     }
 }
 
-// Appends the field of the two lines of which one contradicts the other, if there are two.
-fn push_wrong_field(text: &mut String, number: u64, wrong: Option<u64>) -> Result<(), AllocError>
-    ensures { OnOk result (string_bytes text.new ≡ string_bytes text.old ++ wrong_field number wrong) }
+// Appends the field of this name of the two lines of which one contradicts the other, if there are two.
+fn push_lines_field_if(
+    text: &mut String,
+    name: &str,
+    number: u64,
+    line: Option<u64>,
+) -> Result<(), AllocError>
+    ensures { OnOk result (string_bytes text.new ≡ string_bytes text.old ++ lines_field_if name.now number line) }
 {
-    match wrong {
-        Some(line) => push_lines_field(text, line, number),
+    match line {
+        Some(line) => push_lines_field(text, name, line, number),
         None => Ok(()),
     }
 }
 
 // Appends the field of two lines.
 #[tactic(auto, using(pm_lines::specs::Lemmas::Joins::joins), unfolding(crate::specs::JsonText::lines_field))]
-fn push_lines_field(text: &mut String, line: u64, number: u64) -> Result<(), AllocError>
-    ensures { OnOk result (string_bytes text.new ≡ string_bytes text.old ++ lines_field line number) }
+fn push_lines_field(text: &mut String, name: &str, line: u64, number: u64) -> Result<(), AllocError>
+    ensures { OnOk result (string_bytes text.new ≡ string_bytes text.old ++ lines_field name.now line number) }
 {
-    push_key(text, "wrong")?;
+    push_key(text, name)?;
     text.push_str("[")?;
     push_decimal(text, line)?;
     text.push_str(",")?;

@@ -59,9 +59,9 @@ fn push_name_field(text: &mut String, name: &str) -> Result<(), AllocError>
     push_text_field(text, "name", name)
 }
 
-// What was written and read.
+/// Appends the fields of what was written and read.
 #[tactic(auto, using(pm_lines::specs::Lemmas::Joins::joins))]
-fn push_other_payload(
+pub fn push_other_payload(
     text: &mut String,
     written: &[u8],
     answer: Option<&[u8]>,

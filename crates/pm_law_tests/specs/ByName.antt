@@ -3,17 +3,9 @@
 -- This project's own choice. Lists are newest first.
 use Rattle.std.specs.Prelude.{◌≡◌, ◌+◌, ◌<◌, ◌≤◌, ℕ, Bool, true, false, List, ◌∷◌, Some, length}
 use Rattle.pm_table.specs.declared.cell.Cell.{Cell}
-use Rattle.pm_table.specs.declared.cell.Cell.TheVariants.{Protect}
-use Rattle.pm_table.specs.Cell.{cell_code}
-use Rattle.pm_table.specs.Protection.{is_allowed}
 use Rattle.pm_device.specs.declared.config.Config.{Config}
 use Rattle.pm_device.specs.Start.{IsSound, start_word}
-use Rattle.pm_host.specs.declared.command.Command.{Command}
-use Rattle.pm_host.specs.declared.job.JobEnd.TheVariants.{Done}
-use Rattle.pm_host.specs.declared.question.Question.TheVariants.{Word}
-use Rattle.pm_host.specs.declared.stage.Stage.TheVariants.{Asks, Reads, Sends, Writes}
 use Rattle.pm_host.specs.Marks.{marks}
-use Rattle.pm_host.specs.Messages.{cell_read, cell_write, command_message}
 use Rattle.pm_host.specs.Refusals.{IsSetup}
 use Rattle.pm_host.specs.Transcript.{Order}
 use Rattle.pm_limits.specs.declared.band.Band.{Band}
@@ -28,9 +20,7 @@ use Rattle.pm_world.specs.declared.event.Event.TheVariants.{Exchange, Finish}
 use Rattle.pm_world.specs.declared.way.Way.TheVariants.{Sent}
 use Rattle.pm_world.specs.Bands.{MissingUntold, end_choices}
 use Rattle.pm_world.specs.Bytes.{CarryBytes, StartsShort}
-use Rattle.pm_world.specs.GoodBus.{GoodFrames, IsRead, IsWritten, ReadDone, WentInPass, held_after, stage_after}
 use Rattle.pm_world.specs.Honest.{IsSpelled, honest, sent_by}
-use Rattle.pm_world.specs.Legal.{frame_of}
 use Rattle.pm_world.specs.Life.{AreTaken, life, now}
 use Rattle.pm_world.specs.Lived.{IsLived}
 use Rattle.pm_world.specs.Limited.{commands}
@@ -78,23 +68,9 @@ unfoldable pub BeginsShort : Config → ℕ → List Event → Choice → Type 0
 BeginsShort config passes events chosen = AreWordsChosen config (start_word (witness_start config (due_before chosen
     (marks (setup_of config passes) (since_restart (life config passes events).entries)))))
 
--- What undisturbed frames made of an open job, after so many tries, or in this pass: a check, an order that was written
--- and read, one that was read back, and a command.
-unfoldable pub CheckEnds : Config → ℕ → Cell → ℕ → List Event → List Event → Type 0
-CheckEnds config passes cell tries before after = ReadDone config passes cell before after
-
-unfoldable pub PassEnds : Config → ℕ → Cell → ℕ → ℕ → Bool → List Event → List Event → List Event → Type 0
-PassEnds config passes cell word pass acked before middle after = WentInPass config passes cell word acked before after
-
-unfoldable pub ReadBackEnds : Config → ℕ → Cell → ℕ → ℕ → List Event → List Event → Type 0
-ReadBackEnds config passes cell word pass before after = ReadDone config passes cell before after
-
-unfoldable pub CommandEnds : Config → ℕ → Command → ℕ → List Event → List Event → Type 0
-CommandEnds config passes command tries before after = (now config passes after).end ≡ Some Done
-
 -- `ahead` is what `honest_orders_go_through` says by its `taken`, `through` what `ways_are_followed` says by its `ahead`,
 -- `reached` what `bands_are_exact` says, `came` what `answers_come_in_bytes` says, and `words` what
--- `possible_words_are_exact` says by its `words`. The others are those of `newest_events_are_parts`.
+-- `possible_words_are_exact` says by its `words`.
 pub record LawsByName : Type 0 where
   pub ahead : (config : Config) (passes : ℕ) (order : Event) (cell : Cell) (word : ℕ) (arrivals : List Arrival)
       (acked : Bool) (before : List Event) →
@@ -117,21 +93,3 @@ pub record LawsByName : Type 0 where
       IsSpelled config → StartsShort config → IsLived config passes events → CarryBytes events → CameInBytes config passes events
   pub words : (config : Config) (passes : ℕ) (events : List Event) (chosen : Choice) → IsSound config →
       CameInBytes config passes events → IsShort config chosen → BeginsShort config passes events chosen
-  pub check : (config : Config) (passes : ℕ) (cell : Cell) (tries : ℕ) (before after : List Event) →
-      GoodFrames config passes after → stage_after config passes before ≡ Some (Asks (Word cell) tries) →
-      IsRead config passes (cell_read cell) before after → CheckEnds config passes cell tries before after
-  pub order : (config : Config) (passes : ℕ) (cell : Cell) (word pass : ℕ) (acked : Bool)
-      (before middle after : List Event) →
-      GoodFrames config passes after → stage_after config passes before ≡ Some (Writes cell word pass) →
-      is_allowed (held_after config passes before Protect) (cell_code cell) ≡ true →
-      IsWritten (frame_of config.addr (cell_write cell word)) acked before middle →
-      IsRead config passes (cell_read cell) middle after →
-      PassEnds config passes cell word pass acked before middle after
-  pub read_back : (config : Config) (passes : ℕ) (cell : Cell) (word pass : ℕ) (before after : List Event) →
-      GoodFrames config passes after → stage_after config passes before ≡ Some (Reads cell word pass) →
-      held_after config passes before cell ≡ word →
-      IsRead config passes (cell_read cell) before after → ReadBackEnds config passes cell word pass before after
-  pub send : (config : Config) (passes : ℕ) (command : Command) (tries : ℕ) (before after : List Event) →
-      GoodFrames config passes after → stage_after config passes before ≡ Some (Sends command tries) →
-      IsWritten (frame_of config.addr (command_message command)) true before after →
-      CommandEnds config passes command tries before after

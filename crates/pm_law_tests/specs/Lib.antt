@@ -1,6 +1,7 @@
 -- What the crate promises.
 pub mod ByName
 pub mod Beside
+pub mod Deliveries
 pub mod Drivers
 pub mod FrameCourses
 pub mod Late

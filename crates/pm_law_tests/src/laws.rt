@@ -7,13 +7,13 @@
 ghost use Rattle.pm_law_tests.specs.ByName.{LawsByName};
 
 use pm_world::{
-    answers_come_in_bytes, bands_are_exact, honest_orders_go_through, newest_events_are_parts,
-    possible_words_are_exact, ways_are_followed,
+    answers_come_in_bytes, bands_are_exact, honest_orders_go_through, possible_words_are_exact,
+    ways_are_followed,
 };
 
 /// What these laws say: [`honest_orders_go_through`] of the events that are taken (`ahead`), [`ways_are_followed`] of an
-/// order on its way (`through`), [`bands_are_exact`] (`reached`), [`answers_come_in_bytes`] (`came`), [`possible_words_are_exact`] of the words that its life begins with (`words`), and
-/// [`newest_events_are_parts`] of undisturbed frames (`check`, `order`, `read_back`, `send`).
+/// order on its way (`through`), [`bands_are_exact`] (`reached`), [`answers_come_in_bytes`] (`came`), and [`possible_words_are_exact`] of the
+/// words that its life begins with (`words`).
 pub fn laws_by_name()
     ensures { LawsByName }
 {
@@ -22,5 +22,4 @@ pub fn laws_by_name()
     bands_are_exact();
     answers_come_in_bytes();
     possible_words_are_exact();
-    newest_events_are_parts();
 }

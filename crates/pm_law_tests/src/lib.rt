@@ -9,19 +9,19 @@
 //!   gets it without writing a proof.
 //! - `numbers`: a voltage that is refused, a format, and a limit that is rounded.
 //! - `packets`: bits that changed, and packets that share their error code.
-//! - `parts`: what a converter latches, and how it answers.
+//! - `parts`: what a status register that is read says.
 //! - `hearings`: what a converter makes of requests, and of frames for another address.
-//! - `knowledge`: an open order, the ends of a band, orders that cut nothing, and a band that stays within limits.
+//! - `knowledge`: an open order, the ends of a band, and registers that a part lacks.
 //! - `further`: a world that goes on after a run has each promise of `run` for the longer list of events too.
 //! - `ends`: what the host says when a job begins and ends, and what an order that differs says of the converter.
-//! - `damage`: damage that the packet error code betrays is legal, and stops no run.
+//! - `damage`: damage that the packet error code betrays is legal.
+//! - `deliveries`: what a look is worth, at a verdict that a rail delivers or went off.
 //! - `exact`: what the host calls possible is exact, and the words that show it can be had in a world.
 //! - `bands`: a band is exact if the possible words are.
 //! - `logs`: what an accepted log is worth, and that nothing less would do.
 //! - `limits`: limits that allow the start words of a usual part, by computing with them.
 //! - `orders`: an order that nothing disturbs goes through, and a run says which one it was.
 //! - `good`: what frames that come whole make of an open job, and how it ends once all of them do.
-//! - `whole`: a job that is open after a run ends by frames that come whole.
 //! - `moves`: what moves a setting or the store.
 //! - `plans`: what plans and surveys of rails are worth.
 //! - `boards`: hosts and converters in pairs on one bus, each as if it had no neighbours.
@@ -41,6 +41,7 @@ pub mod bands;
 pub mod beside;
 pub mod boards;
 pub mod damage;
+pub mod deliveries;
 pub mod drivers;
 pub mod ends;
 pub mod exact;
@@ -64,6 +65,5 @@ pub mod progress;
 pub mod restarts;
 pub mod sequences;
 pub mod stairs;
-pub mod whole;
 
 pub use laws::laws_by_name;

@@ -4,7 +4,6 @@ ghost use Rattle.std.specs.Prelude.{IfOk, OnSome, reverse};
 ghost use Rattle.pm_stairs_laws.specs.Climb.{ClimbsAreStairs};
 ghost use Rattle.pm_stairs_laws.specs.Due.{MovesAreDue};
 ghost use Rattle.pm_stairs_laws.specs.Followed.{StairsAreFollowed};
-ghost use Rattle.pm_stairs_laws.specs.Handed.{StairsAreHanded};
 ghost use Rattle.pm_stairs_laws.specs.Stairs.{KeepsStairs};
 ghost use Rattle.pm_law_tests.specs.Stairs.{CellsTake, ClimbsReturn, ComesBack, StopsHaveAWayBack};
 
@@ -12,7 +11,7 @@ use crate::further::run_all;
 use pm_device::Config;
 use pm_stairs_laws::{
     cells_take_what_is_ordered, climbs_are_stairs, climbs_come_back, moves_are_due,
-    stairs_are_followed, stairs_are_handed, stairs_go_back, stairs_hold_in_lives,
+    stairs_are_followed, stairs_go_back, stairs_hold_in_lives,
 };
 use pm_world::{Event, SetupFault, World};
 
@@ -67,13 +66,6 @@ pub fn steps_by_the_stairs()
 {
     moves_are_due();
     climbs_are_stairs();
-}
-
-/// A caller's own loop over frames is such a loop.
-pub fn stairs_by_their_frames()
-    ensures { StairsAreHanded }
-{
-    stairs_are_handed();
 }
 
 /// Each register has its word of before after a run that stopped anywhere and went back by the stairs.

@@ -1,5 +1,5 @@
 -- How the memory of a sequence is kept.
-use Rattle.std.proofs.Common.{◌≡◌, ℕ, Option, Some, None, refl}
+use Rattle.std.proofs.Common.{◌≡◌, ℕ, Option, Some, None, refl, ◌∙◌, ap}
 use Rattle.std.specs.Prelude.{IfSome}
 use Rattle.pm_course.specs.declared.frame_course.FrameCourse.{FrameCourse}
 use Rattle.pm_stairs.specs.declared.sequence.Sequence.{Sequence as List}
@@ -7,12 +7,16 @@ use Rattle.pm_stairs.specs.declared.stairs.Under.{Under}
 use Rattle.pm_stairs.specs.declared.step.WordAct.{WordAct}
 use Rattle.pm_stairs.specs.declared.step.WordAct.TheVariants as words
 use Rattle.pm_sequence.specs.declared.look.Look.{Look}
+use Rattle.pm_sequence.specs.declared.sequence.Fresh.{Fresh}
+use Rattle.pm_sequence.specs.declared.sequence.Fresh.TheVariants as fresh
 use Rattle.pm_sequence.specs.declared.sequence.Phase.{Phase}
 use Rattle.pm_sequence.specs.declared.sequence.Phase.TheVariants as phase
 use Rattle.pm_sequence.specs.declared.sequence.Sequence.{Sequence}
+use Rattle.pm_host.specs.declared.job.Job.{Job}
+use Rattle.pm_host.specs.declared.job.Job.TheVariants as asked
 use Rattle.pm_memory.specs.declared.sequence_image.SaidImage.{SaidImage}
 use Rattle.pm_memory.specs.CourseImage.{IsKept}
-use Rattle.pm_memory.specs.SequenceImage.{look_image, look_read, phase_number, phase_read, sequence_image, sequence_in, IsKeptList, IsKeptSequence, SequencesAreKept}
+use Rattle.pm_memory.specs.SequenceImage.{fresh_number, fresh_read, look_image, look_read, phase_number, phase_read, sequence_image, sequence_in, told_by, told_written, IsKeptList, IsKeptSequence, SequencesAreKept}
 use Rattle.pm_memory.specs.ListImage.{list_image, list_in}
 use Rattle.pm_memory.proofs.Courses.{kept}
 use Rattle.pm_memory.proofs.Kept.{flag-kept, wanted-kept}
@@ -29,6 +33,22 @@ phase-kept : (p : Phase) → phase_read (phase_number p) ≡ p
 phase-kept phase.Steps = refl
 phase-kept phase.Before = refl
 phase-kept phase.After = refl
+
+fresh-kept : (it : Fresh) → fresh_read (fresh_number it) ≡ it
+fresh-kept fresh.Nothing = refl
+fresh-kept fresh.Under = refl
+fresh-kept fresh.Ahead = refl
+
+fresh-by : (told : Option Job) (n : ℕ) → (told_by told n).fresh ≡ n
+fresh-by None n = refl
+fresh-by (Some (asked.Order cell word)) n = refl
+fresh-by (Some (asked.OrderMicro cell x)) n = refl
+fresh-by (Some (asked.Check cell)) n = refl
+fresh-by (Some (asked.Learn output)) n = refl
+fresh-by (Some (asked.Send command)) n = refl
+
+fresh-told : (told : Option Job) (it : Fresh) → fresh_read (told_written told it).fresh ≡ it
+fresh-told told it = ap (λ (n : ℕ). fresh_read n) (fresh-by told (fresh_number it)) ∙ fresh-kept it
 
 -- a list whose newest step and whose first step ahead have these courses
 abbrev made : List → Option Under → Option FrameCourse → List
@@ -135,6 +155,7 @@ sequence-kept q said is = rw (
   look-kept q.look,
   phase-kept q.phase,
   is.told,
+  fresh-told q.told q.fresh,
   is.over,
   flag-kept q.leaves,
   flag-kept q.asks,

@@ -6,6 +6,8 @@ use Rattle.pm_host.specs.declared.job.Job.TheVariants.{Order, OrderMicro, Check,
 use Rattle.pm_stairs.specs.declared.sequence.Sequence.{Sequence as List}
 use Rattle.pm_sequence.specs.declared.look.Look.{Look}
 use Rattle.pm_sequence.specs.declared.look.Silence.{Silence}
+use Rattle.pm_sequence.specs.declared.sequence.Fresh.{Fresh}
+use Rattle.pm_sequence.specs.declared.sequence.Fresh.TheVariants as fresh
 use Rattle.pm_sequence.specs.declared.sequence.Phase.{Phase}
 use Rattle.pm_sequence.specs.declared.sequence.Phase.TheVariants as phase
 use Rattle.pm_sequence.specs.declared.sequence.Sequence.{Sequence}
@@ -65,14 +67,25 @@ phase_number phase.After = 2
 abbrev pub phase_read : ℕ → Phase
 phase_read n = if n == 1 then phase.Before else (if n == 2 then phase.After else phase.Steps)
 
--- the order that was told last
-abbrev pub told_written : Option Job → ToldImage
-told_written None = record { has = 0; code = 0; output = 0; unused = 0; word = 0 }
-told_written (Some (Order cell word)) = record { has = 1; code = cell_code cell; output = output_of cell; unused = 0; word = word }
-told_written (Some (OrderMicro cell x)) = record { has = 0; code = 0; output = 0; unused = 0; word = 0 }
-told_written (Some (Check cell)) = record { has = 0; code = 0; output = 0; unused = 0; word = 0 }
-told_written (Some (Learn output)) = record { has = 0; code = 0; output = 0; unused = 0; word = 0 }
-told_written (Some (Send command)) = record { has = 0; code = 0; output = 0; unused = 0; word = 0 }
+abbrev pub fresh_number : Fresh → ℕ
+fresh_number fresh.Nothing = 0
+fresh_number fresh.Under = 1
+fresh_number fresh.Ahead = 2
+
+abbrev pub fresh_read : ℕ → Fresh
+fresh_read n = if n == 1 then fresh.Under else (if n == 2 then fresh.Ahead else fresh.Nothing)
+
+-- the order that was told last, and whose survey is fresh
+abbrev pub told_by : Option Job → ℕ → ToldImage
+told_by None n = record { has = 0; code = 0; output = 0; fresh = n; word = 0 }
+told_by (Some (Order cell word)) n = record { has = 1; code = cell_code cell; output = output_of cell; fresh = n; word = word }
+told_by (Some (OrderMicro cell x)) n = record { has = 0; code = 0; output = 0; fresh = n; word = 0 }
+told_by (Some (Check cell)) n = record { has = 0; code = 0; output = 0; fresh = n; word = 0 }
+told_by (Some (Learn output)) n = record { has = 0; code = 0; output = 0; fresh = n; word = 0 }
+told_by (Some (Send command)) n = record { has = 0; code = 0; output = 0; fresh = n; word = 0 }
+
+abbrev pub told_written : Option Job → Fresh → ToldImage
+told_written told it = told_by told (fresh_number it)
 
 abbrev pub told_read : ToldImage → Option Job
 told_read i = if i.has == 1 then option_map (λ cell. Order cell i.word) (cell_at i.code i.output) else None
@@ -90,6 +103,7 @@ sequence_read i list = record {
   leaves = i.leaves == 1;
   asks = i.asks == 1;
   told = told_read i.told;
+  fresh = fresh_read i.told.fresh;
   left = i.left;
   end = end_read i.end;
 }
@@ -119,7 +133,7 @@ sequence_image q said = record {
   is_waited = flag q.is_waited;
   is_looked = flag q.is_looked;
   end = end_written q.end;
-  told = told_written q.told;
+  told = told_written q.told q.fresh;
 }
 
 -- A list that memory keeps: so are its courses.
@@ -130,7 +144,7 @@ pub record IsKeptList (q : List) : Type 0 where
 -- A sequence that memory keeps: so is its list, and the order that it told and its end read as they are written.
 pub record IsKeptSequence (q : Sequence) : Type 0 where
   pub list : IsKeptList q.list
-  pub told : told_read (told_written q.told) ≡ q.told
+  pub told : told_read (told_written q.told q.fresh) ≡ q.told
   pub over : end_read (end_written q.end) ≡ q.end
 
 -- What a call leaves in the memory of a sequence reads as the sequence that it speaks of.

@@ -1,7 +1,7 @@
 //! A sequence in a caller's memory: plain numbers, and what they mean.
 
 ghost use Rattle.std.specs.Prelude.{◌≡◌};
-ghost use Rattle.pm_memory.specs.SequenceImage.{phase_number, phase_read, sequence_image, sequence_in, sequence_meant, told_read, told_written};
+ghost use Rattle.pm_memory.specs.SequenceImage.{fresh_number, fresh_read, phase_number, phase_read, sequence_image, sequence_in, sequence_meant, told_read, told_written};
 ghost use Rattle.pm_table.specs.Rules.{rule};
 ghost use Rattle.pm_table.specs.Cell.{output_of as spec_output_of};
 
@@ -10,7 +10,7 @@ use crate::list_image::ListImage;
 use crate::look_image::LookImage;
 use crate::sequence_end::SequenceEndImage;
 use pm_host::Job;
-use pm_sequence::{Phase, Sequence};
+use pm_sequence::{Fresh, Phase, Sequence};
 use pm_table::{Cell, Code, cell_of};
 
 /// What was said last. It has no padding.
@@ -41,7 +41,7 @@ pub struct SaidImage {
     pub microvolts: i64,
 }
 
-/// The order that was told last, if nothing has begun since. It has no padding.
+/// The order that was told last, if nothing has begun since, and whose survey is fresh. It has no padding.
 #[repr(C)]
 #[derive(Clone, Copy, Debug)]
 pub struct ToldImage {
@@ -51,8 +51,8 @@ pub struct ToldImage {
     pub code: u8,
     /// Its output, otherwise 0.
     pub output: u8,
-    /// No meaning.
-    pub unused: u8,
+    /// Whose survey began anew, with nothing sent since but its reads: 1 the step's under way, 2 the first step's ahead, otherwise none.
+    pub fresh: u8,
     /// Its word, otherwise 0.
     pub word: u16,
 }
@@ -114,22 +114,23 @@ impl SaidImage {
 
 impl ToldImage {
     // This order, or none.
-    fn of(told: Option<Job>) -> ToldImage
-        ensures { result ≡ told_written told }
+    fn of(told: Option<Job>, fresh: Fresh) -> ToldImage
+        ensures { result ≡ told_written told fresh }
     {
+        let fresh = fresh_number(fresh);
         match told {
             Some(Job::Order(cell, word)) => ToldImage {
                 has: 1,
                 code: cell.code().0,
                 output: output_of(cell),
-                unused: 0,
+                fresh,
                 word,
             },
             _ => ToldImage {
                 has: 0,
                 code: 0,
                 output: 0,
-                unused: 0,
+                fresh,
                 word: 0,
             },
         }
@@ -186,7 +187,7 @@ impl SequenceImage {
             is_waited: 0,
             is_looked: 0,
             end: SequenceEndImage::of(None),
-            told: ToldImage::of(None),
+            told: ToldImage::of(None, Fresh::Nothing),
         };
         image.write(sequence, said);
         image
@@ -211,7 +212,7 @@ impl SequenceImage {
         self.is_waited = flag(sequence.is_waited);
         self.is_looked = flag(sequence.is_looked);
         self.end = SequenceEndImage::of(sequence.end);
-        self.told = ToldImage::of(sequence.told);
+        self.told = ToldImage::of(sequence.told, sequence.fresh);
     }
 
     /// Whether the memory holds a sequence.
@@ -239,8 +240,30 @@ impl SequenceImage {
         is.leaves = self.leaves == 1;
         is.asks = self.asks == 1;
         is.told = self.told.told();
+        is.fresh = fresh_of(self.told.fresh);
         is.left = self.left;
         is.end = self.end.end();
+    }
+}
+
+// Whose survey is fresh, by its number.
+fn fresh_of(number: u8) -> Fresh
+    ensures { result ≡ fresh_read number }
+{
+    match number {
+        1 => Fresh::Under,
+        2 => Fresh::Ahead,
+        _ => Fresh::Nothing,
+    }
+}
+
+fn fresh_number(fresh: Fresh) -> u8
+    ensures { result ≡ fresh_number fresh }
+{
+    match fresh {
+        Fresh::Nothing => 0,
+        Fresh::Under => 1,
+        Fresh::Ahead => 2,
     }
 }
 

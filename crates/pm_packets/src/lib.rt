@@ -33,7 +33,7 @@ pub use code_names::standard_name;
 pub use content::Content;
 pub use others::Others;
 pub use otherwise::{
-    Otherwise, address_otherwise, completed_part, ones_words, push_otherwise, push_spaced,
-    shown_with,
+    Otherwise, address_otherwise, completed_part, ones_words, push_carried, push_otherwise,
+    push_spaced, shown_with,
 };
 pub use packet::Packet;

@@ -264,9 +264,13 @@ fn push_named(text: &mut String, name: &str) -> Result<(), AllocError>
     text.push_str(name)
 }
 
-// What was written and read.
+/// Appends what was written and read to a text: ` write 20 read 14`, or ` send` if there is nothing.
 #[tactic(auto, using(pm_lines::specs::Lemmas::Joins::joins))]
-fn push_carried(text: &mut String, written: &[u8], answer: Option<&[u8]>) -> Result<(), AllocError>
+pub fn push_carried(
+    text: &mut String,
+    written: &[u8],
+    answer: Option<&[u8]>,
+) -> Result<(), AllocError>
     ensures { OnOk result (string_bytes text.new ≡ string_bytes text.old
         ++ carried_by written.now (option_map (λ bytes. bytes.now) answer.entry)) }
 {

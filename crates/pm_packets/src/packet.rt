@@ -25,7 +25,7 @@ impl Packet<'_> {
     }
 
     /// The address, by the first byte; 0 if there is none.
-    pub(crate) fn address(&self) -> u8
+    pub fn address(&self) -> u8
         ensures { result ≡ slice_index self.now.write.now 0 / 2 }
     {
         self.write.first().copied().unwrap_or(0) / 2

@@ -1,33 +1,17 @@
 -- What is left of a part beside which a host began, by the life that is like what happened there.
-use Rattle.std.proofs.Common.{◌≡◌, ℕ, List, [], ◌∷◌, Option, Some, None, refl, sym, ◌∙◌, subst}
+use Rattle.std.proofs.Common.{◌≡◌, refl, sym, subst}
 use Rattle.pm_model.specs.Settings.{Words, word_at}
 use Rattle.pm_device.specs.declared.config.Config.{Config}
-use Rattle.pm_device.specs.Effect as device
-use Rattle.pm_device.specs.Held.{Held}
-use Rattle.pm_device.specs.History.{after as device_after_outcome, next as device_next}
 use Rattle.pm_host.specs.Refusals.{IsSetup}
 use Rattle.pm_world.specs.Honest.{IsSpelled}
 use Rattle.pm_world.specs.Life.{now}
 use Rattle.pm_world.specs.Parts.{AreWordsOf, IsPart, LivesLeaveParts}
 use Rattle.pm_world.specs.Setup.{setup_of}
-use Rattle.pm_world.specs.State.{device_after, next, share_of}
 use Rattle.pm_part_laws.specs.Alike.{SameSettingsLiveAlike}
-use Rattle.pm_part_laws.specs.Happenings.{Happening, Happens, Hears, beside}
+use Rattle.pm_part_laws.specs.Happenings.{beside}
+use Rattle.pm_part_laws.specs.Lemmas.Made.{made-so}
 use Rattle.pm_part_laws.specs.Lemmas.Narrow.{at, config}
 use Rattle.pm_part_laws.specs.Parts.{PartsStayParts}
-
--- no event changes how a converter is made
-told-config : (held : Held) (heard : Option device.Event) → (device_after held heard).config ≡ held.config
-unfolding device_next device_after_outcome
-told-config held None = refl
-told-config held (Some event) = refl
-
-made-so : (held : Held) (passes : ℕ) (happened : List Happening) → (beside held passes happened).device.config ≡ held.config
-unfolding beside next device_next device_after_outcome
-made-so held passes [] = refl
-made-so held passes (Happens event ∷ before) =
-    told-config (beside held passes before).device (share_of (beside held passes before) event).heard ∙ made-so held passes before
-made-so held passes (Hears bytes ending ∷ before) = made-so held passes before
 
 pub parts-stay : SameSettingsLiveAlike → LivesLeaveParts → PartsStayParts
 unfolding beside

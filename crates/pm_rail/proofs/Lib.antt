@@ -1,4 +1,3 @@
 -- Lemmas of the laws that no other crate uses.
 mod SurveyBand
-mod SurveyLength
 mod Free

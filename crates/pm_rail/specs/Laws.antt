@@ -66,14 +66,6 @@ pub record PlansEnd : Type 0 where
   pub five : (value : Scale) (held : Held) (wants : Wants) → wants Operation ≡ None →
       (register : Reg) → after value wants held 5 register ≡ goal_of held wants register
 
--- No order cuts an output that isn't cut, neither by its words nor by those at the end; and no order cuts what any other
--- byte of OPERATION would select for such an output, where that isn't cut either.
-pub record PlansCutNothing : Type 0 where
-  pub kept : (value : Scale) (held : Held) (wants : Wants) (byte : ℕ) → HasDens value → wants Operation ≡ None →
-      is_cut_by value held ≡ false → would_be_cut value held byte ≡ false →
-      would_be_cut value (goal_of held wants) byte ≡ false →
-      would_be_cut value (stepped value wants held) byte ≡ false
-
 -- The words of the registers that a plan needs are ones that they may hold. A part without VOUT_MIN or VOUT_MAX holds
 -- there the word at which it stands, which never cuts.
 abbrev pub MayHold : PartRegisters → Summary → ℕ → Wants → Held → Type 0

@@ -6,7 +6,6 @@ pub mod Known
 pub mod Orders
 pub mod Rail
 pub mod Survey
-pub mod SurveyLength
 pub mod Course
 pub mod Laws
 pub mod Lemmas

@@ -1,9 +1,6 @@
 //! The laws of a plan, over the definitions only: each is the contract of a function that does nothing.
 
-ghost use Rattle.pm_rail.specs.Laws.{CoursesEnd, PlansAreAccepted, PlansAreOfWhatIsHeld, PlansAreWithoutGlitch, PlansCutNothing, PlansEnd, SurveysEndKnown};
-ghost use Rattle.pm_rail.specs.SurveyLength.{SurveysAreShort};
-
-use pm_table::{cells_are_told_apart, cells_have_places};
+ghost use Rattle.pm_rail.specs.Laws.{CoursesEnd, PlansAreAccepted, PlansAreOfWhatIsHeld, PlansAreWithoutGlitch, PlansEnd, SurveysEndKnown};
 
 /// Each order of the plan leaves what the output commands, or makes it what it commands at the end (`one`). Any number of
 /// orders from any moment on do so, too, if the output isn't cut by the words at the end (`any`). The output never commands
@@ -16,12 +13,6 @@ pub fn plans_are_without_glitch()
 /// wanted word (`done`), and that is so after five orders at most (`five`).
 pub fn plans_end()
     ensures { PlansEnd }
-{}
-
-/// No order cuts an output that isn't cut, neither by its words nor by those at the end. No order cuts what any
-/// other byte of OPERATION would select for such an output, if that isn't cut either.
-pub fn plans_cut_nothing()
-    ensures { PlansCutNothing }
 {}
 
 /// What a plan answers by what is known is what it answers for the words that are held, whichever of the possible ones
@@ -45,16 +36,6 @@ pub fn plans_are_accepted()
 pub fn surveys_end_known()
     ensures { SurveysEndKnown }
 {}
-
-/// A survey that has read nothing takes a check for each cell that it reads, if each has a good answer of a word that its
-/// cell takes and none surprises (`calm`). It takes at most one check less than two for each cell if one answer surprises at
-/// most (`short`), as it is unless the converter restarts after the first of them.
-pub fn surveys_are_short()
-    ensures { SurveysAreShort }
-{
-    cells_are_told_apart();
-    cells_have_places();
-}
 
 /// Each job that a course names takes a try, so that it names as many as it has tries at most (`takes`, `told`). What a course
 /// to wanted words or to nothing names is refused by nothing (`free`). One to nothing orders nothing (`reads`); and if one to

@@ -53,7 +53,7 @@ pub use course::{Course, Differing};
 pub use fault::PlanFault;
 pub use laws::{
     courses_end, plans_are_accepted, plans_are_of_what_is_held, plans_are_without_glitch,
-    plans_cut_nothing, plans_end, surveys_are_short, surveys_end_known,
+    plans_end, surveys_end_known,
 };
 pub use next::Next;
 pub use orders::{Plan, PlanOrder, begin_next, next_order, next_order_in};

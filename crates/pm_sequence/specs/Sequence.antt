@@ -10,7 +10,9 @@ use Rattle.pm_limits.specs.declared.output_limits.OutputLimits.{OutputLimits}
 use Rattle.pm_limits.specs.Guard.{Guarded, limits_at}
 use Rattle.pm_rail.specs.declared.fault.PlanFault.{PlanFault}
 use Rattle.pm_rail.specs.declared.power.Power.{Power}
+use Rattle.pm_rail.specs.Course.{once_more}
 use Rattle.pm_rail.specs.Rail.{power_of}
+use Rattle.pm_course.specs.declared.frame_course.FrameCourse.{FrameCourse}
 use Rattle.pm_delivery.specs.declared.delivery.Delivery.{Delivery}
 use Rattle.pm_delivery.specs.declared.due.Due.{Due}
 use Rattle.pm_delivery.specs.declared.due.Due.TheVariants as due
@@ -28,7 +30,10 @@ use Rattle.pm_stairs.specs.declared.sequence.Turn.{Turn}
 use Rattle.pm_stairs.specs.declared.sequence.Turn.TheVariants as turn
 use Rattle.pm_stairs.specs.declared.stairs.Under.{Under}
 use Rattle.pm_stairs.specs.declared.step.WordStep.{WordStep}
-use Rattle.pm_stairs.specs.Sequence.{Turns, one_more, sequence_new, skipped}
+use Rattle.pm_stairs.specs.Frames.{course_open}
+use Rattle.pm_stairs.specs.Sequence.{Turns, heard_with, one_more, sequence_new, skipped}
+use Rattle.pm_sequence.specs.declared.sequence.Fresh.{Fresh}
+use Rattle.pm_sequence.specs.declared.sequence.Fresh.TheVariants as fresh
 use Rattle.pm_sequence.specs.declared.gate.Gate.{Gate}
 use Rattle.pm_sequence.specs.declared.gate.Gate.TheVariants as gate_is
 use Rattle.pm_sequence.specs.declared.look.Look.{Look}
@@ -43,7 +48,7 @@ use Rattle.pm_sequence.specs.declared.sequence.Phase.TheVariants as phase
 use Rattle.pm_sequence.specs.declared.sequence.Rules.{Rules}
 use Rattle.pm_sequence.specs.declared.sequence.Sequence.{Sequence}
 use Rattle.pm_sequence.specs.declared.step.Step.{Step}
-use Rattle.pm_sequence.specs.Gate.{is_order, is_untold, order_gate, step_gate}
+use Rattle.pm_sequence.specs.Gate.{is_on_order, is_order, is_untold, order_gate, step_gate}
 use Rattle.pm_sequence.specs.Look.{look_act, look_after, looking, new_probe}
 use Rattle.pm_sequence.specs.Steps.{before_of, is_of, is_unreadable, new_of, same_heard, turns_off}
 use Rattle.pm_delivery.specs.Deliveries.{new_delivery}
@@ -61,6 +66,7 @@ new_sequence tries rules = record {
   leaves = rules.leaves;
   asks = rules.asks;
   told = None;
+  fresh = fresh.Nothing;
   left = 0;
   end = None;
 }
@@ -80,9 +86,24 @@ is_read_for q step = q.is_read && is_at q step
 abbrev pub read_gate : Guarded → Sequence → Step → Option Under → Gate
 read_gate g q step under = if is_read_for q step then step_gate g q.look.delivery under else gate_is.Looks
 
-abbrev pub gate : Guarded → Sequence → Option Step → Job → Option Under → Gate
-gate g q None job under = gate_is.Goes
-gate g q (Some step) job under = if step.looks.is_wanted && order_gate job then read_gate g q step under else gate_is.Goes
+abbrev pub judged_gate : Guarded → Sequence → Option Step → Job → Option Under → Gate
+judged_gate g q None job under = gate_is.Goes
+judged_gate g q (Some step) job under = if step.looks.is_wanted && order_gate job then read_gate g q step under else gate_is.Goes
+
+-- the survey of the first step ahead, or of the one under way, began anew, and nothing was sent since but its reads
+abbrev pub is_fresh : Fresh → Bool → Bool
+is_fresh fresh.Nothing of_ahead = false
+is_fresh fresh.Under of_ahead = not of_ahead
+is_fresh fresh.Ahead of_ahead = of_ahead
+
+-- an order that turns an output on begins directly after such a survey
+abbrev pub fresh_gate : Fresh → Bool → Job → Gate → Gate
+fresh_gate it of_ahead job gate_is.Goes = if is_on_order job && not (is_fresh it of_ahead) then gate_is.Blind else gate_is.Goes
+fresh_gate it of_ahead job said = said
+
+-- what is said of a job that a list, which is this then, names of a step, which begins with it or not
+abbrev pub gate : Guarded → Sequence → Option Step → Job → List → Bool → Gate
+gate g q step job list begins = fresh_gate q.fresh (begins || list.stairs.reading) job (judged_gate g q step job list.stairs.under)
 
 -- what stands before the first order of a step's output is looked at
 abbrev pub look_before : Sequence → Option Step → Sequence
@@ -106,6 +127,7 @@ left_out q = record q {
   is_waited = false;
   is_looked = true;
   told = None;
+  fresh = fresh.Nothing;
 }
 
 abbrev pub is_restart : StepEnd → Bool
@@ -133,15 +155,21 @@ abbrev pub with_list : Sequence → List → Sequence
 with_list q list = record q { list = list }
 
 abbrev pub begun_with : Sequence → List → Sequence
-begun_with q list = record q { list = list; is_shown = false; is_waited = false; is_looked = false; told = None }
+begun_with q list = record q { list = list; is_shown = false; is_waited = false; is_looked = false; told = None; fresh = fresh.Nothing }
 
--- a job of the step under way, or one that reads for the next one: what was told is past. After an order the next step waits until the rail was
--- looked at again.
+-- A job of the step under way, or one that reads for the next one: what was told is past, and a fresh survey stays so if the job is its own.
+-- After an order the next step waits until the rail was looked at again.
+abbrev pub fresh_after : Fresh → Bool → Fresh
+fresh_after it of_ahead = if is_fresh it of_ahead then it else fresh.Nothing
+
 abbrev pub read_after : Sequence → List → Sequence
-read_after q list = record q { list = list; told = None }
+read_after q list = record q { list = list; told = None; fresh = fresh_after q.fresh list.stairs.reading }
+
+abbrev pub ordered_after : Sequence → List → Sequence
+ordered_after q list = record q { list = list; is_shown = false; is_looked = false; told = None; fresh = fresh.Nothing }
 
 abbrev pub job_after : Sequence → Job → List → Sequence
-job_after q job list = if is_order job then record q { list = list; is_shown = false; is_looked = false; told = None } else read_after q list
+job_after q job list = if is_order job then ordered_after q list else read_after q list
 
 -- a job that is named so has begun: with the first order of a step that begins
 abbrev pub begun_as : Sequence → Act → Job → Sequence
@@ -182,6 +210,20 @@ asked_list was named begins = record was { stairs = record was.stairs { reading 
 abbrev pub asked_of : Sequence → List → Bool → Sequence
 asked_of q named begins = with_list q (asked_list q.list named begins)
 
+-- nothing begins, and the survey of the course that named the job begins anew
+abbrev pub anew : FrameCourse → FrameCourse
+anew course = record course { course = once_more course.course }
+
+abbrev pub afresh_by : List → Option FrameCourse → List
+afresh_by list None = list
+afresh_by list (Some course) = heard_with list (anew course) false
+
+abbrev pub afresh : List → List
+afresh list = afresh_by list (course_open list.stairs)
+
+abbrev pub afresh_with : Sequence → Sequence
+afresh_with q = record q { list = afresh q.list; fresh = if q.list.stairs.reading then fresh.Ahead else fresh.Under }
+
 -- nothing begins, and this order is told
 abbrev pub told_with : Sequence → Job → Sequence
 told_with q job = record q { told = Some job }
@@ -191,12 +233,14 @@ gated_act q gate_is.Goes job said = if is_untold q.asks q.told job then act.Orde
 gated_act q gate_is.Looks job said = act.Again
 gated_act q (gate_is.Beyond fault) job said = stopped_act q (end.Beyond fault)
 gated_act q gate_is.Unjudged job said = stopped_act q end.Unjudged
+gated_act q gate_is.Blind job said = act.Again
 
 abbrev pub gated_after : Sequence → Option Step → Gate → Job → Sequence → Sequence
 gated_after q step gate_is.Goes job after = if is_untold q.asks q.told job then told_with q job else after
 gated_after q step gate_is.Looks job after = look_before q step
 gated_after q step (gate_is.Beyond fault) job after = stopped_after q (end.Beyond fault)
 gated_after q step gate_is.Unjudged job after = stopped_after q end.Unjudged
+gated_after q step gate_is.Blind job after = afresh_with q
 
 -- the step under way is over: its rail is looked at, where that is wanted and wasn't done since its last order
 abbrev pub needs_look : Sequence → Step → Bool
@@ -224,7 +268,7 @@ abbrev pub step_act : Sequence → Step → Act
 step_act q step = if step.wait == 0 || q.is_waited then act.Again else act.Wait step.wait
 
 abbrev pub step_after : Sequence → Step → Sequence
-step_after q step = if step.wait == 0 || q.is_waited then record q { is_shown = true } else record q { is_waited = true }
+step_after q step = if step.wait == 0 || q.is_waited then record q { is_shown = true } else record q { is_waited = true; fresh = fresh.Nothing }
 
 abbrev pub ahead_act : Sequence → Option Step → Act
 ahead_act q None = act.Ended (end_of q.left)
@@ -255,9 +299,9 @@ again_after q list = if list.begun == q.list.begun then with_list q list else be
 abbrev pub act_of : Guarded → Option Step → Option Step → Sequence → Turn → List → Act
 act_of g under ahead q turn.Again list = act.Again
 act_of g under ahead q (turn.Job job) list =
-    gated_act (asked_of q list false) (gate g q under job list.stairs.under) job (act.Job job)
+    gated_act (asked_of q list false) (gate g q under job list false) job (act.Job job)
 act_of g under ahead q (turn.Begins job back) list =
-    gated_act (asked_of q list true) (gate g q ahead job list.stairs.under) job (act.Begins job back)
+    gated_act (asked_of q list true) (gate g q ahead job list true) job (act.Begins job back)
 act_of g under ahead q (turn.Passes back) list = act.Passes back
 act_of g under ahead q (turn.NoWayBack fault) list = act.NoWayBack fault
 act_of g under ahead q turn.Reached list = reached_act q under ahead list
@@ -266,9 +310,9 @@ act_of g under ahead q (turn.Stops why) list = stopped_act (with_list q list) (e
 abbrev pub after_of : Guarded → Option Step → Option Step → Sequence → Turn → List → Sequence
 after_of g under ahead q turn.Again list = again_after q list
 after_of g under ahead q (turn.Job job) list =
-    gated_after (asked_of q list false) under (gate g q under job list.stairs.under) job (job_after q job list)
+    gated_after (asked_of q list false) under (gate g q under job list false) job (job_after q job list)
 after_of g under ahead q (turn.Begins job back) list =
-    gated_after (asked_of q list true) ahead (gate g q ahead job list.stairs.under) job (begun_with q list)
+    gated_after (asked_of q list true) ahead (gate g q ahead job list true) job (begun_with q list)
 after_of g under ahead q (turn.Passes back) list = begun_with q list
 after_of g under ahead q (turn.NoWayBack fault) list = with_list q list
 after_of g under ahead q turn.Reached list = reached_after q under ahead list
@@ -358,8 +402,9 @@ said_after g q under look.Pause = q
 said_after g q under look.Again = q
 said_after g q under look.Over = judged_after q under (verdict_in g q.look.delivery)
 
+-- what is looked at is sent beside the list's jobs
 abbrev pub with_look : Sequence → Look → Sequence
-with_look q l = record q { look = l }
+with_look q l = record q { look = l; fresh = fresh.Nothing }
 
 abbrev pub looked_act : Guarded → Sequence → Option Step → Act
 looked_act g q under =

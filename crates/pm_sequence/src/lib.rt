@@ -16,5 +16,5 @@ mod step;
 
 pub use gate::Gate;
 pub use look::{Look, LookAct, Probe, Silence};
-pub use sequence::{Act, End, Phase, Rules, Sequence};
+pub use sequence::{Act, End, Fresh, Phase, Rules, Sequence};
 pub use step::{Looks, Step};

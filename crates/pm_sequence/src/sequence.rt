@@ -3,15 +3,16 @@
 ghost use Rattle.std.specs.Prelude.{◌≡◌, ◌<◌, None};
 ghost use Rattle.pm_host.specs.Image.{held};
 ghost use Rattle.pm_stairs.specs.Sequence.{one_more as spec_one_more};
-ghost use Rattle.pm_sequence.specs.Sequence.{act_of, after_of, ahead_act, ahead_after, asked_of, begun_as, begun_with, due_by, due_in as spec_due_in, end_of as spec_end_of, found_at, gate as spec_gate, gated_act, gated_after, is_at as spec_is_at, is_begin as spec_is_begin, is_good as spec_is_good, is_read_for as spec_is_read_for, job_after, judged_after, look_before, looked_act, looked_after, may_leave as spec_may_leave, needs_look as spec_needs_look, new_sequence, reached_act, reached_after, shown as spec_shown, stopped_act, stopped_after, verdict_by, verdict_in as spec_verdict_in, with_list, Acts, Steps};
+ghost use Rattle.pm_sequence.specs.Sequence.{act_of, after_of, afresh_with, ahead_act, ahead_after, anew, asked_of, begun_as, begun_with, due_by, due_in as spec_due_in, end_of as spec_end_of, found_at, fresh_after, gate as spec_gate, gated_act, gated_after, is_at as spec_is_at, is_begin as spec_is_begin, is_fresh as spec_is_fresh, is_good as spec_is_good, is_read_for as spec_is_read_for, job_after, judged_after, judged_gate, look_before, looked_act, looked_after, may_leave as spec_may_leave, needs_look as spec_needs_look, new_sequence, reached_act, reached_after, shown as spec_shown, stopped_act, stopped_after, verdict_by, verdict_in as spec_verdict_in, with_list, Acts, Steps};
 
-use crate::gate::{Gate, is_judged_order, is_order, is_untold, judge};
+use crate::gate::{Gate, is_judged_order, is_on_order, is_order, is_untold, judge};
 use crate::look::{Look, LookAct};
 use crate::step::Step;
+use pm_course::FrameCourse;
 use pm_delivery::{Delivery, DeliveryFault, Due, Question, Verdict};
 use pm_host::{Job, State};
 use pm_limits::{OutputLimits, PartRegisters};
-use pm_rail::{PlanFault, power_in};
+use pm_rail::{PlanFault, Survey, power_in};
 use pm_stairs::{Placed, Sequence as List, Sight, StepEnd, Turn, WordStep};
 
 /// What is looked at.
@@ -23,6 +24,17 @@ pub enum Phase {
     Before,
     /// What the rail of the step does that is over.
     After,
+}
+
+/// Whose survey began anew, with nothing sent since but its reads: an order that turns an output on begins only so.
+#[derive(Clone, Copy, Debug, PartialEq, Eq)]
+pub enum Fresh {
+    /// None.
+    Nothing,
+    /// That of the step under way.
+    Under,
+    /// That of the first step ahead.
+    Ahead,
 }
 
 /// How a sequence ended, or why a step was left.
@@ -111,6 +123,8 @@ pub struct Sequence {
     pub asks: bool,
     /// The order that was told last, if nothing has begun since.
     pub told: Option<Job>,
+    /// Whose survey is fresh.
+    pub fresh: Fresh,
     /// How many steps were left.
     pub left: u16,
     /// How it has ended.
@@ -134,6 +148,7 @@ impl Sequence {
             leaves: rules.leaves,
             asks: rules.asks,
             told: None,
+            fresh: Fresh::Nothing,
             left: 0,
             end: None,
         }
@@ -214,11 +229,11 @@ impl Sequence {
                 Act::Again
             }
             Turn::Job(job) => {
-                let gate = self.gate(guard, under, job);
+                let gate = self.gate(guard, under, job, false);
                 self.gated(under, gate, job, Act::Job(job), was)
             }
             Turn::Begins(job, back) => {
-                let gate = self.gate(guard, ahead, job);
+                let gate = self.gate(guard, ahead, job, true);
                 self.gated(ahead, gate, job, Act::Begins(job, back), was)
             }
             Turn::Passes(back) => {
@@ -231,9 +246,21 @@ impl Sequence {
         }
     }
 
-    // Whether a job of a step may begin.
-    fn gate<S: Sight>(&self, guard: &S, step: &Option<Step>, job: Job) -> Gate
-        ensures { result ≡ spec_gate (S.guarded guard.now) self.now step.now job self.now.list.stairs.under }
+    // Whether a job that its list names of a step, which begins with it or not, may begin.
+    fn gate<S: Sight>(&self, guard: &S, step: &Option<Step>, job: Job, begins: bool) -> Gate
+        ensures { result ≡ spec_gate (S.guarded guard.now) self.now step.now job self.now.list begins }
+    {
+        match self.judged_gate(guard, step, job) {
+            Gate::Goes
+                if is_on_order(job) && !is_fresh(self.fresh, begins || self.list.stairs.reading) =>
+                Gate::Blind,
+            gate => gate,
+        }
+    }
+
+    // Whether a job of a step may begin, by what was read before.
+    fn judged_gate<S: Sight>(&self, guard: &S, step: &Option<Step>, job: Job) -> Gate
+        ensures { result ≡ judged_gate (S.guarded guard.now) self.now step.now job self.now.list.stairs.under }
     {
         match step {
             Some(step) if step.looks.is_wanted && is_judged_order(job) => {
@@ -292,7 +319,26 @@ impl Sequence {
                 self.asked(was, is_begin(&act));
                 self.stops(End::Unjudged)
             }
+            Gate::Blind => {
+                self.asked(was, is_begin(&act));
+                self.surveys_anew();
+                Act::Again
+            }
         }
+    }
+
+    // The survey of the course that was asked begins anew.
+    fn surveys_anew(&mut self)
+        ensures { self.new ≡ afresh_with self.old }
+    {
+        if let Some(course) = self.list.course_open() {
+            self.list.put_course(&surveyed_anew(course), false);
+        }
+        self.fresh = if self.list.stairs.reading {
+            Fresh::Ahead
+        } else {
+            Fresh::Under
+        };
     }
 
     // Nothing of what the list named begins: it is as before, but for which step was asked.
@@ -335,6 +381,7 @@ impl Sequence {
         self.is_waited = false;
         self.is_looked = false;
         self.told = None;
+        self.fresh = Fresh::Nothing;
     }
 
     // A job of the step under way, or one that reads for the next one, has begun.
@@ -345,6 +392,9 @@ impl Sequence {
         if is_order(job) {
             self.is_shown = false;
             self.is_looked = false;
+            self.fresh = Fresh::Nothing;
+        } else {
+            self.fresh = kept_fresh(self.fresh, self.list.stairs.reading);
         }
     }
 
@@ -395,6 +445,7 @@ impl Sequence {
                     Act::Again
                 } else {
                     self.is_waited = true;
+                    self.fresh = Fresh::Nothing;
                     Act::Wait(step.wait)
                 }
             }
@@ -428,6 +479,7 @@ impl Sequence {
         self.is_waited = false;
         self.is_looked = true;
         self.told = None;
+        self.fresh = Fresh::Nothing;
         Act::Leaves(end)
     }
 
@@ -438,6 +490,7 @@ impl Sequence {
     {
         let due = self.due(guard);
         let act = self.look.next(guard.state().passes, due);
+        self.fresh = Fresh::Nothing;
         match act {
             LookAct::Ask(question) => Act::Ask(question),
             LookAct::Probe => Act::Probe,
@@ -506,6 +559,39 @@ pub(crate) fn is_begin(act: &Act) -> bool
     ensures { result ≡ spec_is_begin act.now }
 {
     matches!(act, Act::Begins(..))
+}
+
+// Whether this survey is that of the first step ahead, or of the one under way.
+fn is_fresh(fresh: Fresh, of_ahead: bool) -> bool
+    ensures { result ≡ spec_is_fresh fresh of_ahead }
+{
+    match fresh {
+        Fresh::Nothing => false,
+        Fresh::Under => !of_ahead,
+        Fresh::Ahead => of_ahead,
+    }
+}
+
+// It, if the job that is sent is a read of its.
+fn kept_fresh(fresh: Fresh, of_ahead: bool) -> Fresh
+    ensures { result ≡ fresh_after fresh of_ahead }
+{
+    if is_fresh(fresh, of_ahead) {
+        fresh
+    } else {
+        Fresh::Nothing
+    }
+}
+
+// A course of which all is to be read once more.
+fn surveyed_anew(course: FrameCourse) -> FrameCourse
+    ensures { result ≡ anew course }
+{
+    let mut renewed = course;
+    let survey = &course.course.survey;
+    renewed.course.survey = Survey::new(survey.output, survey.plan, survey.left);
+    renewed.course.ordered = false;
+    renewed
 }
 
 // Whether a step that stopped so may be left: a restart of its part ends the list.

@@ -20,6 +20,7 @@ use Rattle.pm_sequence.specs.declared.look.LookAct.TheVariants as look
 use Rattle.pm_sequence.specs.declared.sequence.Act.{Act}
 use Rattle.pm_sequence.specs.declared.sequence.Act.TheVariants as act
 use Rattle.pm_sequence.specs.declared.sequence.End.{End}
+use Rattle.pm_sequence.specs.declared.sequence.Fresh.TheVariants as fresh
 use Rattle.pm_sequence.specs.declared.sequence.End.TheVariants as end
 use Rattle.pm_sequence.specs.declared.sequence.Phase.{Phase}
 use Rattle.pm_sequence.specs.declared.sequence.Phase.TheVariants as phase
@@ -28,10 +29,10 @@ use Rattle.pm_sequence.specs.declared.step.Step.{Step}
 use Rattle.pm_sequence.specs.Frames.{job_named, refusal_end, refused_act, refused_after, refused_with}
 use Rattle.pm_sequence.specs.Gate.{is_order, is_untold}
 use Rattle.pm_sequence.specs.Look.{look_act, look_after}
-use Rattle.pm_sequence.specs.Sequence.{Acts, Steps, act_of, after_of, again_after, ahead_act, ahead_after, asked_of, begun_with, done_act, done_after, due_in, end_of, found_in, gate, gated_act, gated_after, is_good, job_after, judged_in, looked_act, looked_after, look_before, may_leave, needs_look, over_act, over_after, read_after, said_act, said_after, shown, step_act, step_after, stopped_act, stopped_after, told_with, verdict_in, with_list, with_look}
+use Rattle.pm_sequence.specs.Sequence.{Acts, Steps, act_of, afresh_with, after_of, again_after, ahead_act, ahead_after, asked_of, begun_with, done_act, done_after, due_in, end_of, found_in, gate, gated_act, gated_after, is_good, job_after, judged_in, looked_act, looked_after, look_before, may_leave, needs_look, ordered_after, over_act, over_after, read_after, said_act, said_after, shown, step_act, step_after, stopped_act, stopped_after, told_with, verdict_in, with_list, with_look}
 use Rattle.pm_sequence.specs.Sequence as does
 use Rattle.pm_sequence_laws.specs.Runs.{Mark, Orders, Does, Leaves, Places, marks_of, must, under_at}
-use Rattle.pm_sequence_laws.proofs.Counts.{Counts, counts, may_begin}
+use Rattle.pm_sequence_laws.proofs.Counts.{Counts, afresh-begun, counts, may_begin}
 use Rattle.pm_sequence_laws.proofs.Counts as many
 
 abbrev reached : Option End
@@ -88,6 +89,9 @@ module _ (steps : Places) (was : Sequence) where
     look-kind list first None = quiet refl (λ e. e) (λ e. e) refl (λ e. e)
     look-kind list first (Some step) = quiet refl (λ e. e) (λ e. e) refl (λ e. e)
 
+    anew-kind : (list : List_) (first : Bool) → Kind steps was (afresh_with (asked_of was list first)) []
+    anew-kind list first = quiet (afresh-begun (asked_of was list first).list) (λ e. e) (λ e. e) refl (λ e. e)
+
     -- an order is told, or begins
     tell-by : (list : List_) (first : Bool) (job : Job) (after : Sequence) (x : Act) → Kind steps was after (marks_of after.list.begun x)
         → (b : Bool)
@@ -97,12 +101,9 @@ module _ (steps : Places) (was : Sequence) where
     tell-by list first job after x goes false = goes
 
     -- a job, where as many have begun
-    abbrev order-after : List_ → Sequence
-    order-after list = record was { list = list; is_shown = false; is_looked = false; told = None }
-
     job-by : (job : Job) (list : List_) → list.begun ≡ was.list.begun → (b : Bool)
-        → Kind steps was (cond b (order-after list) (read_after was list))
-        (cond b (Orders (cond b (order-after list) (read_after was list)).list.begun ∷ []) [])
+        → Kind steps was (cond b (ordered_after was list) (read_after was list))
+        (cond b (Orders (cond b (ordered_after was list) (read_after was list)).list.begun ∷ []) [])
     job-by job list begun true = orders (same begun) refl refl refl (no-end on)
     job-by job list begun false = quiet begun (λ e. e) (λ e. e) refl (λ e. e)
 
@@ -115,6 +116,7 @@ module _ (steps : Places) (was : Sequence) where
     job-kind step job list begun gate_is.Looks = look-kind list false step
     job-kind step job list begun (gate_is.Beyond fault) =
         stop-kind (asked_of was list false) (end.Beyond fault) (λ e. cc) refl (λ e. e) (λ e. e) refl on
+    job-kind step job list begun gate_is.Blind = anew-kind list false
     job-kind step job list begun gate_is.Unjudged = stop-kind (asked_of was list false) end.Unjudged (λ e. cc) refl (λ e. e) (λ e. e) refl on
 
     begin-kind : (step : Option Step) (job : Job) (back : WordStep) (list : List_) → Begun steps was (begun_with was list) → (is : Gate)
@@ -126,6 +128,7 @@ module _ (steps : Places) (was : Sequence) where
     begin-kind step job back list begun gate_is.Looks = look-kind list true step
     begin-kind step job back list begun (gate_is.Beyond fault) =
         stop-kind (asked_of was list true) (end.Beyond fault) (λ e. cc) refl (λ e. e) (λ e. e) refl on
+    begin-kind step job back list begun gate_is.Blind = anew-kind list true
     begin-kind step job back list begun gate_is.Unjudged =
         stop-kind (asked_of was list true) end.Unjudged (λ e. cc) refl (λ e. e) (λ e. e) refl on
 
@@ -136,8 +139,8 @@ module _ (steps : Places) (was : Sequence) where
 
     step-by : (q : Sequence) (step : Step) → q.list.begun ≡ was.list.begun → q.is_shown ≡ was.is_shown → q.is_looked ≡ was.is_looked → q.left ≡ was.left
         → q.end ≡ None → (must (under_at steps was.list.begun) ≡ true → was.is_looked ≡ true) → (b : Bool)
-        → Kind steps was (cond b (record q { is_shown = true }) (record q { is_waited = true }))
-        (marks_of (cond b (record q { is_shown = true }) (record q { is_waited = true })).list.begun (cond b act.Again (act.Wait step.wait)))
+        → Kind steps was (cond b (record q { is_shown = true }) (record q { is_waited = true; fresh = fresh.Nothing }))
+        (marks_of (cond b (record q { is_shown = true }) (record q { is_waited = true; fresh = fresh.Nothing })).list.begun (cond b act.Again (act.Wait step.wait)))
     step-by q step begun shows looks lefts off seen true = opens begun seen lefts (no-end off)
     step-by q step begun shows looks lefts off seen false = quiet begun (λ e. sym shows ∙ e) (λ e. sym looks ∙ e) lefts (λ e. absurd (no-end off e))
 
@@ -205,10 +208,10 @@ module _ (steps : Places) (was : Sequence) where
     turn-kind g turn.Again list many = again-by list (begun-of list turn.Again many) (list.begun == was.list.begun) refl
     turn-kind g (turn.Job job) list many =
         job-kind (under_at steps was.list.begun) job list (count-of list (turn.Job job) refl many)
-        (gate g was (under_at steps was.list.begun) job list.stairs.under)
+        (gate g was (under_at steps was.list.begun) job list false)
     turn-kind g (turn.Begins job back) list many =
         begin-kind (steps was.list.begun) job back list (begun-of list (turn.Begins job back) many)
-        (gate g was (steps was.list.begun) job list.stairs.under)
+        (gate g was (steps was.list.begun) job list true)
     turn-kind g (turn.Passes back) list many = begins (begun-of list (turn.Passes back) many) refl refl refl (no-end on)
     turn-kind g (turn.NoWayBack fault) list many =
         quiet (count-of list (turn.NoWayBack fault) refl many) (λ e. e) (λ e. e) refl (λ e. e)

@@ -58,6 +58,7 @@ module _ (q : Sequence) (unread : q.is_read ≡ false) where
       either-read ⊥ (is_untold q.asks q.told job) (told_with (with_list q list) job) after never quiet
   gate-read list step job after quiet gate_is.Looks = before-read list step
   gate-read list step job after quiet (gate_is.Beyond fault) = stop-read list (end.Beyond fault)
+  gate-read list step job after quiet gate_is.Blind = never
   gate-read list step job after quiet gate_is.Unjudged = stop-read list end.Unjudged
 
   and-read : (b : Bool) → (q.is_read && b) ≡ true → ⊥
@@ -77,9 +78,9 @@ module _ (q : Sequence) (unread : q.is_read ≡ false) where
   turn-read g under ahead turn.Again list = either-read ⊥ (list.begun == q.list.begun) (with_list q list) (begun_with q list) never never
   turn-read g under ahead (turn.Job job) list =
       gate-read (asked_list q.list list false) under job (job_after q job list)
-      (either-read ⊥ (is_order job) _ (read_after q list) never never) (gate g q under job list.stairs.under)
+      (either-read ⊥ (is_order job) _ (read_after q list) never never) (gate g q under job list false)
   turn-read g under ahead (turn.Begins job back) list =
-      gate-read (asked_list q.list list true) ahead job (begun_with q list) never (gate g q ahead job list.stairs.under)
+      gate-read (asked_list q.list list true) ahead job (begun_with q list) never (gate g q ahead job list true)
   turn-read g under ahead (turn.Passes back) list = never
   turn-read g under ahead (turn.NoWayBack fault) list = never
   turn-read g under ahead turn.Reached list = over-read list under ahead

@@ -62,14 +62,15 @@ gate-quiet : (q : Sequence) (job : Job) (x : Act) → is_find x ≡ false → (i
 gate-quiet q job x quiet gate_is.Goes = either (is_untold q.asks q.told job) (act.Order job) x refl quiet
 gate-quiet q job x quiet gate_is.Looks = refl
 gate-quiet q job x quiet (gate_is.Beyond fault) = stop-quiet q (end.Beyond fault)
+gate-quiet q job x quiet gate_is.Blind = refl
 gate-quiet q job x quiet gate_is.Unjudged = stop-quiet q end.Unjudged
 
 turn-quiet : (g : Guarded) (under ahead : Option Step) (q : Sequence) (x : Turn) (list : List) → is_find (act_of g under ahead q x list) ≡ false
 turn-quiet g under ahead q turn.Again list = refl
 turn-quiet g under ahead q (turn.Job job) list =
-    gate-quiet (asked_of q list false) job (act.Job job) refl (gate g q under job list.stairs.under)
+    gate-quiet (asked_of q list false) job (act.Job job) refl (gate g q under job list false)
 turn-quiet g under ahead q (turn.Begins job back) list =
-    gate-quiet (asked_of q list true) job (act.Begins job back) refl (gate g q ahead job list.stairs.under)
+    gate-quiet (asked_of q list true) job (act.Begins job back) refl (gate g q ahead job list true)
 turn-quiet g under ahead q (turn.Passes back) list = refl
 turn-quiet g under ahead q (turn.NoWayBack fault) list = refl
 turn-quiet g under ahead q turn.Reached list = over-quiet (with_list q list) under ahead

@@ -1,9 +1,9 @@
 -- Each call of a sequence is a step of its run.
-use Rattle.std.proofs.Common.{ℕ, List, ◌++◌, Option, refl}
+use Rattle.std.proofs.Common.{ℕ, false, List, ◌++◌, Option, refl}
 use Rattle.std.specs.Prelude.{Result}
 use Rattle.pm_host.specs.declared.fault.Untold.{Untold}
 use Rattle.pm_host.specs.declared.stage.Stage.{Stage}
-use Rattle.pm_host.specs.Transcript.{Entry}
+use Rattle.pm_host.specs.Transcript.{Entry, Finished}
 use Rattle.pm_limits.specs.Guard.{Guarded}
 use Rattle.pm_course.specs.declared.frames.Sending.{Sending}
 use Rattle.pm_course.specs.declared.hosted.Heard.{Heard}
@@ -23,16 +23,6 @@ use Rattle.pm_sequence_laws.specs.Runs.{Mark, Places, Runs, marks_of, under_at}
 use Rattle.pm_sequence_laws.specs.Runs.{Hears as HearsInRun}
 use Rattle.pm_sequence_laws.specs.Runs as run
 
-module _ (steps : Places) (tries : ℕ) (rules : Rules) (marks : List Mark) (g : Guarded) (old : Sequence)
-    (runs : Runs steps tries rules marks old) where
-  handed : (after : Guarded) (new : Sequence) (sent : Option Sending) (said : Act)
-      → HandsOut g (under_at steps old.list.begun) (steps old.list.begun) old sent said after new
-      → Runs steps tries rules (marks_of new.list.begun said ++ marks) new
-  handed after new sent said (does.again stage sent' opened own frame) = runs
-  handed after new sent said (does.begins job said' sent' after' is names says lets frame) = run.acts g said marks old new runs says
-  handed after new sent said (does.refused job named fault is names says refuses) = run.refuses g job named fault marks old is runs says names refuses
-  handed after new sent said (does.says said' is none says) = run.acts g said marks old new runs says
-
 -- what is heard changes what is known alone
 stays : (old : Sequence) → HearsInRun old old
 stays old = record { begun = refl; shown = refl; looked = refl; left = refl; ended = refl }
@@ -40,7 +30,8 @@ stays old = record { begun = refl; shown = refl; looked = refl; left = refl; end
 told : (g after : Guarded) (old new : Sequence) (entry : Entry) (result : Result (Unit {0}) Untold) → Hears g old entry result after new
     → HearsInRun old new
 told g after old new entry result (does.nothing none) = stays old
-told g after old new entry result (does.heard course is result' after' opens hears) =
+told g after old new entry result (does.unheard course why opens hears) = stays old
+told g after old new entry result (does.heard course is after' opens hears) =
     record { begun = refl; shown = refl; looked = refl; left = refl; ended = refl }
 
 told-at : (g after : Guarded) (old new : Sequence) (stage : Stage) (entry : Entry) (result : Heard) → HearsAt g old stage entry result after new
@@ -48,6 +39,18 @@ told-at : (g after : Guarded) (old new : Sequence) (stage : Stage) (entry : Entr
 told-at g after old new stage entry result (does.course named is opens tells) =
     record { begun = refl; shown = refl; looked = refl; left = refl; ended = refl }
 told-at g after old new stage entry result (does.alone none tells) = stays old
+
+module _ (steps : Places) (tries : ℕ) (rules : Rules) (marks : List Mark) (g : Guarded) (old : Sequence)
+    (runs : Runs steps tries rules marks old) where
+  handed : (after : Guarded) (new : Sequence) (sent : Option Sending) (said : Act)
+      → HandsOut g (under_at steps old.list.begun) (steps old.list.begun) old sent said after new
+      → Runs steps tries rules (marks_of new.list.begun said ++ marks) new
+  handed after new sent said (does.again stage sent' opened own first frame) = runs
+  handed after new sent said (does.unsent stage heard sent' after' is opened own later hears frame) =
+      run.hears marks old new runs (told-at g after old new stage (Finished false) heard hears)
+  handed after new sent said (does.begins job said' sent' after' is names says lets frame) = run.acts g said marks old new runs says
+  handed after new sent said (does.refused job named fault is names says refuses) = run.refuses g job named fault marks old is runs says names refuses
+  handed after new sent said (does.says said' is none says) = run.acts g said marks old new runs says
 
 module _ (g : Guarded) (old : Sequence) (bytes : List ℕ) where
   by-act : (x : LookAct) → HearsInRun old (heard_by g old bytes x)

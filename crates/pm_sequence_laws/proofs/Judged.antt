@@ -1,7 +1,7 @@
 -- Which orders a sequence begins, case by case.
 use Rattle.std.proofs.Common.{◌≡◌, ℕ, Bool, true, false, cond, Option, Some, None, is_some, refl, sym, ◌∙◌, ap, subst}
 use Rattle.std.specs.Ordering.{int_eq}
-use Rattle.std.specs.Prelude.{◌&&◌, ◌==◌, ◌-◌, nat_lt, not}
+use Rattle.std.specs.Prelude.{◌&&◌, ◌||◌, ◌==◌, ◌-◌, nat_lt, not}
 use Rattle.std.proofs.lemmas.Bool.{and_parts, eqb-true}
 use Rattle.std.proofs.lemmas.Bool.Decides.{Decides-int_eq}
 use Rattle.pm_table.specs.Cell.{same_cell}
@@ -24,14 +24,15 @@ use Rattle.pm_sequence.specs.declared.sequence.Act.{Act}
 use Rattle.pm_sequence.specs.declared.sequence.Act.TheVariants as act
 use Rattle.pm_sequence.specs.declared.sequence.End.{End}
 use Rattle.pm_sequence.specs.declared.sequence.End.TheVariants as end
+use Rattle.pm_sequence.specs.declared.sequence.Fresh.{Fresh}
 use Rattle.pm_sequence.specs.declared.sequence.Phase.{Phase}
 use Rattle.pm_sequence.specs.declared.sequence.Phase.TheVariants as phase
 use Rattle.pm_sequence.specs.declared.sequence.Sequence.{Sequence}
 use Rattle.pm_sequence.specs.declared.step.Step.{Step}
-use Rattle.pm_sequence.specs.Gate.{is_order, is_told, is_untold, order_gate, same_order, step_gate}
+use Rattle.pm_sequence.specs.Gate.{is_on_order, is_order, is_told, is_untold, order_gate, same_order, step_gate}
 use Rattle.pm_sequence.specs.Look.{look_act, look_after}
 use Rattle.pm_delivery.specs.declared.verdict.Verdict.{Verdict}
-use Rattle.pm_sequence.specs.Sequence.{Acts, Steps, act_of, after_of, ahead_act, asked_of, done_act, due_in, found_at, found_in, gate, gated_act, gated_after, is_good, is_read_for, job_after, looked_act, may_leave, needs_look, over_act, read_gate, said_act, shown, step_act, stopped_act, told_with, verdict_in, with_list, with_look}
+use Rattle.pm_sequence.specs.Sequence.{Acts, Steps, act_of, after_of, ahead_act, asked_of, done_act, due_in, found_at, found_in, fresh_gate, gate, gated_act, gated_after, is_fresh, is_good, is_read_for, job_after, judged_gate, looked_act, may_leave, needs_look, over_act, read_gate, said_act, shown, step_act, stopped_act, told_with, verdict_in, with_list, with_look}
 use Rattle.pm_sequence.specs.Sequence as does
 use Rattle.pm_sequence_laws.proofs.Listed.{either-list}
 use Rattle.pm_sequence_laws.specs.Judged.{IsDue, IsJudged, IsTold, OrdersAreJudged, OrdersAreTold}
@@ -99,23 +100,47 @@ asked-goes true true b x h w o = read-goes b x h
 asked-goes true false b x h w o = cc
 asked-goes false o b x h w is = cc
 
+on-fresh : (o f : Bool) → cond (o && not f) gate_is.Blind gate_is.Goes ≡ gate_is.Goes → o ≡ true → f ≡ true
+on-fresh true true h o = refl
+on-fresh true false h o = cc
+on-fresh false f h o = cc
+
+-- an order that turns on and was let through comes of a fresh survey
+fresh-goes : (it : Fresh) (b : Bool) (job : Job) (x : Gate) → fresh_gate it b job x ≡ gate_is.Goes
+    → (x ≡ gate_is.Goes) × (is_on_order job ≡ true → is_fresh it b ≡ true)
+fresh-goes it b job gate_is.Goes h = (refl, on-fresh (is_on_order job) (is_fresh it b) h)
+fresh-goes it b job gate_is.Looks h = cc
+fresh-goes it b job (gate_is.Beyond fault) h = cc
+fresh-goes it b job gate_is.Unjudged h = cc
+fresh-goes it b job gate_is.Blind h = cc
+
 judged-by : (g : Guarded) (q : Sequence) (step : Option Step) (job : Job) (list : List)
-    → gate g q step job list.stairs.under ≡ gate_is.Goes → (it : Step) → step ≡ Some it → it.looks.is_wanted ≡ true → order_gate job ≡ true
+    → judged_gate g q step job list.stairs.under ≡ gate_is.Goes → (it : Step) → step ≡ Some it → it.looks.is_wanted ≡ true → order_gate job ≡ true
     → (is_read_for q it ≡ true) × (step_gate g q.look.delivery list.stairs.under ≡ gate_is.Goes)
 judged-by g q step job list goes it is wanted order =
     asked-goes it.looks.is_wanted (order_gate job) (is_read_for q it) (step_gate g q.look.delivery list.stairs.under)
-    (subst (λ (s : Option Step). gate g q s job list.stairs.under ≡ gate_is.Goes) is goes) wanted order
+    (subst (λ (s : Option Step). judged_gate g q s job list.stairs.under ≡ gate_is.Goes) is goes) wanted order
 
-judged : (g : Guarded) (q : Sequence) (step : Option Step) (job : Job) (list : List) → gate g q step job list.stairs.under ≡ gate_is.Goes
+judged : (g : Guarded) (q : Sequence) (step : Option Step) (job : Job) (list : List) (begins : Bool) → gate g q step job list begins ≡ gate_is.Goes
     → IsJudged g q step job list
-judged g q step job list goes = record { goes = judged-by g q step job list goes }
+judged g q step job list begins goes = record {
+  goes = judged-by g q step job list
+      (fresh-goes q.fresh (begins || list.stairs.reading) job (judged_gate g q step job list.stairs.under) goes).0;
+}
+
+fresh-by : (g : Guarded) (q : Sequence) (step : Option Step) (job : Job) (list : List) (begins : Bool) → gate g q step job list begins ≡ gate_is.Goes
+    → is_on_order job ≡ true → is_fresh q.fresh (begins || list.stairs.reading) ≡ true
+fresh-by g q step job list begins goes =
+    (fresh-goes q.fresh (begins || list.stairs.reading) job (judged_gate g q step job list.stairs.under) goes).1
 
 -- what an act names
-data NamesSo (g : Guarded) (under ahead : Option Step) (q new : Sequence) : Act → Type 0 where
+pub data NamesSo (g : Guarded) (under ahead : Option Step) (q new : Sequence) : Act → Type 0 where
   a-job : (job : Job) (list : List) → Turns g (shown q ahead) q.list (turn.Job job) list → new.list ≡ list → IsJudged g q under job list
-      → is_untold q.asks q.told job ≡ false → NamesSo g under ahead q new (act.Job job)
+      → is_untold q.asks q.told job ≡ false → (is_on_order job ≡ true → is_fresh q.fresh list.stairs.reading ≡ true)
+      → NamesSo g under ahead q new (act.Job job)
   a-begin : (job : Job) (back : WordStep) (list : List) → Turns g (shown q ahead) q.list (turn.Begins job back) list → new.list ≡ list
-      → IsJudged g q ahead job list → is_untold q.asks q.told job ≡ false → NamesSo g under ahead q new (act.Begins job back)
+      → IsJudged g q ahead job list → is_untold q.asks q.told job ≡ false → (is_on_order job ≡ true → is_fresh q.fresh true ≡ true)
+      → NamesSo g under ahead q new (act.Begins job back)
   an-order : (job : Job) → is_untold q.asks q.told job ≡ true → IsDue g under ahead q new job → new.list.begun ≡ q.list.begun
       → new.told ≡ Some job → NamesSo g under ahead q new (act.Order job)
   none : (said : Act) → is_named said ≡ false → NamesSo g under ahead q new said
@@ -126,48 +151,54 @@ next-named false c x y = refl
 
 -- an order that may begin is told, or begins
 job-goes : (g : Guarded) (under ahead : Option Step) (q : Sequence) (job : Job) (list : List)
-    → Turns g (shown q ahead) q.list (turn.Job job) list → IsJudged g q under job list → (b : Bool) → is_untold q.asks q.told job ≡ b
+    → Turns g (shown q ahead) q.list (turn.Job job) list → IsJudged g q under job list
+    → (is_on_order job ≡ true → is_fresh q.fresh list.stairs.reading ≡ true) → (b : Bool) → is_untold q.asks q.told job ≡ b
     → NamesSo g under ahead q (cond b (told_with (asked_of q list false) job) (job_after q job list)) (cond b (act.Order job) (act.Job job))
-job-goes g under ahead q job list says judged true told = an-order job told (due.job list says judged refl) refl refl
-job-goes g under ahead q job list says judged false told = a-job job list says (either-list _ _ _ list refl refl) judged told
+job-goes g under ahead q job list says judged fresh true told = an-order job told (due.job list says judged refl) refl refl
+job-goes g under ahead q job list says judged fresh false told = a-job job list says (either-list _ _ _ list refl refl) judged told fresh
 
 begin-goes : (g : Guarded) (under ahead : Option Step) (q : Sequence) (job : Job) (back : WordStep) (list : List)
-    → Turns g (shown q ahead) q.list (turn.Begins job back) list → IsJudged g q ahead job list → (b : Bool) → is_untold q.asks q.told job ≡ b
+    → Turns g (shown q ahead) q.list (turn.Begins job back) list → IsJudged g q ahead job list
+    → (is_on_order job ≡ true → is_fresh q.fresh true ≡ true) → (b : Bool) → is_untold q.asks q.told job ≡ b
     → NamesSo g under ahead q (cond b (told_with (asked_of q list true) job) (does.begun_with q list))
     (cond b (act.Order job) (act.Begins job back))
-begin-goes g under ahead q job back list says judged true told =
+begin-goes g under ahead q job back list says judged fresh true told =
     an-order job told
     (due.begins list back says judged refl
     (next-named (is_some q.list.stairs.under) (nat_lt 0 q.list.begun) (q.list.begun - 1) q.list.begun)) refl refl
-begin-goes g under ahead q job back list says judged false told = a-begin job back list says refl judged told
+begin-goes g under ahead q job back list says judged fresh false told = a-begin job back list says refl judged told fresh
 
 job-so : (g : Guarded) (under ahead : Option Step) (q : Sequence) (job : Job) (list : List) → Turns g (shown q ahead) q.list (turn.Job job) list
-    → (is : Gate) → gate g q under job list.stairs.under ≡ is
+    → (is : Gate) → gate g q under job list false ≡ is
     → NamesSo g under ahead q (gated_after (asked_of q list false) under is job (job_after q job list))
     (gated_act (asked_of q list false) is job (act.Job job))
 job-so g under ahead q job list says gate_is.Goes goes =
-    job-goes g under ahead q job list says (judged g q under job list goes) (is_untold q.asks q.told job) refl
+    job-goes g under ahead q job list says (judged g q under job list false goes) (fresh-by g q under job list false goes)
+    (is_untold q.asks q.told job) refl
 job-so g under ahead q job list says gate_is.Looks goes = none act.Again refl
 job-so g under ahead q job list says (gate_is.Beyond fault) goes = none _ (stop-quiet (asked_of q list false) (end.Beyond fault))
+job-so g under ahead q job list says gate_is.Blind goes = none act.Again refl
 job-so g under ahead q job list says gate_is.Unjudged goes = none _ (stop-quiet (asked_of q list false) end.Unjudged)
 
 begin-so : (g : Guarded) (under ahead : Option Step) (q : Sequence) (job : Job) (back : WordStep) (list : List)
     → Turns g (shown q ahead) q.list (turn.Begins job back) list
-    → (is : Gate) → gate g q ahead job list.stairs.under ≡ is
+    → (is : Gate) → gate g q ahead job list true ≡ is
     → NamesSo g under ahead q (gated_after (asked_of q list true) ahead is job (does.begun_with q list))
     (gated_act (asked_of q list true) is job (act.Begins job back))
 begin-so g under ahead q job back list says gate_is.Goes goes =
-    begin-goes g under ahead q job back list says (judged g q ahead job list goes) (is_untold q.asks q.told job) refl
+    begin-goes g under ahead q job back list says (judged g q ahead job list true goes) (fresh-by g q ahead job list true goes)
+    (is_untold q.asks q.told job) refl
 begin-so g under ahead q job back list says gate_is.Looks goes = none act.Again refl
 begin-so g under ahead q job back list says (gate_is.Beyond fault) goes = none _ (stop-quiet (asked_of q list true) (end.Beyond fault))
+begin-so g under ahead q job back list says gate_is.Blind goes = none act.Again refl
 begin-so g under ahead q job back list says gate_is.Unjudged goes = none _ (stop-quiet (asked_of q list true) end.Unjudged)
 
 turn-so : (g : Guarded) (under ahead : Option Step) (q : Sequence) (said : Turn) (list : List) → Turns g (shown q ahead) q.list said list
     → NamesSo g under ahead q (after_of g under ahead q said list) (act_of g under ahead q said list)
 turn-so g under ahead q turn.Again list says = none act.Again refl
-turn-so g under ahead q (turn.Job job) list says = job-so g under ahead q job list says (gate g q under job list.stairs.under) refl
+turn-so g under ahead q (turn.Job job) list says = job-so g under ahead q job list says (gate g q under job list false) refl
 turn-so g under ahead q (turn.Begins job back) list says =
-    begin-so g under ahead q job back list says (gate g q ahead job list.stairs.under) refl
+    begin-so g under ahead q job back list says (gate g q ahead job list true) refl
 turn-so g under ahead q (turn.Passes back) list says = none (act.Passes back) refl
 turn-so g under ahead q (turn.NoWayBack fault) list says = none (act.NoWayBack fault) refl
 turn-so g under ahead q turn.Reached list says = none _ (over-quiet (with_list q list) under ahead)
@@ -177,7 +208,7 @@ steps-so : (g : Guarded) (under ahead : Option Step) (q new : Sequence) (said : 
     → NamesSo g under ahead q new said
 steps-so g under ahead q new said (does.turns turned list says) = turn-so g under ahead q turned list says
 
-acts-so : (g : Guarded) (under ahead : Option Step) (q new : Sequence) (said : Act) → Acts g under ahead q said new
+pub acts-so : (g : Guarded) (under ahead : Option Step) (q new : Sequence) (said : Act) → Acts g under ahead q said new
     → NamesSo g under ahead q new said
 acts-so g under ahead q new said (does.ended why is) = none (act.Ended why) refl
 acts-so g under ahead q new said (does.steps said' new' on is says) = steps-so g under ahead q new said says
@@ -186,13 +217,13 @@ acts-so g under ahead q new said (does.after on is) = none _ (look-quiet g q und
 
 job-of : (g : Guarded) (under ahead : Option Step) (q new : Sequence) (job : Job) → NamesSo g under ahead q new (act.Job job)
     → (list : List) × (Turns g (shown q ahead) q.list (turn.Job job) list × (new.list ≡ list) × IsJudged g q under job list)
-job-of g under ahead q new job (a-job job' list says is so told) = (list, (says, is, so))
+job-of g under ahead q new job (a-job job' list says is so told fresh) = (list, (says, is, so))
 job-of g under ahead q new job (none said quiet) = cc
 
 begin-of : (g : Guarded) (under ahead : Option Step) (q new : Sequence) (job : Job) (back : WordStep)
     → NamesSo g under ahead q new (act.Begins job back)
     → (list : List) × (Turns g (shown q ahead) q.list (turn.Begins job back) list × (new.list ≡ list) × IsJudged g q ahead job list)
-begin-of g under ahead q new job back (a-begin job' back' list says is so told) = (list, (says, is, so))
+begin-of g under ahead q new job back (a-begin job' back' list says is so told fresh) = (list, (says, is, so))
 begin-of g under ahead q new job back (none said quiet) = cc
 
 pub orders-judged : OrdersAreJudged
@@ -235,12 +266,12 @@ module _ (apart : CellsAreToldApart) where
 
   job-told : (g : Guarded) (under ahead : Option Step) (q new : Sequence) (job : Job) → NamesSo g under ahead q new (act.Job job)
       → q.asks ≡ true → is_order job ≡ true → q.told ≡ Some job
-  job-told g under ahead q new job (a-job job' list says is so told) asks order = told-of q job told asks order
+  job-told g under ahead q new job (a-job job' list says is so told fresh) asks order = told-of q job told asks order
   job-told g under ahead q new job (none said quiet) asks order = cc
 
   begin-told : (g : Guarded) (under ahead : Option Step) (q new : Sequence) (job : Job) (back : WordStep)
       → NamesSo g under ahead q new (act.Begins job back) → q.asks ≡ true → is_order job ≡ true → q.told ≡ Some job
-  begin-told g under ahead q new job back (a-begin job' back' list says is so told) asks order = told-of q job told asks order
+  begin-told g under ahead q new job back (a-begin job' back' list says is so told fresh) asks order = told-of q job told asks order
   begin-told g under ahead q new job back (none said quiet) asks order = cc
 
   order-of : (g : Guarded) (under ahead : Option Step) (q new : Sequence) (job : Job) → NamesSo g under ahead q new (act.Order job)

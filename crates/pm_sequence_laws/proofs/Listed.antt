@@ -96,6 +96,7 @@ gate-so g ahead q step job after list x turned is gate_is.Goes =
 gate-so g ahead q step job after list x turned is gate_is.Looks = it.asked x list turned (before-list (asked_of q list (is_begin x)) step)
 gate-so g ahead q step job after list x turned is (gate_is.Beyond fault) =
     asking g ahead q.leaves q.list list _ x turned (stop-list (asked_of q list (is_begin x)) (end.Beyond fault))
+gate-so g ahead q step job after list x turned is gate_is.Blind = it.surveyed_anew x list turned refl
 gate-so g ahead q step job after list x turned is gate_is.Unjudged =
     asking g ahead q.leaves q.list list _ x turned (stop-list (asked_of q list (is_begin x)) end.Unjudged)
 
@@ -106,9 +107,9 @@ turn-so g under ahead q turn.Again list turned =
     (either-list (list.begun == q.list.begun) (with_list q list) (begun_with q list) list refl refl)
 turn-so g under ahead q (turn.Job job) list turned =
     gate-so g (shown q ahead) q under job (job_after q job list) list (turn.Job job) turned
-    (either-list (is_order job) _ (read_after q list) list refl refl) (gate g q under job list.stairs.under)
+    (either-list (is_order job) _ (read_after q list) list refl refl) (gate g q under job list false)
 turn-so g under ahead q (turn.Begins job back) list turned =
-    gate-so g (shown q ahead) q ahead job (begun_with q list) list (turn.Begins job back) turned refl (gate g q ahead job list.stairs.under)
+    gate-so g (shown q ahead) q ahead job (begun_with q list) list (turn.Begins job back) turned refl (gate g q ahead job list true)
 turn-so g under ahead q (turn.Passes back) list turned = it.says (turn.Passes back) turned
 turn-so g under ahead q (turn.NoWayBack fault) list turned = it.says (turn.NoWayBack fault) turned
 turn-so g under ahead q turn.Reached list turned =

@@ -81,6 +81,7 @@ module _ (under ahead : Option Step) where
         either-starts (is_untold q.asks q.told job) (told_with (with_list q list) job) after off goes
     gate-starts list step job after looks goes gate_is.Looks = looks
     gate-starts list step job after looks goes (gate_is.Beyond fault) = stop-starts list (end.Beyond fault)
+    gate-starts list step job after looks goes gate_is.Blind = off
     gate-starts list step job after looks goes gate_is.Unjudged = stop-starts list end.Unjudged
 
     next-starts : (list : List) (next : Option Step) → Starts (ahead_after (with_list q list) next)
@@ -98,10 +99,10 @@ module _ (under ahead : Option Step) where
         either-starts (list.begun == q.list.begun) (with_list q list) (begun_with q list) off off
     turn-starts (turn.Job job) list =
         gate-starts (asked_list q.list list false) under job (job_after q job list) (under-starts (asked_list q.list list false) under refl)
-        (either-starts (is_order job) _ (read_after q list) off off) (gate g q under job list.stairs.under)
+        (either-starts (is_order job) _ (read_after q list) off off) (gate g q under job list false)
     turn-starts (turn.Begins job back) list =
         gate-starts (asked_list q.list list true) ahead job (begun_with q list) (ahead-starts (asked_list q.list list true) ahead refl) off
-        (gate g q ahead job list.stairs.under)
+        (gate g q ahead job list true)
     turn-starts (turn.Passes back) list = off
     turn-starts (turn.NoWayBack fault) list = off
     turn-starts turn.Reached list = over-starts list under ahead

@@ -1,7 +1,8 @@
 //! The laws.
 
 ghost use Rattle.pm_sequence_laws.specs.Finds.{FindsAreVerdicts};
-ghost use Rattle.pm_sequence_laws.specs.Handed.{CallsAreRuns};
+ghost use Rattle.pm_sequence_laws.specs.Fresh.{OrdersAreFresh};
+ghost use Rattle.pm_sequence_laws.specs.Handed.{CallsAreRuns, OrdersGoOnce};
 ghost use Rattle.pm_sequence_laws.specs.Judged.{OrdersAreJudged, OrdersAreTold};
 ghost use Rattle.pm_sequence_laws.specs.Read.{EarlierAnswersCount, LimitsAreRead};
 ghost use Rattle.pm_sequence_laws.specs.Runs.{ReachedSequencesDeliver};
@@ -15,6 +16,12 @@ pub fn orders_are_judged()
     ensures { OrdersAreJudged }
 {}
 
+/// An order that turns an output on, or leaves it on, begins only if the survey of the course that names it is fresh: it began anew, so that the
+/// format wasn't learned and nothing was read, and nothing was sent since but its own reads.
+pub fn orders_are_fresh()
+    ensures { OrdersAreFresh }
+{}
+
 /// In a list that asks before orders each order that begins is the one that was told last. What is told is an order that is due and was judged,
 /// and nothing begins as it is told.
 pub fn orders_are_told()
@@ -22,6 +29,11 @@ pub fn orders_are_told()
 {
     cells_are_told_apart();
 }
+
+/// The write of an order that turns an output on, or leaves it on, is handed out in the first pass of its job and in no later one.
+pub fn orders_go_once()
+    ensures { OrdersGoOnce }
+{}
 
 /// `Reached` says that no step was left, and that each step that has to deliver was found to, after its last order.
 pub fn reached_sequences_deliver()
@@ -35,6 +47,7 @@ pub fn calls_are_runs()
 {}
 
 /// The list of a sequence goes as pm_stairs says, whose laws are of it: no job but one that the list names, and no step begins but as it says.
+/// Where nothing begins, the survey of the course that was asked may begin anew.
 /// A first step ahead that is kept from it changes nothing that it says of the one under way.
 pub fn sequences_turn()
     ensures { SequencesTurn }

@@ -5,4 +5,3 @@ pub mod Back
 pub mod Followed
 pub mod Due
 pub mod Climb
-pub mod Handed

@@ -4,7 +4,6 @@ ghost use Rattle.pm_stairs_laws.specs.Back.{StairsGoBack};
 ghost use Rattle.pm_stairs_laws.specs.Climb.{ClimbsAreStairs, ClimbsComeBack};
 ghost use Rattle.pm_stairs_laws.specs.Due.{MovesAreDue};
 ghost use Rattle.pm_stairs_laws.specs.Followed.{StairsAreFollowed};
-ghost use Rattle.pm_stairs_laws.specs.Handed.{StairsAreHanded};
 ghost use Rattle.pm_stairs_laws.specs.Ordered.{CellsTakeWhatIsOrdered};
 ghost use Rattle.pm_stairs_laws.specs.Stairs.{StairsHoldInLives};
 
@@ -92,12 +91,4 @@ pub fn climbs_come_back()
     moves_are_due();
     stairs_go_back();
     stairs_hold_in_lives();
-}
-
-/// The calls of stairs over frames are steps of such a caller (`hands`, `hears`). A list of steps over one host that keeps a way back names what its
-/// stairs do, or says once that a way back would be refused (`sequences`).
-pub fn stairs_are_handed()
-    ensures { StairsAreHanded }
-{
-    moves_are_due();
 }

@@ -10,5 +10,5 @@ mod laws;
 
 pub use laws::{
     cells_take_what_is_ordered, climbs_are_stairs, climbs_come_back, moves_are_due,
-    stairs_are_followed, stairs_are_handed, stairs_go_back, stairs_hold_in_lives,
+    stairs_are_followed, stairs_go_back, stairs_hold_in_lives,
 };

@@ -15,7 +15,7 @@ use Rattle.pm_lines.specs.declared.fault.TextFault.{TextFault}
 use Rattle.pm_lines.specs.declared.fault.TextFault.TheVariants.{Syntax, BadHex, TooLong, Read, Write, Memory, Setup}
 use Rattle.pm_tool.specs.Refusals.{Says, text_refusal}
 use Rattle.pm_tool.specs.Execution.{End, EngineRuns, Printed, Prints, Hinted, CutShort, Refused, Broken, Misused, NumberEnds, NumberRefuses, Runs, UsageEnds, said_by, status_of}
-use Rattle.pm_tool.specs.Execution.{IsDone, IsEnd, LineEnds, ParserEnds, refusal_line, wants_memory}
+use Rattle.pm_tool.specs.Execution.{IsDone, IsEnd, ParserEnds, WordsEnd, refusal_line, wants_memory}
 use Rattle.pm_tool.specs.NumberFaults.{refusal_status, refusal_words}
 use Rattle.pm_tool.specs.NumberText.{IsCommandLineFault, IsNumberText, IsOfNumber, RefusesNumber}
 use Rattle.pm_tool.specs.declared.numbers.fault.NumberFault.{NumberFault}
@@ -182,7 +182,6 @@ usage_ends input faults kind end (inl memory) (inl usage) = absurd (none end (su
 usage_ends input faults kind end of (inr memory) = inr (refl, memory)
 
 -- want of memory ends a run whatever its words
-pub memory_ends : {R : Type 0} (remaining : R → Option (List ℕ)) (input : Held R) (words : List Text) (options : Option (List Text))
-    → LineEnds remaining input input words options wants_memory
-memory_ends remaining input words None = inr (inr (refl, refl))
-memory_ends remaining input words (Some options) = inr (inr (refl, refl))
+pub memory_ends : {R : Type 0} (remaining : R → Option (List ℕ)) (input : Held R) (words : List Text)
+    → WordsEnd remaining input input words wants_memory
+memory_ends remaining input words = inr (inr (refl, refl))

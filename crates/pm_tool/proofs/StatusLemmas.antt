@@ -26,15 +26,15 @@ use Rattle.pm_tool.specs.declared.commandline.tell_fault.TellFault.{TellFault}
 use Rattle.pm_limits.specs.declared.part_registers.PartRegisters.{PartRegisters}
 use Rattle.pm_log.specs.declared.lacks.Lacks.{Lacks}
 use Rattle.pm_tool.specs.declared.commandline.choice.Chosen.{Chosen}
-use Rattle.pm_tool.specs.declared.commandline.choice.Chosen.TheVariants.{Hear, Replay, Decode, Check, Number as NumberChosen}
+use Rattle.pm_tool.specs.declared.commandline.choice.Chosen.TheVariants.{Hear, Replay, Decode, Tell, Check, Number as NumberChosen}
 use Rattle.pm_tool.specs.declared.numbers.fault.NumberFault.{NumberFault}
 use Rattle.pm_tool.specs.declared.numbers.question.Question.{Question}
 use Rattle.pm_tool.specs.declared.numbers.fault.NumberFault.TheVariants.{OneOf, Format, Word, Micro, Num, Text as OfText}
-use Rattle.pm_tool.specs.declared.commandline.tell_fault.TellFault.TheVariants.{VoutAlone, Vout, ReadingsAlone, Readings, GapAlone, Gap}
+use Rattle.pm_tool.specs.declared.commandline.tell_fault.TellFault.TheVariants.{VoutAlone, Vout, ReadingsAlone, Readings, GapAlone, Gap, Part, Mux}
 use Rattle.pm_tool.specs.declared.text_commands.TextCommand.{TextCommand}
 use Rattle.pm_tool.specs.declared.text_commands.TextCommand.TheVariants as command
 use Rattle.pm_tool.specs.Execution.{End, Printed, Hinted, CutShort, Refused, Broken, Misused, EngineRuns, TellRuns, CheckEnds, CheckRuns, CommandRuns}
-use Rattle.pm_tool.specs.Execution.{AskedEnds, NumberEnds, ChoiceEnds, UsageEnds, ParserEnds, WordsEnd, OptionsEnd, LineEnds, RunEnds}
+use Rattle.pm_tool.specs.Execution.{AskedEnds, NumberEnds, ChoiceEnds, UsageEnds, ParserEnds, WordsEnd, RunEnds}
 use Rattle.pm_tool.specs.Execution.{decode_status, log_status, no_words_end, replay_status, status_of, told_as, wants_memory}
 
 -- ---- the numbers
@@ -69,6 +69,8 @@ of_telling ReadingsAlone = omega arith
 of_telling Readings = omega arith
 of_telling GapAlone = omega arith
 of_telling Gap = omega arith
+of_telling Part = omega arith
+of_telling Mux = omega arith
 
 of_told : (status : ℕ) (text : List ℕ) (hint : Option Hint) → status_of (told_as status text hint) ≡ status
 of_told status text None = refl
@@ -142,6 +144,7 @@ choice_ends : {R : Type 0} (remaining : R → Option (List ℕ)) (old new : Held
 choice_ends remaining old new Hear end runs = command_ends command.Hear remaining old new end runs
 choice_ends remaining old new Replay end runs = command_ends command.Replay remaining old new end runs
 choice_ends remaining old new Decode end runs = command_ends command.Decode remaining old new end runs
+choice_ends remaining old new (Tell given) end (asks, is, runs) = asked_ends remaining old new asks end runs
 choice_ends remaining old new (Check lacks) end runs = lacks_ends remaining old new lacks end runs
 choice_ends remaining old new (NumberChosen format word micro) end (same, runs) = number_ends _ end runs
 
@@ -159,13 +162,10 @@ parser_ends : {R : Type 0} (old new : Held R) (faults : Kinds) (end : End) → P
 parser_ends old new faults end (inl (same, kind, among, runs)) = usage_ends kind end runs
 parser_ends old new faults end (inr (same, is)) = kept (status_of end) 1 (ap status_of is) (omega arith)
 
-line_ends : {R : Type 0} (remaining : R → Option (List ℕ)) (old new : Held R) (words : List Text) (options : Option (List Text)) (end : End)
-    → LineEnds remaining old new words options end → status_of end ≤ 2
-line_ends remaining old new words None end (inl (free, chosen, met, runs)) = choice_ends remaining old new chosen end runs
-line_ends remaining old new words None end (inr runs) = parser_ends old new _ end runs
-line_ends remaining old new words (Some options) end (inl (free, given, has, ends)) =
-    let (asks, is, runs) = ends in asked_ends remaining old new asks end runs
-line_ends remaining old new words (Some options) end (inr runs) = parser_ends old new _ end runs
+line_ends : {R : Type 0} (remaining : R → Option (List ℕ)) (old new : Held R) (words : List Text) (end : End)
+    → WordsEnd remaining old new words end → status_of end ≤ 2
+line_ends remaining old new words end (inl (free, chosen, met, runs)) = choice_ends remaining old new chosen end runs
+line_ends remaining old new words end (inr runs) = parser_ends old new _ end runs
 
 of_none : (kind : IoKind) → no_words_status kind ≤ 2
 of_none OutOfMemory = omega arith
@@ -173,5 +173,5 @@ of_none kind = omega arith
 
 pub at_most_2 : {R : Type 0} (remaining : R → Option (List ℕ)) (old new : Held R) (words : Result (List Text) IoKind) (end : End)
     → RunEnds remaining old new words end → status_of end ≤ 2
-at_most_2 remaining old new (Ok words) end runs = line_ends remaining old new words _ end runs
+at_most_2 remaining old new (Ok words) end runs = line_ends remaining old new words end runs
 at_most_2 remaining old new (Err kind) end (same, is) = kept (status_of end) (no_words_status kind) (ap status_of is) (of_none kind)

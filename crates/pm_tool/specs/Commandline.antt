@@ -1,5 +1,5 @@
 -- The command line of `pmb`: the commands as the parser reads them, and what words choose.
-use Rattle.std.specs.Prelude.{◌≡◌, ◌⊎◌, ◌++◌, ◌∷◌, [], List, Bool, true, not, ◌&&◌}
+use Rattle.std.specs.Prelude.{◌≡◌, ◌⊎◌, ◌++◌, ◌∷◌, [], List, Bool, true, false, not, ◌&&◌, if◌then◌else◌}
 use Rattle.std.specs.Prelude.{Option, Result, MatchResult, codes, find, map, option_map}
 use Rattle.std.specs.Prelude.{unwrap_or}
 use Rattle.std.specs.List.{list_any}
@@ -10,8 +10,10 @@ use Rattle.clap.specs.declared.error.Error.{Error}
 use Rattle.clap.specs.declared.error.kind.ErrorKind.TheVariants.{OutOfMemory}
 use Rattle.pm_tool.specs.Lacking.{lacks_asked}
 use Rattle.pm_tool.specs.Options.{list_rule, option_rule}
+use Rattle.pm_tool.specs.Telling.{HasTexts, is_any, tell_app}
 use Rattle.pm_tool.specs.declared.commandline.choice.Chosen.{Chosen}
-use Rattle.pm_tool.specs.declared.commandline.choice.Chosen.TheVariants.{Hear, Replay, Decode, Check, Number}
+use Rattle.pm_tool.specs.declared.commandline.choice.Chosen.TheVariants.{Hear, Replay, Decode, Tell, Check, Number}
+use Rattle.pm_tool.specs.declared.commandline.telling.TellTexts.{TellTexts}
 
 -- ---- the commands, as the builder's calls make them
 
@@ -38,8 +40,8 @@ with_plain app name = with_subcommand app (new_app name).top
 
 -- the whole command line
 abbrev pub pmb : App
-pmb = with_subcommand (with_subcommand (with_plain (with_plain (with_plain
-    (with_required_subcommand (new_app (codes "pmb"))) (codes "hear")) (codes "replay")) (codes "decode"))
+pmb = with_subcommand (with_subcommand (with_subcommand (with_plain (with_plain
+    (with_required_subcommand (new_app (codes "pmb"))) (codes "hear")) (codes "replay")) tell_app.top)
     check_app.top) number_app.top
 
 -- the names of the subcommands
@@ -52,12 +54,17 @@ IsCommandName name = (name ≡ codes "hear") ⊎ (name ≡ codes "replay") ⊎ (
 abbrev pub Asks : Text → List Row → Chosen → Type 0
 Asks name rows Hear = name ≡ codes "hear"
 Asks name rows Replay = name ≡ codes "replay"
-Asks name rows Decode = name ≡ codes "decode"
+Asks name rows Decode = (name ≡ codes "decode") × (given : TellTexts) × HasTexts given rows × (is_any given ≡ false)
+Asks name rows (Tell given) = (name ≡ codes "decode") × HasTexts given rows × (is_any given ≡ true)
 Asks name rows (Check lacks) = (name ≡ codes "check") × (lacks ≡ lacks_asked (unwrap_or (all_of (codes "lacks") rows) []))
 Asks name rows (Number format word micro) = (name ≡ codes "number")
     × (format.now ≡ unwrap_or (first_of (codes "format") rows) [])
     × (option_map (λ s. s.now) word ≡ first_of (codes "word") rows)
     × (option_map (λ s. s.now) micro ≡ first_of (codes "micro") rows)
+
+-- what `decode` chooses by its options
+abbrev pub Decodes : TellTexts → Chosen → Type 0
+Decodes given chosen = chosen ≡ (if is_any given then Tell given else Decode)
 
 -- the call gave a value of which P holds, or memory ran out
 abbrev pub UnlessMemory : {T : Type 0} → Result T Error → (T → Type 0) → Type 0
@@ -107,6 +114,7 @@ abbrev pub HasValuesOf : List Given → Chosen → Type 0
 HasValuesOf given Hear = ⊥
 HasValuesOf given Replay = ⊥
 HasValuesOf given Decode = ⊥
+HasValuesOf given (Tell options) = ⊥
 HasValuesOf given (Check lacks) = ⊥
 HasValuesOf given (Number format word micro) =
     (format.now ≡ unwrap_or (text_of format_option given) [])

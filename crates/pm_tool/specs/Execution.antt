@@ -5,7 +5,7 @@ use Rattle.std.specs.Prelude.{Result, Ok, Err, IsTrue, IsFalse, IsSomeAnd, codes
 use Rattle.std.specs.Io.KnownBytes.{Appends}
 use Rattle.std.specs.declared.io.ErrorKind.{ErrorKind as IoKind}
 use Rattle.clap.specs.Kinds.{IsAmong, Kinds}
-use Rattle.clap.specs.Words.{Text, fault_of, matches_of, subcommand_of}
+use Rattle.clap.specs.Words.{Text, fault_of, subcommand_of}
 use Rattle.clap.specs.declared.error.kind.ErrorKind.{ErrorKind}
 use Rattle.pm_lines.specs.Faults.{fault_words}
 use Rattle.pm_lines.specs.Engine.{Engine, IsMade, IsReadSoFar, IsTold, IsUnderWay, Refuses, Run, over}
@@ -19,7 +19,7 @@ use Rattle.pm_decode.specs.CaptureText.{capture_end, capture_text}
 use Rattle.pm_decode.specs.Capturing.{most_bytes, said_text}
 use Rattle.pm_decode.specs.LongEngine.{Breaks, GaveAll, IsCut}
 use Rattle.pm_decode.specs.declared.hints.Hint.{Hint}
-use Rattle.pm_decode.specs.declared.hints.Hint.TheVariants.{Beyond, NoTimes, NoGoodPacket, NoPec, Paging}
+use Rattle.pm_decode.specs.declared.hints.Hint.TheVariants.{Beyond, Timed, NoTimes, NoGoodPacket, NoPec, Paging}
 use Rattle.pm_capture.specs.declared.options.TellOptions.{TellOptions}
 use Rattle.pm_limits.specs.declared.part_registers.PartRegisters.{PartRegisters}
 use Rattle.pm_log.specs.Texts.{IsAll, log_end, log_text}
@@ -37,11 +37,11 @@ use Rattle.pm_tool.specs.NumberFaults.{refusal_status, refusal_words}
 use Rattle.pm_tool.specs.NumberText.{IsNumberText, RefusesNumber}
 use Rattle.pm_tool.specs.Outcome.{hearing}
 use Rattle.pm_tool.specs.Question.{asked_by}
-use Rattle.pm_tool.specs.Telling.{HasTexts, IsAsked, tell_app, tell_fault_status, tell_fault_words, tell_words}
+use Rattle.pm_tool.specs.Telling.{IsAsked, tell_fault_status, tell_fault_words}
 use Rattle.pm_tool.specs.declared.commandline.tell_fault.TellFault.{TellFault}
 use Rattle.pm_tool.specs.declared.commandline.telling.TellTexts.{TellTexts}
 use Rattle.pm_tool.specs.declared.commandline.choice.Chosen.{Chosen}
-use Rattle.pm_tool.specs.declared.commandline.choice.Chosen.TheVariants.{Hear, Replay, Decode, Check, Number as NumberChosen}
+use Rattle.pm_tool.specs.declared.commandline.choice.Chosen.TheVariants.{Hear, Replay, Decode, Tell, Check, Number as NumberChosen}
 use Rattle.pm_tool.specs.declared.numbers.fault.NumberFault.{NumberFault}
 use Rattle.pm_tool.specs.declared.numbers.fault.NumberFault.TheVariants.{Num, Text as OfText}
 use Rattle.pm_tool.specs.declared.numbers.question.Question.{Question}
@@ -158,6 +158,7 @@ reading remaining old new = over remaining old new (λ _. None) (record { inner 
 -- what is said of a telling that may be wrong
 abbrev pub hint_words : Hint → List ℕ
 hint_words (Beyond line) = codes "line " ++ (decimal line ++ codes " orders a voltage beyond 1000 V by --vout: a minus may be missing")
+hint_words (Timed line) = codes "line " ++ (decimal line ++ codes " begins with its time: give --times")
 hint_words NoTimes = codes "no line is a time and a packet: give --times to both ends, or to none"
 hint_words NoGoodPacket = codes "no line is a good packet: where lines begin with times, give --times"
 hint_words NoPec = codes "no line is a good packet: where packets have no PEC, give --all"
@@ -278,6 +279,7 @@ abbrev pub ChoiceEnds : {R : Type 0} → (R → Option (List ℕ)) → Held R �
 ChoiceEnds remaining old new Hear end = CommandRuns command.Hear remaining old new end
 ChoiceEnds remaining old new Replay end = CommandRuns command.Replay remaining old new end
 ChoiceEnds remaining old new Decode end = CommandRuns command.Decode remaining old new end
+ChoiceEnds remaining old new (Tell given) end = TellEnds remaining old new given end
 ChoiceEnds remaining old new (Check lacks) end = CheckEnds remaining old new lacks end
 ChoiceEnds remaining old new (NumberChosen format word micro) end = (new ≡ old)
     × NumberEnds (asked_by format word micro) end
@@ -310,26 +312,13 @@ WordsEnd remaining old new words end =
     × ChoiceEnds remaining old new chosen end)
     ⊎ ParserEnds old new (fault_of pmb words) end
 
--- how a run of `decode` with options ends, by the words from `decode` on: if the parser finds no fault, as the options that it found
--- say; otherwise as `ParserEnds` says
-abbrev pub OptionsEnd : {R : Type 0} → (R → Option (List ℕ)) → Held R → Held R → List Text → End → Type 0
-OptionsEnd remaining old new words end =
-    ((fault_of tell_app words ≡ []) × (given : TellTexts) × HasTexts given (matches_of tell_app words)
-    × TellEnds remaining old new given end)
-    ⊎ ParserEnds old new (fault_of tell_app words) end
-
--- how a run ends with these words, if those that are read for the options of `decode` stand apart
-abbrev pub LineEnds : {R : Type 0} → (R → Option (List ℕ)) → Held R → Held R → List Text → Option (List Text) → End → Type 0
-LineEnds remaining old new words None end = WordsEnd remaining old new words end
-LineEnds remaining old new words (Some options) end = OptionsEnd remaining old new options end
-
 -- how a run ends whose arguments couldn't be had as words
 abbrev pub no_words_end : IoKind → End
 no_words_end kind = Refused (no_words_status kind) (no_words kind)
 
 -- how a run ends, by its words or why there are none
 abbrev pub RunEnds : {R : Type 0} → (R → Option (List ℕ)) → Held R → Held R → Result (List Text) IoKind → End → Type 0
-RunEnds remaining old new (Ok words) end = LineEnds remaining old new words (tell_words words) end
+RunEnds remaining old new (Ok words) end = WordsEnd remaining old new words end
 RunEnds remaining old new (Err kind) end = (new ≡ old) × (end ≡ no_words_end kind)
 
 -- ---- a run as a whole

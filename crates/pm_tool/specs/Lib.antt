@@ -1,4 +1,5 @@
 -- What the crate promises.
+pub mod AddressList
 pub mod Arguments
 pub mod Commandline
 pub mod Execution

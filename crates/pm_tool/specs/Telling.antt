@@ -1,29 +1,20 @@
--- `decode` with options: the words that are read for them, the command as the parser reads it, and the telling that
--- they ask for. This project's own choice.
-use Rattle.std.specs.Prelude.{◌≡◌, ◌∷◌, [], ℕ, ◌*◌, Bool, true, false, nat_lt, if◌then◌else◌, List, length, codes, flat_map}
-use Rattle.std.specs.Prelude.{Option, Some, None, option_and_then, option_map, Result, Ok, Err}
-use Rattle.std.specs.Result.{result_map_both, result_ok}
-use Rattle.std.specs.Str.{bytes_eq}
-use Rattle.clap.specs.Words.{App, Row, Rule, Text, first_of, new_app, new_rule, one_of, with_rule}
+-- The options of `decode`: the command as the parser reads it, and the telling that they ask for. This project's own choice.
+use Rattle.std.specs.Prelude.{◌≡◌, [], ℕ, ◌*◌, Bool, true, false, ◌||◌, is_some, nat_lt, if◌then◌else◌, List, length, codes, flat_map}
+use Rattle.std.specs.Prelude.{Option, Some, None, option_and_then, unwrap_or, Result, Ok, Err}
+use Rattle.std.specs.Option.{option_or}
+use Rattle.clap.specs.Words.{App, Row, Rule, Text, all_of, first_of, new_app, new_rule, one_of, with_rule}
 use Rattle.clap.specs.declared.builder.action.ArgAction.TheVariants.{SetTrue}
+use Rattle.pm_capture.specs.declared.addresses.Addresses.{Addresses}
 use Rattle.pm_capture.specs.declared.options.TellOptions.{TellOptions}
-use Rattle.pm_tool.specs.Options.{option_rule}
+use Rattle.pm_tool.specs.AddressList.{addresses_asked}
+use Rattle.pm_tool.specs.Options.{list_rule, option_rule}
 use Rattle.pm_lines.specs.Digits.{natural_of}
 use Rattle.pm_tool.specs.Question.{text_at}
 use Rattle.pm_tool.specs.ReadingList.{Entry, entries_of, if_any}
 use Rattle.pm_tool.specs.declared.commandline.readings.Listed.TheVariants as listed
 use Rattle.pm_tool.specs.declared.commandline.telling.TellTexts.{TellTexts}
 use Rattle.pm_tool.specs.declared.commandline.tell_fault.TellFault.{TellFault}
-use Rattle.pm_tool.specs.declared.commandline.tell_fault.TellFault.TheVariants.{VoutAlone, Vout, ReadingsAlone, Readings, GapAlone, Gap}
-
--- ---- the words
-
--- the words from `decode` on of a command line that names `decode` with more words after it; `decode` stands at the place of the
--- program's name
-abbrev pub tell_words : List Text → Option (List Text)
-tell_words (program ∷ name ∷ option ∷ options) =
-    if bytes_eq name (codes "decode") then Some (name ∷ option ∷ options) else None
-tell_words _ = None
+use Rattle.pm_tool.specs.declared.commandline.tell_fault.TellFault.TheVariants.{VoutAlone, Vout, ReadingsAlone, Readings, GapAlone, Gap, Part, Mux}
 
 -- ---- the command, as the builder's calls make it
 
@@ -32,10 +23,10 @@ abbrev pub flag_rule : Text → Rule
 flag_rule name = record (new_rule name) { long = Some name; action = Some SetTrue }
 
 abbrev pub tell_app : App
-tell_app = with_rule (with_rule (with_rule (with_rule (with_rule (with_rule (with_rule (with_rule (with_rule (new_app (codes "pmb decode"))
-    (flag_rule (codes "values"))) (option_rule (codes "vout"))) (option_rule (codes "readings"))) (flag_rule (codes "all")))
-    (flag_rule (codes "pages"))) (option_rule (codes "gap"))) (flag_rule (codes "long"))) (flag_rule (codes "times")))
-    (flag_rule (codes "json"))
+tell_app = with_rule (with_rule (with_rule (with_rule (with_rule (with_rule (with_rule (with_rule (with_rule (with_rule (with_rule (with_rule
+    (new_app (codes "decode")) (flag_rule (codes "values"))) (option_rule (codes "vout"))) (option_rule (codes "readings")))
+    (flag_rule (codes "all"))) (flag_rule (codes "pages"))) (option_rule (codes "gap"))) (flag_rule (codes "explain")))
+    (flag_rule (codes "long"))) (flag_rule (codes "times"))) (flag_rule (codes "json"))) (list_rule (codes "part"))) (list_rule (codes "mux"))
 
 -- Whether a flag is given, by the text that the parser has for it: `true` if it is among the words, and otherwise
 -- `false`.
@@ -51,9 +42,22 @@ pub record HasTexts (given : TellTexts) (rows : List Row) : Type 0 where
   pub all : IsFlag (one_of (codes "all") rows) given.all
   pub pages : IsFlag (one_of (codes "pages") rows) given.pages
   pub gap : text_at given.gap ≡ first_of (codes "gap") rows
+  pub explain : IsFlag (one_of (codes "explain") rows) given.explain
   pub long : IsFlag (one_of (codes "long") rows) given.long
   pub times : IsFlag (one_of (codes "times") rows) given.times
   pub json : IsFlag (one_of (codes "json") rows) given.json
+  pub parts : given.parts ≡ addresses_asked (unwrap_or (all_of (codes "part") rows) [])
+  pub muxes : given.muxes ≡ addresses_asked (unwrap_or (all_of (codes "mux") rows) [])
+
+-- there are texts of addresses
+abbrev pub names_any : Option Addresses → Bool
+names_any None = true
+names_any (Some named) = named.any
+
+-- an option is given
+abbrev pub is_any : TellTexts → Bool
+is_any given = given.values || (is_some given.vout || (is_some given.readings || (given.all || (given.pages || (given.explain
+    || (is_some given.gap || (given.long || (given.times || (given.json || (names_any given.parts || names_any given.muxes))))))))))
 
 -- ---- the formats of `--vout` and `--readings`
 
@@ -99,7 +103,12 @@ gap_of true false (Some text) = Err GapAlone
 gap_of true true (Some text) = micros_or_fault (pause_of text)
 
 abbrev pub gap_asked : TellTexts → Result ℕ TellFault
-gap_asked given = gap_of given.pages given.times (text_at given.gap)
+gap_asked given = gap_of (given.pages || given.explain) given.times (text_at given.gap)
+
+-- the addresses that texts name, or the fault that one of them can't be read
+abbrev pub addresses_or_fault : TellFault → Option Addresses → Result Addresses TellFault
+addresses_or_fault fault None = Err fault
+addresses_or_fault fault (Some named) = Ok named
 
 -- ---- the telling that the options ask for
 
@@ -107,24 +116,31 @@ pub record IsTelling (given : TellTexts) (options : TellOptions) : Type 0 where
   pub values : options.values ≡ given.values
   pub vout : vout_asked given ≡ Ok (flat_map if_any options.formats.vout)
   pub readings : readings_asked given ≡ Ok (flat_map if_any options.formats.readings)
-  pub all : options.all ≡ given.all
+  pub all : options.all ≡ (given.all || given.explain)
   pub long : options.long ≡ given.long
   pub times : options.times ≡ given.times
   pub json : options.json ≡ given.json
-  pub pages : options.pages ≡ given.pages
+  pub pages : options.pages ≡ (given.pages || given.explain)
+  pub explain : options.explain ≡ given.explain
   pub gap : gap_asked given ≡ Ok options.gap
+  pub parts : given.parts ≡ Some options.parts
+  pub muxes : given.muxes ≡ Some options.muxes
 
--- the first fault of three options, one after the other
-abbrev pub first_fault : {A B C : Type 0} → Result A TellFault → Result B TellFault → Result C TellFault → Option TellFault
-first_fault (Err fault) second third = Some fault
-first_fault (Ok first) (Err fault) third = Some fault
-first_fault (Ok first) (Ok second) (Err fault) = Some fault
-first_fault (Ok first) (Ok second) (Ok third) = None
+-- the fault of an option
+abbrev pub fault_in : {A : Type 0} → Result A TellFault → Option TellFault
+fault_in (Ok asked) = None
+fault_in (Err fault) = Some fault
+
+-- the first fault of the options, one after the other
+abbrev pub first_fault : TellTexts → Option TellFault
+first_fault given = option_or (fault_in (vout_asked given)) (option_or (fault_in (readings_asked given))
+    (option_or (fault_in (gap_asked given)) (option_or (fault_in (addresses_or_fault Part given.parts))
+    (fault_in (addresses_or_fault Mux given.muxes)))))
 
 -- the telling, or the first fault of the options
 abbrev pub IsAsked : TellTexts → Result TellOptions TellFault → Type 0
 IsAsked given (Ok options) = IsTelling given options
-IsAsked given (Err fault) = first_fault (vout_asked given) (readings_asked given) (gap_asked given) ≡ Some fault
+IsAsked given (Err fault) = first_fault given ≡ Some fault
 
 -- what is said of a fault of the options, and the status that goes with it
 abbrev pub tell_fault_words : TellFault → List ℕ
@@ -134,6 +150,8 @@ tell_fault_words ReadingsAlone = codes "give --readings with --values"
 tell_fault_words Readings = codes "bad readings: give one to eight, as 8C:linear11,58:8D:direct:1:0:3"
 tell_fault_words GapAlone = codes "give --gap with --pages and --times"
 tell_fault_words Gap = codes "bad gap: give 0 to 1000000 milliseconds"
+tell_fault_words Part = codes "bad part: give addresses from 08 to 77 without 0C, as 61,28"
+tell_fault_words Mux = codes "bad mux: give addresses from 08 to 77 without 0C, as 70,71"
 
 abbrev pub tell_fault_status : TellFault → ℕ
 tell_fault_status VoutAlone = 2
@@ -142,3 +160,5 @@ tell_fault_status ReadingsAlone = 2
 tell_fault_status Readings = 2
 tell_fault_status GapAlone = 2
 tell_fault_status Gap = 2
+tell_fault_status Part = 2
+tell_fault_status Mux = 2

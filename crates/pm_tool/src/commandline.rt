@@ -1,11 +1,9 @@
 //! What the words of a command line choose, by the rules of `clap`.
 //!
 //! One level of subcommands, of which one is required: `hear`, `replay`, `decode`, `check` with an option that may be given
-//! several times, and `number` with its three options.
+//! several times, and `number` with its three options; `decode` has options that a further kind of choice hands on.
 //! The options are optional for the parser, since which of them belong together is for `number` to
 //! judge.
-//!
-//! `decode` with options is read by a command of its own: `TellTexts`.
 ghost use Rattle.std.specs.Prelude.{◌≡◌, ◌∷◌, [], ℕ, List, codes, true};
 ghost use Rattle.std.specs.Prelude.{IfErr, IfOk, IsErrAnd, IsSomeAnd};
 ghost use Rattle.clap.specs.Walk.{texts};
@@ -13,8 +11,9 @@ ghost use Rattle.clap.specs.Words.{FailsBy, HasKind, fault_of, found_of, kind_of
 ghost use Rattle.clap.specs.Words.{subcommand_of, takes};
 ghost use Rattle.pm_tool.specs.Commandline.{Asks, Given, HasValuesOf, IsCommandName};
 ghost use Rattle.pm_tool.specs.Lacking.{lacks_asked};
-ghost use Rattle.pm_tool.specs.Commandline.{UnlessMemory, is_once, number_words, pmb};
+ghost use Rattle.pm_tool.specs.Commandline.{Decodes, UnlessMemory, is_once, number_words, pmb};
 
+mod addresses;
 mod choice;
 mod commands;
 mod helps;
@@ -33,7 +32,6 @@ use options::text_of;
 use std::alloc::Global;
 pub use tell_fault::TellFault;
 pub use telling::TellTexts;
-pub(crate) use telling::option_words;
 
 /// Which subcommand the words name, with its options' texts. The first word is the program's name.
 /// Takes memory for what the parser makes of the words.
@@ -94,7 +92,7 @@ fn choice_of<'a>(name: &str, found: &ArgMatches<'a>) -> Chosen<'a>
     match name {
         "hear" => Chosen::Hear,
         "replay" => Chosen::Replay,
-        "decode" => Chosen::Decode,
+        "decode" => decoding_of(TellTexts::of(found)),
         "check" => Chosen::Check {
             lacks: read_lacks(found.get_strs("lacks")),
         },
@@ -104,5 +102,16 @@ fn choice_of<'a>(name: &str, found: &ArgMatches<'a>) -> Chosen<'a>
             micro: found.get_str("micro"),
         },
         _ => unreachable!(),
+    }
+}
+
+// What `decode` does, with an option or without.
+fn decoding_of(given: TellTexts<'_>) -> Chosen<'_>
+    ensures { Decodes given.entry result }
+{
+    if given.is_any() {
+        Chosen::Tell(given)
+    } else {
+        Chosen::Decode
     }
 }

@@ -3,17 +3,16 @@ ghost use Rattle.std.specs.Io.KnownBytes.{Keeps};
 ghost use Rattle.std.specs.IoError.{error_kind};
 ghost use Rattle.std.specs.Process.{exit_status};
 ghost use Rattle.std.specs.Vec.Iter.{into_iter_items};
-ghost use Rattle.clap.specs.Walk.{texts};
 ghost use Rattle.clap.specs.Words.{kind_of};
 ghost use Rattle.pm_tool.specs.Arguments.{arguments_of};
 ghost use Rattle.pm_tool.specs.Refusals.{Says};
 ghost use Rattle.pm_tool.specs.Execution.{CheckEnds, CommandRuns, End, IsDone, IsEnd, NumberEnds, RunEnds, UsageEnds};
-ghost use Rattle.pm_tool.specs.Execution.{OptionsEnd, TellEnds};
+ghost use Rattle.pm_tool.specs.Execution.{TellEnds};
 ghost use Rattle.pm_tool.specs.Execution.{CutShort, IsToldDone, Printed, hint_words, refusal_line, unwritten_words, wants_memory};
 ghost use Rattle.pm_tool.specs.Question.{asked_by};
 
 use crate::arguments::{texts_of, words_of};
-use crate::commandline::{Chosen, TellTexts, chosen, option_words};
+use crate::commandline::{Chosen, TellTexts, chosen};
 use crate::numbers::number;
 use crate::refusals::{misuse, refuse_arguments, refuse_memory, say};
 use crate::text_commands::{TextCommand, Unwritten};
@@ -97,13 +96,11 @@ pub fn run<R: Read, W: Write, E: Write>(
         Ok(words) => words,
         Err(kind) => return refuse_arguments(errors, NAME, kind),
     };
-    if let Some(words) = option_words(words) {
-        return run_decode(alloc, words, input, output, errors);
-    }
     match chosen(alloc, words) {
         Ok(Chosen::Hear) => run_engine(TextCommand::Hear, alloc, input, output, errors),
         Ok(Chosen::Replay) => run_engine(TextCommand::Replay, alloc, input, output, errors),
         Ok(Chosen::Decode) => run_engine(TextCommand::Decode, alloc, input, output, errors),
+        Ok(Chosen::Tell(given)) => tell_given(alloc, &given, input, output, errors),
         Ok(Chosen::Check { lacks }) => run_check(alloc, lacks, input, output, errors),
         Ok(
             Chosen::Number {
@@ -156,26 +153,6 @@ fn run_check<R: Read, W: Write, E: Write>(
             say(errors, NAME, BAD_LACKS);
             2
         }
-    }
-}
-
-// `pmb decode` with options, over the words from `decode` on.
-fn run_decode<R: Read, W: Write, E: Write>(
-    alloc: Global,
-    words: &[&str],
-    input: &mut Source<R>,
-    output: &mut Sink<W>,
-    errors: &mut Sink<E>,
-) -> u8
-    requires input { IsFalse input.old.failed }
-    requires output { IsFalse output.old.failed }
-    requires errors { IsFalse errors.old.failed }
-    ensures { (end : End) × OptionsEnd R.remaining input.old input.new (texts words.entry.now) end
-        × IsEnd W.contents E.contents output.old output.new errors.old errors.new result end }
-{
-    match TellTexts::read(alloc, words) {
-        Ok(given) => tell_given(alloc, &given, input, output, errors),
-        Err(error) => show_usage(alloc, &error, output, errors),
     }
 }
 
@@ -283,6 +260,7 @@ fn say_hint<E: Write>(errors: &mut Sink<E>, hint: Hint)
             line,
             b" orders a voltage beyond 1000 V by --vout: a minus may be missing",
         ),
+        Hint::Timed(line) => say_line(errors, line, b" begins with its time: give --times"),
         Hint::NoTimes => say(
             errors,
             NAME,

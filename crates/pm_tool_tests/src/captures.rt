@@ -1,7 +1,7 @@
 //! What captures are shown as, written out by hand.
 
 use crate::checks::equal;
-use pm_decode::{TellEnd, TellOptions, tell};
+use pm_decode::{Addresses, TellEnd, TellOptions, tell};
 use pm_lines::{Sink, Source, TextFault};
 use std::alloc::Global;
 use std::process::Abort;
@@ -113,7 +113,7 @@ fn packets_of_other_codes_are_told_by_their_bytes(rt: HostRuntime) {
 
 static TIMES: [(&str, &str); 1] = [(
     "0012 B0 10 80 34\r\n7\r\n # x\n#\n  \n\r\n1234567890123456789 B0\n12 # x\n 3 B0 10 80 34 00/00/00\n\n5\r",
-    "1 12 us 58 WRITE_PROTECT write 80\n2 7 us -- write F1 NotOurs\n3 X1 Syntax\n7 X1 Syntax\n8 X2 BadHex\n9 X1 Syntax\n11 5 us -- write F1 NotOurs\ncount WRITE_PROTECT 1\nlines 7 accepted 1 faults 2 bad 4\n",
+    "1 0 us 58 WRITE_PROTECT write 80\n2 -5 us -- write F1 NotOurs\n3 X1 Syntax\n7 X1 Syntax\n8 X2 BadHex\n9 X1 Syntax\n11 -7 us -- write F1 NotOurs\ncount WRITE_PROTECT 1\nlines 7 accepted 1 faults 2 bad 4\n",
 )];
 
 #[test]
@@ -272,7 +272,7 @@ static RECEIVED: [(&str, &str); 15] = [
     ),
     (
         "# A general call, and a write to a zone, are for all parts.\nB0 00 01 ED\nB0 20 / B1 17 E4\n6E 96\nB0 21 00 10 C0\n6E 00 01\nB0 21 00 10 C0\n",
-        "2 58 PAGE write 01\n3 58 page 1? VOUT_MODE read 17 ULINEAR16 -9\n4 37 code 96 READ_POUT send, no PEC\n5 58 page 1? VOUT_COMMAND write 1000 8 V\n6 37 PAGE write 01, no PEC\n7 58 VOUT_COMMAND write 1000\ncount PAGE 2\ncount VOUT_MODE 1\ncount VOUT_COMMAND 2\ncount code 96 1\nlines 6 accepted 5 other 1 faults 0 bad 0\n",
+        "2 58 PAGE write 01\n3 58 page 1? VOUT_MODE read 17 ULINEAR16 -9\n4 37 ZONE_WRITE write 96\n5 58 page 1? VOUT_COMMAND write 1000 8 V\n6 37 ZONE_WRITE write 00 01\n7 58 VOUT_COMMAND write 1000\ncount PAGE 1\ncount VOUT_MODE 1\ncount VOUT_COMMAND 2\nlines 6 accepted 4 other 0 faults 0 special 2 bad 0\n",
     ),
     (
         "# One answer of another code ends by chance in its PEC: the part sends none.\nB0 D0 / B1 12 93\nB0 80 / B1 FF\n",
@@ -299,4 +299,80 @@ fn what_was_refused_or_answered_by_nobody_is_not_told_as_done(rt: HostRuntime) {
             ..values()
         },
     );
+}
+
+static SPECIAL: [(&str, &str); 4] = [
+    (
+        "# Addresses that SMBus keeps for something else.\n10 B0 34 12\n18 / 19 B0\n50 21 / 51 00 10\n6E 00 01\nC2 02 1D\nC2 / C3 04 01 02\n",
+        "2 08 host notify write B0 34 12\n3 0C alert response read B0\n4 28 ZONE_READ write 21 read 00 10\n5 37 ZONE_WRITE write 00 01\n6 61 ARP write 02 1D\n7 61 ARP read 04 01 02\nlines 6 accepted 0 other 0 faults 0 special 6 bad 0\n",
+    ),
+    (
+        "# What answers VOUT_MODE, STATUS_BYTE or PMBUS_REVISION there is a part, from that line on; at 0C nothing is.\n50 21 00 10\n50 78 / 51 40\n50 21 00 10\n6E 98 / 6F 33\n6E 20 17\nC2 20 / C3 14\nC2 8B / C3 00 10\n10 78 / 11\n10 21 00 10\n18 78 / 19 40\n",
+        "2 28 ZONE_READ write 21 00 10\n3 28 STATUS_BYTE read 40 OFF, no PEC\n4 28 VOUT_COMMAND write 1000, no PEC\n5 37 PMBUS_REVISION read 33 Part I 1.3, Part II 1.3, no PEC\n6 37 code 20 VOUT_MODE write 17, no PEC\n7 61 VOUT_MODE read 14 ULINEAR16 -12, no PEC\n8 61 READ_VOUT read 1000 1 V, no PEC\n9 08 host notify write 78 read\n10 08 host notify write 21 00 10\n11 0C alert response write 78 read 40\ncount STATUS_BYTE 1\ncount VOUT_COMMAND 1\ncount PMBUS_REVISION 1\ncount VOUT_MODE 1\ncount READ_VOUT 1\ncount code 20 1\nlines 10 accepted 5 other 1 faults 0 special 4 bad 0\n",
+    ),
+    (
+        "# A write to a zone ends what is known, and one to a part of its address doesn't.\nB0 00 01 ED\nB0 20 / B1 17 E4\n6E 00 00\nB0 21 00 10 C0\nB0 00 01 ED\nB0 20 / B1 17 E4\n6E 78 / 6F 00\n6E 00 00\nB0 21 00 10 C0\n",
+        "2 58 PAGE write 01\n3 58 page 1? VOUT_MODE read 17 ULINEAR16 -9\n4 37 ZONE_WRITE write 00 00\n5 58 VOUT_COMMAND write 1000\n6 58 PAGE write 01\n7 58 page 1? VOUT_MODE read 17 ULINEAR16 -9\n8 37 STATUS_BYTE read 00 none, no PEC\n9 37 PAGE write 00, no PEC\n10 58 page 1? VOUT_COMMAND write 1000 8 V\ncount PAGE 3\ncount VOUT_MODE 2\ncount VOUT_COMMAND 2\ncount STATUS_BYTE 1\nlines 9 accepted 8 other 0 faults 0 special 1 bad 0\n",
+    ),
+    (
+        "# A comment shows them as well, and a refused one is counted as refused.\nB0 00 01 ED\nB0 20 / B1 17 E4\n# another device: C2 00 00\nB0 21 00 10 C0\n# another device: 6E 00 00\nB0 21 00 10 C0\n# byte 1 wasn't acknowledged\n6E 00 00\n",
+        "2 58 PAGE write 01\n3 58 page 1? VOUT_MODE read 17 ULINEAR16 -9\n5 58 page 1? VOUT_COMMAND write 1000 8 V\n7 58 VOUT_COMMAND write 1000\n9 37 ZONE_WRITE write 00 00, byte 1 not acknowledged\ncount PAGE 1\ncount VOUT_MODE 1\ncount VOUT_COMMAND 2\nlines 5 accepted 4 other 0 faults 0 refused 1 bad 0\n",
+    ),
+];
+
+#[test]
+fn addresses_that_are_kept_for_something_else_are_no_parts(rt: HostRuntime) {
+    are_told(
+        &rt,
+        &SPECIAL,
+        &TellOptions {
+            all: true,
+            pages: true,
+            ..values()
+        },
+    );
+}
+
+static MUXES: [(&str, &str); 2] = [
+    (
+        "B0 00 01 ED\nB0 20 / B1 17 E4\nE0 / E1 02\nE0\nB0 21 00 10 C0\nE0 02\nB0 21 00 10 C0\n",
+        "1 58 PAGE write 01\n2 58 page 1? VOUT_MODE read 17 ULINEAR16 -9\n3 70 mux read 02\n4 70 mux send\n5 58 page 1? VOUT_COMMAND write 1000 8 V\n6 70 mux write 02\n7 58 VOUT_COMMAND write 1000\ncount PAGE 1\ncount VOUT_MODE 1\ncount VOUT_COMMAND 2\nlines 7 accepted 4 other 0 faults 0 special 3 bad 0\n",
+    ),
+    (
+        "B0 00 01 ED\n# failed (-6): E2\nB0 8B / B1 00 10 8B\n# failed (-6): E2 04\nB0 8B / B1 00 10 8B\nC2 8B / C3 00 10\n6E 00 00\nB0 00 00 EA\n6E 00 01\nB0 8B / B1 00 10 8B\n",
+        "1 58 PAGE write 01\n3 58 page 1? READ_VOUT read 1000\n5 58 READ_VOUT read 1000\n6 61 READ_VOUT read 1000, no PEC\n7 37 PAGE write 00, no PEC\n8 58 PAGE write 00\n9 37 PAGE write 01, no PEC\n10 58 page 0? READ_VOUT read 1000\ncount PAGE 4\ncount READ_VOUT 4\nlines 8 accepted 8 other 0 faults 0 bad 0\n",
+    ),
+];
+
+static MUX_OBJECTS: [(&str, &str); 1] = [(
+    "5 E0 02\n6 50 21 / 51 00\n# byte 0 of the answer wasn't acknowledged\n7 50 21 / 51\n",
+    "{\"line\":1,\"time\":0,\"address\":\"70\",\"special\":\"mux\",\"direction\":\"write\",\"payload\":\"02\"}\n{\"line\":2,\"time\":1,\"address\":\"28\",\"special\":\"ZONE_READ\",\"direction\":\"read\",\"written\":\"21\",\"payload\":\"00\"}\n{\"line\":4,\"time\":2,\"address\":\"28\",\"special\":\"ZONE_READ\",\"direction\":\"read\",\"written\":\"21\",\"refused_at\":2}\n{\"lines\":3,\"accepted\":0,\"faults\":0,\"refused\":1,\"special\":2,\"bad\":0}\n",
+)];
+
+static MUX_ALONE: [(&str, &str); 1] = [(
+    "E0 02\n",
+    "1 70 mux write 02\nlines 1 accepted 0 faults 0 special 1 bad 0\n",
+)];
+
+#[test]
+fn parts_and_muxes_that_are_named_are_told_so(rt: HostRuntime) {
+    let named = TellOptions {
+        parts: Addresses::none().with(0x61).with(0x37),
+        muxes: Addresses::none().with(0x71).with(0x70),
+        ..TellOptions::none()
+    };
+    let followed = TellOptions {
+        values: true,
+        all: true,
+        pages: true,
+        ..named
+    };
+    are_told(&rt, &MUXES, &followed);
+    let object = TellOptions {
+        times: true,
+        json: true,
+        ..named
+    };
+    are_told(&rt, &MUX_OBJECTS, &object);
+    are_told(&rt, &MUX_ALONE, &named);
 }

@@ -1,6 +1,7 @@
 //! Facts of `decode`, each in a row that was written by hand from the standard: the definitions say them too, so that no
 //! proof would see one that is wrong in both.
 
+mod changes;
 mod codes;
 mod formats;
 mod lines;
@@ -8,6 +9,7 @@ mod values;
 
 use crate::checks::is_true;
 use crate::run::run_on;
+use changes::CHANGES;
 use codes::CODES;
 use formats::FORMATS;
 use lines::LINES;
@@ -85,5 +87,6 @@ fn each_fact_of_a_capture_is_told(rt: HostRuntime) -> Result<(), Fail> {
     are_told(&rt, &VALUES)?;
     are_told(&rt, &CODES)?;
     are_told(&rt, &FORMATS)?;
-    are_told(&rt, &LINES)
+    are_told(&rt, &LINES)?;
+    are_told(&rt, &CHANGES)
 }

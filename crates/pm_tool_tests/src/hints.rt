@@ -4,7 +4,7 @@ use crate::checks::is_true;
 use crate::run::run_on;
 
 /// The words, what is read, the status, what is printed and what is said.
-static HINTS: [(&[&str], &str, u8, &str, &str); 19] = [
+static HINTS: [(&[&str], &str, u8, &str, &str); 22] = [
     // The first order beyond 1000 V is named.
     (
         &["pmb", "decode", "--values", "--vout=ulinear16:0"],
@@ -56,7 +56,7 @@ static HINTS: [(&[&str], &str, u8, &str, &str); 19] = [
         &["pmb", "decode", "--times"],
         "9 B0 05 04 00 21 CD 34 50\nx\n",
         1,
-        "1 9 us 58 write F5 WrongPec 7\n2 X1 Syntax\nlines 2 accepted 0 faults 1 bad 1\n",
+        "1 0 us 58 write F5 WrongPec 7\n2 X1 Syntax\nlines 2 accepted 0 faults 1 bad 1\n",
         "",
     ),
     (
@@ -80,6 +80,28 @@ static HINTS: [(&[&str], &str, u8, &str, &str); 19] = [
         "1 X2 BadHex\n2 58 code D0 write 01, no PEC\ncount code D0 1\nlines 2 accepted 0 other 1 faults 0 bad 1\n",
         "",
     ),
+    // A time of 16 digits, as `pmhost --trace-times` writes it, passes for bytes.
+    (
+        &["pmb", "decode", "--values"],
+        "# x\n1796052351852234 B0 05 04 00 21 CD 34 5A\n",
+        0,
+        "2 -- write F1 NotOurs bytes 17 96 05 23 51 85 22 34 B0 05 04 00 21 CD 34 5A\nlines 1 accepted 0 faults 1 bad 0\n",
+        "pmb: line 2 begins with its time: give --times\n",
+    ),
+    (
+        &["pmb", "decode", "--all"],
+        "B0 03 46\n1805000000000000 B0 06 02 00 21 / B1 02 CD 34 B9\n",
+        0,
+        "1 58 CLEAR_FAULTS send\n2 0C alert response write 05 00 00 00 00 00 00 B0 06 02 00 21 read 02 CD 34 B9\ncount CLEAR_FAULTS 1\nlines 2 accepted 1 other 0 faults 0 special 1 bad 0\n",
+        "pmb: line 2 begins with its time: give --times\n",
+    ),
+    (
+        &["pmb", "decode", "--all", "--times"],
+        "1796052351852234 1796052351852234 B0 05 04 00 21 CD 34 5A\n",
+        0,
+        "1 0 us -- write F1 NotOurs\nlines 1 accepted 0 other 0 faults 1 bad 0\n",
+        "",
+    ),
     // Each packet lacks nothing but its PEC.
     (
         &["pmb", "decode", "--values"],
@@ -92,7 +114,7 @@ static HINTS: [(&[&str], &str, u8, &str, &str); 19] = [
         &["pmb", "decode", "--times"],
         "7 B0 21 CD 34\nB0 03 46\n",
         1,
-        "1 7 us 58 write F2 Short 4\n2 X1 Syntax\nlines 2 accepted 0 faults 1 bad 1\n",
+        "1 0 us 58 write F2 Short 4\n2 X1 Syntax\nlines 2 accepted 0 faults 1 bad 1\n",
         "pmb: no line is a good packet: where packets have no PEC, give --all\n",
     ),
     // One of them is good, has another fault, or is too short for more than its PEC.

@@ -23,8 +23,8 @@ pub fn microvolts_of(voltage: Frac) -> i128
 
 /// A capture that is shown without options is shown as a trace.
 pub fn a_capture_without_options(text: &[u8])
-    ensures { (formats : GivenFormats) (long : Bool) (gap : ℕ) →
-        capture_text (plain_options formats long gap) text.now ≡ trace_text text.now }
+    ensures { (formats : GivenFormats) (long : Bool) (gap : ℕ) (parts muxes : List Bool) →
+        capture_text (plain_options formats long gap parts muxes) text.now ≡ trace_text text.now }
 {
     plain_captures_are_traces();
 }

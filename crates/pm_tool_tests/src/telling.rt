@@ -2,8 +2,9 @@
 
 use crate::checks::{equal, is_true};
 use crate::run::{run_on, run_with};
+use pm_decode::Addresses;
 use pm_test_streams::{blank_paper, in_pieces};
-use pm_tool::{Source, TellTexts};
+use pm_tool::{Chosen, Source, TellTexts, chosen};
 use std::test::Fail;
 
 const BAD_VOUT: &str =
@@ -14,8 +15,54 @@ const BAD_READINGS: &str =
 
 const BAD_GAP: &str = "pmb: bad gap: give 0 to 1000000 milliseconds\n";
 
+const BAD_PART: &str = "pmb: bad part: give addresses from 08 to 77 without 0C, as 61,28\n";
+
+const BAD_MUX: &str = "pmb: bad mux: give addresses from 08 to 77 without 0C, as 70,71\n";
+
 /// The words, what is read, the status, what is printed and what is said.
-static TOLD: [(&[&str], &str, u8, &str, &str); 40] = [
+static TOLD: [(&[&str], &str, u8, &str, &str); 32] = [
+    // Addresses of parts and of muxes, in lists and one after the other.
+    (
+        &[
+            "pmb",
+            "decode",
+            "--mux=70",
+            "--part=61",
+            "--mux=71",
+            "--part",
+            "28,37",
+        ],
+        "E2 02\nC2 03 CE\n",
+        0,
+        "1 71 mux write 02\n2 61 CLEAR_FAULTS send\ncount CLEAR_FAULTS 1\nlines 2 accepted 1 faults 0 special 1 bad 0\n",
+        "",
+    ),
+    (&["pmb", "decode", "--mux=0C"], "E2 02\n", 2, "", BAD_MUX),
+    (&["pmb", "decode", "--mux=70,"], "E2 02\n", 2, "", BAD_MUX),
+    (&["pmb", "decode", "--mux=7"], "E2 02\n", 2, "", BAD_MUX),
+    (&["pmb", "decode", "--mux=78"], "E2 02\n", 2, "", BAD_MUX),
+    (&["pmb", "decode", "--part=0c"], "E2 02\n", 2, "", BAD_PART),
+    (
+        &["pmb", "decode", "--part=61", "--part=07"],
+        "E2 02\n",
+        2,
+        "",
+        BAD_PART,
+    ),
+    (
+        &["pmb", "decode", "--part=x", "--mux=x"],
+        "E2 02\n",
+        2,
+        "",
+        BAD_PART,
+    ),
+    (
+        &["pmb", "decode", "--part=x", "--gap=x"],
+        "E2 02\n",
+        2,
+        "",
+        "pmb: give --gap with --pages and --times\n",
+    ),
     // An output's mode teaches its format, and no other's.
     (
         &["pmb", "decode", "--values"],
@@ -35,7 +82,7 @@ static TOLD: [(&[&str], &str, u8, &str, &str); 40] = [
         &["pmb", "decode", "--times", "--all", "--long"],
         "01234 B0 03 46\n5 B0 D4\n",
         0,
-        "1 1234 us 58 CLEAR_FAULTS send\n2 5 us 58 code D4 send, no PEC\ncount CLEAR_FAULTS 1\ncount code D4 1\nlines 2 accepted 1 other 1 faults 0 bad 0\n",
+        "1 0 us 58 CLEAR_FAULTS send\n2 -1229 us 58 code D4 send, no PEC\ncount CLEAR_FAULTS 1\ncount code D4 1\nlines 2 accepted 1 other 1 faults 0 bad 0\n",
         "",
     ),
     // Each of these flags by itself. A time may have zeros before it.
@@ -43,7 +90,7 @@ static TOLD: [(&[&str], &str, u8, &str, &str); 40] = [
         &["pmb", "decode", "--times"],
         "01234 B0 03 46\n5 B0 D4\n",
         0,
-        "1 1234 us 58 CLEAR_FAULTS send\n2 5 us 58 write F2 Short 2\ncount CLEAR_FAULTS 1\nlines 2 accepted 1 faults 1 bad 0\n",
+        "1 0 us 58 CLEAR_FAULTS send\n2 -1229 us 58 write F2 Short 2\ncount CLEAR_FAULTS 1\nlines 2 accepted 1 faults 1 bad 0\n",
         "",
     ),
     (
@@ -208,19 +255,23 @@ static TOLD: [(&[&str], &str, u8, &str, &str); 40] = [
         "",
         BAD_VOUT,
     ),
+];
+
+/// The same of `--gap`, and of more than one fault.
+static TOLD_OF_GAPS: [(&[&str], &str, u8, &str, &str); 17] = [
     // `--gap`: with both of the others, in one to seven digits.
     (
         &["pmb", "decode", "--times", "--gap=0000005", "--pages"],
         "5 B0 88 / B1 00 D3 F6\n",
         0,
-        "1 5 us 58 READ_VIN read D300\ncount READ_VIN 1\nlines 1 accepted 1 faults 0 bad 0\n",
+        "1 0 us 58 READ_VIN read D300\ncount READ_VIN 1\nlines 1 accepted 1 faults 0 bad 0\n",
         "",
     ),
     (
         &["pmb", "decode", "--pages", "--times", "--gap", "1000000"],
         "5 B0 88 / B1 00 D3 F6\n",
         0,
-        "1 5 us 58 READ_VIN read D300\ncount READ_VIN 1\nlines 1 accepted 1 faults 0 bad 0\n",
+        "1 0 us 58 READ_VIN read D300\ncount READ_VIN 1\nlines 1 accepted 1 faults 0 bad 0\n",
         "",
     ),
     (
@@ -341,6 +392,16 @@ fn options_decide_what_is_told(rt: HostRuntime) {
     }
 }
 
+#[test]
+fn a_gap_and_faults_decide_what_is_told(rt: HostRuntime) {
+    for &(words, text, status, output, errors) in &TOLD_OF_GAPS {
+        let found = run_on(rt.alloc(), words, text);
+        is_true(&rt, found.is(status, output, errors), &words);
+        let flushes = usize::from(!output.is_empty());
+        equal(&rt, &found.output.flushes, &flushes, &words);
+    }
+}
+
 /// The words, lines of one length, how long they are, and by how many writes they are shown: one for each, as soon as it came,
 /// and one for the counts.
 static LIVE: [(&[&str], &str, usize, usize); 6] = [
@@ -396,27 +457,34 @@ fn lines_that_are_there_at_once_are_told_together(rt: HostRuntime) -> Result<(),
 
 #[test]
 fn options_are_read_as_they_are_written(rt: HostRuntime) -> Result<(), Fail> {
-    let given = TellTexts::read(
-        rt.alloc(),
-        &[
-            "decode",
-            "--json",
-            "--vout=linear11",
-            "--times",
-            "--gap=0020",
-            "--pages",
-        ],
-    )?;
+    let words = [
+        "pmb",
+        "decode",
+        "--json",
+        "--vout=linear11",
+        "--times",
+        "--gap=0020",
+        "--pages",
+        "--mux=70,71",
+        "--mux=1f",
+    ];
+    let Chosen::Tell(given) = chosen(rt.alloc(), &words)? else {
+        is_true(&rt, false, &words);
+        return Ok(());
+    };
     let wanted = TellTexts {
         values: false,
         vout: Some("linear11"),
         readings: None,
         all: false,
         pages: true,
+        explain: false,
         gap: Some("0020"),
         long: false,
         times: true,
         json: true,
+        parts: Some(Addresses::none()),
+        muxes: Some(Addresses::none().with(0x1F).with(0x70).with(0x71)),
     };
     is_true(&rt, given == wanted, &given);
     is_true(&rt, given.options().is_err(), &given);

@@ -3,7 +3,7 @@
 use crate::checks::is_true;
 use crate::run::{run_on, run_with};
 use pm_test_streams::{blank_paper, in_pieces};
-use pm_tool::{Source, chosen};
+use pm_tool::Source;
 use std::process::Abort;
 use std::test::Fail;
 
@@ -171,9 +171,12 @@ Further options:
       --all           Show packets without PEC, and those that the command table doesn't have
       --pages         Follow PAGE: show plain packets with the output that they reach
       --gap <MS>      The pause that ends a page, in milliseconds; with --pages and --times
+      --explain       Show what happened: --all, --pages, failed transfers, words that changed
       --long          Take a trace of more than 1 MiB
       --times         Each line begins with its time in microseconds
       --json          Print each line as an object of JSON
+      --part <AA>     Addresses of parts that SMBus keeps for something else: of 08, 28, 37, 61
+      --mux <AA>      Addresses of muxes, as 70,71
 
 A line is one of
 
@@ -202,12 +205,19 @@ after a VOUT_MODE of ULINEAR16, or as --readings says: one to eight entries,
 
 With --all a packet without PEC is shown as one that has it, and one that the command table doesn't
 have by its bytes: 1 58 code FD send, no PEC. With --times a line is 1234 B0 03 46, and is shown as
-1 1234 us 58 CLEAR_FAULTS send.
+1 0 us 58 CLEAR_FAULTS send: times count from the first line's.
+
+With --explain a transfer that failed keeps its place, as 16 failed: timed out, and a register that is
+read with another word than last, with nothing in between that writes it, ends in CHANGED? lines 5
+and 22.
 
 With --pages a plain packet is shown with the output that it reaches, and a question mark, since a
 trace shows no restart: 2 58 page 1? VOUT_COMMAND write 34CD. If the trace contradicts itself, the
 line ends in WRONG PAGE? lines 1 and 4. With --times a page ends at a pause of its address of more
 than --gap, 0 to 1000000 ms, or 1000.
+
+With an option a packet to 08, 0C, 28, 37, 61 or a mux is shown as what the address is for, unless a
+part answered there or --part names it: 37 ZONE_WRITE write 00 01. A write to a mux ends what is known.
 
 A packet may be faulty; N counts bytes from 0, the address is byte 0:
 
@@ -223,7 +233,7 @@ A packet may be faulty; N counts bytes from 0, the address is byte 0:
 Status 1 if a line is bad, X1 Syntax or X2 BadHex, or with a line on standard error: X3 TooLong,
 X4 Read, X5 Write, X6 Memory. With an option a second line after X3 says that --long reads on.
 Status 2: give --vout with --values, bad vout, and the same of --readings; give --gap with --pages
-and --times, bad gap.
+and --times, bad gap, bad part, bad mux.
 ";
 
 static NUMBER_HELP: &str =
@@ -282,20 +292,6 @@ fn help_is_printed(rt: HostRuntime) {
     is_help(&rt, &["pmb", "replay", "--help"], REPLAY_HELP);
     is_help(&rt, &["pmb", "decode", "--help"], DECODE_HELP);
     is_help(&rt, &["pmb", "number", "--help"], NUMBER_HELP);
-}
-
-#[test]
-fn decode_without_options_has_the_help_of_its_options(rt: HostRuntime) -> Result<(), Fail> {
-    let words = ["pmb", "decode", "--help"];
-    match chosen(rt.alloc(), &words) {
-        Ok(_) => is_true(&rt, false, &1),
-        Err(help) => {
-            let text = format!(in rt.alloc(); "{help}")?;
-            is_true(&rt, DECODE_HELP.starts_with(text.as_str()), &2);
-            is_true(&rt, text.len() + 1 >= DECODE_HELP.len(), &3);
-        }
-    }
-    Ok(())
 }
 
 #[test]

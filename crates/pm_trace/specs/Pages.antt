@@ -42,10 +42,6 @@ is_paging (addr ∷ code ∷ rest) is_answered = if code == command.page_plus_re
     else ((code == command.page || code == command.page_plus_write) && (is_answered || nat_lt 0 (length rest)))
 is_paging _ is_answered = false
 
--- a general call or a write to a zone may be of any part
-abbrev pub is_of_all : ℕ → Bool
-is_of_all addr = addr == 0x00 || addr == 0x37
-
 -- ---- what a packet says of the page
 
 -- The codes that PAGE doesn't select an output for: PAGE and PAGE_PLUS_WRITE to PAGE_PLUS_READ; WRITE_PROTECT, STORE and RESTORE,

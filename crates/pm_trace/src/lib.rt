@@ -41,5 +41,5 @@ pub use pages::{PageLine, PageUse, Pages, Place, Standing, page_use, unclear_use
 pub use shown::{Shown, packet_shown};
 pub use shown_text::{answered, coefficients_in, push_packet, push_shown};
 pub use tally::{Tally, count_code};
-pub use touch::{Touch, is_of_all, is_paging, is_restore, touch_of};
+pub use touch::{Touch, is_paging, is_restore, touch_of};
 pub use trace_line::{TraceLine, read_trace_line, render_line};

@@ -1,6 +1,6 @@
 //! What a packet may change of what is known of its address.
 ghost use Rattle.std.specs.Prelude.{◌≡◌};
-ghost use Rattle.pm_trace.specs.Pages.{code_touch as spec_code_touch, is_of_all as spec_is_of_all, is_paging as spec_is_paging, is_restore as spec_is_restore, touch_of as spec_touch_of};
+ghost use Rattle.pm_trace.specs.Pages.{code_touch as spec_code_touch, is_paging as spec_is_paging, is_restore as spec_is_restore, touch_of as spec_touch_of};
 
 use pm_table::Code;
 
@@ -73,11 +73,4 @@ pub fn is_paging(write: &[u8], is_answered: bool) -> bool
     } else {
         (code == Code::PAGE || code == Code::PAGE_PLUS_WRITE) && (is_answered || !rest.is_empty())
     }
-}
-
-/// Whether a write to an address may be of any part: a general call, or a write to a zone.
-pub fn is_of_all(addr: u8) -> bool
-    ensures { result ≡ spec_is_of_all addr }
-{
-    addr == 0x00 || addr == 0x37
 }

@@ -1,7 +1,7 @@
 -- What comes back is bytes, and what becomes of damaged frames.
 use Rattle.std.specs.List.{starts_with}
 use Rattle.std.specs.Int.{bit_at, cast_signed, cast_unsigned, w8, w16}
-use Rattle.std.specs.Option.{option_map_or, option_or}
+use Rattle.std.specs.Option.{option_map_or}
 use Rattle.std.specs.Prelude.{bytes_eq, nat_lt, slice_index, option_to_list, slice_set, nat_eq}
 use Rattle.std.proofs.Common.{◌≡◌, ◌≢◌, ◌⊎◌, inl, inr, ℕ, ◌+◌, ◌-◌, ◌/◌, ◌%◌, ◌^◌, ◌<◌, ◌≤◌, Bool, true, false, not, eqb, ◌&&◌, List, []}
 use Rattle.std.proofs.Common.{◌∷◌, ◌++◌, length, take, get_or, refl, sym, ◌∙◌, ap, ap₂, subst, arith, length-append, lit<, zero, suc, ◌*◌}
@@ -22,7 +22,7 @@ use Rattle.pm_table.specs.Coefficients.{coefficient_bytes, coefficients_of}
 use Rattle.pm_table.specs.declared.cell.Cell.TheVariants.{Out, Protect}
 use Rattle.pm_frame.specs.{Betrayal.is_betrayed, Fault.whole_answer, Laws.RequestsAreExact, Pec.pec_of, declared.message.Message.Message}
 use Rattle.pm_frame.specs.Damage.{DifferWithinEight, message_bit}
-use Rattle.pm_frame.specs.Layout.{AreBytes, answered, IsRequest, has_count, read_address, IsWrite, IsAnswer, fits_layout, is_read_message}
+use Rattle.pm_frame.specs.Layout.{AreBytes, answered, IsRequest, has_count, read_address, IsWrite, IsAnswer}
 use Rattle.pm_frame.specs.Layout.{sent}
 use Rattle.pm_frame.specs.Lemmas.{bytes-more, pec_of-lt}
 use Rattle.pm_frame.specs.declared.message.Message.TheVariants.{SendByte, WriteByte, WriteWord, PagePlusWrite, ReadCommand, PagePlusRead}
@@ -40,26 +40,23 @@ use Rattle.pm_device.specs.Verdict.{answers_coefficients, is_answered, read_verd
 use Rattle.pm_device.specs.declared.converter.Ending.TheVariants.{Restart, Stop}
 use Rattle.pm_device.specs.declared.converter.Heard.TheVariants.{Answer, Silent, Taken, Refused}
 use Rattle.pm_device.specs.declared.fault.DeviceFault.TheVariants.{BadPage, UnsupportedData}
-use Rattle.pm_host.specs.{Refusals.micro_word, Transcript.Setup}
-use Rattle.pm_host.specs.Summary.{Summary, format_at, sending_in}
+use Rattle.pm_host.specs.{Refusals.micro_word}
+use Rattle.pm_host.specs.Summary.{Summary, format_at}
 use Rattle.pm_host.specs.Transcript as host
-use Rattle.pm_world.specs.{Below.Below, Honest.IsSpelled, Laws.BetrayedDamageIsLegal, Lemmas.Orders.told-asked, Retelling.WasOrdered}
-use Rattle.pm_world.specs.{Setup.setup_of, declared.event.Back.Back, declared.event.Event.Event}
+use Rattle.pm_world.specs.{Below.Below, Honest.IsSpelled, Lemmas.Orders.told-asked, Retelling.WasOrdered}
+use Rattle.pm_world.specs.{declared.event.Back.Back, declared.event.Event.Event}
 use Rattle.pm_world.specs.Bytes.{CarriesBytes, CarryBytes, ReturnsInBytes, StartsShort}
 use Rattle.pm_world.specs.Damage.{AreOthers, IsBetrayedDamage, burst, few as damage_few, odd}
-use Rattle.pm_world.specs.Legal.{answer_in, is_legal_return, back_bytes, frame_of, heard_bytes, heard_ending, is_restart, is_heard_whole}
+use Rattle.pm_world.specs.Legal.{answer_in, is_legal_return, back_bytes, frame_of, heard_bytes, heard_ending, is_restart}
 use Rattle.pm_world.specs.Legal.{is_legal_hearing}
-use Rattle.pm_world.specs.Lemmas.{entries-more, whole-hearing}
+use Rattle.pm_world.specs.Lemmas.{entries-more}
 use Rattle.pm_world.specs.Life.{life, now, state_of}
-use Rattle.pm_world.specs.State.{Share, State, answer_to, asked, share_of, delivery_cause, exchange_cause, rule, IsTaken, event_limit}
+use Rattle.pm_world.specs.State.{Share, State, answer_to, asked, share_of}
 use Rattle.pm_world.specs.Uncertainty.{AreOfBytes, since_restart}
-use Rattle.pm_world.specs.declared.cause.Cause.TheVariants.{WrongKind, NotBetrayed}
 use Rattle.pm_world.specs.declared.event.Arrival.TheVariants as arrival
 use Rattle.pm_world.specs.declared.event.Back.TheVariants as back
-use Rattle.pm_world.specs.declared.event.Event.TheVariants.{Order, OrderMicro, Deliver, Exchange}
-use Rattle.pm_world.proofs.Events.{IsLived, earlier, IsShare, exchanges, measures, share-is, exchange_cause-by, heard_ending-request}
-use Rattle.pm_world.proofs.Events.{frame-write, free, life-told, now-setup}
-use Rattle.pm_world.proofs.Formats.{is_request}
+use Rattle.pm_world.specs.declared.event.Event.TheVariants.{Order, OrderMicro}
+use Rattle.pm_world.proofs.Events.{IsLived, earlier, IsShare, exchanges, measures, share-is}
 use Rattle.pm_world.proofs.Orders.{life-own}
 use Rattle.pm_world.proofs.Standings.{first-bytes}
 
@@ -746,119 +743,3 @@ return-legal laws {addr = addr} {request = request} {frame = frame} {payload = p
     let betrayed = subst (λ f. is_betrayed f bytes ≡ true) (sym asked.spelled) (damaged laws (sent addr request) answer bytes good damage)
     in
     or_right (whole && bytes_eq bytes answer) _ (or_right (nat_lt (length bytes) (whole_answer request)) (is_betrayed frame bytes) betrayed)
-
--- such damage is legal, so a delivery and an exchange have no cause against them
-delivery-free : BetrayedDamageIsLegal → (s : State) (message : Message) (bytes : List ℕ) (ending : Ending) →
-    is_read_message message ≡ false → fits_layout message ≡ true →
-    IsBetrayedDamage (frame_of s.host.setup.addr message) bytes →
-    delivery_cause s (arrival.Bytes (record { items = bytes }) ending) (Some message) ≡ None
-delivery-free laws s message bytes ending writes fits damage =
-    let addr = s.host.setup.addr in
-    let is : IsWrite addr message (frame_of addr message) =
-    record { writes = writes; fits = fits; spelled = frame-write addr message writes } in
-    ap₂ (λ b c. option_or (rule b WrongKind) (rule (not c) NotBetrayed)) writes
-    (laws.heard addr message (frame_of addr message) bytes ending is damage)
-
--- an exchange whose answer is damaged so has no cause
-exchange-free : BetrayedDamageIsLegal → (s : State) (request : Message) (payload bytes : List ℕ) →
-    IsAnswer s.host.setup.addr request payload (answer_to s.device s.host.setup.addr request arrival.Whole) →
-    IsBetrayedDamage (answer_to s.device s.host.setup.addr request arrival.Whole) bytes →
-    exchange_cause s arrival.Whole (back.Bytes (record { items = bytes })) (Some request) ≡ None
-exchange-free laws s request payload bytes is damage =
-    let addr = s.host.setup.addr in
-    let frame = frame_of addr request in
-    let answer = answer_to s.device addr request arrival.Whole in
-    let ends : heard_ending request arrival.Whole ≡ Restart = sym (heard_ending-request request arrival.Whole is.reads) in
-    exchange_cause-by s arrival.Whole (back.Bytes (record { items = bytes })) request is.reads
-    (ap (is_legal_hearing frame frame) ends ∙ whole-hearing frame)
-    (laws.came_back addr request frame payload answer bytes (is_heard_whole frame frame (heard_ending request arrival.Whole))
-    (is_request addr request is.reads is.fits) is damage)
-
--- what a repeated start ends is legal
-restart-legal : (frame bytes : List ℕ) → is_legal_hearing frame bytes Restart ≡ true
-unfolding is_legal_hearing
-restart-legal frame bytes = refl
-
--- an exchange whose request is damaged so has no cause
-misheard-free : BetrayedDamageIsLegal → (s : State) (request : Message) (bytes : List ℕ) → is_read_message request ≡ true →
-    AreOthers (frame_of s.host.setup.addr request) bytes →
-    DifferWithinEight (frame_of s.host.setup.addr request) bytes →
-    AreBytes (answer_to s.device s.host.setup.addr request (arrival.Bytes (record { items = bytes }) Restart)) →
-    exchange_cause s (arrival.Bytes (record { items = bytes }) Restart) back.Whole (Some request) ≡ None
-misheard-free laws s request bytes asks others within are =
-    let frame = frame_of s.host.setup.addr request in
-    exchange_cause-by s (arrival.Bytes (record { items = bytes }) Restart) back.Whole request asks (restart-legal frame bytes)
-    (laws.answered s.device request frame bytes (is_heard_whole frame bytes Restart) others within are)
-
--- such an event is taken
-pub delivered-taken : Below → BetrayedDamageIsLegal →
-    {config : Config} {passes : ℕ} {events : List Event} {message : Message} {bytes : List ℕ} (ending : Ending) →
-    IsLived config passes events → (now config passes events).taken < event_limit →
-    sending_in (now config passes events).host ≡ Some message → is_read_message message ≡ false →
-    IsBetrayedDamage (frame_of config.addr message) bytes →
-    IsTaken (now config passes events) (Deliver (arrival.Bytes (record { items = bytes }) ending))
-unfolding now state_of
-delivered-taken laws legal {config = config} {passes = passes} {events = events} {message = message} {bytes = bytes} ending lived room
-    sending writes damage =
-    let setup = setup_of config passes in
-    let entries = (life config passes events).entries in
-    let s = now config passes events in
-    let fits = laws.frames_are_named.fits setup message
-    (laws.frames_are_named.named setup entries message lived.made (life-told config passes events lived.legal)
-    (sym (laws.transcripts_are_followed.sending setup entries) ∙ sending)) in
-    let damaged_frame = subst (λ (u : Setup). IsBetrayedDamage (frame_of u.addr message) bytes) (sym (now-setup config passes events))
-    damage in
-    record {
-      free = free s (Deliver (arrival.Bytes (record { items = bytes }) ending)) room
-          (ap (delivery_cause s (arrival.Bytes (record { items = bytes }) ending)) sending
-          ∙ delivery-free legal s message bytes ending writes fits damaged_frame);
-      word = tt;
-    }
-
--- the exchange whose answer is damaged is taken
-pub exchanged-taken : BetrayedDamageIsLegal →
-    (config : Config) (passes : ℕ) (events : List Event) {request : Message} {payload bytes : List ℕ} →
-    (now config passes events).taken < event_limit →
-    sending_in (now config passes events).host ≡ Some request →
-    IsAnswer config.addr request payload (answer_to (now config passes events).device config.addr request arrival.Whole) →
-    IsBetrayedDamage (answer_to (now config passes events).device config.addr request arrival.Whole) bytes →
-    IsTaken (now config passes events) (Exchange arrival.Whole (back.Bytes (record { items = bytes })))
-exchanged-taken legal config passes events {request = request} {payload = payload} {bytes = bytes} room sending is damage =
-    let s = now config passes events in
-    let setup = sym (now-setup config passes events) in
-    record {
-      free = free s (Exchange arrival.Whole (back.Bytes (record { items = bytes }))) room
-          (ap (exchange_cause s arrival.Whole (back.Bytes (record { items = bytes }))) sending
-          ∙ exchange-free legal s request payload bytes
-          (subst (λ (u : Setup). IsAnswer u.addr request payload (answer_to s.device u.addr request arrival.Whole)) setup is)
-          (subst (λ (u : Setup). IsBetrayedDamage (answer_to s.device u.addr request arrival.Whole) bytes) setup damage));
-      word = tt;
-    }
-
--- a request that is sent, and the damaged bytes that are heard of it
-pub record IsMisheard (config : Config) (passes : ℕ) (events : List Event) (request : Message) (bytes : List ℕ) : Type 0 where
-  pub room : (now config passes events).taken < event_limit
-  pub sending : sending_in (now config passes events).host ≡ Some request
-  pub asks : is_read_message request ≡ true
-  pub others : AreOthers (frame_of config.addr request) bytes
-  pub within : DifferWithinEight (frame_of config.addr request) bytes
-  pub are : AreBytes (answer_to (now config passes events).device config.addr request (arrival.Bytes (record { items = bytes }) Restart))
-
--- the exchange whose request is damaged is taken
-pub misheard-taken : BetrayedDamageIsLegal → (config : Config) (passes : ℕ) (events : List Event) (request : Message) (bytes : List ℕ) →
-    IsMisheard config passes events request bytes →
-    IsTaken (now config passes events) (Exchange (arrival.Bytes (record { items = bytes }) Restart) back.Whole)
-misheard-taken legal config passes events request bytes is =
-    let s = now config passes events in
-    let heard = arrival.Bytes (record { items = bytes }) Restart in
-    let setup = sym (now-setup config passes events) in
-    record {
-      free = free s (Exchange heard back.Whole) is.room
-          (ap (exchange_cause s heard back.Whole) is.sending
-          ∙ misheard-free legal s request bytes is.asks
-          (subst (λ (u : Setup). AreOthers (frame_of u.addr request) bytes) setup is.others)
-          (subst (λ (u : Setup). DifferWithinEight (frame_of u.addr request) bytes) setup is.within)
-          (subst (λ (u : Setup). AreBytes (answer_to s.device u.addr request (arrival.Bytes (record { items = bytes }) Restart))) setup
-          is.are));
-      word = tt;
-    }

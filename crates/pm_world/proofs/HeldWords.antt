@@ -3,32 +3,27 @@ use Rattle.std.specs.List.{list_any}
 use Rattle.std.specs.Option.{option_and_then, option_or}
 use Rattle.std.specs.Prelude.{option_to_list, IsSomeAnd}
 use Rattle.std.proofs.Common.{◌≡◌, ℕ, Bool, true, false, cond, ◌||◌, List, [], ◌∷◌, ◌++◌, Option, Some, None, option_map, refl, sym, ◌∙◌}
-use Rattle.std.proofs.Common.{ap, subst, ◌≤◌, ◌<◌, length, ap₂, arith, ◌≢◌, ◌⊎◌, inl, inr, is_some, ℤ, not, ◌&&◌, eqb, rules}
-use Rattle.std.proofs.lemmas.Bool.{false≢true, or_parts, and_right, and_parts, lt-ltb, cases_Bool, not-true, or_right, true≢false}
+use Rattle.std.proofs.Common.{ap, subst, ◌≤◌, ◌<◌, length, ap₂, arith, ◌≢◌, ◌⊎◌, inl, inr, is_some, ℤ, not, ◌&&◌, eqb}
+use Rattle.std.proofs.lemmas.Bool.{false≢true, or_parts, and_right, and_parts, cases_Bool, not-true, or_right, true≢false}
 use Rattle.std.proofs.lemmas.Option.{none-some, same_Some}
 use Rattle.pm_table.specs.{declared.cell.Cell.Cell, declared.reg.Reg.Reg}
-use Rattle.pm_table.specs.Cell.{cell_accepts, IsCell, same_cell, register_code}
+use Rattle.pm_table.specs.Cell.{cell_accepts, IsCell, same_cell}
 use Rattle.pm_table.specs.declared.cell.Cell.TheVariants.{Out, Protect}
 use Rattle.pm_frame.specs.declared.message.Message.{Message}
-use Rattle.pm_frame.specs.Layout.{is_read_message, IsAnswer}
-use Rattle.pm_frame.specs.declared.message.Message.TheVariants.{ReadCommand, PagePlusRead, ReadCoefficients}
+use Rattle.pm_frame.specs.Layout.{is_read_message}
 use Rattle.pm_model.specs.{OrderMachine.words_taken, declared.order_machine.PendingJob.PendingJob}
 use Rattle.pm_model.specs.Settings.{Words, AreWords, word_at, with_outputs, with_word}
 use Rattle.pm_model.specs.declared.order_machine.PendingJob.TheVariants as pending
-use Rattle.pm_device.specs.{Held.Held, History.now as device_now, Verdict.is_answered, declared.config.Config.Config}
-use Rattle.pm_device.specs.{declared.converter.Ending.TheVariants.Restart}
+use Rattle.pm_device.specs.{Held.Held, History.now as device_now, declared.config.Config.Config}
 use Rattle.pm_device.specs.Effect as device
-use Rattle.pm_device.specs.Reply.{payload_for, reply_of}
 use Rattle.pm_host.specs.{Standing.standing_of, Told.is_of_frame, Transcript.Setup, declared.command.Command.Command}
 use Rattle.pm_host.specs.{declared.fault.HostFault.HostFault, declared.job.JobEnd.JobEnd, declared.job.JobEnd.TheVariants.Differs}
 use Rattle.pm_host.specs.{declared.knowledge.Possible.Possible, declared.stage.Stage.Stage}
 use Rattle.pm_host.specs.Answers.{good_payload, good_word, word_in}
 use Rattle.pm_host.specs.Ended.{job_in, stage_job, EndTells, StepTells, word_told}
-use Rattle.pm_host.specs.Frames.{CanSend, writes_output, writes_protect, reads_output, reads_protect, reads_mode, reads_coefficients}
-use Rattle.pm_host.specs.Frames.{sends_command}
 use Rattle.pm_host.specs.Lemmas.{reads_cell as is-request, writes_cell}
 use Rattle.pm_host.specs.Marks.{read_by, marks, Mark, Put, Good, put_by, puts, goods}
-use Rattle.pm_host.specs.Messages.{cell_read, cell_write, command_message}
+use Rattle.pm_host.specs.Messages.{cell_read, cell_write}
 use Rattle.pm_host.specs.Now.{now as host_now, job_stage, stage_of, AreTold}
 use Rattle.pm_host.specs.Possible.{is_possible, possible_of, restart_seen_of}
 use Rattle.pm_host.specs.Refusals.{IsSetup, cell_fault, micro_fault, micro_word, voltage_fault}
@@ -41,11 +36,11 @@ use Rattle.pm_host.specs.declared.knowledge.Standing.TheVariants.{Confirmed, Unk
 use Rattle.pm_host.specs.declared.question.Question.TheVariants.{Word, Mode, Coefficients}
 use Rattle.pm_host.specs.declared.stage.Stage.TheVariants.{Writes, Reads, Sends, Asks}
 use Rattle.pm_world.specs.{Below.Below, Lemmas.Hosts.like-setup, Lemmas.SinceRestart.since-same, Setup.setup_of}
-use Rattle.pm_world.specs.{declared.event.Arrival.Arrival, declared.event.Arrival.TheVariants.Whole, declared.event.Back.Back}
+use Rattle.pm_world.specs.{declared.event.Arrival.Arrival, declared.event.Back.Back}
 use Rattle.pm_world.specs.{declared.event.Event.Event}
 use Rattle.pm_world.specs.Confirmed.{reads_cell, restarts_converter, restarted_since, ConfirmedIsHeld, is_good_for, reads}
 use Rattle.pm_world.specs.Ended.{begins_other, DiffersNeverTook}
-use Rattle.pm_world.specs.Legal.{back_bytes, answer_in, frame_of, whole_ending}
+use Rattle.pm_world.specs.Legal.{back_bytes}
 use Rattle.pm_world.specs.Lemmas.{entries-more, now-config}
 use Rattle.pm_world.specs.Life.{life, now, state_of, AreTaken}
 use Rattle.pm_world.specs.OpenLists.{are_open, closes, lists_other, stays_open}
@@ -62,7 +57,7 @@ use Rattle.pm_world.proofs.Events.{restarts_host as host_restarts, share-is, tel
 use Rattle.pm_world.proofs.Events.{life-told, now-next, read-word, eight, told-nothing, free, now-taken, exchange-reads, lived-before}
 use Rattle.pm_world.proofs.Events.{asked-share, or-none, same_cell-itself}
 use Rattle.pm_world.proofs.Formats.{from_some, good-same, IsOrOver, TellsFrame, any-parts, beside-tells, by-acceptance, by-frame}
-use Rattle.pm_world.proofs.Formats.{by-silence, open-end, none-other, open-is, beside-frame, is_request}
+use Rattle.pm_world.proofs.Formats.{by-silence, open-end, none-other, open-is, beside-frame}
 use Rattle.pm_world.proofs.Orders.{pending-of_stage, stage_pending, Sending, TookJob, delivered-takes, event-stays, exchanged-stays}
 use Rattle.pm_world.proofs.Orders.{taken-open, sends, open_pending-is, went}
 use Rattle.pm_world.proofs.Standings.{IsKnown, IsKnownAfter, ReadsTrue, same-cells, accepted-known, finished-known, got-known}
@@ -1095,66 +1090,6 @@ pub open-more : Below → (config : Config) (passes : ℕ) (before : List Event)
     ≡ stays_open (left_open config passes before) event (possible_at (now config passes (event ∷ before)).host Protect)
 open-more laws config passes before event lived =
     (opens-step laws config passes before event lived (life-opens laws config passes before (earlier lived))).is
-
--- A host's own request that arrives whole is answered, by an answer to it.
-
--- what is answered is a request
-answered-reads : (config : Config) (request : Message) → is_answered config request ≡ true → is_read_message request ≡ true
-answered-reads config (ReadCommand code) h = refl
-answered-reads config (PagePlusRead page code) h = refl
-answered-reads config (ReadCoefficients code side) h = refl
-answered-reads config request h = cc
-
--- a repeated start ends a whole request
-whole-restart : (request : Message) → is_read_message request ≡ true → whole_ending request ≡ Restart
-whole-restart = search rules
-
--- the converter of a life answers the host's own request
-pub own-answered : Below → (config : Config) (passes : ℕ) (events : List Event) (request : Message) → IsLived config passes events →
-    sending_in (now config passes events).host ≡ Some request → is_answered config request ≡ true →
-    IsAnswer config.addr request (payload_for (now config passes events).device request)
-    (answer_to (now config passes events).device config.addr request Whole)
-unfolding now state_of device_now
-own-answered laws config passes events request lived sends answered =
-    let held = (now config passes events).device in
-    let reads = answered-reads config request answered in
-    let asked = is_request config.addr request reads ((knows laws config passes events lived).sends.fits request sends) in
-    let found = laws.reads_are_answered.answered held request (frame_of config.addr request) asked answered in
-    subst (λ bytes. IsAnswer config.addr request (payload_for held request) bytes)
-    (sym (ap (λ ending. answer_in (reply_of held (frame_of config.addr request) ending)) (whole-restart request reads)
-    ∙ ap answer_in found.1))
-    found.2
-
--- no command is the read of an output
-command-apart : (sent : Command) (output code : ℕ) → command_message sent ≡ PagePlusRead output code → ⊥
-command-apart (ClearFaults at) output code is = cc
-command-apart StoreUserAll output code is = cc
-command-apart RestoreUserAll output code is = cc
-
--- the output of a request
-abbrev page_of : Message → ℕ
-page_of (PagePlusRead page code) = page
-page_of _ = 0
-
--- the read of a cell is answered, where it is being sent
-pub own-cell : Below → (config : Config) (passes : ℕ) (events : List Event) (cell : Cell) → IsLived config passes events →
-    sending_in (now config passes events).host ≡ Some (cell_read cell) → is_answered config (cell_read cell) ≡ true
-unfolding now state_of
-own-cell laws config passes events (Out output register) lived sends = by_named _ refl
-    (laws.frames_are_named.named (setup_of config passes) (life config passes events).entries (cell_read (Out output register)) lived.made
-    (life-told config passes events lived.legal)
-    (sym (laws.transcripts_are_followed.sending (setup_of config passes) (life config passes events).entries) ∙ sends)) where
-      by_named : (message : Message) → message ≡ cell_read (Out output register) → CanSend (setup_of config passes) message →
-          is_answered config (cell_read (Out output register)) ≡ true
-      by_named message is (reads_output other found there) =
-          lt-ltb output config.count (subst (λ n. n < config.count) (ap page_of is) there)
-      by_named message is (reads_mode other there) = lt-ltb output config.count (subst (λ n. n < config.count) (ap page_of is) there)
-      by_named message is (writes_output other found word there fits) = cc
-      by_named message is (writes_protect word fits) = cc
-      by_named message is reads_protect = cc
-      by_named message is reads_coefficients = cc
-      by_named message is (sends_command sent there) = absurd (command-apart sent output (register_code register) is)
-own-cell laws config passes events Protect lived sends = refl
 
 -- The words that the host calls possible, and the restarts that it saw, event by event.
 

@@ -7,39 +7,34 @@ use Rattle.pm_table.specs.Cell.{IsCell}
 use Rattle.pm_frame.specs.declared.message.Message.{Message}
 use Rattle.pm_frame.specs.Damage.{DifferWithinEight}
 use Rattle.pm_frame.specs.Fault.{whole_answer}
-use Rattle.pm_frame.specs.Layout.{AreBytes, IsWrite, IsRequest, IsAnswer, is_read_message}
+use Rattle.pm_frame.specs.Layout.{AreBytes, IsWrite, IsRequest, IsAnswer}
 use Rattle.pm_model.specs.Commanded.{commanded}
 use Rattle.pm_model.specs.Settings.{word_at}
 use Rattle.pm_device.specs.declared.config.Config.{Config}
 use Rattle.pm_device.specs.declared.converter.Ending.{Ending}
 use Rattle.pm_device.specs.declared.converter.Ending.TheVariants.{Restart}
 use Rattle.pm_device.specs.Held.{Held, value_for}
-use Rattle.pm_device.specs.Reply.{payload_for, reply_of}
+use Rattle.pm_device.specs.Reply.{reply_of}
 use Rattle.pm_device.specs.Start.{IsSound, start_word}
-use Rattle.pm_device.specs.Verdict.{is_answered}
 use Rattle.pm_host.specs.Marks.{Mark, marks}
-use Rattle.pm_host.specs.Messages.{cell_read}
 use Rattle.pm_host.specs.Now.{AreTold}
 use Rattle.pm_host.specs.Refusals.{IsSetup}
-use Rattle.pm_host.specs.Summary.{possible_at, sending_in}
+use Rattle.pm_host.specs.Summary.{possible_at}
 use Rattle.pm_host.specs.Transcript.{Order}
 use Rattle.pm_world.specs.declared.event.Arrival.{Arrival}
-use Rattle.pm_world.specs.declared.event.Arrival.TheVariants as arrival
-use Rattle.pm_world.specs.declared.event.Back.TheVariants as back
 use Rattle.pm_world.specs.declared.event.Event.{Event}
-use Rattle.pm_world.specs.declared.event.Event.TheVariants.{Deliver, Exchange}
 use Rattle.pm_world.specs.Confirmed.{ConfirmedIsHeld, restarted_since, restarts_converter}
 use Rattle.pm_world.specs.Damage.{AreOthers, IsBetrayedDamage}
 use Rattle.pm_world.specs.Ended.{DiffersNeverTook}
 use Rattle.pm_world.specs.Honest.{AreFewFrames, FormatsAgree, IsSpelled, MicrosAreNearest, OrdersGoThrough, honest, sent_by}
-use Rattle.pm_world.specs.Legal.{answer_in, frame_of, is_legal_hearing, is_legal_return}
+use Rattle.pm_world.specs.Legal.{answer_in, is_legal_hearing, is_legal_return}
 use Rattle.pm_world.specs.Lived.{IsLived}
 use Rattle.pm_world.specs.Life.{AreTaken, AreTakenFrom, after_all, life, now}
 use Rattle.pm_world.specs.OpenLists.{are_open, stays_open}
 use Rattle.pm_world.specs.Possible.{PossibleIsHeld, SeenIsTrue, restarted_since_host}
 use Rattle.pm_world.specs.Retelling.{CommandsOwn, IsOrderRun, IsOwnWord}
 use Rattle.pm_world.specs.Setup.{setup_of, start}
-use Rattle.pm_world.specs.State.{HasWord, IsTaken, State, answer_to, asked, event_cause, event_limit, next}
+use Rattle.pm_world.specs.State.{HasWord, IsTaken, State, asked, event_cause, event_limit, next}
 use Rattle.pm_world.specs.Uncertainty.{AreLegal, AreOfBytes, AreOpen, ArePossible, AreWordsChosen, Choice, Leaves, due_before}
 use Rattle.pm_world.specs.Uncertainty.{since_restart, witness_events, witness_start}
 
@@ -182,32 +177,6 @@ pub record BetrayedDamageIsLegal : Type 0 where
       let answer = answer_in (reply_of held heard Restart) in AreBytes answer →
       is_legal_return frame (whole_answer request) whole answer answer ≡ true
 
--- Such damage stops no run: a world that isn't full takes the delivery, and the exchange.
-pub record BetrayedDamageIsTaken : Type 0 where
-  pub delivered : (config : Config) (passes : ℕ) (events : List Event) (message : Message)
-      (bytes : List ℕ) (ending : Ending) →
-      IsLived config passes events →
-      (now config passes events).taken < event_limit →
-      sending_in (now config passes events).host ≡ Some message →
-      is_read_message message ≡ false → IsBetrayedDamage (frame_of config.addr message) bytes →
-      IsTaken (now config passes events) (Deliver (arrival.Bytes (record { items = bytes }) ending))
-  pub exchanged : (config : Config) (passes : ℕ) (events : List Event) (request : Message)
-      (payload bytes : List ℕ) →
-      (now config passes events).taken < event_limit →
-      sending_in (now config passes events).host ≡ Some request →
-      let answer = answer_to (now config passes events).device config.addr request arrival.Whole in
-      IsAnswer config.addr request payload answer → IsBetrayedDamage answer bytes →
-      IsTaken (now config passes events)
-      (Exchange arrival.Whole (back.Bytes (record { items = bytes })))
-  pub misheard : (config : Config) (passes : ℕ) (events : List Event) (request : Message) (bytes : List ℕ) →
-      (now config passes events).taken < event_limit →
-      sending_in (now config passes events).host ≡ Some request →
-      is_read_message request ≡ true → AreOthers (frame_of config.addr request) bytes →
-      DifferWithinEight (frame_of config.addr request) bytes →
-      let heard = arrival.Bytes (record { items = bytes }) Restart in
-      AreBytes (answer_to (now config passes events).device config.addr request heard) →
-      IsTaken (now config passes events) (Exchange heard back.Whole)
-
 -- An order differs only where it never took, or the converter restarted since it was accepted.
 abbrev pub DifferingOrdersNeverTook : Type 0
 DifferingOrdersNeverTook = (config : Config) (passes : ℕ) (events : List Event) →
@@ -225,20 +194,6 @@ pub record ListsSayEnough : Type 0 where
   pub short : (config : Config) (passes : ℕ) (events : List Event) (chosen : Choice) →
       length (witness_events (setup_of config passes) chosen (since_restart (life config passes events).entries))
       ≤ 2 * length events
-
--- What the converter answers to the host's own request that arrives whole is an answer to it: where the output is
--- there, or the coefficients are (`answered`), and so to each read of a cell (`cell`).
-pub record OwnRequestsAreAnswered : Type 0 where
-  pub answered : (config : Config) (passes : ℕ) (events : List Event) (request : Message) →
-      IsLived config passes events →
-      sending_in (now config passes events).host ≡ Some request → is_answered config request ≡ true →
-      IsAnswer config.addr request (payload_for (now config passes events).device request)
-      (answer_to (now config passes events).device config.addr request arrival.Whole)
-  pub cell : (config : Config) (passes : ℕ) (events : List Event) (cell : Cell) →
-      IsLived config passes events →
-      sending_in (now config passes events).host ≡ Some (cell_read cell) →
-      IsAnswer config.addr (cell_read cell) (payload_for (now config passes events).device (cell_read cell))
-      (answer_to (now config passes events).device config.addr (cell_read cell) arrival.Whole)
 
 -- Whether what the host was told since its start leaves WRITE_PROTECT open goes by one event after another: at first
 -- it does (`none`), and after one more by the event and by what is possible for WRITE_PROTECT then (`more`). It is the

@@ -6,13 +6,12 @@ ghost use Rattle.pm_table.specs.declared.reg.Reg.{Reg as AnyReg};
 ghost use Rattle.pm_world.specs.Below.{Below};
 ghost use Rattle.pm_world.specs.Bytes.{AnswersComeInBytes, StartsShort};
 ghost use Rattle.pm_world.specs.Honest.{IsSpelled};
-ghost use Rattle.pm_world.specs.Laws.{BetrayedDamageIsLegal, BetrayedDamageIsTaken, CausesDecide, ConfirmedSettingsAreHeld, DifferingOrdersNeverTook, FramesAreFew, HonestOrdersGoThrough, LearnedFormatsAreTrue, ListsSayEnough, LivesAreFollowed, LivesAreOrders, OpenListsAreFollowed, OwnRequestsAreAnswered, PossibleWordsAreExact, PossibleWordsAreHeld};
+ghost use Rattle.pm_world.specs.Laws.{BetrayedDamageIsLegal, CausesDecide, ConfirmedSettingsAreHeld, DifferingOrdersNeverTook, FramesAreFew, HonestOrdersGoThrough, LearnedFormatsAreTrue, ListsSayEnough, LivesAreFollowed, LivesAreOrders, OpenListsAreFollowed, PossibleWordsAreExact, PossibleWordsAreHeld};
 ghost use Rattle.pm_world.specs.LimitLaws.{BandsAreExact, BandsAreHeld, LivesStayLimited};
 ghost use Rattle.pm_world.specs.Lived.{EventsAreLived};
 ghost use Rattle.pm_world.specs.GoodBus.{GoodFramesEndJobs};
 ghost use Rattle.pm_world.specs.GoodTurns.{OpenJobsEnd};
 ghost use Rattle.pm_world.specs.Moves.{SettingsMoveByTheOpenJob};
-ghost use Rattle.pm_world.specs.Newest.{NewestEventsAreParts};
 ghost use Rattle.pm_world.specs.Way.{WaysAreFollowed};
 ghost use Rattle.pm_world.specs.WholeFrames.{WholeFramesAreUndisturbed};
 ghost use Rattle.std.specs.Prelude.{◌<◌, ◌^◌};
@@ -188,16 +187,6 @@ pub fn betrayed_damage_is_legal()
     lower_laws();
 }
 
-/// Damage that [`betrayed_damage_is_legal`] names stops no run: a world that isn't full takes the delivery of
-/// a write that is damaged so (`delivered`), the exchange of a whole request whose answer is (`exchanged`),
-/// and that of a request which is, whose answer comes back whole (`misheard`).
-pub fn betrayed_damage_is_taken()
-    ensures { BetrayedDamageIsTaken }
-{
-    lower_laws();
-    betrayed_damage_is_legal();
-}
-
 /// An output commands a voltage within limits at each moment if its own words are within them (`limited`): its start
 /// words and those that were ordered for it. A word of VOUT_COMMAND or of a margin is within if its value lies within the
 /// limits. A word of VOUT_MAX is within if it is at least the lower limit, and one of VOUT_MIN if it is at most the upper
@@ -261,15 +250,6 @@ pub fn lists_say_enough()
     ensures { ListsSayEnough }
 {}
 
-/// What the converter answers to the host's own request that arrives whole is an answer to it, of the payload that it
-/// has for the request (`answered`). It answers each read of a cell (`cell`), and that of the coefficients if an
-/// output has the DIRECT format. The damage of which [`betrayed_damage_is_taken`] speaks has something to damage.
-pub fn own_requests_are_answered()
-    ensures { OwnRequestsAreAnswered }
-{
-    lower_laws();
-}
-
 /// A bus that is good again. Let a frame be undisturbed. That means, of a write, that it is heard whole at least once,
 /// whatever else is delivered of it. It means, of a request, that all of it is heard and the converter's answer comes
 /// back, by the bytes and by how they end. Readings may change in between, and nothing else happens. The following holds
@@ -325,13 +305,6 @@ pub fn ways_are_followed()
 /// WRITE_PROTECT allows (`sent`, `order`). So [`ways_are_followed`] and [`good_frames_end_jobs`] speak of them.
 pub fn whole_frames_are_undisturbed()
     ensures { WholeFramesAreUndisturbed }
-{}
-
-/// What the laws on any part of a list of events say of its newest ones, for a caller that goes on event by event: of
-/// [`settings_move_by_the_open_job`] (`moves`, `stores`, `moment`) and of [`good_frames_end_jobs`] (`check`, `order`,
-/// `read_back`, `send`).
-pub fn newest_events_are_parts()
-    ensures { NewestEventsAreParts }
 {}
 
 /// The laws of the crates below that those of this crate rest on.

@@ -49,13 +49,11 @@ pub use cause::{Cause, Stop};
 pub use event::{Arrival, Back, Event};
 pub use laws::{
     answers_come_in_bytes, bands_are_exact, bands_are_held, betrayed_damage_is_legal,
-    betrayed_damage_is_taken, causes_decide, confirmed_settings_are_held,
-    differing_orders_never_took, events_are_lived, frames_are_few, good_frames_end_jobs,
-    honest_orders_go_through, learned_formats_are_true, lists_say_enough, lives_are_followed,
-    lives_are_orders, lives_stay_limited, newest_events_are_parts, open_jobs_end,
-    open_lists_are_followed, own_requests_are_answered, possible_words_are_exact,
-    possible_words_are_held, settings_move_by_the_open_job, spell, ways_are_followed,
-    whole_frames_are_undisturbed,
+    causes_decide, confirmed_settings_are_held, differing_orders_never_took, events_are_lived,
+    frames_are_few, good_frames_end_jobs, honest_orders_go_through, learned_formats_are_true,
+    lists_say_enough, lives_are_followed, lives_are_orders, lives_stay_limited, open_jobs_end,
+    open_lists_are_followed, possible_words_are_exact, possible_words_are_held,
+    settings_move_by_the_open_job, spell, ways_are_followed, whole_frames_are_undisturbed,
 };
 pub use legal::{
     answer_in, back_bytes, heard_bytes, heard_ending, is_heard_whole, is_legal_hearing,
@@ -68,7 +66,7 @@ pub use part_laws::{
 pub use pm_setup::SetupFault;
 pub use rail_laws::{
     courses_hold_in_lives, mixtures_lie_between, plans_hold_in_lives, restarts_keep_between,
-    surveys_hold_in_lives, within_stays_within,
+    surveys_hold_in_lives,
 };
 pub use short::words_are_short;
 pub use way::{Way, run_way};

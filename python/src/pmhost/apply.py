@@ -27,7 +27,7 @@ from .sequence import Heard
 from .states import Step
 from .status import names_of
 from .step_run import StepRun
-from .stores import MEMORY, cml, cml_words, has_failed
+from .stores import MEMORY, cml, cml_words, has_failed, why_on
 from .survey import Commanded, answers, commanded, only_word, read
 from .values import Format
 
@@ -58,8 +58,9 @@ class Board:
     accept: int | None = None
     looks: Looks | None = None
     wants_store: bool = False
-    # Whether STATUS_CML is cleared before a store.
+    # Whether STATUS_CML is cleared before a store, and whether each output has to be off.
     clears: bool = False
+    stores_off: bool = False
     # What notes of a rail what it held before its first order, where there is to be a way back.
     note: Callable[[Held], None] | None = None
     # Whether a part holds just the WRITE_PROTECT of its file, and what lifts that; a dry run lifts nothing.
@@ -262,7 +263,7 @@ class Board:
     def prepare(self) -> None:
         """Reads and judges everything, and writes nothing."""
         for name, part in self.having_rails().items() if self.wants_store else ():
-            if why := has_failed(part, self.clears and not self.is_dry):
+            if why := has_failed(part, self.clears and not self.is_dry) or (why_on(part) if self.stores_off else ""):
                 raise Stopped(f"{f'{name}: ' * bool(name)}{why}")
         self.may_write = True
         self.read()

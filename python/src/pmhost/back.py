@@ -8,7 +8,7 @@ from typing import Callable, Mapping
 from . import clock
 from .course import in_hexadecimal
 from .device import Device
-from .errors import SAYINGS, refusal
+from .errors import SAYINGS, ChangedRefused, refusal
 from .sequence import WHY, Said, SequenceStep, Wishes
 from .step_run import StepRun
 from .survey import only_word
@@ -17,8 +17,9 @@ from .values import Format
 from .zeros import NotBelieved
 
 OPERATION = "OPERATION"
-# For how many seconds the way back is tried again where it isn't confirmed, after which wait, and how many jobs each try has at most.
-PATIENCE, WAIT, TRIES = 5, 0.05, 12
+# For how many seconds the way back is tried again where it isn't confirmed, after which wait, and how many jobs each try has at most: back from
+# a margin two surveys of seven reads, the order and five reads take 20.
+PATIENCE, WAIT, TRIES = 5, 0.05, 24
 
 
 @dataclass(frozen=True)
@@ -61,6 +62,8 @@ def try_back(part: Device, held: Held, lift: Callable[[], bool]) -> str:
     except NotBelieved as doubt:
         part.restart()
         return str(doubt)
+    except ChangedRefused as fault:
+        return fault.said
     return why
 
 

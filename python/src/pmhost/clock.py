@@ -29,9 +29,16 @@ def wait(seconds: float) -> None:
     until(moment)
 
 
+def judge() -> None:
+    """Late if that time is over."""
+    if _ends and until() >= _ends[-1]:
+        raise Late
+
+
 @contextlib.contextmanager
 def within(milliseconds: int | None) -> Iterator[None]:
-    """What is done in it has so many milliseconds, all that it takes with None: the first wait that goes beyond them ends it by Late."""
+    """What is done in it has so many milliseconds, all that it takes with None: the first wait that goes beyond them ends it by Late, and of a list of
+    steps the next frame."""
     if milliseconds is None:
         yield
         return

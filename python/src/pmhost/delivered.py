@@ -42,7 +42,8 @@ class NotDelivered(NotDone):
 @dataclass
 class Delivered:
     """What a rail does, by its last answers. `is_bad` says that it doesn't do what it is to, or isn't known to. `is_off` says that it was
-    turned off; `lacks` which of STATUS_WORD and READ_VOUT the part doesn't have, as the caller says, and `found` which it was found to lack;
+    turned off, `unheeded` what turns it off if OPERATION doesn't; `has_nothing_to_deliver` that OPERATION has it off, by a part that heeds it and
+    says that it is off; `lacks` which of STATUS_WORD and READ_VOUT the part doesn't have, as the caller says, and `found` which it was found to lack;
     `limits` are those that it is outside of; `status` is STATUS_WORD, `before` what it was before the first order; `registers` has the status
     registers that were read, `notes` what is said of limits, `trims` what of VOUT_TRIM and VOUT_CAL_OFFSET."""
 
@@ -60,6 +61,13 @@ class Delivered:
     power_good_on: Optional[int] = None
     notes: list[str] = field(default_factory=list)
     trims: list[str] = field(default_factory=list)
+    unheeded: str = ""
+    has_nothing_to_deliver: bool = False
+
+    @property
+    def is_delivered(self) -> bool:
+        """Whether it is known to deliver, or to have gone off as it was ordered to."""
+        return not self.is_bad and self.verdict.kind not in ("commanded off", "not known to be on", "not known")
 
     @property
     def _needed(self) -> tuple[str, ...]:
@@ -105,25 +113,29 @@ class Delivered:
         if not self.is_bad:
             return ""
         if kind in NOT_ON:
-            return kind
+            return self.unheeded or kind
         said = {"off": "the rail is off", "fault": f"{name_of_bit(bit)} came with this call", "no power good": "power good is missing",
                 "outside": "READ_VOUT is outside the limits", "beyond": "READ_VOUT isn't what the output commands",
                 "power good alone": "power good is missing", "still on": "the part says that it is on"}.get(kind)
         if said is None:
             does = "is off" if self.is_off else "delivers"
-            return f"whether the rail {does} isn't known: {self.lacking if self.is_missing else f'{bit.register}: ' + (bit.fault or 'no good answer')}"
-        return said
+            said = f"whether the rail {does} isn't known: {self.lacking if self.is_missing else f'{bit.register}: ' + (bit.fault or 'no good answer')}"
+        return f"{said}{'; ' * bool(self.unheeded)}{self.unheeded}"
 
     @property
     def said(self) -> str:
         """What it does, in words that stand by themselves."""
-        return "; ".join([self._verdict_words(), *self.notes, *self.trims])
+        return "; ".join([self._verdict_words(), *self._further])
+
+    @property
+    def _further(self) -> list[str]:
+        return [*[self.unheeded] * bool(self.is_bad and self.unheeded), *self.notes, *self.trims]
 
     @property
     def words(self) -> str:
         """The same for the end of a line that says what is commanded."""
         has_none = self.verdict.kind in ("commanded off", "not known to be on")
-        said = "; ".join([*self.notes, *self.trims]) if has_none else self.said
+        said = "; ".join(self._further) if has_none else self.said
         return f"{', ' if self.verdict.kind.startswith('delivers') else '; '}{said}" if said else ""
 
     def _verdict_words(self) -> str:

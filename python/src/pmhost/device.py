@@ -6,6 +6,7 @@ import threading
 from dataclasses import replace
 from typing import Callable, Iterable, Mapping, ParamSpec, TypeVar
 
+from . import on_off
 from .course import OFF_TRIES, SURVEY_TRIES, TRIES, Job, Wanted, end_fault, wanted_image
 from .delivered import Delivered, NotDelivered, beyond_of
 from .errors import Differs, HostRefused, NotDone, PmhostError, Refused, Unknown, refusal
@@ -17,11 +18,13 @@ from .states import Bus, Known, RailState, Step
 from .step_run import StepRun
 from .transfers import Transfers
 from .trims import Trims
-from .values import CODES, LOOKED_AT, NAMES, code_of
+from .values import CODES, LACKABLE, MISSABLE, NAMES, code_of
 from .voltages import GivenVoltage, Voltage, given_microvolts
 
 # H5 and H7.
 NO_VOLTAGE, FORMAT_UNKNOWN = 5, 7
+# What no job of the host reads.
+BESIDE = [name for name in LACKABLE if name not in MISSABLE]
 
 Words = ParamSpec("Words")
 Made = TypeVar("Made")
@@ -67,14 +70,14 @@ class Device:
             if not callable(getattr(bus, name, None)):
                 raise TypeError(f"bus: {bus!r} has no call {name}: see pmhost.Bus")
         lacks = tuple(lacks)
-        self.bus, self.host = bus, Host(address, outputs, passes, [it for it in lacks if it not in LOOKED_AT])
+        self.bus, self.host = bus, Host(address, outputs, passes, [it for it in lacks if it not in BESIDE])
         self.transfers, self.lock = Transfers(), threading.RLock()
         # How rails are looked at, and what was seen last.
         self.looks = looks
         self.delivered: Delivered | None = None
         # Whether it was said that limits gave no good answer.
         self.is_silence_told = False
-        self.lacks = frozenset(str(it) if it in LOOKED_AT else NAMES[code_of(it)] for it in lacks)
+        self.lacks = frozenset(str(it) if it in BESIDE else NAMES[code_of(it)] for it in lacks)
         self.trims = Trims(bus, self.host, self.lacks) if trims else None
         for output, pair in dict(limits or {}).items():
             if pair is None:
@@ -233,13 +236,14 @@ class Device:
         run.guarded = run.guarded if is_guarded else None
         end = run.carry_out(after_order, None, None if accept is None else given_microvolts(accept, "accept"))
         self.delivered = run.delivered
-        if not end.is_well:
+        on_off.look(self, run.step, run.delivered)
+        if not end.is_well or run.delivered is not None and run.delivered.is_bad:
             raise self._fault(run, end, f"{job}: " * bool(job)) from self.transfers.error
         return self.rail(step.output)
 
     def _fault(self, run: StepRun, end: Said, job: str) -> PmhostError:
         """The exception of a step that didn't end well."""
-        if end.kind == "fails" and run.delivered is not None:
+        if run.delivered is not None and (end.is_well or end.kind == "fails"):
             return NotDelivered(f"{job}{run.delivered.why}{run.delivered.words}", run.delivered)
         if end.kind == "beyond":
             return beyond_of(end, run.step, self.host)
@@ -275,11 +279,13 @@ class Device:
         return self.deliver(step, tries, before_order, after_order, f"apply {output}", accept)
 
     def turn_on(self, output: int, tries: int = TRIES) -> RailState:
-        """Brings OPERATION to 80h, once what the output will command then is known. L8, L2, L5 by its limits, P7 by WRITE_PROTECT."""
+        """Brings OPERATION to 80h, once what the output will command then is known, and read anew directly before the order (ChangedRefused). L8, L2, L5 by
+        its limits, P7 by WRITE_PROTECT."""
         return self.deliver(SequenceStep.turns(0, output, ON), tries, job=f"on {output}")
 
     def turn_off(self, output: int, tries: int = OFF_TRIES) -> RailState:
-        """Orders OPERATION 00h at once, before anything is read. No limit refuses it."""
+        """Orders OPERATION 00h at once, before anything is read. No limit refuses it. NotDelivered, too, if ON_OFF_CONFIG says that OPERATION turns
+        nothing off."""
         return self.deliver(SequenceStep.turns(0, output, OFF), tries, job=f"off {output}")
 
     def margin(self, output: int, side: str, tries: int = TRIES, ignore_faults: bool = False) -> RailState:

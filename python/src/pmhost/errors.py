@@ -169,6 +169,18 @@ class TrimRefused(RailRefused):
     words = 'Looks(trim="tell")'
 
 
+class ChangedRefused(RailRefused):
+    """An order that turns an output on, and before which a register read otherwise than as it was judged, or gave no good answer: nothing was ordered.
+    `is_restart` says that a word was read that wasn't possible."""
+
+    def __init__(self, register: str, said: str, advice: str, is_restart: bool = False) -> None:
+        super().__init__(register, said, advice)
+        self.is_restart = is_restart
+
+    def __reduce__(self) -> tuple[object, ...]:
+        return type(self), (self.register, self.said, self.advice, self.is_restart)
+
+
 class Differs(NotDone):
     """An order whose word wasn't read back: another was, `word`. Of a course: at the second time that its register differed."""
 

@@ -4,7 +4,7 @@ from __future__ import annotations
 
 from typing import TYPE_CHECKING
 
-from . import clock, voltages
+from . import clock, on_off, voltages
 from .back import Held
 from .course import Course
 from .delivered import why_not_before
@@ -34,9 +34,10 @@ def begin(board: Board, rail: Rail) -> None:
 
 
 def is_off(board: Board, rail: Rail) -> bool:
-    """Whether OPERATION has a rail off, and STATUS_WORD says so."""
+    """Whether OPERATION has a rail off, by a part that isn't known not to heed it, and STATUS_WORD says so."""
     part = board.on(rail)
-    return board.state(rail).is_on is False and "STATUS_WORD" not in part.lacks and not why_not_off(part, rail.output)
+    is_said = board.state(rail).is_on is False and "STATUS_WORD" not in part.lacks and not why_not_off(part, rail.output)
+    return is_said and not on_off.why_unheeded(part, rail.output)
 
 
 def held_of(board: Board, rail: Rail) -> Held:

@@ -7,6 +7,7 @@ from typing import TYPE_CHECKING, Any, Callable, Iterable
 from . import _library as at
 from ._library import library
 from .errors import accepted, refusal
+from .operation import turns_on
 from .states import Band, Bus, Known, Limits, Listener, RailState, Sending, Step
 from .transfers import Transfers
 from .values import NAMES, Format, code_of, frame_bytes, whole
@@ -220,13 +221,13 @@ class Host:
         return Step(ENDS[step.kind], step.word if step.kind == 2 else None)
 
     def run(self, bus: Bus, transfers: Transfers | None = None) -> Step:
-        """Carries the open job out over a bus, and says how it ended. An OSError of the bus is a frame that failed. STORE_USER_ALL
-        is sent once: its later passes count as not acknowledged, unsent.
+        """Carries the open job out over a bus, and says how it ended. An OSError of the bus is a frame that failed. STORE_USER_ALL and
+        an order of OPERATION that turns an output on are sent once: their later passes count as not acknowledged, unsent.
 
         `transfers` hears what became of each. Whatever else is raised meanwhile, as by Ctrl-C, goes on to the caller: the
         host hears before of each frame that is left, unsent, as failed, so that the job has ended as unknown then."""
         step, kept = None, Transfers() if transfers is None else transfers
-        kept.has_stored = False
+        kept.has_stored = kept.has_turned_on = False
         try:
             while (sending := self.frame()) is not None:
                 step = self._hear(sending, self.came(bus, sending, kept))
@@ -317,6 +318,11 @@ class Host:
                 # A store may take a second and wears the memory: a later pass isn't sent.
                 return False
             transfers.has_stored = True
+        if turns_on(sending.frame):
+            if transfers.has_turned_on:
+                # The part may have restarted since what it would command was judged.
+                return False
+            transfers.has_turned_on = True
         transfers.has_written = True
         try:
             acked = bus.write(sending.frame)

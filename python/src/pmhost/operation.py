@@ -3,8 +3,11 @@ from __future__ import annotations
 
 from typing import Optional
 
+from .values import CODES
+
 # On at VOUT_COMMAND, off at once, and off by the part's own TOFF_DELAY and TOFF_FALL. At the margins the part acts on faults, and at those of UNPROTECTED it ignores them.
 ON, OFF, SOFT_OFF, MARGINS, UNPROTECTED = 0x80, 0x00, 0x40, {"high": 0xA8, "low": 0x98}, {"high": 0xA4, "low": 0x94}
+PAGE_PLUS_WRITE = 0x05
 # The bits of which one is 1 where an output that is on isn't at VOUT_COMMAND, and the register that they select.
 ANOTHER = 0x30
 SELECTED = {0x00: "VOUT_COMMAND", 0x10: "VOUT_MARGIN_LOW", 0x20: "VOUT_MARGIN_HIGH"}
@@ -27,6 +30,11 @@ def selected_by(byte: int) -> Optional[str]:
 def ignores_faults(byte: int) -> bool:
     """Whether an output is on at a margin at which the part ignores faults, by 94h to 97h or A4h to A7h."""
     return byte & OF_MARGIN in UNPROTECTED.values()
+
+
+def turns_on(frame: bytes) -> bool:
+    """Whether a frame orders a byte of OPERATION by which an output is on."""
+    return len(frame) == 7 and frame[1] == PAGE_PLUS_WRITE and frame[4] == CODES["OPERATION"] and frame[5] >= ON
 
 
 def avsbus(byte: int) -> str:

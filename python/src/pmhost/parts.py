@@ -9,6 +9,7 @@
     trims = true              # each output has VOUT_TRIM and VOUT_CAL_OFFSET
     ready = "EF:60"           # the part is ready if its byte EFh has these bits
     protect = "80"            # WRITE_PROTECT, written last; lifted if the part holds just this
+    store_time = "8s"         # how long a store may take
 
 A multiplexer that the kernel drives is part of the adapter: each of its channels is a bus with a number of its own.
 """
@@ -19,16 +20,17 @@ from dataclasses import dataclass
 from typing import TypeGuard
 
 from .reserved import why_reserved
-from .values import LOOKED_AT, MISSABLE
+from .times import milliseconds
+from .values import LACKABLE
 
 ADDRESS = re.compile(r"(?:0[xX])?([0-9A-Fa-f]{2})[hH]?\Z")
 NAME = re.compile(r"[A-Za-z0-9_.+-]{1,32}\Z")
 MODEL_BUS = "model"
-KEYS = ("bus", "address", "outputs", "model", "lacks", "trims", "ready", "protect")
+KEYS = ("bus", "address", "outputs", "model", "lacks", "trims", "ready", "protect", "store_time")
 READY = re.compile("([0-9A-Fa-f]{2}):([0-9A-Fa-f]{2})")
 PROTECTIONS = ("80", "40", "20")
 MODEL = re.compile(r"[ -~]{1,32}\Z")
-MOST_BUS, MOST_OUTPUTS = 10**9 - 1, 8
+MOST_BUS, MOST_OUTPUTS, MOST_STORE_TIME = 10**9 - 1, 8, 60_000
 
 
 class BadRails(Exception):
@@ -39,7 +41,8 @@ class BadRails(Exception):
 class BoardPart:
     """A part: its bus, `model` or the number of one of Linux, and its address, which are empty and 0 if the command line has them;
     how many outputs it has, what its MFR_MODEL begins with, the registers that it doesn't have, the byte and its bits by which it is
-    ready, what WRITE_PROTECT is to be, and whether its outputs have VOUT_TRIM and VOUT_CAL_OFFSET."""
+    ready, what WRITE_PROTECT is to be, whether its outputs have VOUT_TRIM and VOUT_CAL_OFFSET, and how many milliseconds a store may take, None of
+    what its file doesn't say."""
 
     name: str
     bus: str
@@ -50,6 +53,7 @@ class BoardPart:
     ready: tuple[int, int] | None = None
     protect: int | None = None
     trims: bool = False
+    store_time: int | None = None
 
     @property
     def place(self) -> str:
@@ -88,8 +92,8 @@ def ready_of(word: str) -> tuple[int, int]:
 
 def lacks_of(at: str, names: object) -> tuple[str, ...]:
     """The registers that a part doesn't have."""
-    if not isinstance(names, list) or any(name not in MISSABLE + LOOKED_AT for name in names):
-        raise BadRails(f"{at}: give a list of {', '.join(MISSABLE + LOOKED_AT)}")
+    if not isinstance(names, list) or any(name not in LACKABLE for name in names):
+        raise BadRails(f"{at}: give a list of {', '.join(LACKABLE)}")
     return tuple(names)
 
 
@@ -122,7 +126,8 @@ def part_of(name: str, table: object) -> BoardPart:
     if "model" in table and (not isinstance(model, str) or not MODEL.match(model)):
         raise BadRails(f'{at}.model: give what MFR_MODEL begins with, as "LTC3880"')
     return BoardPart(name, str(bus), found, outputs, model, lacks_of(f"{at}.lacks", table.get("lacks", [])), ready_in(at, table),
-                     protect_of(f"{at}.protect", table.get("protect")), trims_of(f"{at}.trims", table.get("trims", False)))
+                     protect_of(f"{at}.protect", table.get("protect")), trims_of(f"{at}.trims", table.get("trims", False)),
+                     store_time_of(f"{at}.store_time", table.get("store_time")))
 
 
 def trims_of(at: str, has_trims: object) -> bool:
@@ -130,6 +135,14 @@ def trims_of(at: str, has_trims: object) -> bool:
     if not isinstance(has_trims, bool):
         raise BadRails(f"{at}: give true or false")
     return has_trims
+
+
+def store_time_of(at: str, text: object) -> int | None:
+    """How many milliseconds a store may take, if a file has it."""
+    found = milliseconds(text)
+    if text is not None and (found is None or found > MOST_STORE_TIME):
+        raise BadRails(f'{at}: give a time of at most 60s with its unit, as "5s"')
+    return found
 
 
 def protect_of(at: str, byte: object) -> int | None:

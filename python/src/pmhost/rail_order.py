@@ -9,25 +9,17 @@ Without `after` rails keep the order of the file.
 """
 from __future__ import annotations
 
-import re
 from typing import TYPE_CHECKING
 
 from .parts import BadRails
+from .times import milliseconds
 
 if TYPE_CHECKING:
     from .rails import Rail
 
-TIME = re.compile("([0-9]{1,9}) ?(ms|s)")
-MILLISECONDS = {"ms": 1, "s": 1000}
 MOST_WAIT = 60_000
 # The keys of a rail that say its place; and those of how long it takes to come up and to go down.
 KEYS, TIMES = ("after", "wait", "delivers"), ("settle", "settle_off")
-
-
-def milliseconds(text: str) -> int | None:
-    """A time with its unit, as 12ms or 5s; None of another text."""
-    found = TIME.fullmatch(text.strip())
-    return None if found is None else int(found[1]) * MILLISECONDS[found[2]]
 
 
 def place_of(at: str, table: dict[str, object]) -> tuple[tuple[str, ...], int, bool]:
@@ -38,7 +30,7 @@ def place_of(at: str, table: dict[str, object]) -> tuple[tuple[str, ...], int, b
         raise BadRails(f'{at}.after: give a list of rails, as ["core"]')
     if not isinstance(delivers, bool):
         raise BadRails(f"{at}.delivers: give true or false")
-    found = milliseconds(wait) if isinstance(wait, str) else None if wait is not None else 0
+    found = 0 if wait is None else milliseconds(wait)
     if found is None or found > MOST_WAIT:
         raise BadRails(f'{at}.wait: give a time of at most 60s with its unit, as "5ms"')
     for key in ("wait", "delivers"):
@@ -52,7 +44,7 @@ def times_of(at: str, table: dict[str, object]) -> list[int | None]:
     found: list[int | None] = []
     for key in TIMES:
         text = table.get(key)
-        time = milliseconds(text) if isinstance(text, str) else None
+        time = milliseconds(text)
         if text is not None and (time is None or time > MOST_WAIT):
             raise BadRails(f'{at}.{key}: give a time of at most 60s with its unit, as "3s"')
         found.append(time)

@@ -18,7 +18,7 @@ down. With `off = "soft"` it is turned off by its part's own TOFF_DELAY and TOFF
 
 A board with several parts has a table for each (`parts`), and `part = "u12"` in each rail. Without them the file is of one part, whose
 place is given on the command line: `lacks = ["VOUT_MIN"]` above the first rail names registers that it doesn't have, and without
-`outputs = N` it has as many outputs as the highest that the file names.
+`outputs = N` it has as many outputs as the highest that the file names. There, too, stand `deadline` and `deadline_off`.
 """
 from __future__ import annotations
 
@@ -30,7 +30,8 @@ from typing import Callable, TypeVar
 from . import rail_order, voltages
 from .looks import Looks
 from .operation import OFF, SOFT_OFF
-from .parts import MOST_OUTPUTS, NAME, BadRails, BoardPart, is_whole, lacks_of, part_of, protect_of, trims_of
+from .parts import MOST_OUTPUTS, NAME, BadRails, BoardPart, is_whole, lacks_of, part_of, protect_of, store_time_of, trims_of
+from .times import milliseconds
 
 # The settings of a rail, by their registers.
 SETTINGS = {"volts": "VOUT_COMMAND", "margin_high": "VOUT_MARGIN_HIGH", "margin_low": "VOUT_MARGIN_LOW", "max": "VOUT_MAX",
@@ -42,7 +43,10 @@ KEYS = ("output", "limits", "on", "accept", *SETTINGS, *rail_order.KEYS, *rail_o
 MOST_BYTES = 1 << 20
 LIMITS_EXAMPLE = '["0.85V", "0.95V"]'
 # What a file without a table of parts says of its one part.
-OF_ONE_PART = ("outputs", "lacks", "trims", "protect")
+OF_ONE_PART = ("outputs", "lacks", "trims", "protect", "store_time")
+# The times of a way up, and of the way down of a rail behind it: the most that each may be, in seconds.
+DEADLINES = {"deadline": 3600, "deadline_off": 60}
+OFF_TIME = 2000
 # The one part of a file that has no table of parts.
 ONLY = ""
 
@@ -84,6 +88,9 @@ class Rails:
 
     rails: list[Rail]
     parts: dict[str, BoardPart]
+    # How many milliseconds a way up has, all that it takes with None, and the way down of a rail after that.
+    deadline: int | None = None
+    deadline_off: int = OFF_TIME
 
     @property
     def is_board(self) -> bool:
@@ -127,8 +134,8 @@ def judged(found: dict[str, object]) -> Rails:
     """The rails of a table. A BadRails has what is wrong in all of its parts and rails."""
     faults: list[str] = []
     for key in found:
-        if key not in (*OF_ONE_PART, "parts", "rails"):
-            raise BadRails(f"{key}: there are `outputs`, `lacks`, `trims`, `protect`, `[parts.NAME]` and `[rails.NAME]`")
+        if key not in (*OF_ONE_PART, *DEADLINES, "parts", "rails"):
+            raise BadRails(f"{key}: there are {', '.join(f'`{each}`' for each in (*OF_ONE_PART, *DEADLINES))}, `[parts.NAME]` and `[rails.NAME]`")
     parts = all_of("parts", found, part_of, "no parts: give a table for each, as [parts.u12]", faults) if "parts" in found else None
     rails = all_of("rails", found, lambda name, table: rail_of(name, table, parts is not None),
                    "no rails: give a table for each, as [rails.core]", faults)
@@ -140,9 +147,18 @@ def judged(found: dict[str, object]) -> Rails:
     tables = found.get("parts")
     faults += outputs_of(list(rails.values()), parts, set(tables) if isinstance(tables, dict) else set())
     ordered = list(rails.values()) if faults else rail_order.in_order(list(rails.values()), faults)
+    deadline, deadline_off = deadlines_of(found, faults)
     if faults:
         raise BadRails("; ".join(faults))
-    return Rails(ordered, parts)
+    return Rails(ordered, parts, deadline, OFF_TIME if deadline_off is None else deadline_off)
+
+
+def deadlines_of(found: dict[str, object], faults: list[str]) -> list[int | None]:
+    """The times of a file, None of those that it doesn't have. What is wrong goes to the faults."""
+    times = {key: milliseconds(found[key]) for key in DEADLINES if key in found}
+    faults += [f'{key}: give a time of at most {DEADLINES[key]}s with its unit, as "2s"' for key, time in times.items()
+               if time is None or not 0 < time <= DEADLINES[key] * 1000]
+    return [times.get(key) for key in DEADLINES]
 
 
 def all_of(key: str, found: dict[str, object], made: Callable[[str, object], Made], none: str, faults: list[str]) -> dict[str, Made]:
@@ -168,7 +184,8 @@ def only_part(found: dict[str, object], rails: list[Rail], faults: list[str]) ->
         return {}
     try:
         return {ONLY: BoardPart(ONLY, "", 0, outputs, "", lacks_of("lacks", found.get("lacks", [])), None,
-                                protect_of("protect", found.get("protect")), trims_of("trims", found.get("trims", False)))}
+                                protect_of("protect", found.get("protect")), trims_of("trims", found.get("trims", False)),
+                                store_time_of("store_time", found.get("store_time")))}
     except BadRails as fault:
         faults.append(str(fault))
         return {}

@@ -334,10 +334,12 @@ class Sequence:
         asked once why nobody answers, if the first job had no answer at all and nothing was written; with an answer it ends the loop by a Said of
         the kind `nobody`, whose fault that is, and without one the list goes on. Whatever is raised meanwhile goes on to the caller, with the job
         that was under way ended as unknown."""
-        kept, order, is_open, is_heard = Transfers() if transfers is None else transfers, None, False, False
+        kept, order, is_open, is_heard, has_sent = Transfers() if transfers is None else transfers, None, False, False, False
         try:
             while True:
-                found = self.next()
+                if has_sent:
+                    clock.judge()
+                found, has_sent = self.next(), True
                 if isinstance(found, Said):
                     if found.is_end or told is not None and told(found) is False:
                         return found

@@ -5,10 +5,11 @@ import functools
 from dataclasses import replace
 from typing import TYPE_CHECKING, Callable, Optional
 
+from . import turn_on
 from .course import Job
 from .delivered import Delivered, delivered_of, judge_margin, limit_notes, silence_words, silent_limits
 from .looks import Looks
-from .operation import MARGINS, selected_by
+from .operation import MARGINS, ON, selected_by
 from .rounded import near_word
 from .sequence import Heard, RailHeard, Rules, Said, Sequence, SequenceStep, Wishes
 from .states import Bus, Step
@@ -66,7 +67,8 @@ class StepRun:
         self.step, self.is_alone = step.lacking(part.lacks), lists is None
         self.guarded = selected_by(step.byte) if step.act == "turns" and step.byte in MARGINS.values() else None
         self.trims = part.trims if not step.turns_off else None
-        asks = before_order is not None or self.guarded is not None or self.trims is not None
+        self.turns_on, self.turned_on = step.act == "turns" and step.byte >= ON, 0
+        asks = before_order is not None or self.turns_on or self.trims is not None
         self.lists = lists or StepLists([(part, self.step)], tries, replace(rules, asks=asks))
         # The order before which it stands.
         self._due: Optional[Said] = None
@@ -101,8 +103,8 @@ class StepRun:
     def carry_out(self, after_order: Optional[Callable[[Job, Step], object]] = None, ask: Optional[Callable[[], str]] = None,
                   accept: Optional[int] = None) -> Said:
         """Goes on to its end, or until `before_order` stops it. If an order differs and the held word is `accept` microvolts near, and within
-        the limits, the step begins anew to that word, once a register. `ask` is that of `Sequence.run`. MarginRefused, TrimRefused, and NotBelieved if
-        zeros of WRITE_PROTECT aren't believed."""
+        the limits, the step begins anew to that word, once a register. `ask` is that of `Sequence.run`. MarginRefused, TrimRefused, ChangedRefused, and
+        NotBelieved if zeros of WRITE_PROTECT aren't believed."""
         def after(order: Job, step: Step) -> object:
             held = self._near(order.register, accept) if step.kind == "differs" else None
             if held is not None:
@@ -125,10 +127,10 @@ class StepRun:
 
     def _go(self, after_order: Callable[[Job, Step], object], ask: Optional[Callable[[], str]]) -> None:
         """The same, up to an order that differs and is near."""
-        if self._due is not None and self._asked(self._due) is False:
-            return
         if self.trims is not None:
             self.trims.ask(self.step.output, self._due is None)
+        if self._due is not None and self._asked(self._due) is False:
+            return
         self.list = self.lists.at(self.place)
         self.end = self.list.run(self.lists.buses, self._told, after_order, self.part.transfers, ask)
         if self.end.kind in ("does", "fails"):
@@ -148,10 +150,13 @@ class StepRun:
         return self.is_alone or said.kind == "wait"
 
     def _asked(self, said: Said) -> bool:
-        """An order comes next: whether it may begin."""
+        """An order comes next: whether it may begin. ChangedRefused."""
         assert said.register is not None and said.word is not None
         may_begin = self.before_order is None or self.before_order(Job("order", said.register, said.word)) is not False
         self._due = None if may_begin else said
+        if may_begin and self.turns_on:
+            turn_on.judge(self.part, self.step, self.turned_on)
+            self.turned_on += 1
         return may_begin
 
     def see(self, said: Said) -> None:

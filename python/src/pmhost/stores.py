@@ -4,8 +4,10 @@ from __future__ import annotations
 from decimal import Decimal
 
 from .device import Device
+from .operation import ON
 from .readings import read
 from .status import names_of
+from .survey import only_word, why_not_off
 
 TEMPERATURE, MOST, CML = "READ_TEMPERATURE_1", 85, "STATUS_CML"
 # The bits of STATUS_CML by which what is stored isn't what was to be: DATA and MEMORY.
@@ -48,6 +50,18 @@ def has_failed(part: Device, clears: bool) -> str:
             part.run()
         word = cml(part)
     return f"{cml_words(word)} stands: --clear-first clears it" if word is not None and word & FAILED else ""
+
+
+def why_on(part: Device) -> str:
+    """Which output of a part isn't known to be off, by OPERATION, which is stored, and by STATUS_WORD; nothing if all are."""
+    for output in range(part.host.outputs):
+        part.host.check(output, "OPERATION")
+        is_read = part.run().kind == "done"
+        byte = only_word(part, output, "OPERATION") if is_read else None
+        why = "OPERATION gave no good answer" if byte is None else f"OPERATION is {byte:02X}" if byte >= ON else why_not_off(part, output)
+        if why:
+            return f"output {output} has to be off: {why}"
+    return ""
 
 
 def why_failed(part: Device, before: int | None) -> str:

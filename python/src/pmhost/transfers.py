@@ -14,12 +14,12 @@ class Transfers:
     def __init__(self) -> None:
         self.failed: list[str] = []
         self.error: OSError | None = None
-        self.has_written = self.has_stored = False
+        self.has_written = self.has_stored = self.has_turned_on = False
         self._answers: list[tuple[int, bytes, bytes]] = []
 
     def begin(self) -> None:
         """A course's next job begins: nothing is said of the transfers before but whether there was a write."""
-        self.failed, self.error, self._answers = [], None, []
+        self.failed, self.error, self._answers, self.has_turned_on = [], None, [], False
 
     def fault(self, error: OSError) -> None:
         """A transfer failed with an error."""

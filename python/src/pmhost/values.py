@@ -24,6 +24,8 @@ NAMES = {code: name for name, code in CODES.items()}
 # The registers of an output that a part may lack: those of a host, and those by which a rail is judged.
 MISSABLE = ("VOUT_MAX", "VOUT_MARGIN_HIGH", "VOUT_MARGIN_LOW", "VOUT_MIN")
 LOOKED_AT = ("STATUS_WORD", "READ_VOUT")
+# All that a part may lack: these, and what is asked beside them.
+LACKABLE = (*MISSABLE, *LOOKED_AT, "ON_OFF_CONFIG")
 
 
 def whole(number: object, least: int, most: int, what: str, why: str = "") -> int:

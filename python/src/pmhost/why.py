@@ -10,6 +10,7 @@ from .delivered import Delivered
 from .device import Device
 from .errors import Refused
 from .looks import Looks
+from .on_off import BY_COMMAND, BY_PIN, unheeded
 from .rails import SETTINGS, Rail
 from .readings import KINDS, Reading, read
 from .rounded import near_word
@@ -28,8 +29,6 @@ BESIDE = ("ON_OFF_CONFIG", "READ_VIN", "READ_VOUT", "VOUT_OV_FAULT_LIMIT", "VOUT
 TIMES = ("TON_DELAY", "TON_RISE", "TON_MAX_FAULT_LIMIT")
 # The bits of STATUS_CML by which what the part stores may be wrong.
 OF_STORE = ("MEMORY", "PROCESSOR")
-# Bits of ON_OFF_CONFIG: the output is on by a command or a pin, OPERATION counts, the CONTROL pin counts.
-BY_COMMAND, BY_OPERATION, BY_PIN = 0x10, 0x08, 0x04
 
 
 @dataclass
@@ -131,7 +130,7 @@ def of_rail(seen: Findings) -> str:
     if seen.word("STATUS_WORD") is None and "STATUS_WORD" not in seen.lacks:
         return f"STATUS_WORD gives no good answer ({seen.found['STATUS_WORD'].why}): `pmhost probe` says whether the part fits"
     config, is_on = seen.word("ON_OFF_CONFIG"), seen.state.is_on
-    listens = config is None or bool(config & BY_COMMAND and config & BY_OPERATION)
+    listens = not unheeded(config)
     if is_on is False and "STATUS_WORD" in seen.lacks:
         return unlike_file(seen)
     if is_on is False and listens:

@@ -9,7 +9,7 @@ from .names import BITS, NAMES, ON_OFF_CONFIG, TEXTS
 from .packets import CODES, NOT_CARRIED, TABLE, VOUT_CODES, answer_of, answer_shape, is_read, is_written, pec, write_part
 from .values import READINGS, STATUS_BITS, UNITS
 
-PLACES = [(0x58, 0), (0x58, 0), (0x58, 1), (0x08, 0), (0x77, 255)]
+PLACES = [(0x58, 0), (0x58, 0), (0x58, 0), (0x58, 1), (0x58, 1), (0x09, 0), (0x09, 0), (0x77, 255), (0x77, 255), (0x37, 0), (0x61, 1)]
 # An address whose packets name no page, in a trace of its own.
 UNPAGED = 0x33
 MODES = [0x14, 0x14, 0x17, 0x00, 0x0F, 0x10, 0x1F, 0x40, 0x40, 0x40, 0x21, 0x60, 0x41, 0x94, 0x97, 0x80, 0x9F, 0xA0, 0xC0, 0xFF]
@@ -19,14 +19,16 @@ NO_FORMATS = ["", "linear16", "ulinear16", "ulinear16:16", "ulinear16:-17", "uli
               "direct:1:0:-13", "direct:1:0", "direct:32768:0:0", "linear11:0", "ulinear16:+1", "ulinear16: 1", "direct:1:0:128",
               "ulinear16//1", "/", "58:", "58", "78:linear11", "07:linear11", "58:21:linear11", "linear11,", ",".join(["linear11"] * 9)]
 READING_FORMATS = ["linear11", "linear11", "direct:1:0:2", "direct:-3:5:-1", "direct/7/0/12", "direct:32767:-32768:-12"]
-WHERE = ["", "", "88:", "8C:", "8d:", "58:88:", "58:8C:", "08:8D:", "77/8c/"]
+WHERE = ["", "", "88:", "8C:", "8d:", "58:88:", "58:8C:", "09:8D:", "77/8c/"]
 NO_READINGS = ["", ",", "linear11,", "ulinear16:-12", "8B:linear11", "58:linear11", "07:88:linear11", "78:88:linear11", "88:58:linear11",
                "88:", "8:linear11", "58:88:8C:linear11", "direct:0:0:0", "88:direct:1:0:13", "88//linear11",
                ",".join(["linear11"] * 9)]
 OF_OUTPUTS = [code for code, row in TABLE.items() if row[4] == "output"] + [CODES["VOUT_COMMAND"], CODES["READ_VOUT"]] * 4
 GAPS = ["0", "1", "5", "1000", "1000000", "0000999"]
 NO_GAPS = ["", "x", "-1", "+1", "1000001", "00000001", "1.5"]
-SWITCHES = ["--all", "--long", "--times", "--json", "--pages"]
+ADDRESSES = ["61", "37", "28", "08", "61,28", "37,61,08,28", "77", "58", "09", "70,71,10", "3f"]
+NO_ADDRESSES = ["", ",", "61,", "7", "0C", "78", "07", "0x61", "61 ", "061", "61,0c", "-1", "G1"]
+SWITCHES = ["--all", "--long", "--times", "--json", "--pages", "--explain"]
 COMMENTS = [b"#", b"# no stop: B0 05 04", b"# another device: A0 00 01", b"# another device", b"# another devic", b"#another device",
             b"# no device acknowledged the address: B1", b"# no device acknowledged the addres",
             b"# byte 2 wasn't acknowledged", b"# byte", b"#  byte 0", b"# byte 3 wasn't acknowledged", b"# byte  wasn't acknowledged", b"# byte 10000 wasn't acknowledged", b"# byte 2 was", b"# byte 0 of the answer wasn't acknowledged",
@@ -36,9 +38,13 @@ COMMENTS = [b"#", b"# no stop: B0 05 04", b"# another device: A0 00 01", b"# ano
             b"# no stop: B0 00 01", b"# no result: B0 00 / B1", b"# no result: B0 20 17", b"# failed (-110): B0 16", b"# no stop: B0 20",
             b"# no stop: ", b"# a part with no byte: B0 00 01 / ", b"# another device: B2 00 01 / B0 00 01", b"# a read alone: 19 B0 / B2 00",
             b"# another device: B2 00 / B3 01 / B0 00", b"# another device: 6E 20 17", b"# another device: 00 03", b"# no result: 6E 00 01",
+            b"# another device: E0 02", b"# failed (-6): 12 00", b"# no stop: 12", b"# failed (-6): 6E", b"# no stop: 6E 05 03 00 20 17",
             b"# another device: A0 00 / A1 00", b"# the kernel dropped events", b"# the second part is no read of the device: B2 / B0",
             b"# 12 parts: B0 00", b"# no stop: B0 05 03 00 20 17", b"# no stop: B0 05 / B1", b"# the kernel shows 1 of 2 bytes: B0 21",
-            b"# failed (-5" + b" " * 45 + b"): B0 00", b"# failed (-5" + b" " * 44 + b"): B0 00", b"# failed (-5)" + b" " * 60 + b": B0 00"]
+            b"# failed (-5" + b" " * 45 + b"): B0 00", b"# failed (-5" + b" " * 44 + b"): B0 00", b"# failed (-5)" + b" " * 60 + b": B0 00",
+            b"# failed: B0 20 17 21: Connection timed out", b"# failed at 1250 (-110): B0 21 00", b"# failed at 1796052351852234 (-11): B0 05 04 00 21 CD",
+            b"# failed at 3 (-16): B0 15", b"# failed at x (-6): B0", b"# failed at ", b"# failed at  (-5)", b"# failed at 999999999999999999 (-71): B1",
+            b"# failed at 1000000000000000000 (-6): B0", b"# failed (-121)", b"# failed to say", b"# no stop: 00 21 00", b"# no stop: B0 11"]
 
 
 def readings(dice):
@@ -52,18 +58,21 @@ def vout(dice):
     """What stands behind `--vout`, mostly a good format or list of them."""
     if dice.random() < 0.05:
         return dice.choice(NO_FORMATS)
-    return ",".join(dice.choice(["", "", "58:", "08/", "77:"]) + dice.choice(FORMATS) for _ in range(dice.choice([1, 1, 1, 2, 3, 8])))
+    return ",".join(dice.choice(["", "", "58:", "09/", "77:"]) + dice.choice(FORMATS) for _ in range(dice.choice([1, 1, 1, 2, 3, 8])))
 
 
 def valued(dice, words):
     """The options with something behind them that suit the words, mostly."""
-    has_values, has_gap = "--values" in words, {"--pages", "--times"} <= {*words}
+    has_values, has_gap = "--values" in words, "--times" in words and bool({"--pages", "--explain"} & {*words})
     if has_values and dice.random() < 0.5 or dice.random() < 0.02:
         yield "--vout=" + vout(dice)
     if has_values and dice.random() < 0.3 or dice.random() < 0.01:
         yield "--readings=" + readings(dice)
     if has_gap and dice.random() < 0.6 or dice.random() < 0.01:
         yield "--gap=" + dice.choice(NO_GAPS if dice.random() < 0.05 else GAPS)
+    for name in ["--part", "--mux"]:
+        while dice.random() < 0.2:
+            yield f"{name}=" + dice.choice(NO_ADDRESSES if dice.random() < 0.03 else ADDRESSES)
 
 
 def options(dice):
@@ -73,7 +82,7 @@ def options(dice):
         words.append("--values")
     words += valued(dice, words)
     if dice.random() < 0.01:
-        words.append(dice.choice([*words, "--value", "--all=", "--vout", "more", "--word=1", "--gap", "--readings", "--pages="]))
+        words.append(dice.choice([*words, "--value", "--all=", "--vout", "more", "--word=1", "--gap", "--readings", "--pages=", "--part", "--mux"]))
     dice.shuffle(words)
     if dice.random() < 0.1:
         return [part for word in words for part in (word.split("=", 1) if "=" in word and word[-1] != "=" else [word])]
@@ -163,7 +172,7 @@ def followed_line(dice):
     plain one."""
     if dice.random() < 0.1:
         return dice.choice([page_line, plain_line, known_line, named_line])(dice)
-    address, code = dice.choice([0x58, 0x58, 0x58, 0x08]), dice.choice([CODES["PAGE"], dice.choice(OF_OUTPUTS)])
+    address, code = dice.choice([0x58, 0x58, 0x58, 0x58, 0x58, 0x09, 0x09, dice.choice([0x08, 0x0C, 0x28, 0x37, 0x61, 0x00])]), dice.choice([CODES["PAGE"], dice.choice(OF_OUTPUTS)])
     payload = [dice.choice([0, 1, 1, 2, 0xFF])] if code == CODES["PAGE"] else payload_of(dice, code)
     if dice.random() < 0.1:
         return spelled(dice, [2 * address, code, *payload * 3])
@@ -171,6 +180,26 @@ def followed_line(dice):
         return spelled(dice, write_part(address, ("write", None, code, payload)))
     message = "read", None, code
     return spelled(dice, write_part(address, message)) + b"/" + spelled(dice, answer_of(address, message, payload))
+
+
+def watched_line(dice):
+    """A packet of a trace in which a few registers are read again and again, with few words and few faults, of an address with pages or
+    without, and in which now and then something may change them."""
+    address, page, code = dice.choice([0x58, 0x58, 0x58, UNPAGED]), dice.choice([0, 0, 1, 0xFF]), dice.choice([0x01, 0x02, 0x10, 0x20, 0x21, 0x40, 0x41, 0x6B, 0x6C, 0x2A])
+    payload = [dice.choice([0x00, 0x80])] if code in (0x01, 0x02, 0x10, 0x20, 0x41) else [0, dice.choice([0x10, 0x20])]
+    kind = dice.random()
+    if kind < 0.06:
+        return page_line(dice)
+    if kind < 0.1:
+        return spelled(dice, [2 * dice.choice([address, 0x00, 0x37]), dice.choice([0x03, 0x11, 0x15, 0x16, 0x18, 0x19, code]), *dice.choice([[], [0]])])
+    is_carried = address != UNPAGED and dice.random() < 0.5
+    if kind < 0.2:
+        frame = [2 * address, 0x05, len(payload) + 2, page, code, *payload] if is_carried else [2 * address, code, *payload]
+        return spelled(dice, dice.choice([[*frame, pec(frame)], [*frame, pec(frame)], frame, frame[:-1]]))
+    frame = [2 * address, 0x06, 2, page, code] if is_carried else [2 * address, code]
+    payload = dice.choice([payload, payload, payload, payload, payload[:1], [*payload, 0], [0xFF] * len(payload)])
+    answer = [2 * address + 1, *([len(payload)] if is_carried else []), *payload]
+    return spelled(dice, frame) + b"/" + spelled(dice, [*answer, pec([*frame, *answer])] if dice.random() < 0.7 else answer)
 
 
 def unpaged_line(dice):
@@ -219,7 +248,7 @@ def named_line(dice):
 
 def unknown_line(dice):
     """A packet of another code, or of a code of the table in another length, with PEC or without."""
-    address = dice.choice([0x58, 0x58, 0x08, 0x77, 0x10])
+    address = dice.choice([0x58, 0x58, 0x08, 0x09, 0x77, 0x10, 0x61])
     code = dice.choice([0x96, 0xD4, 0xFF, 0x02, 0x86, 0x96, 0x04, 0x04, dice.choice([*TABLE])])
     frame = [2 * address, code, *[dice.randrange(256) for _ in range(dice.choice([0, 0, 1, 2, 3, 5, 33, 200, 297]))]]
     if dice.random() < 0.5:
@@ -286,7 +315,7 @@ def time_word(dice, now):
 
 def timed(dice, lines):
     """The lines with times before them; a packet now and then has none, or no bytes behind its time."""
-    now = dice.choice([0, 0, 5, 10**12])
+    now = dice.choice([0, 0, 5, 10**12, 1796052351852234])
     for line in lines:
         now += dice.choice([0, 0, 1, 90, 1000, 1001, 10**6, 10**6 + 1, -1 if now else 0, 5 * 10**9 if dice.random() < 0.1 else 0])
         if line.startswith(b"#") or not line.strip(b" \r"):
@@ -300,9 +329,10 @@ def timed(dice, lines):
 
 def packets(dice):
     """The lines of a trace without times."""
-    lines, strange, is_calm = skipped_lines(dice) if dice.random() < 0.4 else [], dice.choice([0, 0, 0.05, 0.3]), dice.random() < 0.2
+    lines, strange = skipped_lines(dice) if dice.random() < 0.4 else [], dice.choice([0, 0, 0.05, 0.3])
+    draw = dice.choice([watched_line, watched_line, followed_line, followed_line, *[lambda dice: packet_line(dice, strange)] * 6])
     for _ in range(dice.choice([0, 1, 2, 5, 20, 60])):
-        lines.insert(dice.randrange(len(lines) + 1), followed_line(dice) if is_calm else packet_line(dice, strange))
+        lines.insert(dice.randrange(len(lines) + 1), draw(dice))
         if dice.random() < 0.05:
             lines.insert(dice.randrange(len(lines) + 1), dice.choice(COMMENTS))
     return lines

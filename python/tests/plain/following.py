@@ -13,9 +13,13 @@ REFUSED = re.compile(rb"# byte ([0-9]{0,4}) (of the answer )?wasn't acknowledged
 MISSING = re.compile(rb"# the (kernel dropped events|kernel shows |capture shows |second part is no read)|.{3,4} parts: ", re.DOTALL)
 FAILED = b"# failed"
 SHOWING = FAILED, b"# no stop: ", b"# no result: ", b"# a read alone: ", b"# a part ", b"# another device: "
+FAILED_AT = re.compile(rb"# failed at ([0-9]{0,18}) ")
+REASONS = {6: "not acknowledged", 121: "not acknowledged", 110: "timed out", 11: "lost the arbitration", 16: "the bus was busy", 5: "bus error"}
+NO_REASON = "no reason is given"
 BYTE, SLASH = re.compile(rb"[0-9A-Fa-f]{2}"), b" / "
-# The addresses of a general call, and of a write to a zone.
-OF_ALL = (0x00, 0x37)
+# The addresses that SMBus and PMBus keep for something else than a part; 0Ch always, the others until a part answers there.
+ALERT_RESPONSE, ZONE_WRITE, MUX = "alert response", "ZONE_WRITE", "mux"
+SPECIALS = {0x08: "host notify", 0x0C: ALERT_RESPONSE, 0x28: "ZONE_READ", 0x37: ZONE_WRITE, 0x61: "ARP"}
 # RESTORE_DEFAULT_ALL, RESTORE_DEFAULT_CODE, RESTORE_USER_ALL, RESTORE_USER_CODE; WRITE_PROTECT, and the byte that forbids PAGE.
 RESTORES, PROTECT, ALL_FORBIDDEN = (0x12, 0x14, 0x16, 0x18), 0x10, 0x80
 PLUS_WRITE, PLUS_READ, MODE, PHASE, EACH_PHASE = 0x05, 0x06, 0x20, 0x04, 0xFF
@@ -43,9 +47,13 @@ def shows_pages(frame, is_answered):
     return code == [PLUS_READ] and is_answered or code in ([PAGE], [PLUS_WRITE]) and (is_answered or bool(data))
 
 
-def is_to_all(frame, is_read):
-    """A general call, or a write to a zone, that may change something of any part."""
-    return bool(frame) and frame[0] >> 1 in OF_ALL and touched(frame, is_read)[0] not in (None, FROM_PAGE)
+def ends_all(frame, is_read, special):
+    """A general call, or a write to a zone, that may change something of any part, or a write to a mux; `special` is what the address
+    is, if it is no part's."""
+    if special == MUX:
+        return len(frame) > 1
+    is_touching = touched(frame, is_read)[0] not in (None, FROM_PAGE)
+    return is_touching and (special == ZONE_WRITE or special is None and bool(frame) and frame[0] >> 1 == 0)
 
 
 def byte_at(text, place):
@@ -82,9 +90,21 @@ def remark_of(line):
         return "lost", None
     if frame[0] & 1:
         return None
-    if is_to_all(frame, is_read):
-        return "lost", None
     return "shown", (frame, is_read, line.startswith(FAILED))
+
+
+def failure_of(line):
+    """The time, or None, and the reason of a transfer that a comment says failed, by its first 63 bytes; None if it says no such thing."""
+    line = line[:63]
+    if line.startswith(b"# failed at "):
+        found = FAILED_AT.match(line)
+        return (int(found[1] or b"0"), why_of(line[found.end():])) if found else (None, NO_REASON)
+    return (None, why_of(line[9:])) if line.startswith((b"# failed (", b"# failed: ")) else None
+
+
+def why_of(text):
+    """The reason that a text begins with, as Linux numbers them in parentheses."""
+    return next((words for number, words in REASONS.items() if text.startswith(b"(-%d)" % number)), NO_REASON)
 
 
 class Place:

@@ -159,6 +159,25 @@ def other_text(packet, value):
     return f"{' '.join(words)}{value}, {'PEC right' if packet['pec'] else packet['taken']}{marks_text(packet)}"
 
 
+def aside_text(packet, frame, read, special):
+    """What a line says of a packet whose address is no part's."""
+    words = [f"{frame[0] >> 1:02X}", special]
+    if frame[1:]:
+        words.append("write " + spaced(frame[1:]))
+    if read is not None:
+        words.append(("read " + spaced(read[1:])).rstrip(" "))
+    elif not frame[1:]:
+        words.append("send")
+    return " ".join(words) + marks_text(packet)
+
+
+def aside_fields(frame, read, special):
+    head = {"address": f"{frame[0] >> 1:02X}", "special": special}
+    if read is None:
+        return {**head, "direction": "write" if frame[1:] else "send", "payload": spaced(frame[1:]) or None}
+    return {**head, "direction": "read", "written": spaced(frame[1:]) or None, "payload": spaced(read[1:]) or None}
+
+
 def marks_text(packet):
     """How a packet was received."""
     text = "" if packet["phase"] is None else f", phase {packet['phase']}"

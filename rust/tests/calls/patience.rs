@@ -89,7 +89,7 @@ impl Bus for Scripted {
             (b'o', Some(Operation::Read(answer))) => answer.fill(0xFF),
             (_, Some(Operation::Read(answer))) => match asked {
                 Some(code) => answer.copy_from_slice(&said(code, does)),
-                None => answer.copy_from_slice(&[0x02, 0xCD, 0x34, 0xB9]),
+                None => answer.copy_from_slice(&[0x02, 0xCD, 0x34, 0xB9][..answer.len()]),
             },
             _ => {}
         }
@@ -99,6 +99,8 @@ impl Bus for Scripted {
 
 const WORD: Cell = Cell::Output(0, Register::VoutCommand);
 const ORDER: Job = Job::Order(WORD, 0x34CD);
+const ON: Job = Job::Order(Cell::Output(0, Register::Operation), 0x80);
+const OFF: Job = Job::Order(Cell::Output(0, Register::Operation), 0x00);
 const CHECK: Job = Job::Check(WORD);
 const BEGIN: u32 = 10_u32.wrapping_neg(); // The clock wraps round after 10 ms.
 
@@ -187,12 +189,15 @@ const READY: Told = (None, Some((0xEF, 0x60)));
 
 #[test]
 fn a_busy_part_is_waited_for() {
-    let rows: [Row; 26] = [
+    let rows: [Row; 29] = [
         ("it is ready", ORDER, 3, AS_IT_IS, "a", true, "WQR", 10),
         ("it doesn't acknowledge for a while", ORDER, 1, AS_IT_IS, "aunua", true, "WQQQQR", 150),
         ("it reads as ones for a while", ORDER, 1, AS_IT_IS, "aoooa", true, "WQQQQR", 150),
         ("a write that nobody heard", ORDER, 1, AS_IT_IS, "uua", true, "WWWQR", 40),
         ("a write of which a byte isn't acknowledged", ORDER, 1, AS_IT_IS, "na", true, "WQR", 10),
+        ("an order that turns on and that nobody heard", ON, 1, AS_IT_IS, "ua", false, "WQR", 10),
+        ("an order that turns on and that nobody hears", ON, 2, AS_IT_IS, "u", false, "WQQQQQRWQQQQQR", 400),
+        ("an order that turns off and that nobody heard", OFF, 1, AS_IT_IS, "uua", false, "WWWQR", 40),
         ("a write that nobody hears", ORDER, 1, AS_IT_IS, "u", false, "WWWWWWR", 200),
         ("never ready again", ORDER, 1, AS_IT_IS, "au", false, "WQQQQQR", 200),
         ("the same by ones", ORDER, 1, AS_IT_IS, "ao", false, "WQQQQQR", 200),
@@ -222,6 +227,36 @@ fn a_busy_part_is_waited_for() {
 }
 
 #[test]
+fn nothing_is_sent_or_waited_for_behind_the_deadline() {
+    // A name, a job, what the bus below does, the deadline; the calls, when the last came and the job ended, and whether that was late.
+    let rows: [(&str, Job, &'static str, u32, &str, u32, u32, bool); 7] = [
+        ("a write that nobody hears", ORDER, "u", 100, "WWWW", 70, 100, true),
+        ("a part that isn't ready", ORDER, "au", 100, "WQQQ", 70, 100, true),
+        ("a deadline in the moment of a write", ORDER, "uua", 10, "W", 0, 10, true),
+        ("one that has passed", ORDER, "a", 0, "", 0, 0, true),
+        ("a read behind it", CHECK, "a", 0, "", 0, 0, true),
+        ("a store behind it", Job::Store, "a", 0, "", 0, 0, true),
+        ("one that nothing reaches", ORDER, "a", 11, "WQR", 10, 10, false),
+    ];
+    for (name, job, does, deadline, calls, last, ends, is_late) in rows {
+        let time = Time(Rc::new(Kept::new(BEGIN)));
+        let below = Scripted { does: does.as_bytes(), time: time.clone(), calls: String::new(), last: BEGIN };
+        let mut bus = Patient::new(below, time.clone());
+        bus.set_deadline(Some(deadline));
+        let is_done = free(0x58, 1, 3).run_job(job, &mut bus).is_ok();
+        let after = |moment: u32| moment.wrapping_sub(BEGIN);
+        let found = (after(bus.bus().last), after(time.0.get()), bus.is_late());
+        assert_eq!((is_done, bus.bus().calls.as_str(), found), (!is_late, calls, (last, ends, is_late)), "{name}");
+        bus.wait(1000);
+        assert_eq!(after(time.0.get()), deadline, "{name}: no longer than to it");
+        bus.set_deadline(None);
+        bus.wait(1000);
+        assert_eq!(after(time.0.get()), deadline + 1000, "{name}: without it");
+    }
+    assert_eq!(NotHeard::<Failed>::Late.to_string(), "the deadline has passed");
+}
+
+#[test]
 fn ones_are_no_answer() {
     let ones = Err(NotDone::Unknown { error: Some(NotHeard::Ones), fault: None });
     assert_eq!(carried_out(CHECK, 2, AS_IT_IS, "o"), (ones, "RR".into(), 0));
@@ -240,4 +275,73 @@ fn the_last_error_is_the_source() {
     let heard = error.source().unwrap();
     assert_eq!((heard.to_string(), heard.source().unwrap().to_string()), ("the transfer failed".into(), "Byte".into()));
     assert_eq!(NotHeard::<Failed>::Ones.to_string(), "nothing but FFh");
+}
+
+/// A part of one output that acknowledges nothing for 100 ms once it has seen so many host's frames, and comes up anew as another one: each transaction
+/// takes 10 ms.
+struct Away {
+    part: Part,
+    anew: Option<Part>,
+    away_at: usize,
+    until: Option<u32>,
+    frames: usize,
+    writes: usize,
+    time: Time,
+}
+
+impl Bus for Away {
+    type Error = Failed;
+
+    fn transaction(&mut self, address: u8, operations: &mut [Operation<'_>]) -> Result<(), Failed> {
+        let is_question = matches!(operations, [Operation::Write([0x19]), _]);
+        let now = self.time.0.get() + 10;
+        self.time.0.set(now);
+        if self.frames >= self.away_at && self.anew.is_some() {
+            let until = *self.until.get_or_insert(now + 100);
+            if now >= until {
+                self.part = self.anew.take().unwrap();
+            }
+        }
+        self.frames += usize::from(!is_question);
+        self.writes += usize::from(operations.len() == 1);
+        if self.until.is_some() && self.anew.is_some() {
+            return Err(Failed::Address);
+        }
+        self.part.transaction(address, operations).map_err(|_| Failed::Byte)
+    }
+}
+
+#[test]
+fn a_part_that_comes_up_anew_is_not_turned_on() {
+    let part = |command| Part::new(0x58, &[Output { operation: 0x00, command, ..Output::default() }], (1, 0, 3)).unwrap();
+    let steps = [SequenceStep::turns(0, 0, 0x80).with_looks(None)];
+    let mut reached = 0;
+    for (away_at, rules) in (0..=19).flat_map(|at| [(at, Rules::UP), (at, Rules::DOWN)]) {
+        let time = Time(Rc::new(Kept::new(0)));
+        // 0.86 V, and 1 V: 0.8 to 0.9 V are allowed.
+        let below =
+            Away { part: part(0x0DC3), anew: Some(part(0x1000)), away_at, until: None, frames: 0, writes: 0, time: time.clone() };
+        let mut bus = Patient::new(below, time);
+        let mut host = Host::new(0x58, 1, 3).unwrap();
+        host.set_limits(0, Limits { least: 800_000, most: 900_000 }).unwrap();
+        let mut list = Sequence::new(COURSE_TRIES, rules).unwrap();
+        let mut records = [SequenceRecord::default()];
+        let send = |_: usize, frame: &Sending, answer: &mut [u8]| bus.send(frame, answer).ok();
+        let end = list.run(&steps, &mut records, &mut [&mut host], send, |_| {}, |_| true).unwrap();
+        let below = bus.bus();
+        assert!(below.anew.is_some() || !below.part.is_on(0).unwrap(), "{away_at}: {end:?}");
+        assert!(below.writes < 2, "{away_at}: {} writes", below.writes);
+        reached += usize::from(below.anew.is_some());
+    }
+    assert_eq!(reached, 2);
+}
+
+#[test]
+fn a_write_that_turns_on_is_sent_once() {
+    let write = |job| {
+        let mut host = free(0x58, 1, 1);
+        host.begin(job).unwrap();
+        host.frame().is_once()
+    };
+    assert_eq!([ON, OFF, ORDER, CHECK].map(write), [true, false, false, false]);
 }

@@ -321,10 +321,15 @@ fn a_survey_orders_nothing_and_a_rest_undoes_it() {
     let mut records = [SequenceRecord::default()];
     let steps = [must(SequenceStep::new(0, 1, Act::Surveys))];
     assert_eq!(boards.end(&mut up(), &steps, &mut records).what, SequenceStop::Reached);
-    assert_eq!((records[0].back().map(|back| back.act()), boards.parts[0].writes, records[0].status()), (Some(Act::Rests), 0, Some(0)));
+    assert_eq!(
+        (records[0].back().map(|back| back.act()), boards.parts[0].writes, records[0].status()),
+        (Some(Act::Rests), 0, Some(0))
+    );
     // One that is off is good, unless it has to deliver.
     let off = SequenceStep::turns(0, 1, 0x00);
     assert_eq!(boards.end(&mut up(), &[off], &mut records).what, SequenceStop::Reached);
+    assert!(Verdict::WentOff.is_delivered() && !Verdict::CommandedOff.is_delivered());
+    assert!(Verdict::CommandedOff.has_nothing_to_deliver() && !Verdict::WentOff.has_nothing_to_deliver());
     let loose = [steps[0].with_looks(Some(Looks::default()))];
     assert_eq!(boards.end(&mut up(), &loose, &mut records).what, SequenceStop::Reached);
     let end = boards.end(&mut up(), &steps, &mut records);

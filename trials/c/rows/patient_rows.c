@@ -13,8 +13,8 @@
 typedef struct {
     const char *name;
     uint8_t address;
-    char job;               /* o order of 34CDh, v check of VOUT_COMMAND, p check of WRITE_PROTECT, s store, r restore,
-                             * t two stores */
+    char job;               /* o order of 34CDh, n of OPERATION 80h, f of OPERATION 00h, v check of VOUT_COMMAND, p check of WRITE_PROTECT,
+                             * s store, r restore, t two stores */
     uint8_t passes;
     int32_t patience;
     const char *does;
@@ -31,6 +31,9 @@ static const row rows[] = {
     {"it reads as ones for a while", 0x58, 'o', 1, 0, "aoooa", 1, 0, 1, 4, 1, 150, 0},
     {"a write that nobody heard", 0x58, 'o', 1, 0, "uua", 1, 0, 3, 1, 1, 40, 0},
     {"a write of which a byte isn't acknowledged", 0x58, 'o', 1, 0, "na", 1, 0, 1, 1, 1, 10, 0},
+    {"an order that turns on and that nobody heard", 0x58, 'n', 1, 0, "ua", 3, 0x34, 1, 1, 1, 10, 0},
+    {"an order that turns on and that nobody hears", 0x58, 'n', 2, 0, "u", 3, 0, 2, 10, 2, 400, 0},
+    {"an order that turns off and that nobody heard", 0x58, 'f', 1, 0, "uua", 3, 0x34, 3, 1, 1, 40, 0},
     {"a write that nobody hears", 0x58, 'o', 1, 0, "u", 3, 0, 6, 0, 1, 200, 0},
     {"a part that is never ready again", 0x58, 'o', 1, 0, "au", 3, 0, 1, 5, 1, 200, 0},
     {"the same by ones", 0x58, 'o', 1, 0, "ao", 3, 0, 1, 5, 1, 200, 0},
@@ -130,6 +133,8 @@ static void wait(void *context, uint32_t milliseconds) {
 static uint8_t begin(pm_host *host, char job) {
     switch (job) {
     case 'o': return pm_host_order(host, 0, PM_VOUT_COMMAND, 0x34CD);
+    case 'n': return pm_host_order(host, 0, PM_OPERATION, 0x80);
+    case 'f': return pm_host_order(host, 0, PM_OPERATION, 0x00);
     case 'v': return pm_host_check(host, 0, PM_VOUT_COMMAND);
     case 'p': return pm_host_check(host, 0, PM_WRITE_PROTECT);
     case 'r': return pm_host_restore(host);
@@ -141,7 +146,7 @@ static uint8_t begin(pm_host *host, char job) {
 static int is_right(const row *of) {
     pm_host host;
     bus to = {of, 0, 0, 0, 0, (uint32_t)BEGIN, (uint32_t)BEGIN};
-    pm_patient patient = {put, ask, &to, now, wait, of->patience, 0, (uint8_t)(of->mask != 0 ? 0xEF : 0), of->mask};
+    pm_patient patient = {put, ask, &to, now, wait, of->patience, 0, (uint8_t)(of->mask != 0 ? 0xEF : 0), of->mask, 0, 0, 0};
     pm_step step = {0, 0};
     if (pm_host_new(&host, of->address, 1, of->passes) != PM_OK || pm_host_no_limits(&host, 0) != PM_OK)
         return 0;
@@ -160,10 +165,106 @@ static int is_right(const row *of) {
     return 0;
 }
 
+/* Nothing is sent or waited for behind the deadline: the job and what is sent of it, the milliseconds from the first call to the last one and
+ * to the end, and whether it was late. */
+typedef struct {
+    row is;
+    uint32_t deadline, ends;
+    uint8_t is_late;
+} late_row;
+
+static const late_row late_rows[] = {
+    {{"a write that nobody hears, to a deadline", 0x58, 'o', 3, 0, "u", 3, 0, 4, 0, 0, 70, 0}, 100, 100, 1},
+    {{"a part that isn't ready, to a deadline", 0x58, 'o', 3, 0, "au", 3, 0, 1, 3, 0, 70, 0}, 100, 100, 1},
+    {{"a deadline in the moment of a write", 0x58, 'o', 3, 0, "uua", 3, 0, 1, 0, 0, 0, 0}, 10, 10, 1},
+    {{"a deadline that is now", 0x58, 'o', 3, 0, "a", 3, 0, 0, 0, 0, 0, 0}, 0, 0, 1},
+    {{"one that passed 5 ms ago", 0x58, 'o', 3, 0, "a", 3, 0, 0, 0, 0, 0, 0}, (uint32_t)-5, 0, 1},
+    {{"a read behind it", 0x58, 'v', 3, 0, "a", 3, 0, 0, 0, 0, 0, 0}, 0, 0, 1},
+    {{"a store behind it", 0x58, 's', 3, 0, "a", 3, 0, 0, 0, 0, 0, 0}, 0, 0, 1},
+    {{"a deadline that nothing reaches", 0x58, 'o', 3, 0, "a", 1, 0, 1, 1, 1, 10, 0}, 11, 10, 0},
+};
+enum { LATE_ROWS = sizeof late_rows / sizeof late_rows[0] };
+
+static int is_late_right(const late_row *of) {
+    pm_host host;
+    bus to = {&of->is, 0, 0, 0, 0, (uint32_t)BEGIN, (uint32_t)BEGIN};
+    pm_patient patient = {put, ask, &to, now, wait, of->is.patience, 0, 0, 0, 1, 0, (uint32_t)BEGIN + of->deadline};
+    if (pm_host_new(&host, of->is.address, 1, of->is.passes) != PM_OK || pm_host_no_limits(&host, 0) != PM_OK ||
+        begin(&host, of->is.job) != PM_OK)
+        return 0;
+    pm_step step = pm_patient_run(&host, &patient);
+    uint32_t last = to.last - (uint32_t)BEGIN, ends = to.clock - (uint32_t)BEGIN;
+    pm_patient_wait(&patient, 1000); /* no longer than to the deadline */
+    uint32_t most = to.clock - (uint32_t)BEGIN;
+    if (step.kind == of->is.kind && to.writes == of->is.writes && to.questions == of->is.questions && to.reads == of->is.reads &&
+        last == of->is.last && ends == of->ends && most == (of->is_late ? of->ends : of->deadline) && patient.is_late == of->is_late)
+        return 1;
+    printf("%s: ended %u after %d writes, %d questions and %d reads, the last at %u ms, at %u ms, late %u; then %u ms\n", of->is.name,
+           (unsigned)step.kind, to.writes, to.questions, to.reads, (unsigned)last, (unsigned)ends, (unsigned)patient.is_late, (unsigned)most);
+    return 0;
+}
+
+/* How long a list of one step takes over a bus that nobody answers, where each transfer needs 35 ms to fail: the table of docs/c.md. */
+typedef struct {
+    const char *name;
+    pm_sequence_step step;
+    uint16_t tries;
+    uint8_t passes;
+    int32_t patience;
+    uint32_t milliseconds;
+} dead_row;
+
+enum { FAILS_AFTER = 35, DEAD_ROWS = 4 };
+
+static uint8_t dead_put(void *context, const uint8_t *bytes, uint64_t count) {
+    (void)bytes;
+    (void)count;
+    wait(context, FAILS_AFTER);
+    return PM_UNHEARD;
+}
+
+static uint64_t dead_ask(void *context, const uint8_t *request, uint64_t count, uint8_t *answer, uint64_t room) {
+    (void)request;
+    (void)count;
+    (void)answer;
+    (void)room;
+    wait(context, FAILS_AFTER);
+    return 0;
+}
+
+static int is_dead_right(const dead_row *of) {
+    pm_host host;
+    pm_sequence list;
+    pm_sequence_record record;
+    bus to = {NULL, 0, 0, 0, 0, (uint32_t)BEGIN, (uint32_t)BEGIN};
+    pm_patient patient = {dead_put, dead_ask, &to, now, wait, of->patience, 0, 0, 0, 0, 0, 0};
+    pm_host *const hosts[] = {&host};
+    void *const buses[] = {&patient};
+    if (pm_host_new(&host, 0x58, 1, of->passes) != PM_OK || pm_host_no_limits(&host, 0) != PM_OK)
+        return 0;
+    pm_sequence_new(&list, of->tries, PM_LEAVES);
+    uint8_t ended = pm_run_sequence(&list, hosts, buses, 1, &of->step, 1, &record, 1, pm_patient_write, pm_patient_read, pm_patient_wait, NULL);
+    uint32_t passed = to.clock - (uint32_t)BEGIN;
+    if (ended == PM_ENDED && list.said.kind == PM_STEPS_LEFT && passed == of->milliseconds)
+        return 1;
+    printf("%s: ended %u, %u after %u ms\n", of->name, (unsigned)ended, (unsigned)list.said.kind, (unsigned)passed);
+    return 0;
+}
+
 int main(void) {
+    const dead_row dead_rows[DEAD_ROWS] = {
+        {"off", pm_turns(0, 0, 0x00), 4, 3, PM_NO_PATIENCE, 840},
+        {"off, with patience", pm_turns(0, 0, 0x00), 4, 3, 0, 2940},
+        {"off, with the tries of a set", pm_turns(0, 0, 0x00), 64, 3, 0, 47040},
+        {"a set", pm_sets(0, 0, 1000000), 64, 3, 0, 6720},
+    };
     int passed = 0;
     for (int i = 0; i < ROWS; i++)
         passed += is_right(&rows[i]);
-    printf("pm_patient_run: %d rows passed, %d failed\n", passed, ROWS - passed);
-    return passed != ROWS;
+    for (int i = 0; i < LATE_ROWS; i++)
+        passed += is_late_right(&late_rows[i]);
+    for (int i = 0; i < DEAD_ROWS; i++)
+        passed += is_dead_right(&dead_rows[i]);
+    printf("pm_patient_run: %d rows passed, %d failed\n", passed, ROWS + LATE_ROWS + DEAD_ROWS - passed);
+    return passed != ROWS + LATE_ROWS + DEAD_ROWS;
 }

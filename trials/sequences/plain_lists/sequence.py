@@ -5,7 +5,7 @@ from collections import namedtuple
 from tests.plain.converter import OPERATION
 from tests.plain.limits import VOLTAGES, selected
 from tests.plain.packets import answer_fault
-from tests.plain.rail import WORDS, is_on
+from tests.plain.rail import WORDS, Survey, is_on
 
 from .course import Course, about
 from .look import ASKED, Look, asks_for, does, fault_of, turns_off
@@ -16,18 +16,28 @@ Rules = namedtuple("Rules", "keeps_back ends_at_restart leaves asks")
 Step = namedtuple("Step", "host output act wishes byte looks must lacks wait before", defaults=({}, 0, None, False, (), 0, (0, None, 0)))
 
 
+def turns_on(job):
+    return job[0] == "order" and job[1][1] == OPERATION and is_on(job[2])
+
+
+def is_unsent(job, writes):
+    return writes > 0 and turns_on(job)
+
+
 class Stopped(Exception):
     """A step stops: its place, and why."""
 
 
 class Sequence:
     """`under` is the place of the step under way, which began with the words `wanted`; `coming` is the course of the first step ahead. `backs` has
-    the steps that undo others, by the places of these, and `heard` what was heard of their rails."""
+    the steps that undo others, by the places of these, and `heard` what was heard of their rails. `fresh` is the place of the step whose survey began anew,
+    with nothing sent since but its reads."""
 
     def __init__(self, parts, steps, rules, tries):
         self.parts, self.steps, self.rules, self.tries = parts, steps, rules, tries
         self.under, self.course, self.wanted, self.coming = None, None, {}, None
         self.begun, self.left, self.look, self.told, self.backs, self.heard = 0, 0, None, None, {}, {}
+        self.fresh = None
         self.is_looked = self.is_waited = self.is_warned = self.has_restarted = self.is_over = False
 
     def lines(self):
@@ -44,7 +54,7 @@ class Sequence:
     def leaves(self, place):
         """The step is left, whether it has begun or not; none is under way then, so that the next one may begin."""
         self.begun, self.left = place + 1, self.left + 1
-        self.under, self.coming, self.told = None, None, None
+        self.under, self.coming, self.told, self.fresh = None, None, None, None
         self.is_looked, self.is_waited, self.is_warned = True, False, False
 
     def turn(self):
@@ -60,7 +70,7 @@ class Sequence:
             self.is_over = True
             yield ("ended", self.begun, "left", self.left) if self.left else ("ended", self.begun, "reached")
         elif ahead.wait and not self.is_waited:
-            self.is_waited = True
+            self.is_waited, self.fresh = True, None
             yield "told", self.begun, "wait", ahead.wait
         else:
             yield from self.goes_ahead(ahead)
@@ -71,6 +81,7 @@ class Sequence:
             return
         self.begin(step, job, self.under)
         self.course, self.told, self.is_looked = course, None, self.is_looked and job[0] != "order"
+        self.fresh = self.fresh if job[0] != "order" and self.fresh == self.under else None
         yield from self.carries_out(step, job, course)
 
     def goes_ahead(self, step):
@@ -86,7 +97,7 @@ class Sequence:
         job, course = self.asked(step, place, course, wanted)
         if job is not None and job[0] != "order":
             self.begin(step, job, place)
-            self.coming, self.told = course, None
+            self.coming, self.told, self.fresh = course, None, self.fresh if self.fresh == place else None
             yield from self.carries_out(step, job, course)
             return
         back = self.undoes(step, wanted)
@@ -105,7 +116,7 @@ class Sequence:
             yield from self.carries_out(step, job, course)
 
     def begins(self, course, wanted):
-        self.under, self.course, self.wanted, self.coming, self.told = self.begun, course, wanted, None, None
+        self.under, self.course, self.wanted, self.coming, self.told, self.fresh = self.begun, course, wanted, None, None, None
         self.begun += 1
         self.is_looked = self.is_waited = self.is_warned = False
 
@@ -168,11 +179,20 @@ class Sequence:
                 yield from self.looks_before(step)
                 return False
             self.judge(step, place, wanted)
+        if turns_on(job) and self.fresh != place:
+            self.surveys_anew(place)
+            return False
         if self.rules.asks and self.told != job:
             self.told = job
             yield "told", place, "order", job[1][1], job[2]
             return False
         return True
+
+    def surveys_anew(self, place):
+        """All is read again directly before the order, as if nothing had been."""
+        self.fresh, course = place, self.course if place == self.under else self.coming
+        if course:
+            course.survey, course.has_ordered = Survey(course.output, course.survey.wanted, course.survey.left), False
 
     def judge(self, step, place, wanted):
         """The goal, by the fault limits that were read."""
@@ -188,16 +208,18 @@ class Sequence:
             raise Stopped(place, "refused", fault, about(job))
 
     def carries_out(self, step, job, course):
-        """A job, frame after frame."""
-        part, mode = self.parts[step.host], None
+        """A job, frame after frame. An order that turns on is written once, and only read back in its later passes."""
+        part, mode, writes = self.parts[step.host], None, 0
         while (message := part.sending()) is not None:
             is_read, marks = message[0] != "write", len(part.marks)
-            came = yield "frame", step.host, part.sending_frame(), is_read
+            came = False if not is_read and is_unsent(job, writes) else (yield "frame", step.host, part.sending_frame(), is_read)
             if not is_read:
+                writes += 1
                 part.told(("finished", came))
                 course.fault = None if came else "no acknowledgement"
                 continue
             part.told(("got", list(came)))
+            self.fresh = self.fresh if came else None
             fault = answer_fault(part.address, message, came) if came else ("no answer",)
             if fault or job[0] != "order":
                 course.fault = fault and fault[0]
@@ -234,7 +256,7 @@ class Sequence:
 
     def looks(self, step):
         """Asks what is due, and in each round with a silence whether the part answers otherwise."""
-        part, probes, is_there, is_counted = self.parts[step.host], 0, False, False
+        part, probes, is_there, is_counted, self.fresh = self.parts[step.host], 0, False, False, None
         request = [2 * part.address, 0x06, 2, step.output]
         while True:
             found = self.look.due(part)

@@ -18,8 +18,10 @@ KNOWN, OTHER, FAULT = "known", "other", "fault"
 # What is wrong: NO_PEC is a packet of another code, length or direction, which need not have one, SHORT one that is too short.
 NO_PEC, SHORT, WRONG_PEC, ELSEWHERE = "no PEC", "too short", "wrong PEC", "another address answers"
 RIGHT, NOBODY, DOUBTFUL = "PEC right", "all ones: nobody answered", "all ones: nobody answered?"
-# The addresses of a general call, and of a write to a zone.
-OF_ALL = (0x00, 0x37)
+# The addresses that SMBus and PMBus keep for something else than a part, 0Ch always, the others until a part answers one of these codes.
+ALERT_RESPONSE, ZONE_WRITE, MUX = "alert response", "ZONE_WRITE", "mux"
+SPECIALS = {0x08: "host notify", 0x0C: ALERT_RESPONSE, 0x28: "ZONE_READ", 0x37: ZONE_WRITE, 0x61: "ARP"}
+OF_PARTS = [CODES[name] for name in ("VOUT_MODE", "STATUS_BYTE", "PMBUS_REVISION")]
 # What is never relative where VOUT_MODE is.
 NEVER_RELATIVE = ("VOUT_COMMAND", "VOUT_MAX", "VOUT_MIN", "READ_VOUT")
 SPEEDS = ("100 kHz", "400 kHz", "1 MHz", "reserved speed")
@@ -107,6 +109,13 @@ def vouts_of(text):
     return entries_of(text, "(?:([0-7][0-9A-Fa-f]):)?((?:linear11|ulinear16|direct).*)")
 
 
+def addresses_of(text):
+    """The addresses of a text as 70+71; a `,` may stand for each plus. None where it is none."""
+    words = text.replace("+", ",").split(",") if text else []
+    found = [int(word, 16) if re.fullmatch("[0-7][0-9A-Fa-f]", word) else 0 for word in words]
+    return {*found} if all(0x08 <= it <= 0x77 and SPECIALS.get(it) != ALERT_RESPONSE for it in found) else None
+
+
 class Told:
     """A packet as it is told: its kind, its text, a short text, and how its PEC is: None where that isn't asked. `packet` is its address,
     its code, its page and its payload, where it has them; `is_good` that it surely is one of the table."""
@@ -118,6 +127,8 @@ class Told:
         self.is_good = kind == KNOWN and is_good
         # Whether nobody answered a code that its address answered before, or took; whether somebody answered it, or took it.
         self.is_lost = self.is_received = False
+        # Whether its address is no part's, and whether it may have changed something of all parts.
+        self.is_special = self.ends_all = False
         # Whether it acts on an output and names none.
         self.is_of_output = kind != FAULT and page is None
 
@@ -125,7 +136,7 @@ class Told:
 class Reader:
     """Tells packets one after another, and keeps what they teach of formats."""
 
-    def __init__(self, vout="", readings=""):
+    def __init__(self, vout="", readings="", parts="", muxes=""):
         self.modes, self.plain, self.coefficients = {}, {}, {}
         # The addresses that have pages, those of which all modes may have changed, and those that showed ULINEAR16.
         self.paged, self.changed, self.linear = set(), set(), set()
@@ -134,6 +145,8 @@ class Reader:
         # The byte of this packet that wasn't acknowledged, and whether it is the answer's.
         self.refused = None
         self.vout, self.readings = vouts_of(vout), readings_of(readings)
+        # The addresses of parts, also those that answered as parts do, and of muxes.
+        self.parts, self.muxes = addresses_of(parts), addresses_of(muxes)
 
     def taken(self, write, read):
         """What is said of a packet without its PEC: an answer of ones may be nobody's, unless its bytes were written last."""
@@ -165,26 +178,48 @@ class Reader:
             told.text += ", byte %d%s not acknowledged" % (refused[0], " of the answer" * refused[1])
         return told
 
+    def special(self, address):
+        """What an address is, if it is no part's."""
+        if address in self.muxes:
+            return MUX
+        special = SPECIALS.get(address)
+        return None if special != ALERT_RESPONSE and address in self.parts else special
+
+    def ends_all(self, write, is_read):
+        """A general call, or a write to a zone, that may change PAGE or VOUT_MODE of any part, or a write to a mux."""
+        special = self.special(write[0] >> 1) if write and not write[0] & 1 else None
+        if special == MUX:
+            return len(write) > 1
+        return bool(write) and (special == ZONE_WRITE or special is None and write[0] >> 1 == 0) and is_touching(write, is_read)
+
     def of(self, write, read):
         if not write or write[0] & 1 or not 0x08 <= write[0] >> 1 <= 0x77:
-            self.lose_if_all(write, read)
-            return Told(FAULT, "-- no address of a device", "?")
+            told = Told(FAULT, "-- no address of a device", "?")
+            self.lose_if_all(told, write, read)
+            return told
         taken = self.taken(write, read) if len(write) > 1 and fault_of(write, read) is not None and not self.refused else NO_PEC
         is_empty = read is not None and len(read) < 2
         is_lost = (taken == NOBODY or is_empty) and len(write) > 1 and (write[0], write[1]) in self.answered
         is_received = taken == NO_PEC and not is_empty and not self.refused
+        if is_received and shows_part(write, read):
+            self.parts.add(write[0] >> 1)
+        if special := self.special(write[0] >> 1):
+            told = special_told(special, write, read)
+            self.lose_if_all(told, write, read)
+            return told
         told = self.told(write, read, taken, is_received)
         told.is_lost, told.is_received = is_lost, is_received
         told.is_of_output = told.is_of_output and not is_lost
         self.hear(told, write, read)
         is_clear = not self.refused and (told.kind != FAULT or len(write) > 1 and is_last_right(write, read))
         self.forget(write, is_clear, read is not None and is_received)
-        self.lose_if_all(write, read)
+        self.lose_if_all(told, write, read)
         return told
 
-    def lose_if_all(self, write, read):
-        """A general call, or a write to a zone, may be of any part."""
-        if is_to_all(write, read is not None):
+    def lose_if_all(self, told, write, read):
+        """Some packets change something of all parts."""
+        told.ends_all = self.ends_all(write, read is not None)
+        if told.ends_all:
             self.lose(None)
 
     def forget(self, write, is_clear, is_answered):
@@ -369,7 +404,7 @@ def on_off_words(byte):
 def value_of_bytes(code, shown):
     """What the bytes of a code beyond the table say."""
     if code in TEXTS:
-        # One 00 or FF may fill a text up.
+        # The last one may be 00 or FF.
         block = shown[1:-1] if len(shown) > 1 and shown[-1] in (0x00, 0xFF) else shown[1:]
         is_text = block and shown[0] == len(shown) - 1 and all(0x20 <= it < 0x7F and it not in (0x22, 0x5C) for it in block)
         return '"%s"' % bytes(block).decode("ascii") if is_text else ""
@@ -380,9 +415,27 @@ def value_of_bytes(code, shown):
     return (", ".join(bits_of(FLAGS[code], shown[0])) or "none") if code in FLAGS else ""
 
 
-def is_to_all(write, is_read):
-    """A general call, or a write to a zone, of a packet that may change PAGE or VOUT_MODE of any part."""
-    if not write or write[0] >> 1 not in OF_ALL or len(write) < 2:
+def special_told(special, write, read):
+    """A packet to an address that is no part's."""
+    words = ([special, "write " + spaced(write[1:])] if write[1:] else [special]) + ([] if write[1:] or read is not None else ["send"])
+    if read is not None:
+        words.append(("read " + spaced(read[1:])).rstrip())
+    told = Told(OTHER, "%02X %s" % (write[0] >> 1, " ".join(words)), special)
+    told.is_special, told.is_of_output = True, False
+    return told
+
+
+def shows_part(write, read):
+    """Whether a read is answered as parts do: VOUT_MODE, STATUS_BYTE or PMBUS_REVISION, maybe without its PEC."""
+    if read is None or len(write) < 2 or (write + [0] * 4)[4 if write[1] == REQUESTER else 1] not in OF_PARTS:
+        return False
+    fault = fault_of(write, read)
+    return fault is None or fault == SHORT and fault_of(write, read + [pec(write + read)]) is None
+
+
+def is_touching(write, is_read):
+    """A packet that may change PAGE or VOUT_MODE."""
+    if len(write) < 2:
         return False
     code, data = write[1], write[2:]
     if code == CARRIER:
@@ -464,8 +517,10 @@ def answer_fault(write, read):
     return None if read[-1] == pec(write + read[:-1]) else WRONG_PEC
 
 
-def labels(write, read):
+def labels(write, read, is_special=False):
     """A word for each byte of a packet, part by part; the PEC is the caller's."""
+    if is_special:
+        return [["address %02X" % (part[0] >> 1)] + ["data"] * (len(part) - 1) for part in (write, read) if part]
     found = ["address %02X" % (write[0] >> 1), *(NAMES.get(code, "code %02X" % code) for code in write[1:2])]
     if write[1:2] and write[1] in (CARRIER, REQUESTER):
         found += ["count", *("page %d" % page for page in write[3:4]), *(NAMES.get(code, "code") for code in write[4:5])]

@@ -1,6 +1,6 @@
 """PAGE as a capture shows it, address by address: where a packet says that another page was reached than was written. Nothing here needs
 sigrok."""
-from .packets import CARRIER, CODES, RESTORES, is_to_all
+from .packets import CARRIER, CODES, RESTORES
 
 PAGE, PROTECT, ALL_FORBIDDEN = CODES["PAGE"], CODES["WRITE_PROTECT"], 0x80
 # Codes that PAGE selects no output for.
@@ -8,10 +8,8 @@ OF_DEVICE = {PAGE, 0x05, 0x06, *range(0x10, 0x1B), 0x30, *range(0x98, 0x9F), 0xA
 
 
 def is_of_several(parts):
-    """Whether bytes that are no packet have parts of several devices, or may be of any: nobody knows what they changed."""
-    if len(parts) > 2 or len(parts) == 2 and parts[0] and parts[1] and parts[1][0] != parts[0][0] | 1:
-        return True
-    return is_to_all(parts[0], len(parts) > 1) if parts else False
+    """Whether bytes that are no packet have parts of several devices: nobody knows what they changed."""
+    return len(parts) > 2 or len(parts) == 2 and bool(parts[0] and parts[1]) and parts[1][0] != parts[0][0] | 1
 
 
 class Place:
@@ -63,7 +61,7 @@ class Pages:
         if told.address is not None:
             wrong = self.contradiction(told)
             self.learn(told, write)
-        if is_to_all(write, told.is_read):
+        if told.ends_all:
             self.lose()
         return wrong
 

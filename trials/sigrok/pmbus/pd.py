@@ -3,7 +3,7 @@ import re
 
 import sigrokdecode as srd
 
-from .packets import FAULT, KNOWN, OTHER, Reader, labels, pec, readings_of, spaced, vouts_of
+from .packets import FAULT, KNOWN, OTHER, Reader, addresses_of, labels, pec, readings_of, spaced, vouts_of
 from .pages import Pages, is_of_several
 
 # Annotations by their places below.
@@ -25,11 +25,13 @@ class Decoder(srd.Decoder):
     options = (
         {"id": "address", "desc": "Address of the device, two hexadecimal digits (empty: all)", "default": ""},
         {"id": "vout", "desc": "Format of a voltage whose mode wasn't read, as ulinear16/-12 or 58/linear11+direct/1/0/3", "default": ""},
+        {"id": "parts", "desc": "Addresses of parts that SMBus keeps for something else, as 61+28", "default": ""},
+        {"id": "muxes", "desc": "Addresses of muxes, as 70+71", "default": ""},
         {"id": "readings", "desc": "Formats of READ_VIN, READ_IOUT and READ_TEMPERATURE_1, as 8D/direct/1/0/3+linear11", "default": ""},
     )
     annotations = (
         ("packet", "Packet"),
-        ("other", "Packet of another code or length"),
+        ("other", "Packet of another code, length or address"),
         ("fault", "Faulty packet"),
         ("none", "No packet"),
         ("byte", "Byte"),
@@ -51,15 +53,18 @@ class Decoder(srd.Decoder):
 
     def start(self):
         self.out_ann = self.register(srd.OUTPUT_ANN)
-        address, vout, readings = (self.options[name] for name in ("address", "vout", "readings"))
+        address, vout, readings, parts, muxes = (self.options[name] for name in ("address", "vout", "readings", "parts", "muxes"))
         if address and not re.fullmatch("(0[xX])?[0-7][0-9A-Fa-f]", address):
             raise ValueError("address: give two hexadecimal digits, as 58")
         if vouts_of(vout) is None:
             raise ValueError("vout: give linear11, ulinear16/N or direct/M/B/R, or of an address 58/linear11; + parts them")
         if readings_of(readings) is None:
             raise ValueError("readings: give linear11 or direct/M/B/R, or of a code 8D/linear11, or of an address 58/8D/linear11; + parts them")
+        for name in "parts", "muxes":
+            if addresses_of(self.options[name]) is None:
+                raise ValueError("%s: give addresses from 08 to 77 without 0C, as 70+71" % name)
         self.address = int(address, 16) if address else None
-        self.reader, self.pages = Reader(vout, readings), Pages()
+        self.reader, self.pages = Reader(vout, readings, parts, muxes), Pages()
 
     def decode(self, ss, es, data):
         """What the decoder `i2c` says, one after another. A part is a list of bytes, each with its samples and whether it
@@ -89,8 +94,9 @@ class Decoder(srd.Decoder):
         if is_elsewhere or refusal:
             self.pages.count += not is_elsewhere
             if refusal != UNHEARD:
-                self.pages.no_packet(parts, is_of_several(parts))
-                self.reader.no_packet(parts, is_of_several(parts))
+                is_lost = is_of_several(parts) or bool(parts) and self.reader.ends_all(parts[0], len(parts) > 1)
+                self.pages.no_packet(parts, is_lost)
+                self.reader.no_packet(parts, is_lost)
         if is_elsewhere:
             return
         if refusal:
@@ -102,7 +108,7 @@ class Decoder(srd.Decoder):
         if wrong:
             self.put(self.first, last, self.out_ann, [WRONG_PAGE, ["WRONG PAGE? packets %d and %d" % wrong, "WRONG PAGE?"]])
         self.put(self.first, last, self.out_ann, [CLASSES[told.kind], [told.text, told.short]])
-        self.put_bytes(parts, told.pec)
+        self.put_bytes(parts, told)
 
     def refusal(self, parts, ending):
         """Why bytes are no packet."""
@@ -127,9 +133,10 @@ class Decoder(srd.Decoder):
                     return place, bool(at)
         return None
 
-    def put_bytes(self, parts, is_right):
+    def put_bytes(self, parts, told):
         """A word below each byte, and what the last one is as a PEC, where it stands for one."""
-        said = [word for part in labels(*(parts if len(parts) > 1 else (parts[0], None))) for word in part]
+        is_right = told.pec
+        said = [word for part in labels(parts[0], parts[1] if len(parts) > 1 else None, told.is_special) for word in part]
         places = [it for part in self.parts for it in part]
         if is_right is not None:
             _, first, last, _ = places.pop()

@@ -22,8 +22,8 @@ use Rattle.pm_trace.specs.Lemmas.PlainLines.{part_of-snoc}
 use Rattle.pm_trace.specs.Lemmas.Said.{open_reads, skipped_kind}
 use Rattle.pm_capture.specs.Options.{notes_comments}
 use Rattle.pm_capture.specs.Readings.{Told, Noted, behind_word, first_word, from_first, is_comment, is_noted, is_passed, past_spaces, reading_of}
-use Rattle.pm_capture.specs.Readings.{remark_in, remark_of, said_of, time_in, timed}
-use Rattle.pm_capture.specs.TimedLines.{PassesTimed, begun_with, head_remark, head_takes, is_told, passes_timed, plain_takes, skips_timed, timed_of, timed_read}
+use Rattle.pm_capture.specs.Readings.{note_in, note_of, said_of, time_in, timed}
+use Rattle.pm_capture.specs.TimedLines.{PassesTimed, begun_with, head_note, head_takes, is_told, passes_timed, plain_takes, skips_timed, timed_of, timed_read}
 use Rattle.pm_capture.specs.TimedLines.{timed_said, timed_takes, word_ended}
 use Rattle.pm_capture.specs.declared.options.TellOptions.{TellOptions}
 use Rattle.pm_capture.specs.declared.timed_line.TimedLine.{TimedLine}
@@ -742,8 +742,8 @@ cut_return (x ∷ xs) long =
         by false = refl
 
 -- the first bytes of a comment say what the line does
-remark_kept : (line : List ℕ) → head_remark (take 64 line) ≡ remark_of (without_return line)
-remark_kept line = ap remark_in (
+remark_kept : (line : List ℕ) → head_note (take 64 line) ≡ note_of (without_return line)
+remark_kept line = ap note_in (
     elim (cases_lt (length line) 65) [
       | inl short ↦ ap (λ l. take 63 (without_return l)) (take_all 64 line (omega (arith, short)))
       | inr long ↦
@@ -757,13 +757,13 @@ pub timed_says : (options : TellOptions) (line : List ℕ) → is_passed (notes_
 unfolding timed_of
 timed_says options line heard =
     by (notes_comments options) (is_comment line) refl (timed_passes options line ∙ heard)
-    ∙ ap (λ c. cond (notes_comments options && c) (Noted (remark_of (without_return line)))
+    ∙ ap (λ c. cond (notes_comments options && c) (Noted (note_of (without_return line)))
     (Told (reading_of options.times (without_return line)))) (sym (mark_kept line))
   where
     by : (pages c : Bool) → is_comment line ≡ c
         → (not (pages && c) && skips_timed (timed_by c options.times line)) ≡ false
-        → cond (pages && c) (Noted (head_remark (cond c (take 64 line) []))) (Told (timed_read (timed_by c options.times line)))
-        ≡ cond (pages && c) (Noted (remark_of (without_return line))) (Told (reading_of options.times (without_return line)))
+        → cond (pages && c) (Noted (head_note (cond c (take 64 line) []))) (Told (timed_read (timed_by c options.times line)))
+        ≡ cond (pages && c) (Noted (note_of (without_return line))) (Told (reading_of options.times (without_return line)))
     by true true is heard = ap Noted (remark_kept line)
     by true false is heard = ap Told (timed_reads options.times line)
     by false true is heard = absurd (true≢false heard)

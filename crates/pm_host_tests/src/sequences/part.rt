@@ -27,6 +27,14 @@ pub(crate) struct Part {
     pub(crate) frames: usize,
     /// How many of these were writes.
     pub(crate) writes: usize,
+    /// After how many frames it restarts, and the words of output 0 that it has then.
+    pub(crate) restarts: Option<(usize, [u16; 6])>,
+    /// How many frames it doesn't answer as it restarts.
+    pub(crate) silent: usize,
+    /// How many writes it doesn't hear.
+    pub(crate) loses: usize,
+    /// The command codes of its frames, the register's of one by PAGE_PLUS.
+    pub(crate) codes: [u8; 96],
 }
 
 /// What a sequence came to.
@@ -81,8 +89,12 @@ impl Part {
 
     // A write by PAGE_PLUS_WRITE: the address, the code, the count, the page, the register's code, its bytes.
     fn write(&mut self, bytes: &[u8]) -> bool {
-        let is_gone = self.counts();
+        let is_gone = self.counts(bytes);
         self.writes = self.writes.saturating_add(1);
+        if 0 < self.loses {
+            self.loses -= 1;
+            return false;
+        }
         let output = byte_at(bytes, 3);
         if is_gone || (self.is_deaf && output == 0) {
             return !is_gone;
@@ -104,8 +116,23 @@ impl Part {
     }
 
     // One frame more; whether it gets no answer.
-    fn counts(&mut self) -> bool {
-        let is_gone = self.gone_after <= self.frames;
+    fn counts(&mut self, bytes: &[u8]) -> bool {
+        let mut is_gone = self.gone_after <= self.frames;
+        if let Some((frames, words)) = self.restarts {
+            if frames <= self.frames {
+                if 0 < self.silent {
+                    self.silent -= 1;
+                    is_gone = true;
+                } else {
+                    self.words[0] = words;
+                    self.restarts = None;
+                }
+            }
+        }
+        let is_plain = byte_at(bytes, 1) == 0x10;
+        if let Some(code) = self.codes.get_mut(self.frames) {
+            *code = byte_at(bytes, if is_plain { 1 } else { 4 });
+        }
         self.frames = self.frames.saturating_add(1);
         is_gone
     }
@@ -130,7 +157,7 @@ impl Part {
     // What comes back for a request, and how many bytes: WRITE_PROTECT is 0.
     fn answers(&mut self, bytes: &[u8]) -> ([u8; 8], usize) {
         let mut answer = [0xB1, 0, 0, 0, 0, 0, 0, 0];
-        if self.counts() {
+        if self.counts(bytes) {
             return (answer, 0);
         }
         let count = if byte_at(bytes, 1) == 0x10 {

@@ -118,17 +118,6 @@ pub below : (p q : Option Reg → Bool) → ((x : Option Reg) → q x ≡ true �
 unfolding total
 below p q implies = below-in p q implies (with_protect registers)
 
-pub alike : (p q : Option Reg → Bool) → ((x : Option Reg) → q x ≡ p x) → total q ≡ total p
-alike p q same =
-    let one = below p q (λ x h. sym (same x) ∙ h) in
-    let other = below q p (λ x h. same x ∙ h) in
-    omega arith
-
--- none pass
-pub none-in : (p : Option Reg → Bool) → ((x : Option Reg) → p x ≡ false) → (xs : List (Option Reg)) → tally p xs ≡ 0
-none-in p off [] = refl
-none-in p off (x ∷ xs) = ap (λ (b : Bool). cond b (1 + tally p xs) (tally p xs)) (off x) ∙ none-in p off xs
-
 -- ---- What was read ----
 
 abbrev pub has_at : Reads → Option Reg → Bool

@@ -1,5 +1,6 @@
 //! What a command line can choose.
 
+use super::telling::TellTexts;
 use pm_log::Lacks;
 
 /// The subcommand that was named, with the texts of its options as they were written.
@@ -9,8 +10,10 @@ pub enum Chosen<'a> {
     Hear,
     /// `replay`: the events of the scenario on standard input happen, and are reported.
     Replay,
-    /// `decode`: the trace on standard input is shown line by line.
+    /// `decode` without options: the trace on standard input is shown line by line.
     Decode,
+    /// `decode` with options: it is shown as they ask.
+    Tell(TellTexts<'a>),
     /// `check`: the log on standard input is checked.
     Check {
         /// What the texts of `--lacks` let parts lack; None if one of them can't be read.

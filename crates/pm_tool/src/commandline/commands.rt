@@ -2,19 +2,13 @@
 ghost use Rattle.std.specs.Prelude.{◌≡◌, IfOk, codes};
 ghost use Rattle.clap.specs.Words.{app_of, new_app, with_rule};
 ghost use Rattle.pm_tool.specs.Commandline.{check_app, number_app, pmb, with_required_subcommand};
-ghost use Rattle.pm_tool.specs.Options.{option_rule};
+ghost use Rattle.pm_tool.specs.Options.{list_rule, option_rule};
 ghost use Rattle.pm_tool.specs.Telling.{flag_rule, tell_app};
 
 use super::helps;
 use super::options::{VERSION, with_list, with_option};
 use clap::{Arg, ArgAction, Command};
 use std::alloc::{AllocError, Global};
-
-/// What `decode` does.
-const DECODES: &str = "Shows what the packets of a bus trace say";
-
-/// How `decode` is called.
-const DECODE_USAGE: &str = "pmb decode [OPTIONS] < TRACE";
 
 /// The whole command line. A further subcommand is one more line here.
 pub(super) fn pmb_command<'a>(alloc: Global) -> Result<Command<'a>, AllocError>
@@ -40,7 +34,7 @@ pub(super) fn pmb_command<'a>(alloc: Global) -> Result<Command<'a>, AllocError>
         helps::REPLAY,
     );
     let with_replay = with_hear.subcommand(replaying)?;
-    let decoding = text_command(alloc, ("decode", DECODES), DECODE_USAGE, helps::DECODE);
+    let decoding = tell_command(alloc)?;
     let with_decode = with_replay.subcommand(decoding)?;
     let checking = check_command(alloc)?;
     let with_check = with_decode.subcommand(checking)?;
@@ -129,16 +123,22 @@ fn number_command<'a>(alloc: Global) -> Result<Command<'a>, AllocError>
     )
 }
 
-/// `decode` with its options, whose words are read apart: with none of them `decode` is a command as the others are. The end of
-/// its help lists them, for both.
-pub(super) fn tell_command<'a>(alloc: Global) -> Result<Command<'a>, AllocError>
+// `decode` and its options, which the end of its help lists.
+fn tell_command<'a>(alloc: Global) -> Result<Command<'a>, AllocError>
     ensures { IfOk result (λ command. app_of command ≡ tell_app) }
 {
-    let decode = text_command(alloc, ("pmb decode", DECODES), DECODE_USAGE, helps::DECODE);
+    let decode = text_command(
+        alloc,
+        ("decode", "Shows what the packets of a bus trace say"),
+        "pmb decode [OPTIONS] < TRACE",
+        helps::DECODE,
+    );
     let formatted = with_formats(decode, alloc)?;
     let full = with_flag(formatted, alloc, "all")?;
     let paged = with_pages(full, alloc)?;
-    with_lines(paged, alloc)
+    let timed = with_lines(paged, alloc)?;
+    let parted = with_values(timed, alloc, ("part", "AA"))?;
+    with_values(parted, alloc, ("mux", "AA"))
 }
 
 // The command with `--values`, `--vout` and `--readings`.
@@ -163,13 +163,15 @@ fn with_lines<'a>(command: Command<'a>, alloc: Global) -> Result<Command<'a>, Al
     with_flag(timed, alloc, "json")
 }
 
-// The command with `--pages` and `--gap`.
+// The command with `--pages`, `--gap` and `--explain`.
 fn with_pages<'a>(command: Command<'a>, alloc: Global) -> Result<Command<'a>, AllocError>
     ensures { IfOk result (λ with_them.
-        app_of with_them ≡ with_rule (with_rule (app_of command.entry) (flag_rule (codes "pages"))) (option_rule (codes "gap"))) }
+        app_of with_them ≡ with_rule (with_rule (with_rule (app_of command.entry) (flag_rule (codes "pages"))) (option_rule (codes "gap")))
+        (flag_rule (codes "explain"))) }
 {
     let paged = with_flag(command, alloc, "pages")?;
-    with_value(paged, alloc, ("gap", "MS"))
+    let paused = with_value(paged, alloc, ("gap", "MS"))?;
+    with_flag(paused, alloc, "explain")
 }
 
 // The command with one more option `--NAME`, which has no value. Takes memory for the option.
@@ -202,6 +204,23 @@ fn with_value<'a>(
         .long(names.0)
         .value_name(names.1)
         .action(ArgAction::Set)
+        .hide(true);
+    command.arg(option)
+}
+
+// The command with one more option `--NAME=VALUE`, which may be given several times. Takes memory for the option.
+fn with_values<'a>(
+    command: Command<'a>,
+    alloc: Global,
+    names: (&'a str, &'a str),
+) -> Result<Command<'a>, AllocError>
+    ensures { IfOk result (λ with_it.
+        app_of with_it ≡ with_rule (app_of command.entry) (list_rule names.entry.0.now)) }
+{
+    let option = Arg::new(alloc, names.0)
+        .long(names.0)
+        .value_name(names.1)
+        .action(ArgAction::Append)
         .hide(true);
     command.arg(option)
 }

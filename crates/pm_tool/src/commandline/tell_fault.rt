@@ -17,6 +17,10 @@ pub enum TellFault {
     GapAlone,
     /// The text of `--gap` isn't 0 to 1000000 in at most seven digits.
     Gap,
+    /// A text of `--part` is no list of addresses of parts.
+    Part,
+    /// A text of `--mux` is no list of addresses of muxes.
+    Mux,
 }
 
 impl TellFault {
@@ -36,6 +40,8 @@ impl TellFault {
                 "bad readings: give one to eight, as 8C:linear11,58:8D:direct:1:0:3",
             TellFault::GapAlone => "give --gap with --pages and --times",
             TellFault::Gap => "bad gap: give 0 to 1000000 milliseconds",
+            TellFault::Part => "bad part: give addresses from 08 to 77 without 0C, as 61,28",
+            TellFault::Mux => "bad mux: give addresses from 08 to 77 without 0C, as 70,71",
         }
     }
 
@@ -49,7 +55,9 @@ impl TellFault {
             | TellFault::ReadingsAlone
             | TellFault::Readings
             | TellFault::GapAlone
-            | TellFault::Gap => 2,
+            | TellFault::Gap
+            | TellFault::Part
+            | TellFault::Mux => 2,
         }
     }
 }

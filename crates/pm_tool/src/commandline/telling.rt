@@ -1,23 +1,19 @@
-//! `decode` with options: which words are read for them, and what their texts ask of a telling.
-ghost use Rattle.std.specs.Prelude.{◌≡◌, ◌≤◌, IfErr, IfOk, IfSome, flat_map, option_map, true};
+//! The options of `decode`: what the parser found for them, and what their texts ask of a telling.
+ghost use Rattle.std.specs.Prelude.{◌≡◌, ◌≤◌, IfSome, flat_map};
 ghost use Rattle.std.specs.Result.{result_map_both};
-ghost use Rattle.clap.specs.Walk.{texts};
-ghost use Rattle.clap.specs.Words.{FailsBy, fault_of, found_of, kind_of, matches_of, one_of, rows_of};
-ghost use Rattle.clap.specs.Words.{takes};
-ghost use Rattle.clap.specs.declared.error.kind.ErrorKind.TheVariants.{OutOfMemory};
-ghost use Rattle.pm_tool.specs.Telling.{HasTexts, IsAsked, IsFlag, tell_app, tell_words};
+ghost use Rattle.clap.specs.Words.{found_of, one_of, rows_of};
+ghost use Rattle.pm_tool.specs.Telling.{HasTexts, IsAsked, IsFlag};
 ghost use Rattle.pm_tool.specs.ReadingList.{if_any};
-ghost use Rattle.pm_tool.specs.Telling.{gap_asked, pause_of, readings_asked, vout_asked};
+ghost use Rattle.pm_tool.specs.Telling.{addresses_or_fault, gap_asked, is_any, names_any as spec_names_any, pause_of, readings_asked, vout_asked};
 
-use super::commands::tell_command;
+use super::addresses::read_addresses;
 use super::options::given_text;
 use super::readings::{Listed, read_list};
 use super::tell_fault::TellFault;
-use clap::{ArgMatches, Error};
-use pm_decode::TellOptions;
+use clap::ArgMatches;
+use pm_decode::{Addresses, TellOptions};
 use pm_lines::read_i64;
 use pm_values::{GivenFormat, GivenFormats};
-use std::alloc::Global;
 
 /// The options of `decode`, as they were written.
 #[derive(Clone, Copy, Debug, PartialEq, Eq)]
@@ -32,6 +28,8 @@ pub struct TellTexts<'a> {
     pub all: bool,
     /// `--pages`: PAGE is followed.
     pub pages: bool,
+    /// `--explain`: what `--all` and `--pages` show, failed transfers in their places, and words that changed.
+    pub explain: bool,
     /// The text of `--gap`: the milliseconds of a pause after which a page isn't known any more.
     pub gap: Option<&'a str>,
     /// `--long`: the trace may have more than 1 MiB.
@@ -40,54 +38,75 @@ pub struct TellTexts<'a> {
     pub times: bool,
     /// `--json`: each line is shown as an object of JSON.
     pub json: bool,
+    /// What the texts of `--part` name as parts; None if one of them can't be read.
+    pub parts: Option<Addresses>,
+    /// What the texts of `--mux` name as muxes; None if one of them can't be read.
+    pub muxes: Option<Addresses>,
 }
 
 impl<'a> TellTexts<'a> {
-    /// The options that the words give. The first word is `decode` itself. Takes memory for what the parser
-    /// makes of the words.
-    ///
-    /// # Errors
-    ///
-    /// Whatever `clap` refuses, with its text for the user: help that was asked for, a word that is no
-    /// option, `--vout`, `--readings` or `--gap` with no text, an option that is given twice; and want of memory.
-    pub fn read(alloc: Global, words: &'a [&'a str]) -> Result<TellTexts<'a>, Error>
-        ensures given { IfOk result (λ given. HasTexts given (matches_of tell_app (texts words.entry.now))) }
-        ensures kinds { FailsBy (fault_of tell_app (texts words.entry.now)) result }
-        ensures passes { IfErr result (λ error. takes tell_app (texts words.entry.now) ≡ true
-            → kind_of error ≡ OutOfMemory) }
+    /// The options that the parser found.
+    pub(super) fn of(found: &ArgMatches<'a>) -> TellTexts<'a>
+        ensures { HasTexts result (rows_of (found_of found.now)) }
     {
-        let matches = tell_command(alloc)?.try_get_matches_from(words)?;
-        Ok(TellTexts {
-            values: is_given(&matches, "values"),
-            vout: given_text(&matches, "vout"),
-            readings: given_text(&matches, "readings"),
-            all: is_given(&matches, "all"),
-            pages: is_given(&matches, "pages"),
-            gap: given_text(&matches, "gap"),
-            long: is_given(&matches, "long"),
-            times: is_given(&matches, "times"),
-            json: is_given(&matches, "json"),
-        })
+        TellTexts {
+            values: is_given(found, "values"),
+            vout: given_text(found, "vout"),
+            readings: given_text(found, "readings"),
+            all: is_given(found, "all"),
+            pages: is_given(found, "pages"),
+            explain: is_given(found, "explain"),
+            gap: given_text(found, "gap"),
+            long: is_given(found, "long"),
+            times: is_given(found, "times"),
+            json: is_given(found, "json"),
+            parts: read_addresses(found.get_strs("part")),
+            muxes: read_addresses(found.get_strs("mux")),
+        }
+    }
+
+    /// Whether an option is given.
+    pub(super) fn is_any(&self) -> bool
+        ensures { result ≡ is_any self.now }
+    {
+        self.values
+            || self.vout.is_some()
+            || self.readings.is_some()
+            || self.all
+            || self.pages
+            || self.explain
+            || self.gap.is_some()
+            || self.long
+            || self.times
+            || self.json
+            || names_any(self.parts)
+            || names_any(self.muxes)
     }
 
     /// The telling that the options ask for, or the first fault of them: `--vout` without `--values`, and then
     /// a text of it that is no list of formats or has one that can't be; then the same of `--readings`; then `--gap` without `--pages`
-    /// or `--times`, and a text of it that isn't 0 to 1000000 in at most seven digits. The formats are those of `number`.
+    /// or `--times`, and a text of it that isn't 0 to 1000000 in at most seven digits; then a text of `--part` or `--mux` that names
+    /// no addresses. The formats are those of `number`.
     pub fn options(&self) -> Result<TellOptions, TellFault>
         ensures { IsAsked self.now result }
     {
         let vout = self.vout_formats()?;
         let readings = self.reading_formats()?;
         let gap = self.pause()?;
+        let parts = addresses(self.parts, TellFault::Part)?;
+        let muxes = addresses(self.muxes, TellFault::Mux)?;
         Ok(TellOptions {
             values: self.values,
             formats: GivenFormats { vout, readings },
-            all: self.all,
+            all: self.all || self.explain,
             long: self.long,
             times: self.times,
             json: self.json,
-            pages: self.pages,
+            pages: self.pages || self.explain,
+            explain: self.explain,
             gap,
+            parts,
+            muxes,
         })
     }
 
@@ -130,7 +149,7 @@ impl<'a> TellTexts<'a> {
         let Some(text) = self.gap else {
             return Ok(1_000_000);
         };
-        if !self.pages || !self.times {
+        if !(self.pages || self.explain) || !self.times {
             return Err(TellFault::GapAlone);
         }
         match read_pause(text) {
@@ -140,15 +159,23 @@ impl<'a> TellTexts<'a> {
     }
 }
 
-/// The words that are read for the options of `decode`, from `decode` on; None if it isn't what the words
-/// name, or nothing follows it.
-pub(crate) fn option_words<'a>(words: &'a [&'a str]) -> Option<&'a [&'a str]>
-    ensures { option_map (λ left. texts left.now) result ≡ tell_words (texts words.entry.now) }
+// The addresses that texts name, or the fault that one of them can't be read.
+fn addresses(named: Option<Addresses>, fault: TellFault) -> Result<Addresses, TellFault>
+    ensures { result ≡ addresses_or_fault fault named }
 {
-    if words.len() > 2 && words[1] == "decode" {
-        Some(&words[1..])
-    } else {
-        None
+    match named {
+        Some(named) => Ok(named),
+        None => Err(fault),
+    }
+}
+
+// Whether there are texts of addresses.
+fn names_any(named: Option<Addresses>) -> bool
+    ensures { result ≡ spec_names_any named }
+{
+    match named {
+        Some(named) => named.any,
+        None => true,
     }
 }
 

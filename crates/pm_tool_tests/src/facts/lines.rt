@@ -95,7 +95,7 @@ B0 79 00 08 -> 58 code 79 STATUS_WORD write 00 08, no PEC
 B0 8B CD 34 -> 58 code 8B READ_VOUT write CD 34, no PEC
 B0 03 / B1 05 -> 58 code 03 CLEAR_FAULTS read 05, no PEC
 EE D4 -> 77 code D4 send, no PEC
-10 D4 -> 08 code D4 send, no PEC
+12 D4 -> 09 code D4 send, no PEC
 count VOUT_COMMAND 1
 count code 03 1
 count code 05 2
@@ -285,19 +285,19 @@ lines 6 accepted 4 other 2 faults 0 bad 0
         &["pmb", "decode", "--times"],
         1,
         "
-1234 B0 03 46 -> 1234 us 58 CLEAR_FAULTS send
-0 B0 03 46 -> 0 us 58 CLEAR_FAULTS send
-007 B00346 -> 7 us 58 CLEAR_FAULTS send
-999999999999999999 B0 03 46 -> 999999999999999999 us 58 CLEAR_FAULTS send
-000000000000000001 B0 03 46 -> 1 us 58 CLEAR_FAULTS send
+1234 B0 03 46 -> 0 us 58 CLEAR_FAULTS send
+0 B0 03 46 -> -1234 us 58 CLEAR_FAULTS send
+007 B00346 -> -1227 us 58 CLEAR_FAULTS send
+999999999999999999 B0 03 46 -> 999999999999998765 us 58 CLEAR_FAULTS send
+000000000000000001 B0 03 46 -> -1233 us 58 CLEAR_FAULTS send
 0000000000000000001 B0 03 46 -> X1 Syntax
 1000000000000000000 B0 03 46 -> X1 Syntax
-1 B0 20 / B1 14 ED -> 1 us 58 VOUT_MODE read 14
-1 -> 1 us -- write F1 NotOurs
-1 / -> 1 us -- write F1 NotOurs
+1 B0 20 / B1 14 ED -> -1233 us 58 VOUT_MODE read 14
+1 -> -1233 us -- write F1 NotOurs
+1 / -> -1233 us -- write F1 NotOurs
 1/ B0 -> X1 Syntax
 B0 03 46 -> X1 Syntax
-03 46 -> 3 us 23 write F2 Short 1
+03 46 -> -1231 us 23 write F2 Short 1
 -1 B0 03 46 -> X1 Syntax
 +1 B0 03 46 -> X1 Syntax
 1.5 B0 03 46 -> X1 Syntax
@@ -420,8 +420,8 @@ B0 8D / B1 D8 07 -> {"line":6,"address":"58","code":"8D","name":"READ_TEMPERATUR
         &["pmb", "decode", "--times", "--json"],
         1,
         r#"
-0012 B0 03 46 -> {"line":1,"time":12,"address":"58","code":"03","name":"CLEAR_FAULTS","direction":"send"}
-13 -> {"line":2,"time":13,"direction":"write","fault":"F1 NotOurs"}
+0012 B0 03 46 -> {"line":1,"time":0,"address":"58","code":"03","name":"CLEAR_FAULTS","direction":"send"}
+13 -> {"line":2,"time":1,"direction":"write","fault":"F1 NotOurs"}
 x -> {"line":3,"fault":"X1 Syntax"}
 14 B0 9 -> {"line":4,"fault":"X2 BadHex"}
 {"count":"CLEAR_FAULTS","lines":1}

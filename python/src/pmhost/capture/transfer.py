@@ -77,6 +77,8 @@ class Transfer:
         """What the trace has of it, if only transfers with an address are wanted, or all."""
         refusal = self.refusal(address)
         if refusal:
+            if self.time is not None and refusal.startswith("failed "):
+                refusal = f"failed at {self.time}{refusal.removeprefix('failed')}"
             return [f"# {refusal}: {self.bytes()}" if self.parts else f"# {refusal}"]
         before = "" if self.time is None else f"{self.time} "
         return [*self.unacknowledged(), before + self.bytes()]

@@ -101,7 +101,10 @@ An order needs --outputs, and --limit for its output or --no-limit. A good `set`
         "With - in the place of O it orders WRITE_PROTECT, the device's own register."),
     "on": About(
         "turns an output on by OPERATION 80, as `set` does", f"{LIMITED} on 0",
-        """With a board file all its rails that are to be on are turned on in order. Before the first order each part is asked, and each rail judged:
+        """Directly before the order what decides the output's voltage is read anew: if something changed nothing is ordered, with status 3 if the
+part restarted. The order is sent once, and a second time at most, after another such reading.
+
+With a board file all its rails that are to be on are turned on in order. Before the first order each part is asked, and each rail judged:
 if one would be refused, nothing is ordered. Before each further rail, and at the end, the rails that are on are looked at. A way up that
 fails turns off what it turned on, the last one first, and says how each rail stands."""),
     "off": About(

@@ -65,6 +65,7 @@ class Call:
         self.named: Rail | None = None
         self.protection, self.back = Protection(self), WayBack(self)
         self.protect: int | None = None
+        self.store_time: int | None = None
         self.bus: str | None = self._one("bus")
         self.address: int | None = self._one("address")
         self.outputs: int | None = self._one("outputs")
@@ -153,7 +154,7 @@ class Call:
                                   "call of its own")
         else:
             self.outputs, self.limits, self.lacks = found.parts[ONLY].outputs, found.limits(ONLY), found.parts[ONLY].lacks
-            self.protect, self.has_trims = found.parts[ONLY].protect, found.parts[ONLY].trims
+            self.protect, self.has_trims, self.store_time = found.parts[ONLY].protect, found.parts[ONLY].trims, found.parts[ONLY].store_time
         self._rails = found
 
     def judge_write(self, arguments: argparse.Namespace, more: str = "") -> None:
@@ -194,7 +195,7 @@ class Call:
                                 for part, limits in self._rails.made_for()}
             else:
                 only = BoardPart(ONLY, self.bus or "", self.address or MODEL_ADDRESS, self.counted(), "", self.lacks, self._one("ready"), self.protect,
-                                 self.has_trims)
+                                 self.has_trims, self.store_time)
                 self._places = {ONLY: Place(only, self.limits, options, self._trace, self.outputs or max(MODEL_OUTPUTS, self.counted()),
                                             self._log)}
         return self._places

@@ -7,14 +7,14 @@ import contextlib
 from dataclasses import dataclass, replace
 from typing import Any, Iterator
 
-from .. import rails, voltages
+from .. import rails, turn_on, voltages
 from ..apply import AS_WANTED, Board
 from ..back import OPERATION, Held
 from ..course import CourseEnd, in_hexadecimal
 from ..cuts import cuts
 from ..delivered import Delivered, beyond_of, register_words
 from ..device import Device
-from ..errors import SAYINGS, RailRefused, refusal
+from ..errors import SAYINGS, ChangedRefused, RailRefused, refusal
 from ..looks import Looks
 from ..operation import MARGINS, ON, margin_byte, selected_by
 from ..parts import BadRails
@@ -173,12 +173,14 @@ class RailTest:
     def go(self, points: tuple[str, ...]) -> None:
         """Brings the rail to these points, which were judged before, as one list, and measures each before the next one's order. Stopped if a
         byte isn't confirmed."""
-        left = list(points)
+        left, orders = list(points), [0] * len(points)
 
         def told(said: Said) -> None:
             if said.kind == "order":
                 while len(points) - len(left) < said.step:
                     self.measure(left.pop(0))
+                orders[said.step] += 1
+                turn_on.judge(self.part, self.step_to(points[said.step]), orders[said.step] - 1)
                 self.call.maybe = f"{self.rail.name} may be on a margin"
 
         self.part.transfers = Transfers()
@@ -257,7 +259,8 @@ class RailTest:
         except NotBelieved as silent:
             raise self.stopped(f"no good answer: {silent}") from None
         except RailRefused as fault:
-            raise self.stopped(with_advice(fault)) from None
+            is_restart = isinstance(fault, ChangedRefused) and fault.is_restart
+            raise (Restarted if is_restart else Stopped)(f"{self.rail.name}: {with_advice(fault)}") from None
 
     def why_ended(self, byte: int, end: CourseEnd) -> str:
         """Why a byte of OPERATION isn't reached."""

@@ -7,8 +7,9 @@ import re
 from dataclasses import replace
 from typing import Any, Callable
 
-from .. import probe, voltages
+from .. import on_off, probe, voltages
 from ..back import Held
+from ..bus import PatientBus
 from ..codes import CODES, code_of
 from ..course import OFF_TRIES, Job
 from ..device import Device
@@ -20,7 +21,7 @@ from ..readings import KINDS
 from ..sequence import Said, SequenceStep
 from ..states import Step
 from ..step_run import StepRun
-from ..stores import cml, has_failed, stood_before, too_hot, why_failed
+from ..stores import cml, has_failed, stood_before, too_hot, why_failed, why_on
 from ..survey import TRIES, holds_zeros, looked_at, survey
 from ..transfers import Transfers
 from ..zeros import NotBelieved, guard
@@ -53,8 +54,13 @@ LEAVING: dict[str, Any] = {"action": "store_true",
 # The time of a way up.
 DEADLINE = "--deadline"
 LATE: dict[str, Any] = {"type": time_of(3600, "deadline"), "metavar": "TIME",
-                        "help": "of a board file: after this time, as 2s, no rail is waited for and none is begun, and the way down begins; none if left out"}
-# The option of commands that store.
+                        "help": "of a board file: after this time, as 2s, no rail is waited for and none is begun, and the way down begins; "
+                                "`deadline` of the file, or none, if left out"}
+# The options of commands that store.
+STORE_OFF = "--store-off"
+OFF_STORED: dict[str, Any] = {"action": "store_true", "dest": "stores_off",
+                              "help": "stores with every output off, so that none comes up by itself at power-up: nothing is ordered or stored unless "
+                                      "OPERATION has each output of the part off and STATUS_WORD says so"}
 CLEAR_FIRST = "--clear-first"
 CLEARING: dict[str, Any] = {"action": "store_true", "help": "clears DATA and MEMORY of STATUS_CML before; nothing is stored while they stand if left out"}
 
@@ -192,6 +198,7 @@ def add(commands: Any) -> None:
         found.set_defaults(output=None)
         if name == "store":
             found.add_argument(CLEAR_FIRST, **CLEARING)
+            found.add_argument(STORE_OFF, **OFF_STORED)
         if name == "restore":
             found.add_argument(GO_OFF, action="store_true", help="says that the board tolerates it if the outputs go off; needed")
         bus_options(found)
@@ -252,6 +259,10 @@ def judge_word(arguments: argparse.Namespace) -> None:
     if arguments.accept is not None and arguments.register not in VOLTAGES:
         raise BadCall(f"{said(arguments)}: --accept is only for voltages")
     judge_order(arguments)
+
+
+class PutOff(Exception):
+    """An output isn't turned off yet: its part acknowledged nothing in any of its tries."""
 
 
 # ---- The commands ----
@@ -318,6 +329,7 @@ def survey_output(arguments: argparse.Namespace) -> int:
     if not state.is_well:
         found.status, found.end, found.why = 1, "unsure", why_not(state) + read_notes_behind(call.part(), arguments.output, state)
     if delivered is not None:
+        on_off.look(call.part(), SequenceStep.surveys(0, arguments.output), delivered)
         deliver(found, delivered)
     return call.say(found)
 
@@ -360,11 +372,11 @@ def accept_in(arguments: argparse.Namespace) -> int | None:
 
 def run_step(arguments: argparse.Namespace, register: str, step: SequenceStep, tries: int, is_guarded: bool = True) -> StepRun | int:
     """Carries a step out that orders a register, and looks at its rail; the status if it came to no end. If just the WRITE_PROTECT of the file is
-    in the way that is lifted, and the step carried out once more; any, of `off`."""
+    in the way that is lifted, and the step carried out once more; any, of `off`, whose order goes before that is read."""
     call: Call = arguments.call
     part, protection = call.part(), call.protection
     protection.touch(call.part_name)
-    if step.turns_off:
+    if step.turns_off and arguments.command != "off":
         protection.read(call.part_name)
         protection.lift(call.part_name)
     run: StepRun = getattr(arguments, "step_run", StepRun)(part, replace(step, looks=call.looks_of(call.named)), tries, getattr(arguments, "ordered", None))
@@ -414,8 +426,16 @@ def run_once(arguments: argparse.Namespace, register: str, run: StepRun) -> Step
 
 def tell_step(arguments: argparse.Namespace, register: str, step: SequenceStep, tries: int, is_guarded: bool = True) -> int:
     """Carries a step out that orders a register, and says what became of it and what the output then commands."""
-    ran, call = run_step(arguments, register, step, tries, is_guarded), arguments.call
-    return ran if isinstance(ran, int) else int(call.say(step_answer(arguments, call.part(), register, ran)))
+    call: Call = arguments.call
+    bus = call.part().bus if getattr(arguments, "puts_off", False) else None
+    heard = bus.heard if isinstance(bus, PatientBus) else None
+    ran = run_step(arguments, register, step, tries, is_guarded)
+    if isinstance(ran, int):
+        return ran
+    if isinstance(bus, PatientBus) and bus.heard == heard and not ran.end.is_well:
+        raise PutOff
+    on_off.look(call.part(), ran.step, ran.delivered)
+    return int(call.say(step_answer(arguments, call.part(), register, ran)))
 
 
 def set_voltage(arguments: argparse.Namespace) -> int:
@@ -438,12 +458,18 @@ def word(arguments: argparse.Namespace) -> int:
     if ran.end.kind == "format" and call.part().host.limits(output) is None:
         # Its words are no voltages that this host knows of: the order goes alone.
         return carry_out(arguments, register, lambda: call.part().host.order(output, register, word))
+    on_off.look(call.part(), ran.step, ran.delivered)
     return call.say(step_answer(arguments, call.part(), register, ran))
 
 
 def operate(arguments: argparse.Namespace) -> int:
-    """Turns an output on or off."""
-    return turn_off(arguments) if arguments.byte == OFF else turn(arguments, arguments.byte)
+    """Turns an output on or off. None is turned on whose part doesn't heed OPERATION."""
+    if arguments.byte == OFF:
+        return turn_off(arguments)
+    call: Call = arguments.call
+    if why := on_off.why_unheeded(call.part(), arguments.output):
+        return call.say(answer_of(arguments, call.part(), "OPERATION", "refused", status=1, text="refused, OPERATION wasn't ordered", why=why))
+    return turn(arguments, arguments.byte)
 
 
 def turn_off(arguments: argparse.Namespace) -> int:
@@ -502,7 +528,7 @@ def send_command(arguments: argparse.Namespace) -> int:
     """A command that nothing reads back: clear, store, restore. It is acknowledged if the part answers after it, too."""
     call: Call = arguments.call
     part, output, is_store = call.part(), arguments.output, arguments.command == "store"
-    if why := why_not_stored(call, part, arguments.clear_first) if is_store else "":
+    if why := why_not_stored(call, part, arguments) if is_store else "":
         return call.say(answer_of(arguments, part, None, "refused", status=1, text="nothing is stored", why=why))
     call.protection.touch(call.part_name)
     call.protection.read(call.part_name)
@@ -527,7 +553,8 @@ def send_command(arguments: argparse.Namespace) -> int:
     return call.say(found)
 
 
-def why_not_stored(call: Call, part: Device, clears: bool) -> str:
+def why_not_stored(call: Call, part: Device, arguments: argparse.Namespace) -> str:
     """Why a part isn't to store."""
-    why, hot = has_failed(part, clears), "" if call.is_forced else too_hot(part)
+    why = has_failed(part, arguments.clear_first) or (why_on(part) if arguments.stores_off else "")
+    hot = "" if why or call.is_forced else too_hot(part)
     return why or (f"{hot}: --force stores all the same" if hot else "")

@@ -8,7 +8,7 @@ from .. import voltages
 from ..course import CourseEnd, in_hexadecimal
 from ..delivered import Delivered, beyond_of
 from ..device import FORMAT_UNKNOWN, Device
-from ..errors import SAYINGS, PlanRefused, RailRefused, Refused, TrimRefused, refusal
+from ..errors import SAYINGS, ChangedRefused, PlanRefused, RailRefused, Refused, TrimRefused, refusal
 from ..operation import avsbus, ignores_faults
 from ..rail_run import OUTSIDE
 from ..sequence import WHY
@@ -71,7 +71,9 @@ def refused(arguments: argparse.Namespace, part: Device, register: str | None, f
 
 def unordered_rail(arguments: argparse.Namespace, part: Device, register: str, fault: RailRefused) -> Answer:
     """An order wasn't begun, since its rail might trip or leave its limits."""
-    return answer_of(arguments, part, register, "refused", status=1, text=f"refused, {register} wasn't ordered", why=with_advice(fault))
+    status = RESTARTED if isinstance(fault, ChangedRefused) and fault.is_restart else 1
+    return answer_of(arguments, part, register, "refused", status=status, why=with_advice(fault),
+                     text=f"refused, {register} wasn't ordered{' again' * part.transfers.has_written}")
 
 
 def with_advice(fault: RailRefused) -> str:
@@ -253,6 +255,7 @@ def reached(arguments: argparse.Namespace, part: Device, register: str, state: C
         found.status, found.end, found.why = 1, "cut" if state.is_well else "unsure", why_not(state)
     if run.delivered is not None:
         deliver(found, run.delivered)
+        found.text += "; set; nothing to deliver" * run.delivered.has_nothing_to_deliver
     if found.restart_seen and state.form is not None:
         found.text += "; restart seen, or the part rounds" if is_accepted else "; restart seen"
     return found

@@ -7,9 +7,9 @@ import ast
 import re
 from typing import Any, Callable, NoReturn
 
-from .. import parts, rail_order, voltages
+from .. import parts, times, voltages
 from ..parts import MODEL_BUS
-from ..values import LOOKED_AT, MISSABLE
+from ..values import LACKABLE
 from . import streams
 from .completion import FILES, completed_by
 
@@ -102,7 +102,7 @@ def whole(least: int, most: int, what: str) -> Callable[[str], int]:
 def time_of(most: int, what: str) -> Callable[[str], int]:
     """The judge of a time with its unit, of at most so many seconds: its milliseconds."""
     def judge(word: str) -> int:
-        milliseconds = rail_order.milliseconds(word)
+        milliseconds = times.milliseconds(word)
         if milliseconds is None:
             raise argparse.ArgumentTypeError(f"{what} {shown(word.strip())}: give a time with its unit, as 12ms or 5s")
         if milliseconds > most * 1000:
@@ -173,8 +173,8 @@ def lacks_of(word: str) -> tuple[str, ...]:
     """The registers that a part doesn't have."""
     found = tuple(word.split(","))
     for each in found:
-        if each not in MISSABLE + LOOKED_AT:
-            raise argparse.ArgumentTypeError(f"lacks {shown(each)}: give registers of {', '.join(MISSABLE + LOOKED_AT)}")
+        if each not in LACKABLE:
+            raise argparse.ArgumentTypeError(f"lacks {shown(each)}: give registers of {', '.join(LACKABLE)}")
     return found
 
 
@@ -189,7 +189,7 @@ OPTIONS: dict[str, tuple[tuple[str, ...], dict[str, Any]]] = {
     "outputs": (("--outputs",), {"type": whole(1, 8, "outputs"), "metavar": "N",
                                  "help": "how many outputs the part has, 1 to 8; what is written needs it"}),
     "lacks": (("--lacks",), {"type": lacks_of, "metavar": "REG,..",
-                             "help": f"registers that the part doesn't have by its data sheet, of {', '.join(MISSABLE + LOOKED_AT)}; none if left "
+                             "help": f"registers that the part doesn't have by its data sheet, of {', '.join(LACKABLE)}; none if left "
                                      "out. A job on one is refused (L7). A rail is judged by STATUS_WORD and READ_VOUT, by one if the other is lacking; "
                                      "it isn't judged if both are"}),
     "trims": (("--trims",), {"const": True,

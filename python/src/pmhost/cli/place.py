@@ -11,6 +11,7 @@ from ..part import ModelPartBus
 from ..parts import MODEL_BUS, BoardPart
 from ..device import Device
 from ..log import Log
+from ..on_off import CONFIG
 from ..survey import answers
 from ..transfers import Transfers
 from ..voltages import of_microvolts
@@ -63,7 +64,7 @@ class Place:
         bus, options = self.open(), self._options
         if not isinstance(bus, LinuxBus):
             return bus
-        return PatientBus(bus, options.delay, options.busy_timeout if busy_timeout is None else busy_timeout, self.part.ready)
+        return PatientBus(bus, options.delay, options.busy_timeout if busy_timeout is None else busy_timeout, self.part.ready, self.part.store_time)
 
     def close(self) -> None:
         """Closes the bus, if it was opened."""
@@ -77,7 +78,8 @@ class Place:
         """The part on the bus, through a host of its own."""
         if self._pmbus is None:
             bus, part = self.patient(), self.part
-            self._pmbus = Device(bus, part.address, part.outputs, self._options.passes, lacks=part.lacks, looks=None, trims=part.trims)
+            lacks = (*part.lacks, *[CONFIG] * (part.bus == MODEL_BUS))
+            self._pmbus = Device(bus, part.address, part.outputs, self._options.passes, lacks=lacks, looks=None, trims=part.trims)
             if self._log is not None:
                 self._log.listen(self._pmbus.host, f"{part.name} bus {part.bus} address {part.address:02X}".strip(), self._pmbus.lacks)
             for output, pair in self.limits.items():
@@ -100,7 +102,7 @@ class Place:
     def ask_operation(self, behind: str = "") -> str:
         """A check of OPERATION of output 0, again and again within the time for a busy part, which is long after a `store` and a `restore`.
         Nothing if a good answer came, otherwise why none did. The transfers of the job before stay those of the part."""
-        part, waits = self.pmbus(), Waits(clock.until() + timeout_of(self._options.busy_timeout, behind) / 1000)
+        part, waits = self.pmbus(), Waits(clock.until() + timeout_of(self._options.busy_timeout, behind, self.part.store_time) / 1000)
         while True:
             transfers = Transfers()
             part.host.check(0, "OPERATION")

@@ -8,7 +8,7 @@ from ..parts import MODEL_BUS
 from ..probe import REGISTERS, UNFIT, WITHOUT_PEC_TAKEN, Found, FoundOutput, Probe, block_words, spaced, text_of
 from ..reads import Read
 from ..scan import LEFT_OUT, Seen, bus_or_why, scan
-from ..values import LOOKED_AT, MISSABLE
+from ..values import LACKABLE
 from .about import described
 from .answer import Answer, in_digits
 from .call import MODEL_ADDRESS, Call, complain, said
@@ -112,7 +112,7 @@ def give_of(call: Call, found: Found) -> str:
     """The command line for this part, but for its commands and the limits of its outputs."""
     place = [MODEL_BUS] if call.bus == MODEL_BUS else [str(call.bus), "-a", f"{call.address:02X}"]
     limits = (f"--limit {each.number}:LEAST:MOST" for each in found.outputs)
-    lacked = ",".join(name for name in MISSABLE + LOOKED_AT if name in call.lacks or all(name in each.missing for each in found.outputs))
+    lacked = ",".join(name for name in LACKABLE if name in call.lacks or all(name in each.missing for each in found.outputs))
     reached = [*(["--force"] if call.is_forced else []), *(["--share-bus"] if call.is_shared else []),
                *(["--delay", f"{call.delay}ms"] if call.delay else []),
                *([] if call.busy_timeout is None else ["--busy-timeout", f"{call.busy_timeout}ms"])]

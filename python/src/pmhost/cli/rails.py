@@ -2,6 +2,7 @@
 from __future__ import annotations
 
 import argparse
+from dataclasses import replace
 from typing import Any
 
 from .. import rails, voltages
@@ -17,7 +18,7 @@ from .answer import Answer, delivery_of, in_digits, number
 from .back import words_of
 from .call import Call, said
 from .completion import FILES, completed_by
-from .orders import ACCEPT, CLEAR_FIRST, CLEARING, STORES
+from .orders import ACCEPT, CLEAR_FIRST, CLEARING, OFF_STORED, STORE_OFF, STORES
 from .outcome import rail_words
 from .parser import BadCall, bus_options, file_of
 from .readings import read_notes
@@ -39,6 +40,7 @@ def add(commands: Any) -> None:
                                help="has each part of which something was ordered store its settings, once all rails are as the file has them. One above "
                                     "85 C, or with a rail that is cut, isn't stored; none is if left out")
             found.add_argument(CLEAR_FIRST, **CLEARING)
+            found.add_argument(STORE_OFF, **{**OFF_STORED, "help": f"`--store` of a board whose rails are off, and stay off: {OFF_STORED['help']}"})
             found.add_argument(STORE_ALL, action="store_true", dest="stores_all",
                                help="the same of all parts, ordered or not; --store=always is the same")
             found.add_argument("--back-on-failure", action="store_true", dest="goes_back",
@@ -62,7 +64,10 @@ def judge_file(arguments: argparse.Namespace) -> None:
 def apply(arguments: argparse.Namespace) -> int:
     """Applies a file, or says what would be ordered."""
     board = board_of(arguments)
-    board.wants_store, board.clears = arguments.wants_store or arguments.stores_all, arguments.clear_first
+    board.wants_store = arguments.wants_store or arguments.stores_all or arguments.stores_off
+    board.clears, board.stores_off = arguments.clear_first, arguments.stores_off
+    if board.stores_off:
+        board.rails = [replace(rail, is_on=False, after=(), wait=0, delivers=False) for rail in board.rails]
     return run_board(arguments, board, board.prepare if arguments.dry_run else board.apply)
 
 

@@ -4,10 +4,11 @@ from __future__ import annotations
 import argparse
 
 from .. import clock, readings
-from ..bus import NoBus
+from ..bus import NoBus, PatientBus
 from ..errors import PmhostError
 from ..looks import FIRST_WAIT
 from ..rails import Rail
+from ..step_run import StepRun
 from . import orders, way
 from .answer import Answer
 from .call import Call, said
@@ -36,26 +37,60 @@ def turn_all(arguments: argparse.Namespace) -> int:
 
 
 def turn_off(arguments: argparse.Namespace, rails: list[Rail], file: StairsFile) -> int:
-    """In reverse. One that isn't known to be off is left, which its line says, and the next one is turned off all the same. The status."""
+    """In reverse. One that isn't known to be off is left, which its line says, and the next one is turned off all the same. One whose part
+    acknowledges nothing is put off to the end, with the others of that part, so that it holds up no other part. The status."""
     call: Call = arguments.call
-    status, silent = 0, list[str]()
+    status, silent, last = 0, list[str](), list[Rail]()
     steps = FileSteps(arguments, True)
     for place, rail in enumerate(rails):
         if is_open(call, rail):
             steps.add(rail, max([0, *(it.wait for it in rails[:place] if rail.name in it.after)]), [])
     for place, rail in enumerate(rails):
-        one = steps.of_rail(rail)
         above = [it for it in rails[:place] if it.delivers and rail.name in it.after and it.name not in silent]
         silent += [it.name for it in above if not arguments.is_now and not is_low(call, it)]
-        with file.step(one, rail):
-            found = turn_one_off(call, one)
-        file.ended(rail, found)
-        if found:
+        is_dead = any(rail.part == it.part for it in last)
+        found = None if is_dead else step_off(steps, rail, file, True)
+        if found is None:
+            last.append(rail)
+        if found is None or not found[1]:
             silent.append(rail.name)
-        status = max(status, found)
-    silent = [it.name for it in rails if it.name in silent]
+        status = max(status, 0 if found is None else found[0])
+    for rail in last:
+        found = step_off(steps, rail, file, False) or (1, False)
+        if found[1]:
+            silent.remove(rail.name)
+        status = max(status, found[0])
+    named = [("not known to be off: {}", [it.name for it in rails if it.name in silent]),
+             ("off only at the end, since nothing was acknowledged before: {}", [it.name for it in passed_by(rails, last) if it.name not in silent])]
+    why = "; ".join(words.format(", ".join(names)) for words, names in named if names)
     call.begin(arguments)
-    return call.say(Answer(said(arguments), "unknown", "", 1, f"not known to be off: {', '.join(silent)}")) if silent else status
+    return call.say(Answer(said(arguments), "unknown", "", 1, why)) if why else status
+
+
+def passed_by(rails: list[Rail], last: list[Rail]) -> list[Rail]:
+    """The rails that were put off to the end, before others that weren't."""
+    return [it for place, it in enumerate(rails) if it in last and any(each not in last for each in rails[place:])]
+
+
+def step_off(steps: FileSteps, rail: Rail, file: StairsFile, puts_off: bool) -> tuple[int, bool] | None:
+    """Turns a rail of a list off: the status, and whether it is off; None if it is put off to the end. A part that acknowledges nothing is
+    waited for once."""
+    one = steps.of_rail(rail)
+    one.puts_off = puts_off
+    bus = one.call.places()[rail.part].pmbus().bus if is_open(one.call, rail) else None
+    if isinstance(bus, PatientBus):
+        bus.gives_up, bus.is_silent = True, bus.is_silent and puts_off
+    try:
+        with file.step(one, rail):
+            status = turn_one_off(one.call, one)
+    except orders.PutOff:
+        return None
+    finally:
+        if isinstance(bus, PatientBus):
+            bus.gives_up = False
+    file.ended(rail, status)
+    run: StepRun | None = getattr(one, "begun", None)
+    return status, status == 0 or run is not None and run.delivered is not None and run.delivered.verdict.kind == "went off"
 
 
 def is_low(call: Call, rail: Rail) -> bool:
@@ -91,8 +126,12 @@ def is_open(call: Call, rail: Rail) -> bool:
 
 
 def turn_one_off(call: Call, one: argparse.Namespace) -> int:
-    """Turns a rail off: the status, also if its bus can't be opened."""
+    """Turns a rail off, within the time that a way down after a deadline has: the status, also if its bus can't be opened."""
+    time: int | None = getattr(one, "off_time", None)
     try:
-        return orders.operate(one)
+        with clock.within(time):
+            return orders.operate(one)
+    except clock.Late:
+        return call.say(Answer(one.said, "late", "not known to be off", 1, f"`deadline_off`, {(time or 0) / 1000:g}s, has passed", one.output))
     except (NoBus, PmhostError) as fault:
         return call.say(Answer(one.said, "no bus" if isinstance(fault, NoBus) else "refused", "not known to be off", 1, str(fault), one.output))

@@ -68,7 +68,9 @@ class BoardUp(WayUp):
         self.befores = {**board.befores}
         for rail in self.rails:
             # A rail that holds its words already is judged as `on` judges it.
-            if not board.runs[rail.name].is_due and (status := self.judge_rail(self.of_rail(rail), rail)):
+            one = self.of_rail(rail)
+            status = (0 if board.runs[rail.name].is_due else self.judge_rail(one, rail)) or self.judge_config(one, rail)
+            if status:
                 call.begin(self.arguments)
                 return max(status, call.say(Answer(said(self.arguments), "refused", "", status, "nothing was ordered")))
         self.was_on = [rail for rail in self.rails if self.is_on(rail)]

@@ -7,7 +7,7 @@ import copy
 from dataclasses import replace
 from typing import Callable
 
-from .. import clock
+from .. import clock, on_off
 from ..course import Job
 from ..delivered import Delivered, why_not_before
 from ..device import Device
@@ -17,7 +17,7 @@ from ..operation import OFF, ON, selected_by
 from ..rails import Rail
 from ..sequence import Heard, SequenceStep
 from ..step_run import StepRun
-from ..survey import TRIES, read
+from ..survey import TRIES, only_word, read
 from ..transfers import Transfers
 from ..zeros import NotBelieved
 from . import orders
@@ -40,6 +40,11 @@ class WayUp:
         self.call: Call = arguments.call
         self.turned, self.turned_off, self.was_on, self.ended = list[Rail](), list[Rail](), list[Rail](), dict[str, int]()
         self.befores, self.down = dict[str, Heard](), file
+        # Whether a step was refused, which is no fault of a rail.
+        self.is_refused = False
+        self.deadline: int | None = arguments.rails.deadline if arguments.deadline is None else arguments.deadline
+        # How many milliseconds the way down of a rail has, all that it takes with None.
+        self.off_time: int | None = None
         self.had_restarted = {rail.part for rail in rails if self.part(rail).restart_seen}
 
     def part(self, rail: Rail) -> Device:
@@ -61,13 +66,14 @@ class WayUp:
         if status := self.judge():
             return status
         try:
-            with clock.within(self.arguments.deadline):
+            with clock.within(self.deadline):
                 status = self.climb()
         except clock.Late:
+            self.off_time = self.arguments.rails.deadline_off
             return max(self.late(), self.stop())
         except BaseException:
             with Later():
-                self.go_down()
+                self.go_down(False)
                 self.call.begin(self.arguments)
                 self.call.settled = "; ".join(self.stands())
             raise
@@ -79,7 +85,7 @@ class WayUp:
         """Asks each part and judges each rail, and orders nothing. 0, or the status if the way up isn't to begin."""
         for rail in self.rails:
             one = self.of_rail(rail)
-            status = self.other_model(one, rail) or self.judge_rail(one, rail)
+            status = self.other_model(one, rail) or self.judge_rail(one, rail) or self.judge_config(one, rail)
             if status:
                 self.call.begin(self.arguments)
                 return max(status, self.call.say(Answer(said(self.arguments), "refused", "", status, "nothing was ordered")))
@@ -92,6 +98,11 @@ class WayUp:
         why = why_other_model(self.part(rail), self.call.places()[rail.part].part)
         self.call.identified.add(rail.part)
         return self.call.say(Answer(one.said, "other part", "", 1, why, rail.output)) if why else 0
+
+    def judge_config(self, one: argparse.Namespace, rail: Rail) -> int:
+        """The status if a rail's part doesn't heed OPERATION."""
+        why = on_off.why_unheeded(self.part(rail), rail.output)
+        return self.call.say(Answer(one.said, "refused", "", 1, why, rail.output)) if why else 0
 
     def judge_rail(self, one: argparse.Namespace, rail: Rail) -> int:
         """Reads all that a rail's order needs, up to the order. The status if it would be refused, but for WRITE_PROTECT of the file."""
@@ -139,22 +150,32 @@ class WayUp:
             with self.file.step(one, rail):
                 self.watch(one, rail)
                 fallen = steps.fallen(rail.name, self.file)
-                status = self.not_begun(one, rail, *fallen) if fallen else self.move(one, rail) or orders.operate(one)
+                status = self.not_begun(one, rail, *fallen) if fallen else self.move(one, rail) or orders.turn(one, self.arguments.byte)
                 if rail in self.turned and not self.part(rail).transfers.has_written:
                     # The order was refused as it came next.
                     self.turned.remove(rail)
             self.file.ended(rail, status)
             self.ended[rail.name] = status
             if status:
+                run: StepRun | None = getattr(one, "begun", None)
+                self.is_refused = run is not None and run.end.kind in ("refused", "beyond", "unjudged")
                 return self.caused(rail, status)
+            self.note(one, rail)
         self.call.begin(self.arguments)
         fallen = steps.fallen(AT_THE_END, self.file)
         return self.fell(*fallen) if fallen else self.call.ordered.look(self.call)
 
+    def note(self, one: argparse.Namespace, rail: Rail) -> None:
+        """A rail has come up: what it commands is read once more at the end, as what was ordered is."""
+        register = selected_by(self.arguments.byte) or ""
+        word = only_word(self.part(rail), rail.output, register)
+        if word is not None:
+            self.call.ordered.note(rail.part, rail.output, register, word, one.said)
+
     def late(self) -> int:
         """The deadline has passed. The status."""
         self.call.begin(self.arguments)
-        return self.call.say(Answer(said(self.arguments), "late", "", 1, f"the deadline of {self.arguments.deadline / 1000:g}s has passed"))
+        return self.call.say(Answer(said(self.arguments), "late", "", 1, f"the deadline of {(self.deadline or 0) / 1000:g}s has passed"))
 
     def move(self, one: argparse.Namespace, rail: Rail) -> int:
         """What comes before a rail is turned on: nothing. The status if it isn't to be."""
@@ -214,7 +235,7 @@ class WayUp:
     def stop(self) -> int:
         """The way up has failed: goes down, and says how each rail stands. The status of the way down."""
         restarted = self.restarted()
-        status = self.go_down()
+        status = self.go_down(not self.is_refused)
         self.call.begin(self.arguments)
         why = "; ".join([*self.stands(), *(f"{name or 'the part'} restarted" for name in restarted)])
         return max(status, self.call.say(Answer(said(self.arguments), "stopped", "", 1, why)))
@@ -229,13 +250,15 @@ class WayUp:
                  ("nothing was ordered of {}", [it for it in untouched if not self.is_on(it)])]
         return [words.format(", ".join(it.name for it in rails)) for words, rails in named if rails]
 
-    def go_down(self) -> int:
-        """Turns off what was turned on, the last one first; with --leave-on only what doesn't deliver. The status."""
+    def go_down(self, is_now: bool = True) -> int:
+        """Turns off what was turned on, the last one first; with --leave-on only what doesn't deliver. One that began without a fault goes as `off`
+        does. The status."""
         kept = [it for it in self.turned if self.arguments.leave_on and self.ended.get(it.name) == 0]
         self.turned_off = [it for it in self.turned[::-1] if it not in kept]
         if not self.turned_off:
             return 0
-        down = argparse.Namespace(**{**vars(self.arguments), "command": "off", "byte": OFF, "is_now": True, "said": f"off {self.arguments.said.partition(' ')[2]}"})
+        down = argparse.Namespace(**{**vars(self.arguments), "command": "off", "byte": OFF, "is_now": is_now, "off_time": self.off_time,
+                                     "said": f"off {self.arguments.said.partition(' ')[2]}"})
         self.call.begin(down)
         self.down = replace_status(self.file)
         return self.turn_off(down, self.turned_off, self.down)

@@ -1,16 +1,22 @@
 -- What the parser met is what is chosen, and if it finds a fault the call refuses.
 use Rattle.std.proofs.Common.{◌≡◌, ◌∙◌, ℕ, false, true≢false, eqb, eq-eqb, ap, get_or, refl, sym, subst, [], ◌∷◌, List, Result, Ok, Err}
-use Rattle.std.proofs.Common.{IfOk, IsErrAnd, IsSomeAnd, Option, Some, codes, ⊎_elim, map, unwrap_or}
+use Rattle.std.proofs.Common.{IfOk, IsErrAnd, IsSomeAnd, Option, Some, None, codes, ⊎_elim, map, unwrap_or, is_some}
+use Rattle.std.specs.Borrow.{Bor}
 use Rattle.clap.specs.Words.{FailsBy, HasKind, Kinds, Row, Text, all_of, fault_of, subcommand_of}
 use Rattle.clap.specs.Walk.{texts}
 use Rattle.clap.specs.declared.error.Error.{Error}
 use Rattle.clap.specs.declared.error.kind.ErrorKind.{ErrorKind}
 use Rattle.clap.specs.declared.error.kind.ErrorKind.TheVariants.{DisplayHelp, DisplayVersion, MissingSubcommand}
+use Rattle.clap.specs.declared.builder.value_parser.Reading.TheVariants.{AsWritten}
+use Rattle.clap.specs.declared.parser.matches.ValueSource.TheVariants.{DefaultValue}
 use Rattle.clap.proofs.OnLiterals.{clap_on_literals}
 use Rattle.pm_tool.specs.declared.commandline.choice.Chosen.{Chosen}
-use Rattle.pm_tool.specs.declared.commandline.choice.Chosen.TheVariants.{Hear, Replay, Decode, Check, Number}
+use Rattle.pm_tool.specs.declared.commandline.choice.Chosen.TheVariants.{Hear, Replay, Decode, Tell, Check, Number}
 use Rattle.pm_tool.specs.Commandline.{Asks, Given, HasValuesOf, UnlessMemory, number_words, pmb}
 use Rattle.pm_tool.specs.Lacking.{lacks_asked}
+use Rattle.pm_tool.specs.Question.{text_at}
+use Rattle.pm_tool.specs.Telling.{HasTexts, is_any}
+use Rattle.pm_tool.specs.declared.commandline.telling.TellTexts.{TellTexts}
 use Rattle.pm_tool.proofs.GivenOptions.{first_text, number_met, number_passes, row}
 use Rattle.pm_tool.proofs.commandline.chosen.Goals as goal
 
@@ -54,7 +60,8 @@ hear_passes program = refl
 hear_chosen : (rows : List Row) (chosen : Chosen) → Asks (codes "hear") rows chosen → chosen ≡ Hear
 hear_chosen rows Hear asks = refl
 hear_chosen rows Replay asks = apart 104 114 (ap first_byte asks) refl
-hear_chosen rows Decode asks = apart 104 100 (ap first_byte asks) refl
+hear_chosen rows Decode asks = apart 104 100 (ap first_byte asks.0) refl
+hear_chosen rows (Tell given) asks = apart 104 100 (ap first_byte asks.0) refl
 hear_chosen rows (Check lacks) asks = apart 104 99 (ap first_byte asks.0) refl
 hear_chosen rows (Number format word micro) asks = apart 104 110 (ap first_byte asks.0) refl
 
@@ -72,12 +79,18 @@ replay_passes program = refl
 replay_chosen : (rows : List Row) (chosen : Chosen) → Asks (codes "replay") rows chosen → chosen ≡ Replay
 replay_chosen rows Hear asks = apart 114 104 (ap first_byte asks) refl
 replay_chosen rows Replay asks = refl
-replay_chosen rows Decode asks = apart 114 100 (ap first_byte asks) refl
+replay_chosen rows Decode asks = apart 114 100 (ap first_byte asks.0) refl
+replay_chosen rows (Tell given) asks = apart 114 100 (ap first_byte asks.0) refl
 replay_chosen rows (Check lacks) asks = apart 114 99 (ap first_byte asks.0) refl
 replay_chosen rows (Number format word micro) asks = apart 114 110 (ap first_byte asks.0) refl
 
+-- the rows of the flags of `decode` if none is given
+abbrev no_flags : List Row
+no_flags = map (λ name. record { id = name; values = codes "false" ∷ []; count = None; source = Some DefaultValue; reading = AsWritten })
+    (codes "values" ∷ codes "all" ∷ codes "pages" ∷ codes "explain" ∷ codes "long" ∷ codes "times" ∷ codes "json" ∷ [])
+
 -- after `decode` with no more words the parser meets that subcommand, with no options
-decode_met : (program : Text) → subcommand_of pmb (program ∷ codes "decode" ∷ []) ≡ Some (codes "decode", [])
+decode_met : (program : Text) → subcommand_of pmb (program ∷ codes "decode" ∷ []) ≡ Some (codes "decode", no_flags)
 unfolding clap_on_literals
 decode_met program = refl
 
@@ -86,13 +99,37 @@ decode_passes : (program : Text) → fault_of pmb (program ∷ codes "decode" �
 unfolding clap_on_literals
 decode_passes program = refl
 
--- `decode` is chosen if its rows are asked for
-decode_chosen : (rows : List Row) (chosen : Chosen) → Asks (codes "decode") rows chosen → chosen ≡ Decode
-decode_chosen rows Hear asks = apart 100 104 (ap first_byte asks) refl
-decode_chosen rows Replay asks = apart 100 114 (ap first_byte asks) refl
-decode_chosen rows Decode asks = refl
-decode_chosen rows (Check lacks) asks = apart 100 99 (ap first_byte asks.0) refl
-decode_chosen rows (Number format word micro) asks = apart 100 110 (ap first_byte asks.0) refl
+-- an option without a text isn't given
+none_at : (text : Option (Bor Text)) → text_at text ≡ None → is_some text ≡ false
+none_at None none = refl
+none_at (Some text) none = absurd (cc)
+
+-- no option is given if these are the rows
+none_given : (given : TellTexts) → HasTexts given no_flags → is_any given ≡ false
+unfolding clap_on_literals
+none_given given has = rw (
+  has.values.1 refl,
+  none_at given.vout has.vout,
+  none_at given.readings has.readings,
+  has.all.1 refl,
+  has.pages.1 refl,
+  has.explain.1 refl,
+  none_at given.gap has.gap,
+  has.long.1 refl,
+  has.times.1 refl,
+  has.json.1 refl,
+  has.parts,
+  has.muxes,
+) refl
+
+-- `decode` is chosen without options if there are none
+decode_chosen : (chosen : Chosen) → Asks (codes "decode") no_flags chosen → chosen ≡ Decode
+decode_chosen Hear asks = apart 100 104 (ap first_byte asks) refl
+decode_chosen Replay asks = apart 100 114 (ap first_byte asks) refl
+decode_chosen Decode asks = refl
+decode_chosen (Tell given) (named, has, is) = absurd (true≢false (sym is ∙ none_given given has))
+decode_chosen (Check lacks) asks = apart 100 99 (ap first_byte asks.0) refl
+decode_chosen (Number format word micro) asks = apart 100 110 (ap first_byte asks.0) refl
 
 -- after `check` with no more words the parser meets that subcommand, with no options
 check_met : (program : Text) → subcommand_of pmb (program ∷ codes "check" ∷ []) ≡ Some (codes "check", [])
@@ -109,7 +146,8 @@ check_chosen : (rows : List Row) (chosen : Chosen) → Asks (codes "check") rows
     chosen ≡ Check (lacks_asked (unwrap_or (all_of (codes "lacks") rows) []))
 check_chosen rows Hear asks = apart 99 104 (ap first_byte asks) refl
 check_chosen rows Replay asks = apart 99 114 (ap first_byte asks) refl
-check_chosen rows Decode asks = apart 99 100 (ap first_byte asks) refl
+check_chosen rows Decode asks = apart 99 100 (ap first_byte asks.0) refl
+check_chosen rows (Tell given) asks = apart 99 100 (ap first_byte asks.0) refl
 check_chosen rows (Check lacks) asks = ap Check asks.1
 check_chosen rows (Number format word micro) asks = apart 99 110 (ap first_byte asks.0) refl
 
@@ -117,7 +155,8 @@ check_chosen rows (Number format word micro) asks = apart 99 110 (ap first_byte 
 given_chosen : (given : List Given) (chosen : Chosen) → Asks (codes "number") (map row given) chosen → HasValuesOf given chosen
 given_chosen given Hear asks = apart 110 104 (ap first_byte asks) refl
 given_chosen given Replay asks = apart 110 114 (ap first_byte asks) refl
-given_chosen given Decode asks = apart 110 100 (ap first_byte asks) refl
+given_chosen given Decode asks = apart 110 100 (ap first_byte asks.0) refl
+given_chosen given (Tell options) asks = apart 110 100 (ap first_byte asks.0) refl
 given_chosen given (Check lacks) asks = apart 110 99 (ap first_byte asks.0) refl
 given_chosen given (Number format word micro) asks = (
   asks.1 ∙ ap (λ o. unwrap_or o []) (first_text (codes "format") given),
@@ -162,7 +201,7 @@ returns-clause-decode c = λ program e.
     (subst (λ (t : List Text). IfOk c.parsed.result (λ chosen. IsSomeAnd (subcommand_of pmb t)
     (λ met. Asks met.0 met.1 chosen))) e c.parsed.ensures.named)
     (subst (λ (t : List Text). FailsBy (fault_of pmb t) c.parsed.result) e c.parsed.ensures.kinds)
-    (decode_met program) (decode_passes program) (decode_chosen [])
+    (decode_met program) (decode_passes program) decode_chosen
 
 pub returns-clause-check : goal.returns-clause-check
 returns-clause-check c = λ program e.

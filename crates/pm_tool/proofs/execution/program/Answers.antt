@@ -2,7 +2,6 @@ use Rattle.std.proofs.Common.{◌∙◌, Ok, map, refl, string_bytes}
 use Rattle.std.specs.Vec.Iter.{into_iter_items}
 use Rattle.pm_tool.specs.Arguments.{arguments_of}
 use Rattle.pm_tool.specs.Execution.{wants_memory}
-use Rattle.pm_tool.specs.Telling.{tell_words}
 use Rattle.pm_tool.proofs.EndLemmas.{memory_ends}
 use Rattle.pm_tool.proofs.StatusLemmas.{at_most_2, kept}
 use Rattle.pm_tool.proofs.execution.program.Goals as goal
@@ -13,7 +12,7 @@ returns-in_default-clause-ends g c =
     let words = map string_bytes (into_iter_items c.in-Ok.given) in
     rw (c.in-Ok.is, c.from-in_default.ensures) (
       wants_memory,
-      memory_ends g.R.Read.remaining c.args.input.now words (tell_words words),
+      memory_ends g.R.Read.remaining c.args.input.now words,
       record { status_is = e.status; printed = refl; said = e.said },
     )
 
@@ -23,7 +22,7 @@ returns-in_default-words_of-clause-ends g c =
     let words = map string_bytes (into_iter_items c.in-Ok.given) in
     rw (c.in-Ok.is, c.from-in_default-words_of.ensures) (
       wants_memory,
-      memory_ends g.R.Read.remaining c.args.input.now words (tell_words words),
+      memory_ends g.R.Read.remaining c.args.input.now words,
       record { status_is = e.status; printed = refl; said = e.said },
     )
 

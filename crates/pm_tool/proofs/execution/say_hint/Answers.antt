@@ -23,6 +23,11 @@ returns-in-Beyond g c =
     subst (λ hint. Says g.E.Write.contents c.args.errors.now c.say_line.new.errors (refusal_line (hint_words hint)))
     (sym c.in-Beyond.is) c.say_line.ensures
 
+pub returns-in-Timed : goal.returns-in-Timed
+returns-in-Timed g c =
+    subst (λ hint. Says g.E.Write.contents c.args.errors.now c.say_line-in-Timed.new.errors (refusal_line (hint_words hint)))
+    (sym c.in-Timed.is) c.say_line-in-Timed.ensures
+
 pub returns-in-Paging : goal.returns-in-Paging
 returns-in-Paging g c =
     subst (λ hint. Says g.E.Write.contents c.args.errors.now c.say_line-in-Paging.new.errors (refusal_line (hint_words hint)))

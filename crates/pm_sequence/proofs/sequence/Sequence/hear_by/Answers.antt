@@ -6,8 +6,8 @@ use Rattle.pm_host.specs.Told.{entry_told}
 use Rattle.pm_course.specs.Surprise.{surprises}
 use Rattle.pm_stairs.specs.declared.sequence.Sequence.{Sequence as List}
 use Rattle.pm_stairs.specs.Sequence.{heard_with}
-use Rattle.pm_sequence.specs.Frames.{HearsAt, alone, course}
-use Rattle.pm_sequence.specs.Sequence.{with_list}
+use Rattle.pm_sequence.specs.declared.sequence.Fresh.{Fresh}
+use Rattle.pm_sequence.specs.Frames.{HearsAt, alone, course, list_heard}
 use Rattle.pm_sequence.proofs.sequence.Sequence.hear_by.Goals as goal
 
 pub returns-in_default-clause-hears : goal.returns-in_default-clause-hears
@@ -31,6 +31,8 @@ returns-clause-hears g c =
     ap (λ (at : Option Stage). held at c.state.result.now) (sym c.requires.stage) ∙ c.state.ensures.state in
     let shown : c.surprises-restarted.result ≡ surprises old.host c.args.stage entry =
     c.surprises-restarted.ensures ∙ ap (λ (s : Summary). surprises s c.args.stage entry) whole in
-    subst (λ (list : List). HearsAt old was c.args.stage entry c.hear_by-result.result new (with_list was list))
+    subst (λ (it : Fresh). HearsAt old was c.args.stage entry c.hear_by-result.result new (record was { list = c.put_course.new.self; fresh = it }))
+    (sym c.heard_fresh-fresh.ensures)
+    (subst (λ (list : List). HearsAt old was c.args.stage entry c.hear_by-result.result new (list_heard was entry list))
     (sym (c.put_course.ensures ∙ ap (λ (b : Bool). heard_with was.list c.hear_by-result.new.self b) shown))
-    (course c.in-Some.course c.hear_by-result.new.self (sym c.course_open.ensures ∙ c.in-Some.is) c.hear_by-result.ensures.told)
+    (course c.in-Some.course c.hear_by-result.new.self (sym c.course_open.ensures ∙ c.in-Some.is) c.hear_by-result.ensures.told))

@@ -6,7 +6,7 @@ use Rattle.pm_course.specs.Frames as course
 use Rattle.pm_course.specs.Lemmas.Awaited.{comes-awaited}
 use Rattle.pm_stairs.specs.Frames.{course_open}
 use Rattle.pm_sequence.specs.Frames.{nothing}
-use Rattle.pm_sequence.proofs.Hosts.{hears-told, none-shown, other-shown, unheard}
+use Rattle.pm_sequence.proofs.Hosts.{hears-told, unheard}
 use Rattle.pm_sequence.proofs.sequence.Sequence.told.Goals as goal
 
 pub returns-in_default-clause-hears : goal.returns-in_default-clause-hears
@@ -17,7 +17,7 @@ returns-in_default-stage-clause-hears g c =
     let old = g.H.Hosted.guarded c.args.host.now in
     let closed : old.host.stage ≡ None = sym c.stage.ensures ∙ c.in_default-stage.is in
     unheard old c.args.self.now (entry_told c.args.told) c.in-Some._course NothingSent (sym c.course_open.ensures ∙ c.in-Some.is)
-    (none-shown old c.args.told closed) (course.nothing closed)
+    (course.nothing closed)
 
 pub returns-then-not-awaits-clause-hears : goal.returns-then-not-awaits-clause-hears
 returns-then-not-awaits-clause-hears g c =
@@ -25,7 +25,6 @@ returns-then-not-awaits-clause-hears g c =
     let opened : old.host.stage ≡ Some c.in-Some-stage.stage = sym c.stage.ensures ∙ c.in-Some-stage.is in
     let other : is_awaited c.in-Some-stage.stage c.args.told ≡ false = sym c.awaits.ensures ∙ c.if-not-awaits.true in
     unheard old c.args.self.now (entry_told c.args.told) c.in-Some._course WrongKind (sym c.course_open.ensures ∙ c.in-Some.is)
-    (other-shown old c.in-Some-stage.stage c.args.told opened other)
     (course.other c.in-Some-stage.stage opened (comes-awaited old.host c.in-Some-stage.stage c.args.told opened ∙ other))
 
 pub returns-clause-hears : goal.returns-clause-hears

@@ -2,6 +2,7 @@ use Rattle.std.proofs.Common.{◌≡◌, ◌∙◌, ap, ap₂, refl, codes, true
 use Rattle.std.proofs.lemmas.Result.{IfOk-weaker}
 use Rattle.clap.specs.Words.{App, app_of, new_app, with_subcommand}
 use Rattle.pm_tool.specs.Commandline.{check_app, number_app, with_required_subcommand}
+use Rattle.pm_tool.specs.Telling.{tell_app}
 use Rattle.clap.specs.declared.builder.command.Command.{Command}
 use Rattle.clap.specs.declared.builder.command.Command.TheViews.{out-Command}
 use Rattle.clap.proofs.SimpleLemmas.{plain_fields}
@@ -16,7 +17,7 @@ returns c =
     let top : app_of c.top_command.result ≡ with_required_subcommand (new_app (codes "pmb")) = c.top_command.ensures in
     let hear : app_of c.text_command-hearing.result ≡ new_app (codes "hear") = c.text_command-hearing.ensures in
     let replay : app_of c.text_command-replaying.result ≡ new_app (codes "replay") = c.text_command-replaying.ensures in
-    let decode : app_of c.text_command-decoding.result ≡ new_app (codes "decode") = c.text_command-decoding.ensures in
+    let decode : app_of c.in_ok-decoding.decoding ≡ tell_app = c.in_ok-decoding.ensures in
     let check : app_of c.in_ok-checking.checking ≡ check_app = c.in_ok-checking.ensures in
     let numbers : app_of c.in_ok-numbers.numbers ≡ number_app = c.in_ok-numbers.ensures in
     let with_hear = c.in_ok-with_hear.ensures.shape (no_globals _ _ hear refl) ∙ ap₂ with_subcommand top (ap (λ (a : App). a.top) hear) in

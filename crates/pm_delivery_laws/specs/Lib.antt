@@ -1,0 +1,3 @@
+-- What the crate promises.
+pub mod Looks
+pub mod Delivers

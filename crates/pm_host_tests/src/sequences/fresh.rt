@@ -1,0 +1,147 @@
+//! Orders that turn an output on: what is read directly before them, and that none goes into a part that came up anew.
+
+use crate::checks::equal;
+use crate::sequences::part::{Part, Run, carried};
+use crate::sequences::{DOWN, LOOKS, PART, UP, guard, on};
+use pm_course::{CourseEnd, Refusal};
+use pm_limits::Guard;
+use pm_sequence::{End, Looks, Rules, Sequence, Step};
+use pm_stairs::StepEnd;
+use pm_table::Code;
+use std::process::Abort;
+
+// VOUT_MODE, OPERATION, VOUT_COMMAND, VOUT_MAX, VOUT_MIN and WRITE_PROTECT, twice, with the look before the first order between, whose limits
+// that the part lacks are asked twice; the order, and its read; the survey after it, and the look.
+static LOOKED: [u8; 29] = [
+    0x20, 0x01, 0x21, 0x24, 0x2B, 0x10, 0x79, 0x40, 0x42, 0x42, 0x43, 0x43, 0x44, 0x44, 0x20, 0x01,
+    0x21, 0x24, 0x2B, 0x10, 0x01, 0x01, 0x20, 0x01, 0x21, 0x24, 0x2B, 0x79, 0x8B,
+];
+
+// The same of a rail that isn't looked at.
+static UNLOOKED: [u8; 19] = [
+    0x20, 0x01, 0x21, 0x24, 0x2B, 0x10, 0x20, 0x01, 0x21, 0x24, 0x2B, 0x10, 0x01, 0x01, 0x20, 0x01,
+    0x21, 0x24, 0x2B,
+];
+
+const NOT: Looks = Looks {
+    is_wanted: false,
+    ..LOOKS
+};
+
+// A list whose steps all turn on output 0 of one part, at first off, and what it comes to.
+fn turned_on(rt: &impl Abort, rules: Rules, looks: Looks, guard: Guard, part: Part) -> (Run, Part) {
+    let mut parts = [part];
+    parts[0].words[0][0] = 0x00;
+    let steps: [Step; 1] = [on(0, 0, looks)];
+    let run = carried(Sequence::new(60, rules), &mut [guard], &mut parts, &steps);
+    let [part] = parts;
+    (run, part)
+}
+
+#[test]
+fn all_that_decides_is_read_directly_before_the_order(rt: HostRuntime) {
+    let rows: [(&'static str, Looks, &'static [u8]); 2] = [
+        ("looked at", LOOKS, &LOOKED),
+        ("not looked at", NOT, &UNLOOKED),
+    ];
+    for (name, looks, codes) in &rows {
+        let (run, part) = turned_on(&rt, UP, *looks, guard(&rt), PART);
+        equal(
+            &rt,
+            &(run.end, part.writes, part.words[0][0]),
+            &(Some(End::Reached), 1, 0x80),
+            name,
+        );
+        equal(&rt, &part.frames, &codes.len(), name);
+        for (code, wanted) in part.codes.iter().zip(codes.iter()) {
+            equal(&rt, code, wanted, name);
+        }
+    }
+}
+
+// The words with which output 0 comes up anew: off, at 1.5 V.
+const ANEW: [u16; 6] = [0x00, 0x1800, 0x4000, 0x1100, 0x0F00, 0x0000];
+
+// A guard that lets output 0 have 0.8 to 1.1 V.
+fn narrowed(rt: &impl Abort) -> Guard {
+    let mut guard = guard(rt);
+    let _ = guard.narrow(0, 800_000, 1_100_000);
+    guard
+}
+
+#[test]
+fn no_order_goes_into_a_part_that_came_up_anew(rt: HostRuntime) {
+    let restarted = End::Stopped(StepEnd::Restarted);
+    let above = End::Stopped(StepEnd::Course(CourseEnd::Refused(Refusal {
+        number: 0x25,
+        register: Some(Code::OPERATION),
+    })));
+    let going = Rules {
+        leaves: false,
+        ..DOWN
+    };
+    // The rules, after how many frames it restarts, how many it doesn't answer then, and how the list ends.
+    let rows: [(&'static str, Rules, usize, usize, End); 5] = [
+        ("in the look before the order", UP, 10, 0, restarted),
+        ("after the look", UP, 14, 0, restarted),
+        ("after VOUT_COMMAND was read", UP, 17, 1, restarted),
+        ("after the look, and the list goes on", going, 14, 0, above),
+        (
+            "after VOUT_COMMAND was read, and the list goes on",
+            going,
+            17,
+            1,
+            above,
+        ),
+    ];
+    for (name, rules, frames, silent, end) in &rows {
+        let part = Part {
+            restarts: Some((*frames, ANEW)),
+            silent: *silent,
+            ..PART
+        };
+        let (run, part) = turned_on(&rt, *rules, LOOKS, narrowed(&rt), part);
+        equal(
+            &rt,
+            &(run.end, part.writes, part.words[0]),
+            &(Some(*end), 0, ANEW),
+            name,
+        );
+    }
+}
+
+// An order that is lost once is read back in each pass, and written in none but the first. All is read again before the next one.
+static LOST: [u8; 37] = [
+    0x20, 0x01, 0x21, 0x24, 0x2B, 0x10, 0x79, 0x40, 0x42, 0x42, 0x43, 0x43, 0x44, 0x44, 0x20, 0x01,
+    0x21, 0x24, 0x2B, 0x10, 0x01, 0x01, 0x01, 0x20, 0x01, 0x21, 0x24, 0x2B, 0x10, 0x01, 0x01, 0x20,
+    0x01, 0x21, 0x24, 0x2B, 0x79,
+];
+
+#[test]
+fn an_order_is_written_once_a_job(rt: HostRuntime) {
+    let lost = Part { loses: 1, ..PART };
+    let (run, part) = turned_on(&rt, UP, LOOKS, guard(&rt), lost);
+    equal(
+        &rt,
+        &(run.end, part.writes, part.words[0][0]),
+        &(Some(End::Reached), 2, 0x80),
+        &"lost once",
+    );
+    for (code, wanted) in part.codes.iter().zip(LOST.iter()) {
+        equal(&rt, code, wanted, &"lost once");
+    }
+    // The part hears the order, and comes up anew before it is read back, or once it was in the first pass.
+    for frames in [21usize, 22] {
+        let anew = Part {
+            restarts: Some((frames, ANEW)),
+            ..PART
+        };
+        let (run, part) = turned_on(&rt, UP, LOOKS, narrowed(&rt), anew);
+        equal(
+            &rt,
+            &(run.end, part.writes, part.words[0]),
+            &(Some(End::Stopped(StepEnd::Restarted)), 1, ANEW),
+            &frames,
+        );
+    }
+}

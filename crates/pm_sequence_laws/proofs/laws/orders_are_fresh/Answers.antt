@@ -1,0 +1,5 @@
+use Rattle.pm_sequence_laws.proofs.Fresh.{orders-fresh}
+use Rattle.pm_sequence_laws.proofs.laws.orders_are_fresh.Goals as goal
+
+pub returns : goal.returns
+returns c = orders-fresh
