@@ -29,6 +29,7 @@ pub(crate) const PART: Part = Part {
     frames: 0,
     writes: 0,
     restarts: None,
+    anew: [0; 6],
     silent: 0,
     loses: 0,
     codes: [0; 96],

@@ -96,7 +96,8 @@ fn no_order_goes_into_a_part_that_came_up_anew(rt: HostRuntime) {
     ];
     for (name, rules, frames, silent, end) in &rows {
         let part = Part {
-            restarts: Some((*frames, ANEW)),
+            restarts: Some(*frames),
+            anew: ANEW,
             silent: *silent,
             ..PART
         };
@@ -133,7 +134,8 @@ fn an_order_is_written_once_a_job(rt: HostRuntime) {
     // The part hears the order, and comes up anew before it is read back, or once it was in the first pass.
     for frames in [21usize, 22] {
         let anew = Part {
-            restarts: Some((frames, ANEW)),
+            restarts: Some(frames),
+            anew: ANEW,
             ..PART
         };
         let (run, part) = turned_on(&rt, UP, LOOKS, narrowed(&rt), anew);

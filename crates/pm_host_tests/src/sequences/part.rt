@@ -27,8 +27,10 @@ pub(crate) struct Part {
     pub(crate) frames: usize,
     /// How many of these were writes.
     pub(crate) writes: usize,
-    /// After how many frames it restarts, and the words of output 0 that it has then.
-    pub(crate) restarts: Option<(usize, [u16; 6])>,
+    /// After how many frames it restarts.
+    pub(crate) restarts: Option<usize>,
+    /// The words of output 0 that it has then.
+    pub(crate) anew: [u16; 6],
     /// How many frames it doesn't answer as it restarts.
     pub(crate) silent: usize,
     /// How many writes it doesn't hear.
@@ -118,13 +120,16 @@ impl Part {
     // One frame more; whether it gets no answer.
     fn counts(&mut self, bytes: &[u8]) -> bool {
         let mut is_gone = self.gone_after <= self.frames;
-        if let Some((frames, words)) = self.restarts {
+        let anew = self.anew;
+        if let Some(frames) = self.restarts {
             if frames <= self.frames {
                 if 0 < self.silent {
                     self.silent -= 1;
                     is_gone = true;
                 } else {
-                    self.words[0] = words;
+                    for (word, new) in self.words[0].iter_mut().zip(anew.iter()) {
+                        *word = *new;
+                    }
                     self.restarts = None;
                 }
             }
