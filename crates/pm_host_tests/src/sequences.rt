@@ -32,6 +32,8 @@ pub(crate) const PART: Part = Part {
     anew: [0; 6],
     silent: 0,
     loses: 0,
+    mutes: 0,
+    mute: 0,
     codes: [0; 96],
 };
 

@@ -36,8 +36,9 @@ silence_image s = record { rounds = s.rounds; has_answered = flag s.has_answered
 abbrev pub silence_read : SilenceImage → Silence
 silence_read i = record { rounds = i.rounds; has_answered = i.has_answered == 1 }
 
-abbrev pub look_image : Look → LookImage
-look_image l = record {
+-- with how many orders that turn its output on the step under way had
+abbrev pub look_image : Look → ℕ → LookImage
+look_image l turned_on = record {
   delivery = l.delivery;
   stood = l.stood;
   status = silence_image l.status;
@@ -45,7 +46,7 @@ look_image l = record {
   probed = l.probe.asked;
   is_there = flag l.probe.is_there;
   is_over = flag l.probe.is_over;
-  unused = 0;
+  turned_on = turned_on;
 }
 
 abbrev pub look_read : LookImage → Look
@@ -104,6 +105,7 @@ sequence_read i list = record {
   asks = i.asks == 1;
   told = told_read i.told;
   fresh = fresh_read i.told.fresh;
+  turned_on = i.look.turned_on;
   left = i.left;
   end = end_read i.end;
 }
@@ -125,7 +127,7 @@ sequence_image q said = record {
   asks = flag q.asks;
   said = said;
   list = list_image q.list;
-  look = look_image q.look;
+  look = look_image q.look q.turned_on;
   look_host = q.look_host;
   phase = phase_number q.phase;
   is_read = flag q.is_read;

@@ -34,8 +34,8 @@ pub struct LookImage {
     pub is_there: u8,
     /// 1 if it counts already, otherwise 0.
     pub is_over: u8,
-    /// No meaning.
-    pub unused: u8,
+    /// How many orders that turn its output on the step under way had.
+    pub turned_on: u8,
 }
 
 impl SilenceImage {
@@ -59,9 +59,9 @@ impl SilenceImage {
 }
 
 impl LookImage {
-    /// The image of a look.
-    pub fn of(look: &Look) -> LookImage
-        ensures { result ≡ look_image look.now }
+    /// The image of a look, with how many orders that turn its output on the step under way had.
+    pub fn of(look: &Look, turned_on: u8) -> LookImage
+        ensures { result ≡ look_image look.now turned_on }
     {
         LookImage {
             delivery: look.delivery,
@@ -71,13 +71,13 @@ impl LookImage {
             probed: look.probe.asked,
             is_there: u8::from(look.probe.is_there),
             is_over: u8::from(look.probe.is_over),
-            unused: 0,
+            turned_on,
         }
     }
 
-    /// The memory holds this look now, whatever stood there.
-    pub(crate) fn write(&mut self, look: &Look)
-        ensures { self.new ≡ look_image look.now }
+    /// The memory holds this look now, and how many orders that turn its output on the step under way had, whatever stood there.
+    pub(crate) fn write(&mut self, look: &Look, turned_on: u8)
+        ensures { self.new ≡ look_image look.now turned_on }
     {
         self.delivery = look.delivery;
         self.stood = look.stood;
@@ -86,7 +86,7 @@ impl LookImage {
         self.probed = look.probe.asked;
         self.is_there = u8::from(look.probe.is_there);
         self.is_over = u8::from(look.probe.is_over);
-        self.unused = 0;
+        self.turned_on = turned_on;
     }
 
     /// What the numbers mean.

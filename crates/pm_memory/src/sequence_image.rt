@@ -179,7 +179,7 @@ impl SequenceImage {
             asks: 0,
             said,
             list: ListImage::BLANK,
-            look: LookImage::of(&sequence.look),
+            look: LookImage::of(&sequence.look, 0),
             look_host: 0,
             phase: 0,
             is_read: 0,
@@ -204,7 +204,7 @@ impl SequenceImage {
         self.asks = flag(sequence.asks);
         self.said = said;
         self.list.write(&sequence.list);
-        self.look.write(&sequence.look);
+        self.look.write(&sequence.look, sequence.turned_on);
         self.look_host = sequence.look_host;
         self.phase = phase_number(sequence.phase);
         self.is_read = flag(sequence.is_read);
@@ -241,6 +241,7 @@ impl SequenceImage {
         is.asks = self.asks == 1;
         is.told = self.told.told();
         is.fresh = fresh_of(self.told.fresh);
+        is.turned_on = self.look.turned_on;
         is.left = self.left;
         is.end = self.end.end();
     }

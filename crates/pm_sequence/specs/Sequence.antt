@@ -1,8 +1,9 @@
 -- What comes next in a list of steps whose rails are looked at. What a step asks for, and when the next one may begin by what the hosts know,
 -- is what pm_stairs says (`Turns`); what a rail does is what pm_delivery says. This project's own choice.
-use Rattle.std.specs.Prelude.{◌≡◌, ℕ, Bool, true, false, not, ◌&&◌, ◌||◌, ◌==◌, nat_lt, if◌then◌else◌, Option, Some, None}
+use Rattle.std.specs.Prelude.{◌≡◌, ◌+◌, ℕ, Bool, true, false, not, ◌&&◌, ◌||◌, ◌==◌, nat_lt, if◌then◌else◌, Option, Some, None}
 use Rattle.pm_table.specs.declared.cell.Cell.TheVariants.{Out}
 use Rattle.pm_table.specs.declared.reg.Reg.TheVariants.{Operation}
+use Rattle.pm_table.specs.Cell.{register_code}
 use Rattle.pm_host.specs.declared.job.Job.{Job}
 use Rattle.pm_host.specs.Summary.{Summary, possible_at}
 use Rattle.pm_limits.specs.declared.part_registers.PartRegisters.{PartRegisters}
@@ -12,7 +13,10 @@ use Rattle.pm_rail.specs.declared.fault.PlanFault.{PlanFault}
 use Rattle.pm_rail.specs.declared.power.Power.{Power}
 use Rattle.pm_rail.specs.Course.{once_more}
 use Rattle.pm_rail.specs.Rail.{power_of}
+use Rattle.pm_course.specs.declared.answer_fault.AnswerFault.{AnswerFault}
+use Rattle.pm_course.specs.declared.course_end.CourseEnd.TheVariants.{Spent}
 use Rattle.pm_course.specs.declared.frame_course.FrameCourse.{FrameCourse}
+use Rattle.pm_course.specs.Ends.{code_of}
 use Rattle.pm_delivery.specs.declared.delivery.Delivery.{Delivery}
 use Rattle.pm_delivery.specs.declared.due.Due.{Due}
 use Rattle.pm_delivery.specs.declared.due.Due.TheVariants as due
@@ -67,6 +71,7 @@ new_sequence tries rules = record {
   asks = rules.asks;
   told = None;
   fresh = fresh.Nothing;
+  turned_on = 0;
   left = 0;
   end = None;
 }
@@ -101,9 +106,18 @@ abbrev pub fresh_gate : Fresh → Bool → Job → Gate → Gate
 fresh_gate it of_ahead job gate_is.Goes = if is_on_order job && not (is_fresh it of_ahead) then gate_is.Blind else gate_is.Goes
 fresh_gate it of_ahead job said = said
 
+-- a step has two orders at most that turn its output on
+abbrev pub twice_gate : Bool → Job → Gate → Gate
+twice_gate had_two job gate_is.Goes = if is_on_order job && had_two then gate_is.Twice else gate_is.Goes
+twice_gate had_two job said = said
+
+abbrev pub had_two : Sequence → Bool → Bool
+had_two q begins = not begins && not (nat_lt q.turned_on 2)
+
 -- what is said of a job that a list, which is this then, names of a step, which begins with it or not
 abbrev pub gate : Guarded → Sequence → Option Step → Job → List → Bool → Gate
-gate g q step job list begins = fresh_gate q.fresh (begins || list.stairs.reading) job (judged_gate g q step job list.stairs.under)
+gate g q step job list begins =
+    twice_gate (had_two q begins) job (fresh_gate q.fresh (begins || list.stairs.reading) job (judged_gate g q step job list.stairs.under))
 
 -- what stands before the first order of a step's output is looked at
 abbrev pub look_before : Sequence → Option Step → Sequence
@@ -154,8 +168,27 @@ shown q (Some step) = if q.is_shown then Some step.placed else None
 abbrev pub with_list : Sequence → List → Sequence
 with_list q list = record q { list = list }
 
+abbrev pub begun_on : Sequence → ℕ → List → Sequence
+begun_on q turned_on list = record q {
+  list = list;
+  is_shown = false;
+  is_waited = false;
+  is_looked = false;
+  told = None;
+  fresh = fresh.Nothing;
+  turned_on = turned_on;
+}
+
 abbrev pub begun_with : Sequence → List → Sequence
-begun_with q list = record q { list = list; is_shown = false; is_waited = false; is_looked = false; told = None; fresh = fresh.Nothing }
+begun_with q list = begun_on q 0 list
+
+-- how many orders that turn its output on a step had, with this one, of two at most
+abbrev pub on_count : ℕ → Job → ℕ
+on_count had job = if is_on_order job then (if nat_lt had 2 then had + 1 else 2) else had
+
+-- it begins with this order
+abbrev pub begun_by : Sequence → Job → List → Sequence
+begun_by q job list = begun_on q (on_count 0 job) list
 
 -- A job of the step under way, or one that reads for the next one: what was told is past, and a fresh survey stays so if the job is its own.
 -- After an order the next step waits until the rail was looked at again.
@@ -165,15 +198,22 @@ fresh_after it of_ahead = if is_fresh it of_ahead then it else fresh.Nothing
 abbrev pub read_after : Sequence → List → Sequence
 read_after q list = record q { list = list; told = None; fresh = fresh_after q.fresh list.stairs.reading }
 
-abbrev pub ordered_after : Sequence → List → Sequence
-ordered_after q list = record q { list = list; is_shown = false; is_looked = false; told = None; fresh = fresh.Nothing }
+abbrev pub ordered_after : Sequence → Job → List → Sequence
+ordered_after q job list = record q {
+  list = list;
+  is_shown = false;
+  is_looked = false;
+  told = None;
+  fresh = fresh.Nothing;
+  turned_on = on_count q.turned_on job;
+}
 
 abbrev pub job_after : Sequence → Job → List → Sequence
-job_after q job list = if is_order job then ordered_after q list else read_after q list
+job_after q job list = if is_order job then ordered_after q job list else read_after q list
 
 -- a job that is named so has begun: with the first order of a step that begins
 abbrev pub begun_as : Sequence → Act → Job → Sequence
-begun_as q (act.Begins first back) job = begun_with q q.list
+begun_as q (act.Begins first back) job = begun_by q job q.list
 begun_as q (act.Job named) job = job_after q job q.list
 begun_as q (act.Passes back) job = job_after q job q.list
 begun_as q (act.Order named) job = job_after q job q.list
@@ -228,12 +268,21 @@ afresh_with q = record q { list = afresh q.list; fresh = if q.list.stairs.readin
 abbrev pub told_with : Sequence → Job → Sequence
 told_with q job = record q { told = Some job }
 
+-- the order that would be the third: the tries of its step are used up
+abbrev pub spent_fault : Option Under → Option AnswerFault
+spent_fault None = None
+spent_fault (Some under) = under.course.fault
+
+abbrev pub spent_end : Sequence → End
+spent_end q = end.Stopped (Course (Spent (code_of (register_code Operation)) (spent_fault q.list.stairs.under)))
+
 abbrev pub gated_act : Sequence → Gate → Job → Act → Act
 gated_act q gate_is.Goes job said = if is_untold q.asks q.told job then act.Order job else said
 gated_act q gate_is.Looks job said = act.Again
 gated_act q (gate_is.Beyond fault) job said = stopped_act q (end.Beyond fault)
 gated_act q gate_is.Unjudged job said = stopped_act q end.Unjudged
 gated_act q gate_is.Blind job said = act.Again
+gated_act q gate_is.Twice job said = stopped_act q (spent_end q)
 
 abbrev pub gated_after : Sequence → Option Step → Gate → Job → Sequence → Sequence
 gated_after q step gate_is.Goes job after = if is_untold q.asks q.told job then told_with q job else after
@@ -241,6 +290,7 @@ gated_after q step gate_is.Looks job after = look_before q step
 gated_after q step (gate_is.Beyond fault) job after = stopped_after q (end.Beyond fault)
 gated_after q step gate_is.Unjudged job after = stopped_after q end.Unjudged
 gated_after q step gate_is.Blind job after = afresh_with q
+gated_after q step gate_is.Twice job after = stopped_after q (spent_end q)
 
 -- the step under way is over: its rail is looked at, where that is wanted and wasn't done since its last order
 abbrev pub needs_look : Sequence → Step → Bool
@@ -312,7 +362,7 @@ after_of g under ahead q turn.Again list = again_after q list
 after_of g under ahead q (turn.Job job) list =
     gated_after (asked_of q list false) under (gate g q under job list false) job (job_after q job list)
 after_of g under ahead q (turn.Begins job back) list =
-    gated_after (asked_of q list true) ahead (gate g q ahead job list true) job (begun_with q list)
+    gated_after (asked_of q list true) ahead (gate g q ahead job list true) job (begun_by q job list)
 after_of g under ahead q (turn.Passes back) list = begun_with q list
 after_of g under ahead q (turn.NoWayBack fault) list = with_list q list
 after_of g under ahead q turn.Reached list = reached_after q under ahead list

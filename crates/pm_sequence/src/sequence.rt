@@ -3,17 +3,18 @@
 ghost use Rattle.std.specs.Prelude.{◌≡◌, ◌<◌, None};
 ghost use Rattle.pm_host.specs.Image.{held};
 ghost use Rattle.pm_stairs.specs.Sequence.{one_more as spec_one_more};
-ghost use Rattle.pm_sequence.specs.Sequence.{act_of, after_of, afresh_with, ahead_act, ahead_after, anew, asked_of, begun_as, begun_with, due_by, due_in as spec_due_in, end_of as spec_end_of, found_at, fresh_after, gate as spec_gate, gated_act, gated_after, is_at as spec_is_at, is_begin as spec_is_begin, is_fresh as spec_is_fresh, is_good as spec_is_good, is_read_for as spec_is_read_for, job_after, judged_after, judged_gate, look_before, looked_act, looked_after, may_leave as spec_may_leave, needs_look as spec_needs_look, new_sequence, reached_act, reached_after, shown as spec_shown, stopped_act, stopped_after, verdict_by, verdict_in as spec_verdict_in, with_list, Acts, Steps};
+ghost use Rattle.pm_sequence.specs.Sequence.{act_of, after_of, afresh_with, ahead_act, ahead_after, anew, asked_of, begun_as, begun_with, due_by, due_in as spec_due_in, end_of as spec_end_of, found_at, fresh_after, gate as spec_gate, gated_act, gated_after, had_two as spec_had_two, is_at as spec_is_at, is_begin as spec_is_begin, is_fresh as spec_is_fresh, is_good as spec_is_good, is_read_for as spec_is_read_for, job_after, judged_after, judged_gate, look_before, looked_act, looked_after, may_leave as spec_may_leave, needs_look as spec_needs_look, new_sequence, on_count as spec_on_count, reached_act, reached_after, shown as spec_shown, spent_end as spec_spent_end, stopped_act, stopped_after, verdict_by, verdict_in as spec_verdict_in, with_list, Acts, Steps};
 
 use crate::gate::{Gate, is_judged_order, is_on_order, is_order, is_untold, judge};
 use crate::look::{Look, LookAct};
 use crate::step::Step;
-use pm_course::FrameCourse;
+use pm_course::{CourseEnd, FrameCourse};
 use pm_delivery::{Delivery, DeliveryFault, Due, Question, Verdict};
 use pm_host::{Job, State};
 use pm_limits::{OutputLimits, PartRegisters};
 use pm_rail::{PlanFault, Survey, power_in};
 use pm_stairs::{Placed, Sequence as List, Sight, StepEnd, Turn, WordStep};
+use pm_table::Code;
 
 /// What is looked at.
 #[derive(Clone, Copy, Debug, PartialEq, Eq)]
@@ -125,6 +126,8 @@ pub struct Sequence {
     pub told: Option<Job>,
     /// Whose survey is fresh.
     pub fresh: Fresh,
+    /// How many orders that turn its output on the step under way had, two at most.
+    pub turned_on: u8,
     /// How many steps were left.
     pub left: u16,
     /// How it has ended.
@@ -149,6 +152,7 @@ impl Sequence {
             asks: rules.asks,
             told: None,
             fresh: Fresh::Nothing,
+            turned_on: 0,
             left: 0,
             end: None,
         }
@@ -251,11 +255,24 @@ impl Sequence {
         ensures { result ≡ spec_gate (S.guarded guard.now) self.now step.now job self.now.list begins }
     {
         match self.judged_gate(guard, step, job) {
-            Gate::Goes
-                if is_on_order(job) && !is_fresh(self.fresh, begins || self.list.stairs.reading) =>
-                Gate::Blind,
+            Gate::Goes if is_on_order(job) => {
+                if !is_fresh(self.fresh, begins || self.list.stairs.reading) {
+                    Gate::Blind
+                } else if self.had_two(begins) {
+                    Gate::Twice
+                } else {
+                    Gate::Goes
+                }
+            }
             gate => gate,
         }
+    }
+
+    // Whether the step of an order, which begins with it or not, had two that turn its output on.
+    fn had_two(&self, begins: bool) -> bool
+        ensures { result ≡ spec_had_two self.now begins }
+    {
+        !begins && 2 <= self.turned_on
     }
 
     // Whether a job of a step may begin, by what was read before.
@@ -324,7 +341,26 @@ impl Sequence {
                 self.surveys_anew();
                 Act::Again
             }
+            Gate::Twice => {
+                self.asked(was, is_begin(&act));
+                let end = self.spent_end();
+                self.stops(end)
+            }
         }
+    }
+
+    // The order would be the third that turns its output on.
+    fn spent_end(&self) -> End
+        ensures { result ≡ spec_spent_end self.now }
+    {
+        let fault = match &self.list.stairs.under {
+            Some(under) => under.course.fault,
+            None => None,
+        };
+        End::Stopped(StepEnd::Course(CourseEnd::Spent {
+            code: Code::OPERATION,
+            fault,
+        }))
     }
 
     // The survey of the course that was asked begins anew.
@@ -355,7 +391,10 @@ impl Sequence {
         ensures { self.new ≡ begun_as self.old act.now job }
     {
         match act {
-            Act::Begins(..) => self.begins(),
+            Act::Begins(..) => {
+                self.begins();
+                self.turned_on = on_count(0, job);
+            }
             _ => self.after_job(job),
         }
     }
@@ -382,6 +421,7 @@ impl Sequence {
         self.is_looked = false;
         self.told = None;
         self.fresh = Fresh::Nothing;
+        self.turned_on = 0;
     }
 
     // A job of the step under way, or one that reads for the next one, has begun.
@@ -393,6 +433,7 @@ impl Sequence {
             self.is_shown = false;
             self.is_looked = false;
             self.fresh = Fresh::Nothing;
+            self.turned_on = on_count(self.turned_on, job);
         } else {
             self.fresh = kept_fresh(self.fresh, self.list.stairs.reading);
         }
@@ -569,6 +610,19 @@ fn is_fresh(fresh: Fresh, of_ahead: bool) -> bool
         Fresh::Nothing => false,
         Fresh::Under => !of_ahead,
         Fresh::Ahead => of_ahead,
+    }
+}
+
+// How many orders that turn its output on a step had, with this one, of two at most.
+fn on_count(had: u8, job: Job) -> u8
+    ensures { result ≡ spec_on_count had job }
+{
+    if !is_on_order(job) {
+        had
+    } else if had < 2 {
+        had + 1
+    } else {
+        2
     }
 }
 

@@ -29,7 +29,7 @@ use Rattle.pm_sequence.specs.declared.step.Step.{Step}
 use Rattle.pm_sequence.specs.Frames.{job_named, refusal_end, refused_act, refused_after, refused_with}
 use Rattle.pm_sequence.specs.Gate.{is_order, is_untold}
 use Rattle.pm_sequence.specs.Look.{look_act, look_after}
-use Rattle.pm_sequence.specs.Sequence.{Acts, Steps, act_of, afresh_with, after_of, again_after, ahead_act, ahead_after, asked_of, begun_with, done_act, done_after, due_in, end_of, found_in, gate, gated_act, gated_after, is_good, job_after, judged_in, looked_act, looked_after, look_before, may_leave, needs_look, ordered_after, over_act, over_after, read_after, said_act, said_after, shown, step_act, step_after, stopped_act, stopped_after, told_with, verdict_in, with_list, with_look}
+use Rattle.pm_sequence.specs.Sequence.{Acts, Steps, act_of, afresh_with, after_of, again_after, ahead_act, ahead_after, asked_of, begun_by, begun_with, done_act, done_after, due_in, end_of, found_in, gate, gated_act, gated_after, is_good, job_after, judged_in, looked_act, looked_after, look_before, may_leave, needs_look, ordered_after, over_act, over_after, read_after, said_act, said_after, shown, spent_end, step_act, step_after, stopped_act, stopped_after, told_with, verdict_in, with_list, with_look}
 use Rattle.pm_sequence.specs.Sequence as does
 use Rattle.pm_sequence_laws.specs.Runs.{Mark, Orders, Does, Leaves, Places, marks_of, must, under_at}
 use Rattle.pm_sequence_laws.proofs.Counts.{Counts, afresh-begun, counts, may_begin}
@@ -102,8 +102,8 @@ module _ (steps : Places) (was : Sequence) where
 
     -- a job, where as many have begun
     job-by : (job : Job) (list : List_) → list.begun ≡ was.list.begun → (b : Bool)
-        → Kind steps was (cond b (ordered_after was list) (read_after was list))
-        (cond b (Orders (cond b (ordered_after was list) (read_after was list)).list.begun ∷ []) [])
+        → Kind steps was (cond b (ordered_after was job list) (read_after was list))
+        (cond b (Orders (cond b (ordered_after was job list) (read_after was list)).list.begun ∷ []) [])
     job-by job list begun true = orders (same begun) refl refl refl (no-end on)
     job-by job list begun false = quiet begun (λ e. e) (λ e. e) refl (λ e. e)
 
@@ -118,19 +118,23 @@ module _ (steps : Places) (was : Sequence) where
         stop-kind (asked_of was list false) (end.Beyond fault) (λ e. cc) refl (λ e. e) (λ e. e) refl on
     job-kind step job list begun gate_is.Blind = anew-kind list false
     job-kind step job list begun gate_is.Unjudged = stop-kind (asked_of was list false) end.Unjudged (λ e. cc) refl (λ e. e) (λ e. e) refl on
+    job-kind step job list begun gate_is.Twice =
+        stop-kind (asked_of was list false) (spent_end (asked_of was list false)) (λ e. cc) refl (λ e. e) (λ e. e) refl on
 
     begin-kind : (step : Option Step) (job : Job) (back : WordStep) (list : List_) → Begun steps was (begun_with was list) → (is : Gate)
-        → Kind steps was (gated_after (asked_of was list true) step is job (begun_with was list))
-        (marks_of (gated_after (asked_of was list true) step is job (begun_with was list)).list.begun
+        → Kind steps was (gated_after (asked_of was list true) step is job (begun_by was job list))
+        (marks_of (gated_after (asked_of was list true) step is job (begun_by was job list)).list.begun
         (gated_act (asked_of was list true) is job (act.Begins job back)))
     begin-kind step job back list begun gate_is.Goes =
-        tell-by list true job (begun_with was list) (act.Begins job back) (orders begun refl refl refl (no-end on)) (is_untold was.asks was.told job)
+        tell-by list true job (begun_by was job list) (act.Begins job back) (orders begun refl refl refl (no-end on)) (is_untold was.asks was.told job)
     begin-kind step job back list begun gate_is.Looks = look-kind list true step
     begin-kind step job back list begun (gate_is.Beyond fault) =
         stop-kind (asked_of was list true) (end.Beyond fault) (λ e. cc) refl (λ e. e) (λ e. e) refl on
     begin-kind step job back list begun gate_is.Blind = anew-kind list true
     begin-kind step job back list begun gate_is.Unjudged =
         stop-kind (asked_of was list true) end.Unjudged (λ e. cc) refl (λ e. e) (λ e. e) refl on
+    begin-kind step job back list begun gate_is.Twice =
+        stop-kind (asked_of was list true) (spent_end (asked_of was list true)) (λ e. cc) refl (λ e. e) (λ e. e) refl on
 
     -- all of the newest step is over
     end-by : (n : ℕ) (b : Bool) → (n == 0) ≡ b → Some (cond b end.Reached (end.Left n)) ≡ reached → n ≡ 0

@@ -30,7 +30,7 @@ use Rattle.pm_sequence.specs.declared.sequence.Sequence.{Sequence}
 use Rattle.pm_sequence.specs.declared.step.Step.{Step}
 use Rattle.pm_sequence.specs.Gate.{is_order, is_untold}
 use Rattle.pm_sequence.specs.Look.{counted, is_silent, look_act, look_after, probe_due}
-use Rattle.pm_sequence.specs.Sequence.{Acts, Steps, after_of, ahead_after, asked_list, begun_with, done_after, due_in, gate, gated_after, is_at, is_good, job_after, judged_in, left_out, look_before, looking_at, may_leave, needs_look, read_after, said_after, stopped_after, told_with, verdict_in, with_list, with_look}
+use Rattle.pm_sequence.specs.Sequence.{Acts, Steps, after_of, ahead_after, asked_list, begun_by, begun_with, done_after, due_in, gate, gated_after, is_at, is_good, job_after, judged_in, left_out, look_before, looking_at, may_leave, needs_look, read_after, said_after, spent_end, stopped_after, told_with, verdict_in, with_list, with_look}
 use Rattle.pm_sequence.specs.Sequence as does
 use Rattle.pm_sequence_laws.specs.Read.{LimitsAreRead, WasRead}
 
@@ -60,6 +60,7 @@ module _ (q : Sequence) (unread : q.is_read ≡ false) where
   gate-read list step job after quiet (gate_is.Beyond fault) = stop-read list (end.Beyond fault)
   gate-read list step job after quiet gate_is.Blind = never
   gate-read list step job after quiet gate_is.Unjudged = stop-read list end.Unjudged
+  gate-read list step job after quiet gate_is.Twice = stop-read list (spent_end (with_list q list))
 
   and-read : (b : Bool) → (q.is_read && b) ≡ true → ⊥
   and-read b e = let same : (q.is_read && b) ≡ (false && b) = ap (λ (x : Bool). x && b) unread in true≢false (sym e ∙ same)
@@ -80,7 +81,7 @@ module _ (q : Sequence) (unread : q.is_read ≡ false) where
       gate-read (asked_list q.list list false) under job (job_after q job list)
       (either-read ⊥ (is_order job) _ (read_after q list) never never) (gate g q under job list false)
   turn-read g under ahead (turn.Begins job back) list =
-      gate-read (asked_list q.list list true) ahead job (begun_with q list) never (gate g q ahead job list true)
+      gate-read (asked_list q.list list true) ahead job (begun_by q job list) never (gate g q ahead job list true)
   turn-read g under ahead (turn.Passes back) list = never
   turn-read g under ahead (turn.NoWayBack fault) list = never
   turn-read g under ahead turn.Reached list = over-read list under ahead

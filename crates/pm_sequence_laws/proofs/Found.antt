@@ -24,7 +24,7 @@ use Rattle.pm_sequence.specs.declared.step.Step.{Step}
 use Rattle.pm_sequence.specs.Gate.{is_untold}
 use Rattle.pm_sequence.specs.Look.{look_act, look_after}
 use Rattle.pm_sequence.specs.Steps.{is_unreadable}
-use Rattle.pm_sequence.specs.Sequence.{Acts, Steps, act_of, ahead_act, asked_of, done_act, done_after, due_in, found_in, gate, gated_act, is_good, is_good_by, judged_in, may_leave, needs_look, over_act, said_act, said_after, stopped_act, stopped_after, verdict_in, with_list, with_look}
+use Rattle.pm_sequence.specs.Sequence.{Acts, Steps, act_of, ahead_act, asked_of, done_act, done_after, due_in, found_in, gate, gated_act, is_good, is_good_by, judged_in, may_leave, needs_look, over_act, said_act, said_after, spent_end, stopped_act, stopped_after, verdict_in, with_list, with_look}
 use Rattle.pm_sequence.specs.Sequence as does
 use Rattle.pm_sequence_laws.specs.Finds.{FindsAreVerdicts, IsDelivered, IsFound, by_voltage, delivers, power_good, went_off}
 
@@ -64,6 +64,7 @@ gate-quiet q job x quiet gate_is.Looks = refl
 gate-quiet q job x quiet (gate_is.Beyond fault) = stop-quiet q (end.Beyond fault)
 gate-quiet q job x quiet gate_is.Blind = refl
 gate-quiet q job x quiet gate_is.Unjudged = stop-quiet q end.Unjudged
+gate-quiet q job x quiet gate_is.Twice = stop-quiet q (spent_end q)
 
 turn-quiet : (g : Guarded) (under ahead : Option Step) (q : Sequence) (x : Turn) (list : List) → is_find (act_of g under ahead q x list) ≡ false
 turn-quiet g under ahead q turn.Again list = refl

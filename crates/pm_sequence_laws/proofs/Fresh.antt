@@ -35,7 +35,7 @@ use Rattle.pm_sequence.specs.Gate.{is_on_order, is_order, is_untold}
 use Rattle.pm_sequence.specs.Frames.{Hears, fresh_heard}
 use Rattle.pm_sequence.specs.Frames as hear
 use Rattle.pm_sequence.specs.Look.{look_act, look_after}
-use Rattle.pm_sequence.specs.Sequence.{Acts, Steps, act_of, after_of, afresh, afresh_with, ahead_act, ahead_after, asked_of, begun_with, done_act, done_after, due_in, found_in, gate, gated_act, gated_after, is_fresh, is_good, job_after, judged_in, left_out, look_before, looking_at, may_leave, needs_look, ordered_after, over_act, over_after, read_after, said_act, said_after, shown, stopped_act, stopped_after, told_with, verdict_in, with_list, with_look}
+use Rattle.pm_sequence.specs.Sequence.{Acts, Steps, act_of, after_of, afresh, afresh_with, ahead_act, ahead_after, asked_of, begun_by, begun_with, done_act, done_after, due_in, found_in, gate, gated_act, gated_after, is_fresh, is_good, job_after, judged_in, left_out, look_before, looking_at, may_leave, needs_look, ordered_after, over_act, over_after, read_after, said_act, said_after, shown, spent_end, stopped_act, stopped_after, told_with, verdict_in, with_list, with_look}
 use Rattle.pm_sequence.specs.Sequence as does
 use Rattle.pm_sequence_laws.specs.Fresh.{BeginsAnew, ComesFresh, OrdersAreFresh, anew, ends, reads, rests, stays}
 use Rattle.pm_sequence_laws.specs.Turned.{is_begin}
@@ -82,7 +82,7 @@ module _ (g : Guarded) (under ahead : Option Step) (old : Sequence) where
   read-so job list quiet true own = reads job quiet refl own
   read-so job list quiet false own = ends (act.Job job) refl
 
-  job-so : (job : Job) (list : List) (b : Bool) → is_order job ≡ b → Comes (cond b (ordered_after old list) (read_after old list)) (act.Job job)
+  job-so : (job : Job) (list : List) (b : Bool) → is_order job ≡ b → Comes (cond b (ordered_after old job list) (read_after old list)) (act.Job job)
   job-so job list true is = ends (act.Job job) refl
   job-so job list false is = read-so job list is (is_fresh old.fresh list.stairs.reading) refl
 
@@ -95,6 +95,8 @@ module _ (g : Guarded) (under ahead : Option Step) (old : Sequence) where
   gate-so step job after said list x turned goes gate_is.Looks = before-so (asked_of old list (is_begin x)) step refl
   gate-so step job after said list x turned goes (gate_is.Beyond fault) = stop-so (asked_of old list (is_begin x)) (end.Beyond fault) refl
   gate-so step job after said list x turned goes gate_is.Unjudged = stop-so (asked_of old list (is_begin x)) end.Unjudged refl
+  gate-so step job after said list x turned goes gate_is.Twice =
+      stop-so (asked_of old list (is_begin x)) (spent_end (asked_of old list (is_begin x))) refl
   gate-so step job after said list x turned goes gate_is.Blind =
       anew act.Again (record {
         x = x;
@@ -128,7 +130,7 @@ module _ (g : Guarded) (under ahead : Option Step) (old : Sequence) where
       gate-so under job (job_after old job list) (act.Job job) list (turn.Job job) turned (job-so job list (is_order job) refl)
       (gate g old under job list false)
   turn-so (turn.Begins job back) list turned =
-      gate-so ahead job (begun_with old list) (act.Begins job back) list (turn.Begins job back) turned (ends (act.Begins job back) refl)
+      gate-so ahead job (begun_by old job list) (act.Begins job back) list (turn.Begins job back) turned (ends (act.Begins job back) refl)
       (gate g old ahead job list true)
   turn-so (turn.Passes back) list turned = ends (act.Passes back) refl
   turn-so (turn.NoWayBack fault) list turned = stays (act.NoWayBack fault) refl refl

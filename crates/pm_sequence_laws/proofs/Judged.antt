@@ -32,7 +32,7 @@ use Rattle.pm_sequence.specs.declared.step.Step.{Step}
 use Rattle.pm_sequence.specs.Gate.{is_on_order, is_order, is_told, is_untold, order_gate, same_order, step_gate}
 use Rattle.pm_sequence.specs.Look.{look_act, look_after}
 use Rattle.pm_delivery.specs.declared.verdict.Verdict.{Verdict}
-use Rattle.pm_sequence.specs.Sequence.{Acts, Steps, act_of, after_of, ahead_act, asked_of, done_act, due_in, found_at, found_in, fresh_gate, gate, gated_act, gated_after, is_fresh, is_good, is_read_for, job_after, judged_gate, looked_act, may_leave, needs_look, over_act, read_gate, said_act, shown, step_act, stopped_act, told_with, verdict_in, with_list, with_look}
+use Rattle.pm_sequence.specs.Sequence.{Acts, Steps, act_of, after_of, ahead_act, asked_of, done_act, due_in, found_at, found_in, fresh_gate, gate, gated_act, gated_after, had_two, is_fresh, is_good, is_read_for, job_after, judged_gate, looked_act, may_leave, needs_look, over_act, read_gate, said_act, shown, spent_end, step_act, stopped_act, told_with, twice_gate, verdict_in, with_list, with_look}
 use Rattle.pm_sequence.specs.Sequence as does
 use Rattle.pm_sequence_laws.proofs.Listed.{either-list}
 use Rattle.pm_sequence_laws.specs.Judged.{IsDue, IsJudged, IsTold, OrdersAreJudged, OrdersAreTold}
@@ -113,6 +113,28 @@ fresh-goes it b job gate_is.Looks h = cc
 fresh-goes it b job (gate_is.Beyond fault) h = cc
 fresh-goes it b job gate_is.Unjudged h = cc
 fresh-goes it b job gate_is.Blind h = cc
+fresh-goes it b job gate_is.Twice h = cc
+
+on-few : (o two : Bool) → cond (o && two) gate_is.Twice gate_is.Goes ≡ gate_is.Goes → o ≡ true → two ≡ false
+on-few true true h o = cc
+on-few true false h o = refl
+on-few false two h o = cc
+
+-- and isn't the third of its step
+twice-goes : (two : Bool) (job : Job) (x : Gate) → twice_gate two job x ≡ gate_is.Goes
+    → (x ≡ gate_is.Goes) × (is_on_order job ≡ true → two ≡ false)
+twice-goes two job gate_is.Goes h = (refl, on-few (is_on_order job) two h)
+twice-goes two job gate_is.Looks h = cc
+twice-goes two job (gate_is.Beyond fault) h = cc
+twice-goes two job gate_is.Unjudged h = cc
+twice-goes two job gate_is.Blind h = cc
+twice-goes two job gate_is.Twice h = cc
+
+-- what a gate that lets a job through says
+let-through : (g : Guarded) (q : Sequence) (step : Option Step) (job : Job) (list : List) (begins : Bool) → gate g q step job list begins ≡ gate_is.Goes
+    → fresh_gate q.fresh (begins || list.stairs.reading) job (judged_gate g q step job list.stairs.under) ≡ gate_is.Goes
+let-through g q step job list begins goes =
+    (twice-goes (had_two q begins) job (fresh_gate q.fresh (begins || list.stairs.reading) job (judged_gate g q step job list.stairs.under)) goes).0
 
 judged-by : (g : Guarded) (q : Sequence) (step : Option Step) (job : Job) (list : List)
     → judged_gate g q step job list.stairs.under ≡ gate_is.Goes → (it : Step) → step ≡ Some it → it.looks.is_wanted ≡ true → order_gate job ≡ true
@@ -125,13 +147,26 @@ judged : (g : Guarded) (q : Sequence) (step : Option Step) (job : Job) (list : L
     → IsJudged g q step job list
 judged g q step job list begins goes = record {
   goes = judged-by g q step job list
-      (fresh-goes q.fresh (begins || list.stairs.reading) job (judged_gate g q step job list.stairs.under) goes).0;
+      (fresh-goes q.fresh (begins || list.stairs.reading) job (judged_gate g q step job list.stairs.under)
+      (let-through g q step job list begins goes)).0;
 }
 
 fresh-by : (g : Guarded) (q : Sequence) (step : Option Step) (job : Job) (list : List) (begins : Bool) → gate g q step job list begins ≡ gate_is.Goes
     → is_on_order job ≡ true → is_fresh q.fresh (begins || list.stairs.reading) ≡ true
 fresh-by g q step job list begins goes =
-    (fresh-goes q.fresh (begins || list.stairs.reading) job (judged_gate g q step job list.stairs.under) goes).1
+    (fresh-goes q.fresh (begins || list.stairs.reading) job (judged_gate g q step job list.stairs.under)
+    (let-through g q step job list begins goes)).1
+
+-- nor the third of its step
+few-parts : (two : Bool) → (true && not two) ≡ false → two ≡ true
+few-parts true h = refl
+few-parts false h = cc
+
+pub few-by : (g : Guarded) (q : Sequence) (step : Option Step) (job : Job) (list : List) → gate g q step job list false ≡ gate_is.Goes
+    → is_on_order job ≡ true → nat_lt q.turned_on 2 ≡ true
+few-by g q step job list goes on =
+    few-parts (nat_lt q.turned_on 2)
+    ((twice-goes (had_two q false) job (fresh_gate q.fresh list.stairs.reading job (judged_gate g q step job list.stairs.under)) goes).1 on)
 
 -- what an act names
 pub data NamesSo (g : Guarded) (under ahead : Option Step) (q new : Sequence) : Act → Type 0 where
@@ -160,7 +195,7 @@ job-goes g under ahead q job list says judged fresh false told = a-job job list 
 begin-goes : (g : Guarded) (under ahead : Option Step) (q : Sequence) (job : Job) (back : WordStep) (list : List)
     → Turns g (shown q ahead) q.list (turn.Begins job back) list → IsJudged g q ahead job list
     → (is_on_order job ≡ true → is_fresh q.fresh true ≡ true) → (b : Bool) → is_untold q.asks q.told job ≡ b
-    → NamesSo g under ahead q (cond b (told_with (asked_of q list true) job) (does.begun_with q list))
+    → NamesSo g under ahead q (cond b (told_with (asked_of q list true) job) (does.begun_by q job list))
     (cond b (act.Order job) (act.Begins job back))
 begin-goes g under ahead q job back list says judged fresh true told =
     an-order job told
@@ -179,11 +214,12 @@ job-so g under ahead q job list says gate_is.Looks goes = none act.Again refl
 job-so g under ahead q job list says (gate_is.Beyond fault) goes = none _ (stop-quiet (asked_of q list false) (end.Beyond fault))
 job-so g under ahead q job list says gate_is.Blind goes = none act.Again refl
 job-so g under ahead q job list says gate_is.Unjudged goes = none _ (stop-quiet (asked_of q list false) end.Unjudged)
+job-so g under ahead q job list says gate_is.Twice goes = none _ (stop-quiet (asked_of q list false) (spent_end (asked_of q list false)))
 
 begin-so : (g : Guarded) (under ahead : Option Step) (q : Sequence) (job : Job) (back : WordStep) (list : List)
     → Turns g (shown q ahead) q.list (turn.Begins job back) list
     → (is : Gate) → gate g q ahead job list true ≡ is
-    → NamesSo g under ahead q (gated_after (asked_of q list true) ahead is job (does.begun_with q list))
+    → NamesSo g under ahead q (gated_after (asked_of q list true) ahead is job (does.begun_by q job list))
     (gated_act (asked_of q list true) is job (act.Begins job back))
 begin-so g under ahead q job back list says gate_is.Goes goes =
     begin-goes g under ahead q job back list says (judged g q ahead job list true goes) (fresh-by g q ahead job list true goes)
@@ -192,6 +228,7 @@ begin-so g under ahead q job back list says gate_is.Looks goes = none act.Again 
 begin-so g under ahead q job back list says (gate_is.Beyond fault) goes = none _ (stop-quiet (asked_of q list true) (end.Beyond fault))
 begin-so g under ahead q job back list says gate_is.Blind goes = none act.Again refl
 begin-so g under ahead q job back list says gate_is.Unjudged goes = none _ (stop-quiet (asked_of q list true) end.Unjudged)
+begin-so g under ahead q job back list says gate_is.Twice goes = none _ (stop-quiet (asked_of q list true) (spent_end (asked_of q list true)))
 
 turn-so : (g : Guarded) (under ahead : Option Step) (q : Sequence) (said : Turn) (list : List) → Turns g (shown q ahead) q.list said list
     → NamesSo g under ahead q (after_of g under ahead q said list) (act_of g under ahead q said list)

@@ -10,3 +10,4 @@ pub mod Listed
 pub mod Asked
 pub mod Found
 pub mod Stood
+pub mod Twice

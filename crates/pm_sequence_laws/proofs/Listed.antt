@@ -28,7 +28,7 @@ use Rattle.pm_sequence.specs.declared.sequence.Sequence.{Sequence}
 use Rattle.pm_sequence.specs.declared.step.Step.{Step}
 use Rattle.pm_sequence.specs.Gate.{is_order, is_untold}
 use Rattle.pm_sequence.specs.Look.{look_act, look_after}
-use Rattle.pm_sequence.specs.Sequence.{Acts, Steps, after_of, ahead_after, asked_list, asked_of, begun_with, done_after, due_in, gate, gated_after, is_good, job_after, judged_in, left_out, look_before, may_leave, needs_look, over_after, read_after, said_after, shown, stopped_after, told_with, verdict_in, with_list, with_look}
+use Rattle.pm_sequence.specs.Sequence.{Acts, Steps, after_of, ahead_after, asked_list, asked_of, begun_by, begun_with, done_after, due_in, gate, gated_after, is_good, job_after, judged_in, left_out, look_before, may_leave, needs_look, over_after, read_after, said_after, shown, spent_end, stopped_after, told_with, verdict_in, with_list, with_look}
 use Rattle.pm_sequence.specs.Sequence as does
 use Rattle.pm_sequence_laws.specs.Turned.{IsKept, ListGoes, SequencesTurn, is_begin}
 use Rattle.pm_sequence_laws.specs.Turned as it
@@ -99,6 +99,8 @@ gate-so g ahead q step job after list x turned is (gate_is.Beyond fault) =
 gate-so g ahead q step job after list x turned is gate_is.Blind = it.surveyed_anew x list turned refl
 gate-so g ahead q step job after list x turned is gate_is.Unjudged =
     asking g ahead q.leaves q.list list _ x turned (stop-list (asked_of q list (is_begin x)) end.Unjudged)
+gate-so g ahead q step job after list x turned is gate_is.Twice =
+    asking g ahead q.leaves q.list list _ x turned (stop-list (asked_of q list (is_begin x)) (spent_end (asked_of q list (is_begin x))))
 
 turn-so : (g : Guarded) (under ahead : Option Step) (q : Sequence) (x : Turn) (list : List) → Turns g (shown q ahead) q.list x list
     → ListGoes g (shown q ahead) q.leaves q.list (after_of g under ahead q x list).list
@@ -109,7 +111,7 @@ turn-so g under ahead q (turn.Job job) list turned =
     gate-so g (shown q ahead) q under job (job_after q job list) list (turn.Job job) turned
     (either-list (is_order job) _ (read_after q list) list refl refl) (gate g q under job list false)
 turn-so g under ahead q (turn.Begins job back) list turned =
-    gate-so g (shown q ahead) q ahead job (begun_with q list) list (turn.Begins job back) turned refl (gate g q ahead job list true)
+    gate-so g (shown q ahead) q ahead job (begun_by q job list) list (turn.Begins job back) turned refl (gate g q ahead job list true)
 turn-so g under ahead q (turn.Passes back) list turned = it.says (turn.Passes back) turned
 turn-so g under ahead q (turn.NoWayBack fault) list turned = it.says (turn.NoWayBack fault) turned
 turn-so g under ahead q turn.Reached list turned =

@@ -32,7 +32,7 @@ use Rattle.pm_sequence.specs.declared.sequence.Sequence.{Sequence}
 use Rattle.pm_sequence.specs.declared.step.Step.{Step}
 use Rattle.pm_sequence.specs.Gate.{is_order, is_untold}
 use Rattle.pm_sequence.specs.Look.{is_silent, look_act, look_after, probe_due}
-use Rattle.pm_sequence.specs.Sequence.{Acts, Steps, after_of, ahead_after, asked_list, begun_with, due_in, found_in, gate, gated_after, job_after, left_out, look_before, looked_act, looking_at, may_leave, needs_look, over_after, read_after, said_act, stopped_after, told_with, verdict_in, with_list, with_look}
+use Rattle.pm_sequence.specs.Sequence.{Acts, Steps, after_of, ahead_after, asked_list, begun_by, begun_with, due_in, found_in, gate, gated_after, job_after, left_out, look_before, looked_act, looking_at, may_leave, needs_look, over_after, read_after, said_act, spent_end, stopped_after, told_with, verdict_in, with_list, with_look}
 use Rattle.pm_sequence.specs.Sequence as does
 use Rattle.pm_sequence_laws.specs.Read.{EarlierAnswersCount}
 use Rattle.pm_sequence_laws.proofs.Asked.{due-is}
@@ -83,6 +83,7 @@ module _ (under ahead : Option Step) where
     gate-starts list step job after looks goes (gate_is.Beyond fault) = stop-starts list (end.Beyond fault)
     gate-starts list step job after looks goes gate_is.Blind = off
     gate-starts list step job after looks goes gate_is.Unjudged = stop-starts list end.Unjudged
+    gate-starts list step job after looks goes gate_is.Twice = stop-starts list (spent_end (with_list q list))
 
     next-starts : (list : List) (next : Option Step) → Starts (ahead_after (with_list q list) next)
     next-starts list None = off
@@ -101,7 +102,7 @@ module _ (under ahead : Option Step) where
         gate-starts (asked_list q.list list false) under job (job_after q job list) (under-starts (asked_list q.list list false) under refl)
         (either-starts (is_order job) _ (read_after q list) off off) (gate g q under job list false)
     turn-starts (turn.Begins job back) list =
-        gate-starts (asked_list q.list list true) ahead job (begun_with q list) (ahead-starts (asked_list q.list list true) ahead refl) off
+        gate-starts (asked_list q.list list true) ahead job (begun_by q job list) (ahead-starts (asked_list q.list list true) ahead refl) off
         (gate g q ahead job list true)
     turn-starts (turn.Passes back) list = off
     turn-starts (turn.NoWayBack fault) list = off

@@ -7,6 +7,7 @@ ghost use Rattle.pm_sequence_laws.specs.Judged.{OrdersAreJudged, OrdersAreTold};
 ghost use Rattle.pm_sequence_laws.specs.Read.{EarlierAnswersCount, LimitsAreRead};
 ghost use Rattle.pm_sequence_laws.specs.Runs.{ReachedSequencesDeliver};
 ghost use Rattle.pm_sequence_laws.specs.Turned.{SequencesTurn};
+ghost use Rattle.pm_sequence_laws.specs.Twice.{OrdersStopAtTwo};
 
 use pm_table::cells_are_told_apart;
 
@@ -33,6 +34,11 @@ pub fn orders_are_told()
 /// The write of an order that turns an output on, or leaves it on, is handed out in the first pass of its job and in no later one.
 pub fn orders_go_once()
     ensures { OrdersGoOnce }
+{}
+
+/// A step has at most two orders that turn its output on, or leave it on. What begins a step begins the count anew, and nothing else does.
+pub fn orders_stop_at_two()
+    ensures { OrdersStopAtTwo }
 {}
 
 /// `Reached` says that no step was left, and that each step that has to deliver was found to, after its last order.

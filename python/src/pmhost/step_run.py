@@ -133,6 +133,8 @@ class StepRun:
             return
         self.list = self.lists.at(self.place)
         self.end = self.list.run(self.lists.buses, self._told, after_order, self.part.transfers, ask)
+        if self.turned_on == 2:
+            turn_on.refuse_third(self.step, self.end)
         if self.end.kind in ("does", "fails"):
             self.see(self.end)
         if not self.end.is_end and self.end.kind not in ("order", "stopped"):
@@ -155,7 +157,7 @@ class StepRun:
         may_begin = self.before_order is None or self.before_order(Job("order", said.register, said.word)) is not False
         self._due = None if may_begin else said
         if may_begin and self.turns_on:
-            turn_on.judge(self.part, self.step, self.turned_on)
+            turn_on.judge(self.part, self.step)
             self.turned_on += 1
         return may_begin
 

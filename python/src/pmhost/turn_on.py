@@ -1,6 +1,6 @@
 """What is read directly before an order that turns an output on, with nothing sent between these reads and the order: a part that restarted since
 that was judged may command another voltage. The order is sent once: neither the bus nor its job sends it again. If it isn't read back it is judged
-anew, and sent a second time at most."""
+anew, and sent a second time: the list has no third."""
 from __future__ import annotations
 
 from typing import TYPE_CHECKING
@@ -9,7 +9,7 @@ from .course import in_hexadecimal
 from .errors import ChangedRefused
 from .host import Host
 from .operation import selected_by
-from .sequence import SequenceStep
+from .sequence import Said, SequenceStep
 from .transfers import Transfers
 from .values import Format
 from .voltages import shown
@@ -17,23 +17,27 @@ from .voltages import shown
 if TYPE_CHECKING:
     from .device import Device
 
-# How often a step sends it, and how often all is read if something gives no good answer.
-MOST, ROUNDS = 2, 3
+# How often all is read if something gives no good answer.
+ROUNDS = 3
 MODE, OPERATION = "VOUT_MODE", "OPERATION"
 AGAIN = "call again"
 
 
-def judge(part: Device, step: SequenceStep, orders: int) -> None:
-    """Before the order of a step that has sent so many: reads all that decides what the output commands then. ChangedRefused if something reads
-    otherwise than it is known, or gives no good answer, or no order is left."""
-    if orders >= MOST:
-        raise ChangedRefused(OPERATION, f"{OPERATION} {step.byte:02X} was sent {orders} times, and isn't read back", AGAIN)
+def judge(part: Device, step: SequenceStep) -> None:
+    """Before the order of a step: reads all that decides what the output commands then. ChangedRefused if something reads otherwise than it is
+    known, or gives no good answer."""
     silent = ""
     for _ in range(ROUNDS):
         silent = read(part, step)
         if not silent:
             return
     raise ChangedRefused(silent, f"{silent} gave no good answer directly before the order", AGAIN)
+
+
+def refuse_third(step: SequenceStep, end: Said) -> None:
+    """ChangedRefused if a step that sent its order twice ended since it has no third."""
+    if end.kind == "spent" and end.register == OPERATION:
+        raise ChangedRefused(OPERATION, f"{OPERATION} {step.byte:02X} was sent 2 times, and isn't read back", AGAIN)
 
 
 def read(part: Device, step: SequenceStep) -> str:

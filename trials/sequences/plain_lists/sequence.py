@@ -31,13 +31,13 @@ class Stopped(Exception):
 class Sequence:
     """`under` is the place of the step under way, which began with the words `wanted`; `coming` is the course of the first step ahead. `backs` has
     the steps that undo others, by the places of these, and `heard` what was heard of their rails. `fresh` is the place of the step whose survey began anew,
-    with nothing sent since but its reads."""
+    with nothing sent since but its reads, `turned_on` how many orders that turn its output on the step under way had."""
 
     def __init__(self, parts, steps, rules, tries):
         self.parts, self.steps, self.rules, self.tries = parts, steps, rules, tries
         self.under, self.course, self.wanted, self.coming = None, None, {}, None
         self.begun, self.left, self.look, self.told, self.backs, self.heard = 0, 0, None, None, {}, {}
-        self.fresh = None
+        self.fresh, self.turned_on = None, 0
         self.is_looked = self.is_waited = self.is_warned = self.has_restarted = self.is_over = False
 
     def lines(self):
@@ -82,6 +82,7 @@ class Sequence:
         self.begin(step, job, self.under)
         self.course, self.told, self.is_looked = course, None, self.is_looked and job[0] != "order"
         self.fresh = self.fresh if job[0] != "order" and self.fresh == self.under else None
+        self.turned_on += turns_on(job)
         yield from self.carries_out(step, job, course)
 
     def goes_ahead(self, step):
@@ -113,11 +114,12 @@ class Sequence:
             self.backs[place] = back
         self.begins(course, wanted)
         if job is not None:
+            self.turned_on += turns_on(job)
             yield from self.carries_out(step, job, course)
 
     def begins(self, course, wanted):
         self.under, self.course, self.wanted, self.coming, self.told, self.fresh = self.begun, course, wanted, None, None, None
-        self.begun += 1
+        self.begun, self.turned_on = self.begun + 1, 0
         self.is_looked = self.is_waited = self.is_warned = False
 
     def asked(self, step, place, course, wanted):
@@ -182,6 +184,8 @@ class Sequence:
         if turns_on(job) and self.fresh != place:
             self.surveys_anew(place)
             return False
+        if turns_on(job) and place == self.under and self.turned_on == 2:
+            raise Stopped(place, "spent", OPERATION, self.course.fault)
         if self.rules.asks and self.told != job:
             self.told = job
             yield "told", place, "order", job[1][1], job[2]

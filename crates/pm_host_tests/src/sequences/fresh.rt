@@ -147,3 +147,26 @@ fn an_order_is_written_once_a_job(rt: HostRuntime) {
         );
     }
 }
+
+#[test]
+fn a_step_has_two_orders_at_most_that_turn_on(rt: HostRuntime) {
+    let spent = End::Stopped(StepEnd::Course(CourseEnd::Spent {
+        code: Code::OPERATION,
+        fault: None,
+    }));
+    // How many writes are lost, how many frames after each aren't answered, how the list ends, and how many were written.
+    let rows: [(usize, usize, End, usize); 3] = [
+        (1, 2, End::Reached, 2),
+        (2, 2, spent, 2),
+        (100, 2, spent, 2),
+    ];
+    for (loses, mutes, end, writes) in &rows {
+        let part = Part {
+            loses: *loses,
+            mutes: *mutes,
+            ..PART
+        };
+        let (run, part) = turned_on(&rt, UP, LOOKS, guard(&rt), part);
+        equal(&rt, &(run.end, part.writes), &(Some(*end), *writes), &(*loses, *mutes));
+    }
+}

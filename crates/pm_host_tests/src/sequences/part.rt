@@ -35,6 +35,10 @@ pub(crate) struct Part {
     pub(crate) silent: usize,
     /// How many writes it doesn't hear.
     pub(crate) loses: usize,
+    /// How many frames it doesn't answer after each write that it doesn't hear.
+    pub(crate) mutes: usize,
+    /// How many of these are left.
+    pub(crate) mute: usize,
     /// The command codes of its frames, the register's of one by PAGE_PLUS.
     pub(crate) codes: [u8; 96],
 }
@@ -95,6 +99,7 @@ impl Part {
         self.writes = self.writes.saturating_add(1);
         if 0 < self.loses {
             self.loses -= 1;
+            self.mute = self.mutes;
             return false;
         }
         let output = byte_at(bytes, 3);
@@ -120,6 +125,10 @@ impl Part {
     // One frame more; whether it gets no answer.
     fn counts(&mut self, bytes: &[u8]) -> bool {
         let mut is_gone = self.gone_after <= self.frames;
+        if 0 < self.mute {
+            self.mute -= 1;
+            is_gone = true;
+        }
         let anew = self.anew;
         if let Some(frames) = self.restarts {
             if frames <= self.frames {

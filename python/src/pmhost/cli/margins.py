@@ -180,7 +180,7 @@ class RailTest:
                 while len(points) - len(left) < said.step:
                     self.measure(left.pop(0))
                 orders[said.step] += 1
-                turn_on.judge(self.part, self.step_to(points[said.step]), orders[said.step] - 1)
+                turn_on.judge(self.part, self.step_to(points[said.step]))
                 self.call.maybe = f"{self.rail.name} may be on a margin"
 
         self.part.transfers = Transfers()
@@ -188,6 +188,8 @@ class RailTest:
         run, bus = Sequence([self.part.host], steps, replace(UP, asks=True), TRIES), believed(self.part.bus, self.part.host)
         with self.stopping():
             end = run.run([bus], told, transfers=self.part.transfers, ask=self.call.places()[self.rail.part].ask_operation)
+            if orders[min(end.step, len(points) - 1)] == 2:
+                turn_on.refuse_third(self.step_to(points[end.step]), end)
         if not end.is_well:
             point = points[end.step]
             raise self.ended(point, end, f"at {point}: ")

@@ -210,7 +210,7 @@ def step_answer(arguments: argparse.Namespace, part: Device, register: str, run:
     else:
         found.text, found.why = f"{missed_words(state)}{unordered(has_written)}", why_not(state)
         found.why += PROBE_TELLS * (not has_written and bool(part.transfers.faults))
-    found.why += read_notes(part, arguments.output)
+    found.why += read_notes(part, arguments.output, state.missing)
     return found
 
 
@@ -273,7 +273,7 @@ def confirmed_alone(arguments: argparse.Namespace, part: Device, register: str) 
 
 def read_notes_behind(part: Device, output: int, found: Commanded) -> str:
     """What the part noted after a survey of which a job ended badly; nothing if none did."""
-    return read_notes(part, output) if found.missing else ""
+    return read_notes(part, output, found.missing) if found.missing else ""
 
 
 def why_not(found: Commanded) -> str:

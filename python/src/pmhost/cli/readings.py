@@ -2,6 +2,7 @@
 from __future__ import annotations
 
 import argparse
+from typing import Iterable
 
 from .. import readings
 from ..codes import BLOCK, SIZES, code_of
@@ -10,6 +11,7 @@ from ..packets import Packet
 from ..readings import KINDS
 from ..reads import Reads
 from ..status import BITS
+from ..values import LACKABLE
 from .answer import Answer
 from .call import Call, said
 
@@ -81,7 +83,10 @@ def read_protect(part: Device) -> str:
     return f"; WRITE_PROTECT is {found.payload[0]:02X}" if found.payload and found.payload[0] else ""
 
 
-def read_notes(part: Device, output: int | None) -> str:
-    """What the part noted after a job that ended badly, for the end of a line; nothing if it gives no good answer."""
+def read_notes(part: Device, output: int | None, missing: Iterable[str] = ()) -> str:
+    """What the part noted after a job that ended badly, for the end of a line; nothing if it gives no good answer. A part that was asked for a
+    register that it may lack, and says so, has a hint."""
     words = readings.read_notes(part.bus, part.host.address, output)
-    return f"; {words}" if words else ""
+    lacked = next((name for name in missing if name in LACKABLE), "") if "COMMAND" in words else ""
+    hint = f"; if the part has no {lacked}: `--lacks {lacked}`, in a board file `lacks = [\"{lacked}\"]`" if lacked else ""
+    return f"; {words}{hint}" if words else ""
