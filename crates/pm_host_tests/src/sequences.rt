@@ -2,6 +2,7 @@
 
 mod fresh;
 mod part;
+mod reserved;
 mod rules;
 
 use self::part::{Part, Run, carried};
@@ -32,6 +33,7 @@ pub(crate) const PART: Part = Part {
     anew: [0; 6],
     silent: 0,
     loses: 0,
+    reserved: 0,
     codes: [0; 96],
 };
 
