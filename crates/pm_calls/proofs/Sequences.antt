@@ -4,7 +4,6 @@ use Rattle.std.specs.Prelude.{is_none, is_some, length}
 use Rattle.pm_host.specs.declared.fault.Untold.{Untold}
 use Rattle.pm_host.specs.declared.fault.Untold.TheVariants.{NothingSent}
 use Rattle.pm_host.specs.declared.host.Told.{Told as Told_}
-use Rattle.pm_host.specs.declared.host.Told.TheVariants.{Finished, Got}
 use Rattle.pm_host.specs.declared.stage.Stage.{Stage}
 use Rattle.pm_host.specs.Image.{held}
 use Rattle.pm_host.specs.Summary.{step_of}
@@ -17,12 +16,11 @@ use Rattle.pm_course.specs.declared.frames.Sending.{Sending}
 use Rattle.pm_course.specs.declared.hosted.Heard.{Heard}
 use Rattle.pm_course.specs.Frames.{Hears as CourseHears}
 use Rattle.pm_course.specs.Hosted.{IsSentAt}
-use Rattle.pm_course.specs.Surprise.{surprises}
-use Rattle.pm_stairs.specs.Frames.{course_open, shows_restart}
+use Rattle.pm_stairs.specs.OpenCourse.{course_open}
 use Rattle.pm_stairs.specs.Sequence.{heard_with}
 use Rattle.pm_sequence.specs.declared.sequence.Act.{Act}
 use Rattle.pm_sequence.specs.declared.sequence.Sequence.{Sequence}
-use Rattle.pm_sequence.specs.Frames.{alone, course, heard as hears_course, list_heard, nothing, unheard as unheard_by, Hears, HearsAt}
+use Rattle.pm_sequence.specs.Frames.{alone, course, heard as hears_course, list_heard, nothing, shows_restart, shows_restart_at, unheard as unheard_by, Hears, HearsAt}
 use Rattle.pm_memory.specs.declared.guard_image.GuardImage.{GuardImage}
 use Rattle.pm_memory.specs.Guard.{guard_of, limits_kept, registers_held}
 use Rattle.pm_memory.specs.Hosted.{IsThere, guard_in}
@@ -59,10 +57,9 @@ pub fault-ahead : (host : GuardImage) (image : SequenceImage) (steps : List Sequ
 fault-ahead host image steps room under number both list right wrong = rw (both.guard, both.held, list, right, wrong) refl
 
 -- what came back shows a restart, where it does of the stage at which the open job stands
-pub restart-at : (g : Guarded) (at : Stage) (told : Told_) → g.host.stage ≡ Some at →
-    surprises g.host at (entry_told told) ≡ shows_restart g (entry_told told)
-restart-at g at (Finished acked) is = refl
-restart-at g at (Got bytes) is = rw is refl
+pub restart-at : (c : FrameCourse) (g : Guarded) (at : Stage) (told : Told_) → g.host.stage ≡ Some at →
+    shows_restart_at c g.host at (entry_told told) ≡ shows_restart c g (entry_told told)
+restart-at c g at told is = rw is refl
 
 -- whether there is a course whose job was named last
 pub none-open : (o : Option FrameCourse) → is_some o ≡ false → o ≡ None
@@ -97,6 +94,6 @@ pub told-at : (g next : Guarded) (q is : Sequence) (at : Stage) (told : Told_) (
 told-at g next q _ at told heard opened waits some (course named after own tells) = record {
   step-is = tells.step;
   hears = subst (λ (b : Bool). Hears g q (entry_told told) (Ok tt) next (list_heard q (entry_told told) (heard_with q.list after b)))
-      (sym (restart-at g at told opened)) (hears_course named after next own (hears-by g next named after at told heard opened waits tells));
+      (sym (restart-at named g at told opened)) (hears_course named after next own (hears-by g next named after at told heard opened waits tells));
 }
 told-at g next q _ at told heard opened waits some (alone none tells) = let wrong = rw none at some in cc

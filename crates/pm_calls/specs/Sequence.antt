@@ -13,7 +13,7 @@ use Rattle.pm_delivery.specs.declared.delivery.Delivery.{Delivery}
 use Rattle.pm_delivery.specs.Questions.{question_size}
 use Rattle.pm_stairs.specs.declared.step.WordStep.{WordStep}
 use Rattle.pm_stairs.specs.declared.stairs.Stairs.{Stairs}
-use Rattle.pm_stairs.specs.Frames.{is_job_at}
+use Rattle.pm_stairs.specs.OpenCourse.{is_job_at}
 use Rattle.pm_sequence.specs.declared.sequence.Act.{Act}
 use Rattle.pm_sequence.specs.declared.sequence.Act.TheVariants as act
 use Rattle.pm_sequence.specs.declared.sequence.End.{End}

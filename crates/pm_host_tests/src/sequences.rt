@@ -2,6 +2,7 @@
 
 mod fresh;
 mod part;
+mod reserved;
 mod rules;
 
 use self::part::{Part, Run, carried};
@@ -34,6 +35,7 @@ pub(crate) const PART: Part = Part {
     loses: 0,
     mutes: 0,
     mute: 0,
+    reserved: 0,
     codes: [0; 96],
 };
 

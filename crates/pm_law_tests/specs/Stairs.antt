@@ -18,11 +18,10 @@ use Rattle.pm_world.specs.declared.event.Event.{Event}
 use Rattle.pm_world.specs.Life.{now}
 use Rattle.pm_world.specs.Lived.{IsLived}
 use Rattle.pm_world.specs.Moves.{words_at}
-use Rattle.pm_world.specs.Plans.{held_at}
-use Rattle.pm_stairs_laws.specs.Back.{GoesBack, downs_of}
+use Rattle.pm_stairs_laws.specs.Back.{GoesBack, counted_step, downs_of}
 use Rattle.pm_stairs_laws.specs.Climb.{IsClimb, IsGuardAt, first, rail_steps}
 use Rattle.pm_stairs_laws.specs.Ordered.{OrdersOnly}
-use Rattle.pm_stairs_laws.specs.Stairs.{AreOver, AreSound, IsStairs, RailStep, start_of}
+use Rattle.pm_stairs_laws.specs.Stairs.{AreOver, AreSound, IsStairs, RailStep, counts_at, start_of}
 
 -- a cell takes what is ordered for it, and nothing else
 abbrev pub CellsTake : Config → ℕ → List Event → Type 0
@@ -38,14 +37,14 @@ StopsHaveAWayBack config passes events = (part : PartRegisters) (before : List E
     AreSound config passes part before (step ∷ newest ++ left) → IsStairs config passes part before (step ∷ newest ++ left) events →
     GoesBack config passes part before events step newest left
 
--- each register has its word of before where that way is over
+-- each register has its word of before where that way is over, but for bits of OPERATION that don't count
 abbrev pub ComesBack : Config → ℕ → List Event → Type 0
-ComesBack config passes events = (part : PartRegisters) (before stop : List Event) (step : RailStep) (newest : List RailStep) →
+ComesBack config passes events = (part : PartRegisters) (before stop : List Event) (step : RailStep) (newest downs : List RailStep) →
     AreSound config passes part before (step ∷ newest) → IsStairs config passes part before (step ∷ newest) stop →
-    let downs = downs_of (start_of config passes before) (step ∷ newest) [] [] in
+    map counted_step downs ≡ downs_of (start_of config passes before) (step ∷ newest) [] [] →
     IsStairs config passes part stop downs events → AreOver config passes part downs events →
     (output : ℕ) (register : Reg) → output < config.count →
-    held_at config passes events output register ≡ held_at config passes before output register
+    counts_at config passes events output register ≡ counts_at config passes before output register
 
 -- a caller that stopped, and went back by the stairs until they said that all is reached
 abbrev pub ClimbsReturn : Config → ℕ → List Event → Type 0
@@ -55,4 +54,4 @@ ClimbsReturn config passes events = (part : PartRegisters) (steps : List Step) (
     IsClimb config passes part steps before begun backs ahead stairs stop → AreSound config passes part before (rail_steps begun) →
     IsClimb config passes part (map step_of backs) stop downs ups left back events → IsGuardAt config passes part events g →
     Goes g tries (first left) back Reached new → (output : ℕ) (register : Reg) → output < config.count →
-    held_at config passes events output register ≡ held_at config passes before output register
+    counts_at config passes events output register ≡ counts_at config passes before output register

@@ -19,14 +19,13 @@ use Rattle.pm_course.specs.declared.hosted.Heard.{Heard}
 use Rattle.pm_course.specs.Frames.{Hears as CourseHears, IsSendingOf}
 use Rattle.pm_course.specs.Frames as course
 use Rattle.pm_course.specs.Hosted.{IsSentAt}
-use Rattle.pm_course.specs.Surprise.{surprises}
 use Rattle.pm_stairs.specs.declared.sequence.Sequence.{Sequence as List}
 use Rattle.pm_stairs.specs.declared.stairs.Stairs.{Stairs}
 use Rattle.pm_stairs.specs.declared.stairs.Under.{Under}
-use Rattle.pm_stairs.specs.Frames.{course_open, shows_restart, under_with, with_course}
+use Rattle.pm_stairs.specs.OpenCourse.{course_open, under_with, with_course}
 use Rattle.pm_stairs.specs.Sequence.{heard_with}
 use Rattle.pm_sequence.specs.declared.sequence.Sequence.{Sequence}
-use Rattle.pm_sequence.specs.Frames.{Hears, HearsAt, list_heard}
+use Rattle.pm_sequence.specs.Frames.{Hears, HearsAt, list_heard, shows_restart, shows_restart_at}
 use Rattle.pm_sequence.specs.Frames as it
 use Rattle.pm_sequence.specs.Sequence.{with_list}
 
@@ -44,10 +43,9 @@ pub unheard : (old : Guarded) (was : Sequence) (entry : Entry) (named : FrameCou
     → CourseHears old named entry (Err why) old named → Hears old was entry (Err why) old was
 unheard old was entry named why opens hears = it.unheard named why opens hears
 
-pub shown-at : (g : Guarded) (stage : Stage) (t : Told) → g.host.stage ≡ Some stage
-    → surprises g.host stage (entry_told t) ≡ shows_restart g (entry_told t)
-shown-at g stage (told.Finished acked) is = refl
-shown-at g stage (told.Got bytes) is = rw is refl
+pub shown-at : (c : FrameCourse) (g : Guarded) (stage : Stage) (t : Told) → g.host.stage ≡ Some stage
+    → shows_restart_at c g.host stage (entry_told t) ≡ shows_restart c g (entry_told t)
+shown-at c g stage t is = rw is refl
 
 -- ---- What is heard ----
 
@@ -56,7 +54,7 @@ pub hears-told : (old new : Guarded) (was is : Sequence) (stage : Stage) (t : To
     → HearsAt old was stage (entry_told t) result new is → Hears old was (entry_told t) (Ok tt) new is
 hears-told old new was _ stage t result named opens opened comes (it.course by heard from tells) =
     subst (λ (b : Bool). Hears old was (entry_told t) (Ok tt) new (list_heard was (entry_told t) (heard_with was.list heard b)))
-    (sym (shown-at old stage t opened)) (it.heard by heard new from
+    (sym (shown-at by old stage t opened)) (it.heard by heard new from
     (subst (λ (after : FrameCourse). CourseHears old by (entry_told t) (Ok tt) new after) (sym tells.heard)
     (course.heard stage new opened comes tells.after tells.limits tells.registers)))
 hears-told old new was _ stage t result named opens opened comes (it.alone none tells) = let wrong : Some named ≡ None = sym opens ∙ none in cc

@@ -34,7 +34,7 @@ use Rattle.pm_stairs.specs.declared.sequence.Turn.{Turn}
 use Rattle.pm_stairs.specs.declared.sequence.Turn.TheVariants as turn
 use Rattle.pm_stairs.specs.declared.stairs.Under.{Under}
 use Rattle.pm_stairs.specs.declared.step.WordStep.{WordStep}
-use Rattle.pm_stairs.specs.Frames.{course_open}
+use Rattle.pm_stairs.specs.OpenCourse.{course_open}
 use Rattle.pm_stairs.specs.Sequence.{Turns, heard_with, one_more, sequence_new, skipped}
 use Rattle.pm_sequence.specs.declared.sequence.Fresh.{Fresh}
 use Rattle.pm_sequence.specs.declared.sequence.Fresh.TheVariants as fresh

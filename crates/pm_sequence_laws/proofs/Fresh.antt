@@ -14,7 +14,7 @@ use Rattle.pm_stairs.specs.declared.sequence.Turn.TheVariants as turn
 use Rattle.pm_stairs.specs.declared.stairs.Stairs.{Stairs}
 use Rattle.pm_stairs.specs.declared.stairs.Under.{Under}
 use Rattle.pm_stairs.specs.declared.step.WordStep.{WordStep}
-use Rattle.pm_stairs.specs.Frames.{course_open}
+use Rattle.pm_stairs.specs.OpenCourse.{course_open}
 use Rattle.pm_stairs.specs.Sequence.{Turns}
 use Rattle.pm_sequence.specs.declared.gate.Gate.{Gate}
 use Rattle.pm_sequence.specs.declared.gate.Gate.TheVariants as gate_is

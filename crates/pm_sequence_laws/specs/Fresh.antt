@@ -9,7 +9,7 @@ use Rattle.pm_stairs.specs.declared.sequence.Sequence.{Sequence as List}
 use Rattle.pm_stairs.specs.declared.sequence.Turn.{Turn}
 use Rattle.pm_stairs.specs.declared.sequence.Turn.TheVariants as turn
 use Rattle.pm_stairs.specs.declared.step.WordStep.{WordStep}
-use Rattle.pm_stairs.specs.Frames.{course_open}
+use Rattle.pm_stairs.specs.OpenCourse.{course_open}
 use Rattle.pm_stairs.specs.Sequence.{Turns}
 use Rattle.pm_sequence.specs.declared.sequence.Act.{Act}
 use Rattle.pm_sequence.specs.declared.sequence.Act.TheVariants as act

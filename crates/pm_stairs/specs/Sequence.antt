@@ -20,7 +20,7 @@ use Rattle.pm_stairs.specs.declared.step.Act.{Act}
 use Rattle.pm_stairs.specs.declared.step.Act.TheVariants as act
 use Rattle.pm_stairs.specs.declared.step.Step.{Step}
 use Rattle.pm_stairs.specs.declared.step.WordStep.{WordStep}
-use Rattle.pm_stairs.specs.Frames.{with_course}
+use Rattle.pm_stairs.specs.OpenCourse.{with_course}
 use Rattle.pm_stairs.specs.Stairs.{Goes, GoesAhead, stairs_new}
 use Rattle.pm_stairs.specs.Steps.{step_course, step_with}
 use Rattle.pm_stairs.specs.WayBack.{way_back_fault}

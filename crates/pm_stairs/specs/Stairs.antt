@@ -59,8 +59,8 @@ course_after old after Over = old
 course_after old after said = after
 
 abbrev pub said_for : Guarded → Bool → WordStep → FrameCourse → CourseNext → Said
-said_for g begun step course next =
-    trying course (said_of begun step.output (due_now g.registers (limits_at g step.output) g.host step) next)
+said_for g begun step course next = trying course
+    (said_of begun step.output course.course (due_now g.registers (limits_at g step.output) g.host step) next)
 
 -- what a step asks for by a guard, which has begun or begins now, and its course then
 pub record SaysStep (g : Guarded) (begun : Bool) (step : WordStep) (old : FrameCourse) (said : Said) (new : FrameCourse) : Type 0 where

@@ -1,10 +1,12 @@
 //! What is due in a step, by what a host knows.
 
-ghost use Rattle.std.specs.Prelude.{◌≡◌, ◌<◌, ◌==◌, false};
+ghost use Rattle.std.specs.Prelude.{◌≡◌, ◌<◌, false};
 ghost use Rattle.std.specs.Option.{option_map_or};
 ghost use Rattle.pm_host.specs.Image.{held};
+ghost use Rattle.pm_stairs.specs.Command.{same_command as spec_same_command};
 ghost use Rattle.pm_stairs.specs.Due.{due_byte as spec_due_byte, due_now, due_words as spec_due_words};
 
+use crate::command::same_command;
 use crate::step::{WordAct, WordStep, known_in, only_in};
 use pm_host::{Stage, State};
 use pm_limits::{OutputLimits, PartRegisters};
@@ -80,7 +82,7 @@ fn due_byte(host: &State, stage: Option<Stage>, output: u8, byte: u16) -> Due
     };
     Due {
         order: if idle { Some(order) } else { None },
-        over: idle && is_word(known, byte),
+        over: idle && is_command(known, byte),
         lacks: if only_in(host, cell).is_none() {
             Some(cell)
         } else {
@@ -89,12 +91,12 @@ fn due_byte(host: &State, stage: Option<Stage>, output: u8, byte: u16) -> Due
     }
 }
 
-// Whether this is the word that is known.
-fn is_word(known: Option<u16>, byte: u16) -> bool
-    ensures { result ≡ option_map_or (λ word. word == byte) known false }
+// Whether the word that is known is the command of this byte.
+fn is_command(known: Option<u16>, byte: u16) -> bool
+    ensures { result ≡ option_map_or (λ word. spec_same_command byte word) known false }
 {
     match known {
-        Some(word) => word == byte,
+        Some(word) => same_command(byte, word),
         None => false,
     }
 }

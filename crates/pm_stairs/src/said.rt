@@ -2,13 +2,13 @@
 
 ghost use Rattle.std.specs.Prelude.{◌≡◌};
 ghost use Rattle.pm_table.specs.Cell.{same_cell};
-ghost use Rattle.pm_stairs.specs.Due.{asked_for as spec_asked_for, is_due_order as spec_is_due_order, looking as spec_looking, ordered as spec_ordered, reached as spec_reached, said_of as spec_said_of};
+ghost use Rattle.pm_stairs.specs.Due.{asked_for as spec_asked_for, is_due_order as spec_is_due_order, is_settled as spec_is_settled, is_unread_off as spec_is_unread_off, looking as spec_looking, ordered as spec_ordered, reached as spec_reached, said_of as spec_said_of};
 
 use crate::due::Due;
 use pm_course::{CourseEnd, CourseNext};
 use pm_host::Job;
-use pm_rail::PlanOrder;
-use pm_table::Cell;
+use pm_rail::{Course, PlanOrder};
+use pm_table::{Cell, Operation, Reg};
 
 /// What a step asks for, by its course and by what is known.
 #[derive(Clone, Copy, Debug, PartialEq, Eq)]
@@ -37,40 +37,71 @@ pub enum StepEnd {
 }
 
 // What the stairs make of what the course of a step of this output says, which has begun or begins now.
-pub(crate) fn said_of(begun: bool, output: u8, due: &Due, next: CourseNext) -> Said
-    ensures { result ≡ spec_said_of begun output due.now next }
+pub(crate) fn said_of(begun: bool, output: u8, course: &Course, due: &Due, next: CourseNext) -> Said
+    ensures { result ≡ spec_said_of begun output course.now due.now next }
 {
     match next {
-        CourseNext::Job(job) => asked_for(begun, output, due, job),
+        CourseNext::Job(job) => asked_for(begun, output, course, due, job),
         CourseNext::Ended(CourseEnd::Reached) => reached(due),
+        CourseNext::Ended(CourseEnd::Differs(Reg::Operation, _)) if due.over => Said::Over,
         CourseNext::Ended(end) => Said::Stops(StepEnd::Course(end)),
     }
 }
 
 // The answer to a job that its course says.
-fn asked_for(begun: bool, output: u8, due: &Due, job: Job) -> Said
-    ensures { result ≡ spec_asked_for begun output due.now job }
+fn asked_for(begun: bool, output: u8, course: &Course, due: &Due, job: Job) -> Said
+    ensures { result ≡ spec_asked_for begun output course.now due.now job }
 {
     match job {
-        Job::Order(cell, word) => ordered(begun, output, due, cell, word),
+        Job::Order(cell, word) => ordered(begun, output, course, due, cell, word),
         Job::Check(_) | Job::Learn(_) => Said::Reads(job),
         Job::OrderMicro(..) | Job::Send(_) => Said::Stops(StepEnd::Changed),
     }
 }
 
 // The answer to an order.
-fn ordered(begun: bool, output: u8, due: &Due, cell: Cell, word: u16) -> Said
-    ensures { result ≡ spec_ordered begun output due.now cell word }
+fn ordered(begun: bool, output: u8, course: &Course, due: &Due, cell: Cell, word: u16) -> Said
+    ensures { result ≡ spec_ordered begun output course.now due.now cell word }
 {
     if !is_due_order(output, due.order, cell, word) {
         return Said::Stops(StepEnd::Changed);
     }
+    if is_settled(course, due, word) {
+        return Said::Over;
+    }
     let orders = Said::Orders(cell, word);
     if begun {
         orders
+    } else if is_unread_off(course, cell, word) {
+        Said::Looks(cell)
     } else {
         looking(due.lacks, orders)
     }
+}
+
+// Whether it turns an output off whose OPERATION wasn't read in this step.
+fn is_unread_off(course: &Course, cell: Cell, word: u16) -> bool
+    ensures { result ≡ spec_is_unread_off course.now cell word }
+{
+    match cell {
+        Cell::Out(_, Reg::Operation) => {
+            !Operation::has_on(word) && !course.survey.read.operation
+        }
+        _ => false,
+    }
+}
+
+// Whether the step is over without the order of this byte: one that leaves the output on, if all was read since the last order; or one that
+// turns it off, if that was read back with bits that don't count.
+fn is_settled(course: &Course, due: &Due, word: u16) -> bool
+    ensures { result ≡ spec_is_settled course.now due.now word }
+{
+    due.over
+        && (if Operation::has_on(word) {
+            !course.ordered
+        } else {
+            course.differed.operation
+        })
 }
 
 // The answer if its course has ended `Reached`.

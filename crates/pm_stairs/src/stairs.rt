@@ -250,7 +250,7 @@ fn ask<S: Sight>(guard: &S, begun: bool, step: &WordStep, course: &mut FrameCour
     let next = course.next_in(guard.state(), guard.stage(), guard.registers(), &limits);
     let said = trying(
         &was,
-        said_of(begun, step.output, &due_by(guard, step), next),
+        said_of(begun, step.output, &was.course, &due_by(guard, step), next),
     );
     put_said(course, &was, said);
     said

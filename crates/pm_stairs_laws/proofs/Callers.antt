@@ -5,6 +5,7 @@ use Rattle.std.proofs.{Math.Path.fun_ext, lemmas.Bool.eqb-true, lemmas.Bool.not-
 use Rattle.std.proofs.Common.{◌≡◌, ℕ, Bool, true, false, cond, Option, Some, None, refl, sym, ◌∙◌, ap, subst, not, List, [], ◌∷◌, Ok, Err}
 use Rattle.std.proofs.Common.{◌⊎◌, inl, inr, ◌<◌, ◌++◌}
 use Rattle.std.proofs.lemmas.List.{append-nil, append_assoc}
+use Rattle.pm_table.specs.Operation.{has_on}
 use Rattle.pm_table.specs.{Cell.same_cell, Cell.cell_accepts, Laws.CellsAreToldApart, Rules.rule, declared.cell.Cell.Cell, declared.reg.Reg.Reg}
 use Rattle.pm_table.specs.declared.cell.Cell.TheVariants.{Out, Protect}
 use Rattle.pm_table.specs.declared.reg.Reg.TheVariants.{Operation, VoutCommand, VoutMax, MarginHigh, MarginLow, VoutMin}
@@ -28,19 +29,22 @@ use Rattle.pm_stairs.specs.{declared.due.Due.Due, declared.said.Said.Said, decla
 use Rattle.pm_stairs.specs.{declared.stairs.Move.Move, declared.stairs.Move.TheVariants.Reached, declared.stairs.Stairs.Stairs}
 use Rattle.pm_stairs.specs.{declared.stairs.Under.Under, declared.step.Act.Act, declared.step.Step.Step, declared.step.WordAct.WordAct}
 use Rattle.pm_stairs.specs.{declared.step.WordStep.WordStep}
-use Rattle.pm_stairs.specs.Due.{asked_for, due_now, ended_for, is_due_order, looking, said_of, due_of, plan_order}
+use Rattle.pm_rail.specs.declared.course.Course.{Course}
+use Rattle.pm_stairs.specs.Command.{command_of, same_command}
+use Rattle.pm_stairs.specs.Due.{asked_for, due_now, ended_for, giving, is_due_order, is_settled, is_unread_off, looking, said_of, due_of, plan_order}
 use Rattle.pm_stairs.specs.Stairs as goes
 use Rattle.pm_stairs.specs.Stairs.{AsksAhead, Goes, GoesAhead, GoesUnder, SaysStep, ahead_move, begins_now, trying, under_move}
 use Rattle.pm_stairs.specs.Steps.{noted, step_with, act_back, back_word, act_of, step_of}
 use Rattle.pm_stairs.specs.declared.said.Said.TheVariants as said
-use Rattle.pm_stairs.specs.declared.said.StepEnd.TheVariants.{Course, Changed}
+use Rattle.pm_stairs.specs.declared.said.StepEnd.TheVariants.{Changed}
+use Rattle.pm_stairs.specs.declared.said.StepEnd.TheVariants as why
 use Rattle.pm_stairs.specs.declared.stairs.Move.TheVariants as move
 use Rattle.pm_stairs.specs.declared.step.Act.TheVariants as act
 use Rattle.pm_stairs.specs.declared.step.WordAct.TheVariants as word
 use Rattle.pm_world.specs.{Confirmed.restarts_converter, Honest.IsSpelled, Job.asked_by, Lemmas.Plans.last-none, Life.now, Plans.held_at}
 use Rattle.pm_world.specs.{State.asked, declared.event.Event.Event, declared.event.Event.TheVariants.RestartDevice}
 use Rattle.pm_world.specs.Lived.{EventsAreLived, IsLived}
-use Rattle.pm_stairs_laws.specs.Back.{back_of, StairsGoBack, back_step, downs_of}
+use Rattle.pm_stairs_laws.specs.Back.{back_of, StairsGoBack, back_step, counted_deed, counted_step, downs_of}
 use Rattle.pm_stairs_laws.specs.Climb as climb
 use Rattle.pm_stairs_laws.specs.Climb.{AreBacks, AreOf, ClimbsAreStairs, IsClimb, IsGuardAt, deed_of, first, rail_step, rail_steps}
 use Rattle.pm_stairs_laws.specs.Climb.{ClimbsComeBack, IsOnWayBack}
@@ -48,7 +52,7 @@ use Rattle.pm_stairs_laws.specs.Due as means
 use Rattle.pm_stairs_laws.specs.Due.{IsDone, IsDueOrder, IsFirst, LacksNone, Means, MovesAreDue, is_read, step_under, IsOf}
 use Rattle.pm_stairs_laws.specs.Followed.{IsKnownFrom, IsNextOrder, MayNext, StairsAreFollowed}
 use Rattle.pm_stairs_laws.specs.Stairs.{AreOver, AreSound, Deed, IsOver, IsStairs, MayRest, Nothing, RailStep, Sets, Turns, stair_of, start_of}
-use Rattle.pm_stairs_laws.specs.Stairs.{Rails, StairsHoldInLives}
+use Rattle.pm_stairs_laws.specs.Stairs.{Rails, StairsHoldInLives, counted, counts_at}
 
 -- What the stairs say, case by case.
 
@@ -63,7 +67,7 @@ data SaysSo (begun : Bool) (output : ℕ) (due : Due) : Said → Type 0 where
   an-over : due.over ≡ true → SaysSo begun output due said.Over
   a-stop : (why : StepEnd) → SaysSo begun output due (said.Stops why)
 
-module _ (apart : CellsAreToldApart) (begun : Bool) (output : ℕ) (due : Due) where
+module _ (apart : CellsAreToldApart) (begun : Bool) (output : ℕ) (course : Course) (due : Due) where
   the-order : (cell : Cell) (word : ℕ) (order : PlanOrder) →
       (same_cell cell (Out output order.register) && word == order.word) ≡ true →
       Order cell word ≡ Order (Out output order.register) order.word
@@ -74,20 +78,29 @@ module _ (apart : CellsAreToldApart) (begun : Bool) (output : ℕ) (due : Due) w
       ∙ ap (λ (w : ℕ). Order (Out output order.register) w) (eqb-true word order.word words)
 
   order-said : (cell : Cell) (word : ℕ) (order : PlanOrder) → due.order ≡ Some order →
-      Order cell word ≡ Order (Out output order.register) order.word → (b : Bool) → begun ≡ b → (lacks : Option Cell) → due.lacks ≡ lacks →
-      SaysSo begun output due (cond b (said.Orders cell word) (looking lacks (said.Orders cell word)))
-  order-said cell word order is same true isb lacks isl = an-order cell word order is same (λ e. let bad = sym isb ∙ e in cc)
-  order-said cell word order is same false isb None isl = an-order cell word order is same (λ e. isl)
-  order-said cell word order is same false isb (Some at) isl = a-look at
+      Order cell word ≡ Order (Out output order.register) order.word → (b : Bool) → begun ≡ b → (unread : Bool) → (lacks : Option Cell) →
+      due.lacks ≡ lacks →
+      SaysSo begun output due (cond b (said.Orders cell word) (cond unread (said.Looks cell) (looking lacks (said.Orders cell word))))
+  order-said cell word order is same true isb unread lacks isl = an-order cell word order is same (λ e. let bad = sym isb ∙ e in cc)
+  order-said cell word order is same false isb true lacks isl = a-look cell
+  order-said cell word order is same false isb false None isl = an-order cell word order is same (λ e. isl)
+  order-said cell word order is same false isb false (Some at) isl = a-look at
+
+  -- an order isn't given where the step is over
+  settled-so : (word : ℕ) (x : Said) → SaysSo begun output due x → (b : Bool) → is_settled course due word ≡ b →
+      SaysSo begun output due (cond b said.Over x)
+  settled-so word x so true is = an-over (first-of due.over (cond (has_on word) (not course.ordered) course.differed.operation) is)
+  settled-so word x so false is = so
 
   ordered-so : (cell : Cell) (word : ℕ) (o : Option PlanOrder) → due.order ≡ o → (b : Bool) → is_due_order output o cell word ≡ b →
-      SaysSo begun output due (cond b (cond begun (said.Orders cell word) (looking due.lacks (said.Orders cell word))) (said.Stops Changed))
+      SaysSo begun output due (cond b (cond (is_settled course due word) said.Over (giving begun course due cell word)) (said.Stops Changed))
   ordered-so cell word o is false e = a-stop Changed
   ordered-so cell word None is true e = cc
-  ordered-so cell word (Some order) is true e =
-      order-said cell word order is (the-order cell word order e) begun refl due.lacks refl
+  ordered-so cell word (Some order) is true e = settled-so word (giving begun course due cell word)
+      (order-said cell word order is (the-order cell word order e) begun refl (is_unread_off course cell word) due.lacks refl)
+      (is_settled course due word) refl
 
-  asked-so : (job : Asked) → SaysSo begun output due (asked_for begun output due job)
+  asked-so : (job : Asked) → SaysSo begun output due (asked_for begun output course due job)
   asked-so (Order cell word) = ordered-so cell word due.order refl (is_due_order output due.order cell word) refl
   asked-so (Check cell) = a-read (Check cell) refl
   asked-so (Learn at) = a-read (Learn at) refl
@@ -99,11 +112,16 @@ module _ (apart : CellsAreToldApart) (begun : Bool) (output : ℕ) (due : Due) w
   reached-so false is None = a-stop Changed
   reached-so false is (Some cell) = a-look cell
 
+  differs-so : (x : Said) → SaysSo begun output due x → (b : Bool) → due.over ≡ b → SaysSo begun output due (cond b said.Over x)
+  differs-so x so true is = an-over is
+  differs-so x so false is = so
+
   ended-so : (over : CourseEnd) → SaysSo begun output due (ended_for due over)
   ended-so end.Reached = reached-so due.over refl due.lacks
-  ended-so over = a-stop (Course over)
+  ended-so (end.Differs Operation word) = differs-so _ (a-stop _) due.over refl
+  ended-so over = a-stop (why.Course over)
 
-  said-so : (next : CourseNext) → SaysSo begun output due (said_of begun output due next)
+  said-so : (next : CourseNext) → SaysSo begun output due (said_of begun output course due next)
   said-so (says.Job job) = asked-so job
   said-so (says.Ended over) = ended-so over
 
@@ -121,7 +139,8 @@ module _ (apart : CellsAreToldApart) (g : Guarded) where
   step-so begun step old new x says =
       let due : Due = due_now g.registers (limits_at g step.output) g.host step in
       subst (λ (y : Said). SaysSo begun step.output due y) (sym says.is_said)
-      (tried-so apart begun step.output due old (said_of begun step.output due says.next) (said-so apart begun step.output due says.next))
+      (tried-so apart begun step.output old.course due old (said_of begun step.output old.course due says.next)
+      (said-so apart begun step.output old.course due says.next))
 
   due-order : (step : WordStep) (cell : Cell) (word : ℕ) (order : PlanOrder) →
       (due_now g.registers (limits_at g step.output) g.host step).order ≡ Some order →
@@ -241,11 +260,11 @@ byte-order false byte order is =
     let same : ◌≡◌ {A = PlanOrder} (record { register = Operation; word = byte }) order = cc in
     (refl, (sym (ap (λ (o : PlanOrder). o.register) same), sym (ap (λ (o : PlanOrder). o.word) same)))
 
-byte-over : (busy : Bool) (known : Option ℕ) (byte : ℕ) → (not busy && option_map_or (λ word. word == byte) known false) ≡ true →
-    (busy ≡ false) × (known ≡ Some byte)
+byte-over : (busy : Bool) (known : Option ℕ) (byte : ℕ) → (not busy && option_map_or (λ word. same_command byte word) known false) ≡ true →
+    (busy ≡ false) × ((word : ℕ) × (known ≡ Some word) × (same_command byte word ≡ true))
 byte-over true known byte is = cc
 byte-over false None byte is = cc
-byte-over false (Some word) byte is = (refl, ap (λ (w : ℕ). Some w) (eqb-true word byte is))
+byte-over false (Some word) byte is = (refl, (word, (refl, is)))
 
 -- a word that is known is the only one that is possible
 accepted-word : (accepts : Bool) (word byte : ℕ) → rule accepts word ≡ Some byte → ◌≡◌ {A = Option ℕ} (Some word) (Some byte)
@@ -314,7 +333,7 @@ module _ (config : Config) (passes : ℕ) (part : PartRegisters) (events : List 
   answered-over limits output (word.Sets words) is = (None, last-none (plan_of part s limits output (wants_of words)) is)
   answered-over limits output (word.Turns byte) is =
       let over = byte-over (is_busy s) (known_word (Out output Operation) (possible_at s (Out output Operation))) byte is in
-      let one = sole-of-known (Out output Operation) (sole (possible_at s (Out output Operation))) byte over.1 in
+      let one = sole-of-known (Out output Operation) (sole (possible_at s (Out output Operation))) over.1.0 over.1.1.0 in
       (over.0, one ∙ ap (λ (o : Option ℕ). Some (unwrap_or o 0)) (sym one))
   answered-over limits output word.Nothing is = not-true (is_busy s) is
 
@@ -334,7 +353,7 @@ module _ (config : Config) (passes : ℕ) (part : PartRegisters) (events : List 
 
   noted-back : (before : List Event) (done : List RailStep) (limits : OutputLimits) (output : ℕ) (a : WordAct) →
       IsAnswered limits output a → IsKnownFrom config passes part before done output (deed_of a) events →
-      deed_of (act_back s output a) ≡ back_of (stair_of (start_of config passes before) done output) (deed_of a)
+      counted_deed (deed_of (act_back s output a)) ≡ back_of (stair_of (start_of config passes before) done output) (deed_of a)
   unfolding IsAnswered
   noted-back before done limits output (word.Sets words) is known = ap (λ (w : Wants). Sets w) (fun_ext each) where
     old : Held
@@ -598,6 +617,15 @@ unfolding onto
 onto-back [] ys zs = refl
 onto-back (x ∷ xs) ys zs = onto-back xs (x ∷ ys) zs
 
+onto-map : (xs ys : List RailStep) → map counted_step (onto xs ys) ≡ onto (map counted_step xs) (map counted_step ys)
+unfolding onto
+onto-map [] ys = refl
+onto-map (x ∷ xs) ys = onto-map xs (x ∷ ys)
+
+map-none : (steps : List RailStep) → map counted_step steps ≡ [] → steps ≡ []
+map-none [] e = refl
+map-none (step ∷ steps) e = cc
+
 -- ---- A list of backs, taken apart ----
 
 record IsPath (start : Rails) (steps front rest : List RailStep) : Type 0 where
@@ -605,7 +633,7 @@ record IsPath (start : Rails) (steps front rest : List RailStep) : Type 0 where
   left : List RailStep
   is : steps ≡ newest ++ left
   are : AreBacks start left rest
-  down : (acc : List RailStep) → downs_of start newest left acc ≡ onto front acc
+  down : (acc : List RailStep) → downs_of start newest left acc ≡ onto (map counted_step front) acc
 
 path : (start : Rails) (steps front rest : List RailStep) → AreBacks start steps (front ++ rest) → IsPath start steps front rest
 unfolding onto
@@ -619,7 +647,7 @@ path start (step ∷ done) (back ∷ front) rest are =
       is = ap (λ (l : List RailStep). step ∷ l) p.is;
       are = p.are;
       down = λ acc. p.down (back_step start (p.newest ++ p.left) step ∷ acc)
-          ∙ ap (λ (b : RailStep). onto front (b ∷ acc))
+          ∙ ap (λ (b : RailStep). onto (map counted_step front) (b ∷ acc))
           (sym (are.0 ∙ ap (λ (l : List RailStep). back_step start l step) p.is));
     }
 
@@ -628,9 +656,10 @@ none-left start [] are = refl
 none-left start (step ∷ done) are = absurd are
 
 down-is : {start : Rails} {steps rest : List RailStep} (begun : List RailStep) (p : IsPath start steps (onto begun []) rest) →
-    begun ≡ downs_of start p.newest p.left []
+    map counted_step begun ≡ downs_of start p.newest p.left []
 unfolding onto
-down-is begun p = sym (p.down [] ∙ onto-back begun [] [] ∙ append-nil begun)
+down-is begun p = sym (p.down [] ∙ ap (λ (l : List RailStep). onto l []) (onto-map begun [])
+    ∙ onto-back (map counted_step begun) [] [] ∙ append-nil (map counted_step begun))
 
 -- the steps down are some, where one has begun
 downs-some : (start : Rails) (newest left : List RailStep) (down : RailStep) (downs : List RailStep) →
@@ -759,7 +788,7 @@ module _ (climbs : ClimbsAreStairs) (config : Config) (passes : ℕ) (part : Par
   module _ (goes : StairsGoBack) (hold : StairsHoldInLives) (due : MovesAreDue) (ups : List WordStep) (back new : Stairs) (events : List Event)
       (lived : IsLived config passes events) (g : Guarded) (tries : ℕ) (at : IsGuardAt config passes part events g) where
     all-way : (downs : List WordStep) → IsClimb config passes part (map step_of backs) stop downs ups [] back events →
-        rail_steps downs ≡ downs_of start (rail_steps begun) [] []
+        map counted_step (rail_steps downs) ≡ downs_of start (rail_steps begun) [] []
     unfolding rails-of
     all-way downs down =
         let p = the-path downs ups [] back events down in
@@ -780,31 +809,30 @@ module _ (climbs : ClimbsAreStairs) (config : Config) (passes : ℕ) (part : Par
     come-back : (downs : List WordStep) → IsClimb config passes part (map step_of backs) stop downs ups [] back events →
         (rail_steps downs ≡ []) ⊎ AreOver config passes part (rail_steps downs) events →
         (output : ℕ) (register : Reg) → output < config.count →
-        held_at config passes events output register ≡ held_at config passes before output register
+        counts_at config passes events output register ≡ counts_at config passes before output register
     come-back downs down over = go (rail_steps begun) sound
         (climbs.stairs config passes part steps before begun backs ahead stairs stop up) (rail_steps downs)
         (climbs.stairs config passes part (map step_of backs) stop downs ups [] back events down) over (all-way downs down)
       where
         go : (done : List RailStep) → AreSound config passes part before done → IsStairs config passes part before done stop →
             (way : List RailStep) → IsStairs config passes part stop way events →
-            (way ≡ []) ⊎ AreOver config passes part way events → way ≡ downs_of start done [] [] →
+            (way ≡ []) ⊎ AreOver config passes part way events → map counted_step way ≡ downs_of start done [] [] →
             (output : ℕ) (register : Reg) → output < config.count →
-            held_at config passes events output register ≡ held_at config passes before output register
-        go [] sound' was way is ends' same output register here =
-            (hold config passes events spelled lived).between part [] stop tt
-            (subst (λ (l : List RailStep). IsStairs config passes part stop l events) same is) output register here
-            ∙ (hold config passes stop spelled stop_lived).between part [] before tt was output register here
+            counts_at config passes events output register ≡ counts_at config passes before output register
+        go [] sound' was way is ends' same output register here = ap (counted register)
+            ((hold config passes events spelled lived).between part [] stop tt
+            (subst (λ (l : List RailStep). IsStairs config passes part stop l events) (map-none way same) is) output register here
+            ∙ (hold config passes stop spelled stop_lived).between part [] before tt was output register here)
         go (step ∷ newest) sound' was way is (inl none) same output register here =
-            absurd (downs-some start newest [] (back_step start (newest ++ []) step) [] (sym same ∙ none))
+            absurd (downs-some start newest [] (back_step start (newest ++ []) step) []
+            (sym same ∙ ap (λ (l : List RailStep). map counted_step l) none))
         go (step ∷ newest) sound' was way is (inr over') same output register here =
-            goes.back config passes part before stop events step newest spelled lived sound' was
-            (subst (λ (l : List RailStep). IsStairs config passes part stop l events) same is)
-            (subst (λ (l : List RailStep). AreOver config passes part l events) same over') output register here
+            goes.back config passes part before stop events step newest way spelled lived sound' was same is over' output register here
 
     reached-back : (downs : List WordStep) (left : List Step) →
         IsClimb config passes part (map step_of backs) stop downs ups left back events →
         Goes g tries (first left) back Reached new → (output : ℕ) (register : Reg) → output < config.count →
-        held_at config passes events output register ≡ held_at config passes before output register
+        counts_at config passes events output register ≡ counts_at config passes before output register
     reached-back downs left down reached =
         let none : left ≡ [] = no-ahead left (means-none (due g tries (first left) back new Reached reached)) in
         come-back downs

@@ -1,3 +1,4 @@
 -- Lemmas of this crate.
+mod Commands
 mod Steps
 mod Callers

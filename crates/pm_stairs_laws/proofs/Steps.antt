@@ -1,6 +1,6 @@
 -- Steps of a sequence: each one, one after another, and their way back, at each moment of a life.
 use Rattle.std.specs.Option.{option_map_or}
-use Rattle.std.specs.Prelude.{is_some, is_none, option_and_then, option_map, ◌&&◌, unwrap_or}
+use Rattle.std.specs.Prelude.{is_some, is_none, option_and_then, option_map, ◌&&◌, map, unwrap_or}
 use Rattle.std.proofs.Math.Path.{fun_ext}
 use Rattle.std.proofs.Common.{◌≡◌, ◌⊎◌, inl, inr, ℕ, Bool, true, false, cond, List, [], ◌∷◌, ◌++◌, Option, Some, None, refl, sym, ◌∙◌, ap}
 use Rattle.std.proofs.Common.{subst, ◌<◌, ◌==◌, ◌||◌, Ok}
@@ -45,11 +45,14 @@ use Rattle.pm_world.specs.Possible.{has_read, restarts_host}
 use Rattle.pm_world.specs.Retelling.{accepts, ends_between, open_pending, pending_of, retold, start_settings, taken_at, takes, told}
 use Rattle.pm_world.specs.Retelling.{told_beside}
 use Rattle.pm_world.specs.declared.event.Event.TheVariants.{Deliver, Exchange, Finish, RestartHost, RestartDevice}
-use Rattle.pm_stairs_laws.specs.Back.{back_of, GoesBack, StairsGoBack, back_step, downs_of}
+use Rattle.pm_stairs.specs.Command.{command_of}
+use Rattle.pm_stairs_laws.specs.Back.{back_of, GoesBack, StairsGoBack, back_step, counted_deed, counted_step, downs_of}
 use Rattle.pm_stairs_laws.specs.Followed.{IsKnownFrom, MayNext, StairsAreFollowed}
 use Rattle.pm_stairs_laws.specs.Ordered.{CellsTakeWhatIsOrdered, MayOrder, OrdersOnly, no_word}
 use Rattle.pm_stairs_laws.specs.Stairs.{Deed, Nothing, Sets, Turns, IsAtRest, IsOfStep, IsOver, IsReadFor, MayRest, MayStep, Stand, TurnsNothing}
 use Rattle.pm_stairs_laws.specs.Stairs.{done_to, stand_by, stands_at, AreOver, AreSound, IsBetween, IsSoundStep, IsStairs, RailStep, Rails}
+use Rattle.pm_stairs_laws.specs.Stairs.{counted, counts_at}
+use Rattle.pm_stairs_laws.proofs.Commands.{goal-counts, itself-commanded, needed-counts, put-counts, stand-counts}
 use Rattle.pm_stairs_laws.specs.Stairs.{StairsHoldInLives, WasBetween, climbs, stair_of, stair_stand, stands, start_of}
 
 -- What a cell may hold while only some words are ordered for it.
@@ -463,27 +466,27 @@ put-back None old new same = same
 put-back (Some word) old new same = refl
 
 -- OPERATION put back
-turned-back : (old new : Held) → ((r : Reg) → (r ≡ Operation → ⊥) → new r ≡ old r) → (r : Reg) →
-    put new Operation (old Operation) r ≡ old r
-turned-back old new others Operation = refl
-turned-back old new others VoutCommand = others VoutCommand (λ e. cc)
-turned-back old new others VoutMax = others VoutMax (λ e. cc)
-turned-back old new others MarginHigh = others MarginHigh (λ e. cc)
-turned-back old new others MarginLow = others MarginLow (λ e. cc)
-turned-back old new others VoutMin = others VoutMin (λ e. cc)
+turned-back : (old new : Held) → (command_of (old Operation) ≡ old Operation) → ((r : Reg) → (r ≡ Operation → ⊥) → new r ≡ old r) → (r : Reg) →
+    put new Operation (command_of (old Operation)) r ≡ old r
+turned-back old new same others Operation = same
+turned-back old new same others VoutCommand = others VoutCommand (λ e. cc)
+turned-back old new same others VoutMax = others VoutMax (λ e. cc)
+turned-back old new same others MarginHigh = others MarginHigh (λ e. cc)
+turned-back old new same others MarginLow = others MarginLow (λ e. cc)
+turned-back old new same others VoutMin = others VoutMin (λ e. cc)
 
 -- the place of the output at any of the step's events, of two moments, and when it is over
 pub record Segment (config : Config) (passes : ℕ) (part : PartRegisters) (output : ℕ) (deed : Deed)
     (newer later before : List Event) : Type 0 where
   pub goes : (stands_at config passes (newer ++ (later ++ before)) output ≡ stands_at config passes (later ++ before) output)
       ⊎ (stands_at config passes (newer ++ (later ++ before)) output
-      ≡ stand_by (value_for config output) (done_to (held_at config passes before output) deed))
+      ≡ stand_by (value_for config output) (done_to (counts_at config passes before output) deed))
   pub over : IsOver config passes part output deed (newer ++ (later ++ before)) → (register : Reg) →
-      held_at config passes (newer ++ (later ++ before)) output register
-      ≡ done_to (held_at config passes before output) deed register
+      counts_at config passes (newer ++ (later ++ before)) output register
+      ≡ done_to (counts_at config passes before output) deed register
   pub missing : HoldsMissing part config (now config passes (newer ++ (later ++ before))).device.words output
-  pub back : (register : Reg) → done_to (held_at config passes (newer ++ (later ++ before)) output)
-      (back_of (held_at config passes before output) deed) register ≡ held_at config passes before output register
+  pub back : (register : Reg) → done_to (counts_at config passes (newer ++ (later ++ before)) output)
+      (back_of (counts_at config passes before output) deed) register ≡ counts_at config passes before output register
 
 module _ (laws : SegmentsBelow) (config : Config) (passes : ℕ) (part : PartRegisters) (output : ℕ) (wants : Wants)
     (newer later before : List Event) (spelled : IsSpelled config) (lived : IsLived config passes (newer ++ (later ++ before)))
@@ -531,19 +534,30 @@ module _ (laws : SegmentsBelow) (config : Config) (passes : ℕ) (part : PartReg
       ◌≡◌ {A = Stand} (record { on = on; volts = volts }) (record { on = on'; volts = volts' })
   two on on' volts volts' e f = cc
 
+  same-counts : (r : Reg) → goal_of (counts_at config passes events output) wants r ≡ goal_of (counts_at config passes before output) wants r
+  same-counts r = goal-counts (held_at config passes events output) wants none r ∙ ap (counted r) (same-goal r)
+      ∙ sym (goal-counts (held_at config passes before output) wants none r)
+
+  -- by the words that are held, or by what counts of them
+  stand-goal : stand_by (value_for config output) (goal_of (held_at config passes before output) wants)
+      ≡ stand_by (value_for config output) (goal_of (counts_at config passes before output) wants)
+  stand-goal = sym (stand-counts (value_for config output) (goal_of (held_at config passes before output) wants))
+      ∙ ap (λ (h : Held). stand_by (value_for config output) h)
+      (fun_ext (λ (r : Reg). sym (goal-counts (held_at config passes before output) wants none r)))
+
   by-plan : Segment config passes part output (Sets wants) newer later before
   by-plan = record {
     goes = elim (keeps.held part output wants newer later before is here none idle read lacks plan) [
       | inl e ↦ inl (two _ _ _ _ (on-now ∙ sym on-later) e)
-      | inr e ↦ inr (two _ _ _ _ (on-now ∙ sym on-goal) e)
+      | inr e ↦ inr (two _ _ _ _ (on-now ∙ sym on-goal) e ∙ stand-goal)
     ];
-    over = λ over r. goal-had (wants r) (held_at config passes before output r) (held_at config passes events output r)
+    over = λ over r. ap (counted r) (goal-had (wants r) (held_at config passes before output r) (held_at config passes events output r)
         (λ word wanted. (keeps.come_true part output over.0 wants r word here none
         (keeps.read part output wants (newer ++ later) before is here none idle read lacks plan)
         (keeps.missing part output wants (newer ++ later) before is here none idle read lacks plan) over.1 wanted).1)
-        (same-goal r);
+        (same-goal r)) ∙ sym (goal-counts (held_at config passes before output) wants none r);
     missing = keeps.missing part output wants (newer ++ later) before is here none idle read lacks plan;
-    back = λ r. put-back (wants r) (held_at config passes before output r) (held_at config passes events output r) (same-goal r);
+    back = λ r. put-back (wants r) (counts_at config passes before output r) (counts_at config passes events output r) (same-counts r);
   }
 
 module _ (laws : SegmentsBelow) (config : Config) (passes : ℕ) (part : PartRegisters) (output byte : ℕ)
@@ -589,26 +603,31 @@ module _ (laws : SegmentsBelow) (config : Config) (passes : ℕ) (part : PartReg
       stands_at config passes events' output ≡ stand_by (value_for config output) h
   stood h same = stands-is config passes events' output ∙ ap (λ (x : Held). stand_by (value_for config output) x) (fun_ext same)
 
-  possible-byte : IsOver config passes part output (Turns byte) events' → held_at config passes events' output Operation ≡ byte
-  possible-byte over = sym held' ∙ ap (λ (o : Option ℕ). unwrap_or o 0) over.1 where
-    cell : Cell
-    cell = Out output Operation
+  possible-byte : IsOver config passes part output (Turns byte) events' →
+      command_of (held_at config passes events' output Operation) ≡ command_of byte
+  possible-byte over = ap command_of (sym held' ∙ ap (λ (o : Option ℕ). unwrap_or o 0) known)
+      ∙ sym (eqb-true (command_of byte) (command_of over.1.0) over.1.1.1) where
+        known : known_word (Out output Operation) (possible_at (now config passes events').host (Out output Operation)) ≡ Some over.1.0
+        known = over.1.1.0
 
-    some : is_none (known_word cell (possible_at (now config passes events').host cell)) ≡ false
-    some = ap (λ (o : Option ℕ). is_none o) over.1
+        cell : Cell
+        cell = Out output Operation
 
-    listed : possible_at (now config passes events').host cell ≡ Any → ⊥
-    listed any = let bad = sym (ap (λ (p : Possible). known_word cell p) any) ∙ over.1 in cc
+        some : is_none (known_word cell (possible_at (now config passes events').host cell)) ≡ false
+        some = ap (λ (o : Option ℕ). is_none o) known
 
-    since : restarted_since config passes cell events' ≡ false
-    since = subst (λ (es : List Event). has_read config passes cell es ≡ true → restarted_since config passes cell es ≡ false)
-        (append_assoc newer later before)
-        (since-later config passes part output (Turns byte) cell (newer ++ later) before read of)
-        ((laws.possible.held config passes events' lived).found cell here listed)
+        listed : possible_at (now config passes events').host cell ≡ Any → ⊥
+        listed any = let bad = sym (ap (λ (p : Possible). known_word cell p) any) ∙ known in cc
 
-    held' : unwrap_or (known_word cell (possible_at (now config passes events').host cell)) 0 ≡ held_at config passes events' output Operation
-    held' = known-held (λ c. possible_at (now config passes events').host c) cell (held_at config passes events' output Operation)
-        ((laws.possible.held config passes events' lived).held cell here since) some
+        since : restarted_since config passes cell events' ≡ false
+        since = subst (λ (es : List Event). has_read config passes cell es ≡ true → restarted_since config passes cell es ≡ false)
+            (append_assoc newer later before)
+            (since-later config passes part output (Turns byte) cell (newer ++ later) before read of)
+            ((laws.possible.held config passes events' lived).found cell here listed)
+
+        held' : unwrap_or (known_word cell (possible_at (now config passes events').host cell)) 0 ≡ held_at config passes events' output Operation
+        held' = known-held (λ c. possible_at (now config passes events').host c) cell (held_at config passes events' output Operation)
+            ((laws.possible.held config passes events' lived).held cell here since) some
 
   by-turn : Segment config passes part output (Turns byte) newer later before
   by-turn = record {
@@ -617,12 +636,16 @@ module _ (laws : SegmentsBelow) (config : Config) (passes : ℕ) (part : PartReg
           (left (held_at config passes (later ++ before) output) (held_at config passes events' output) e
           (λ r apart. others r apart ∙ sym (later-others r apart))) ∙ sym (stands-is config passes (later ++ before) output))
       | inr e ↦ inr (stood (put (held_at config passes before output) Operation byte)
-          (turned (held_at config passes before output) (held_at config passes events' output) byte e others))
+          (turned (held_at config passes before output) (held_at config passes events' output) byte e others)
+          ∙ sym (stand-counts (value_for config output) (put (held_at config passes before output) Operation byte))
+          ∙ ap (λ (h : Held). stand_by (value_for config output) h) (fun_ext (put-counts (held_at config passes before output) byte)))
     ];
-    over = λ over. turned (held_at config passes before output) (held_at config passes events' output) byte (possible-byte over) others;
+    over = λ over. turned (counts_at config passes before output) (counts_at config passes events' output) (command_of byte)
+        (possible-byte over) (λ r apart. ap (counted r) (others r apart));
     missing = λ r word is. others r (λ e. no-operation part config output word (subst (λ (x : Reg).
         missing_word part (shape_for config output) x ≡ Some word) e is)) ∙ lacks r word is;
-    back = turned-back (held_at config passes before output) (held_at config passes events' output) others;
+    back = turned-back (counts_at config passes before output) (counts_at config passes events' output)
+        (itself-commanded (held_at config passes before output Operation)) (λ r apart. ap (counted r) (others r apart));
   }
 
 -- a step that orders nothing: each register of its output keeps its word
@@ -657,10 +680,11 @@ module _ (laws : SegmentsBelow) (config : Config) (passes : ℕ) (part : PartReg
   by-nothing : Segment config passes part output Nothing newer later before
   by-nothing = record {
     goes = inr (stands-is config passes (newer ++ (later ++ before)) output
-        ∙ ap (λ (h : Held). stand_by (value_for config output) h) (fun_ext kept-all));
-    over = λ over. kept-all;
+        ∙ ap (λ (h : Held). stand_by (value_for config output) h) (fun_ext kept-all)
+        ∙ sym (stand-counts (value_for config output) (held_at config passes before output)));
+    over = λ over r. ap (counted r) (kept-all r);
     missing = λ r word is. kept-all r ∙ lacks r word is;
-    back = kept-all;
+    back = λ r. ap (counted r) (kept-all r);
   }
 
 -- each deed
@@ -711,7 +735,7 @@ module _ (laws : SegmentsBelow) (config : Config) (passes : ℕ) (part : PartReg
     pub record At (done : List RailStep) (events : List Event) : Type 0 where
       pub idle : is_busy (now config passes events).host ≡ false
       pub words : (output : ℕ) (register : Reg) → output < config.count →
-          held_at config passes events output register ≡ stair_of start done output register
+          counts_at config passes events output register ≡ stair_of start done output register
       pub fresh : (cell : Cell) → (has_read config passes cell before ≡ true → restarted_since config passes cell before ≡ false) →
           has_read config passes cell events ≡ true → restarted_since config passes cell events ≡ false
       pub missing : (output : ℕ) → output < config.count → HoldsMissing part config (now config passes before).device.words output →
@@ -719,7 +743,7 @@ module _ (laws : SegmentsBelow) (config : Config) (passes : ℕ) (part : PartReg
 
     -- all words of an output
     pub held-is : {done : List RailStep} {events : List Event} → At done events → (output : ℕ) → output < config.count →
-        held_at config passes events output ≡ stair_of start done output
+        counts_at config passes events output ≡ stair_of start done output
     held-is at output here = fun_ext (λ (r : Reg). at.words output r here)
 
     pub read-at : {done : List RailStep} {events : List Event} → At done events → (output : ℕ) → output < config.count → (deed : Deed) →
@@ -727,7 +751,8 @@ module _ (laws : SegmentsBelow) (config : Config) (passes : ℕ) (part : PartReg
         IsReadFor config passes output deed (held_at config passes events output) events
     read-at at output here (Sets wants) read = λ register needed.
         at.fresh (Out output register)
-        (read register (subst (λ (h : Held). is_needed h wants register ≡ true) (held-is at output here) needed))
+        (read register (subst (λ (h : Held). is_needed h wants register ≡ true) (held-is at output here)
+        (needed-counts (held_at config passes events output) wants register ∙ needed)))
     read-at at output here (Turns byte) read = at.fresh (Out output Operation) read
     read-at at output here Nothing read = tt
 
@@ -775,14 +800,15 @@ module _ (laws : SegmentsBelow) (config : Config) (passes : ℕ) (part : PartReg
         part-of = segment-at at step sound [] newer lived of
 
         word-at : (output : ℕ) (register : Reg) → output < config.count → (b : Bool) → (output == step.output) ≡ b →
-            held_at config passes (newer ++ older) output register ≡ stair_of start (step ∷ done) output register
+            counts_at config passes (newer ++ older) output register ≡ stair_of start (step ∷ done) output register
         word-at output register here true e =
-            subst (λ (o : ℕ). held_at config passes (newer ++ older) o register ≡ done_to (stair_of start done o) step.deed register)
+            subst (λ (o : ℕ). counts_at config passes (newer ++ older) o register ≡ done_to (stair_of start done o) step.deed register)
             (sym (eqb-true output step.output e))
             (part-of.over over register
             ∙ ap (λ (h : Held). done_to h step.deed register) (held-is at step.output sound.here))
             ∙ sym (ap (λ (b : Bool). cond b (done_to (stair_of start done output) step.deed) (stair_of start done output) register) e)
-        word-at output register here false e = still at step newer lived of output register here e ∙ at.words output register here
+        word-at output register here false e = ap (counted register) (still at step newer lived of output register here e)
+            ∙ at.words output register here
             ∙ sym (ap (λ (b : Bool). cond b (done_to (stair_of start done output) step.deed) (stair_of start done output) register) e)
 
     -- before the first step
@@ -796,7 +822,7 @@ module _ (laws : SegmentsBelow) (config : Config) (passes : ℕ) (part : PartReg
         IsLived config passes (later ++ before) → is_busy (now config passes (later ++ before)).host ≡ false → At [] (later ++ before)
     at-start later idle rest lived over = record {
       idle = over;
-      words = rest-words later idle rest lived;
+      words = λ output register here. ap (counted register) (rest-words later idle rest lived output register here);
       fresh = λ cell since. since-still config passes cell later before since (rest-still config passes later before rest);
       missing = λ output here lacks register word is. rest-words later idle rest lived output register here ∙ lacks register word is;
     }
@@ -831,7 +857,7 @@ module _ (laws : SegmentsBelow) (config : Config) (passes : ℕ) (part : PartReg
 
     -- its own stair, from its words before
     own-stair : {done : List RailStep} {older : List Event} → At done older → (step : RailStep) → step.output < config.count →
-        stand_by (value_for config step.output) (done_to (held_at config passes older step.output) step.deed)
+        stand_by (value_for config step.output) (done_to (counts_at config passes older step.output) step.deed)
         ≡ stair_stand config passes before (step ∷ done) step.output
     own-stair {done = done} at step here =
         let old = stair_of start done step.output in
@@ -842,14 +868,18 @@ module _ (laws : SegmentsBelow) (config : Config) (passes : ℕ) (part : PartReg
         IsSoundStep config passes part before step (stair_of start done step.output) → (newer : List Event) →
         IsLived config passes (newer ++ older) → IsOfStep config passes part step.output step.deed newer older →
         IsBetween config passes before (step ∷ done) (newer ++ older)
-    between-step {done = done} {older = older} at step sound newer lived of =
-        (λ output register here apart. still at step newer lived of output register here apart ∙ at.words output register here, own)
+    between-step {done = done} {older = older} at step sound newer lived of = (
+      λ output register here apart.
+          ap (counted register) (still at step newer lived of output register here apart) ∙ at.words output register here,
+      own,
+    )
       where
         own : (stands_at config passes (newer ++ older) step.output ≡ stair_stand config passes before done step.output)
             ⊎ (stands_at config passes (newer ++ older) step.output ≡ stair_stand config passes before (step ∷ done) step.output)
         own = elim (segment-at at step sound newer [] lived
             (subst (λ (l : List Event). IsOfStep config passes part step.output step.deed l older) (sym (append-nil newer)) of)).goes [
               | inl e ↦ inl (e ∙ stands-is config passes older step.output
+                  ∙ sym (stand-counts (value_for config step.output) (held_at config passes older step.output))
                   ∙ ap (λ (h : Held). stand_by (value_for config step.output) h) (held-is at step.output sound.here))
               | inr e ↦ inr (e ∙ own-stair at step sound.here)
             ]
@@ -937,8 +967,8 @@ each-of config passes before events step done between output here true e =
     subst (λ (o : ℕ). (stands_at config passes events o ≡ stair_stand config passes before done o)
     ⊎ (stands_at config passes events o ≡ stair_stand config passes before (step ∷ done) o)) (sym (eqb-true output step.output e)) between.1
 each-of config passes before events step done between output here false e =
-    inl (stands-is config passes events output ∙ ap (λ (h : Held). stand_by (value_for config output) h)
-    (fun_ext (λ (r : Reg). between.0 output r here e)))
+    inl (stands-is config passes events output ∙ sym (stand-counts (value_for config output) (held_at config passes events output))
+    ∙ ap (λ (h : Held). stand_by (value_for config output) h) (fun_ext (λ (r : Reg). between.0 output r here e)))
 
 pub stairs-hold : SegmentsBelow → StairsHoldInLives
 stairs-hold laws config passes events spelled lived = record {
@@ -960,18 +990,43 @@ undone-one : (wants : Option ℕ) (old : ℕ) → unwrap_or (option_map (λ (wor
 undone-one None old = refl
 undone-one (Some word) old = refl
 
-undone-byte : (old : Held) (byte : ℕ) (r : Reg) → put (put old Operation byte) Operation (old Operation) r ≡ old r
-undone-byte old byte Operation = refl
-undone-byte old byte VoutCommand = refl
-undone-byte old byte VoutMax = refl
-undone-byte old byte MarginHigh = refl
-undone-byte old byte MarginLow = refl
-undone-byte old byte VoutMin = refl
+undone-byte : (old : Held) (byte : ℕ) → command_of (old Operation) ≡ old Operation → (r : Reg) →
+    put (put old Operation byte) Operation (command_of (old Operation)) r ≡ old r
+undone-byte old byte same Operation = same
+undone-byte old byte same VoutCommand = refl
+undone-byte old byte same VoutMax = refl
+undone-byte old byte same MarginHigh = refl
+undone-byte old byte same MarginLow = refl
+undone-byte old byte same VoutMin = refl
 
-undone : (old : Held) (deed : Deed) (r : Reg) → done_to (done_to old deed) (back_of old deed) r ≡ old r
-undone old (Sets wants) r = undone-one (wants r) (old r)
-undone old (Turns byte) r = undone-byte old byte r
-undone old Nothing r = refl
+undone : (old : Held) (deed : Deed) → command_of (old Operation) ≡ old Operation → (r : Reg) →
+    done_to (done_to old deed) (back_of old deed) r ≡ old r
+undone old (Sets wants) same r = undone-one (wants r) (old r)
+undone old (Turns byte) same r = undone-byte old (command_of byte) same r
+undone old Nothing same r = refl
+
+-- a stair has commands alone
+commanded-deed : (held : Held) (deed : Deed) → TurnsNothing deed → command_of (held Operation) ≡ held Operation →
+    command_of (done_to held deed Operation) ≡ done_to held deed Operation
+commanded-deed held (Sets wants) none same = ap (λ (o : Option ℕ). command_of (unwrap_or o (held Operation))) none ∙ same
+    ∙ sym (ap (λ (o : Option ℕ). unwrap_or o (held Operation)) none)
+commanded-deed held (Turns byte) none same = itself-commanded byte
+commanded-deed held Nothing none same = same
+
+stair-commanded : (config : Config) (passes : ℕ) (part : PartRegisters) (before : List Event) (done : List RailStep) →
+    AreSound config passes part before done → (output : ℕ) →
+    command_of (stair_of (start_of config passes before) done output Operation) ≡ stair_of (start_of config passes before) done output Operation
+stair-commanded config passes part before [] sound output = itself-commanded (held_at config passes before output Operation)
+stair-commanded config passes part before (step ∷ done) sound output = go (output == step.output) where
+  old : Held
+  old = stair_of (start_of config passes before) done output
+
+  earlier : command_of (old Operation) ≡ old Operation
+  earlier = stair-commanded config passes part before done sound.1 output
+
+  go : (b : Bool) → command_of (cond b (done_to old step.deed) old Operation) ≡ cond b (done_to old step.deed) old Operation
+  go true = commanded-deed old step.deed sound.0.still earlier
+  go false = earlier
 
 -- what undoes a deed turns nothing where it doesn't
 back-still : (old : Held) (deed : Deed) → TurnsNothing deed → TurnsNothing (back_of old deed)
@@ -1007,16 +1062,17 @@ module _ (count : ℕ) (start : Rails) where
   abbrev IsWhole : List RailStep → Rails → Type 0
   IsWhole steps rails = (output : ℕ) (register : Reg) → output < count → rails output register ≡ stair_of start steps output register
 
-  whole-half : (step : RailStep) (done : List RailStep) (rails : Rails) → step.output < count → IsWhole (step ∷ done) rails →
+  whole-half : (step : RailStep) (done : List RailStep) (rails : Rails) → step.output < count →
+      command_of (stair_of start done step.output Operation) ≡ stair_of start done step.output Operation → IsWhole (step ∷ done) rails →
       IsHalf step done rails
-  whole-half step done rails here whole = record {
+  whole-half step done rails here same whole = record {
     others = λ output register there apart. whole output register there
         ∙ ap (λ (b : Bool). cond b (done_to (stair_of start done output) step.deed) (stair_of start done output) register) apart;
     own = λ register.
         let old = stair_of start done step.output in
         ap (λ (h : Held). done_to h (back_of old step.deed) register)
         (fun_ext (λ (r : Reg). whole step.output r here) ∙ ap (λ (b : Bool). cond b (done_to old step.deed) old) (itself step.output))
-        ∙ undone old step.deed register;
+        ∙ undone old step.deed same register;
   }
 
   -- one step down
@@ -1048,8 +1104,9 @@ module _ (laws : SegmentsBelow) (config : Config) (passes : ℕ) (part : PartReg
         IsHalf config.count back_start step done (start_of config passes (newer ++ older))
     half-at {older = older} at step sound newer lived of = record {
       others = λ output register here apart.
-          still laws config passes part before spelled at step newer lived of output register here apart ∙ at.words output register here;
-      own = subst (λ (h : Held). (register : Reg) → done_to (held_at config passes (newer ++ older) step.output) (back_of h step.deed) register
+          ap (counted register) (still laws config passes part before spelled at step newer lived of output register here apart)
+          ∙ at.words output register here;
+      own = subst (λ (h : Held). (register : Reg) → done_to (counts_at config passes (newer ++ older) step.output) (back_of h step.deed) register
           ≡ h register) (held-is laws config passes part before spelled at step.output sound.here)
           (segment-at laws config passes part before spelled at step sound [] newer lived of).back;
     }
@@ -1105,6 +1162,7 @@ module _ (laws : SegmentsBelow) (config : Config) (passes : ℕ) (part : PartReg
           all-down next newest left (back_step back_start (next ∷ newest ++ left) step ∷ downs) sound.1
           (whole-half config.count back_start next (newest ++ left)
           (stair_of from (back_step back_start (next ∷ newest ++ left) step ∷ downs)) sound.1.0.here
+          (stair-commanded config passes part before (newest ++ left) sound.1.1 next.output)
           (step-down config.count back_start from step (next ∷ newest ++ left) downs half))
           (sound-back step (next ∷ newest ++ left) downs sound.0 half, are)
 
@@ -1124,18 +1182,64 @@ lived-start laws config passes part stop (stands later idle rest) lived = laws.l
 lived-start laws config passes part stop (climbs step done newer older c was of) lived =
     lived-start laws config passes part stop c (laws.lives.earlier config passes newer older lived)
 
+-- ---- Of a byte only the command counts ----
+
+done-counted : (held : Held) (deed : Deed) → done_to held (counted_deed deed) ≡ done_to held deed
+done-counted held (Sets wants) = refl
+done-counted held (Turns byte) = ap (λ (word : ℕ). put held Operation word) (itself-commanded byte)
+done-counted held Nothing = refl
+
+stair-counted : (start : Rails) (steps : List RailStep) (output : ℕ) →
+    stair_of start (map counted_step steps) output ≡ stair_of start steps output
+stair-counted start [] output = refl
+stair-counted start (step ∷ steps) output = go (output == step.output) where
+  go : (b : Bool) → cond b (done_to (stair_of start (map counted_step steps) output) (counted_deed step.deed))
+      (stair_of start (map counted_step steps) output) ≡ cond b (done_to (stair_of start steps output) step.deed) (stair_of start steps output)
+  go true = ap (λ (h : Held). done_to h (counted_deed step.deed)) (stair-counted start steps output)
+      ∙ done-counted (stair_of start steps output) step.deed
+  go false = stair-counted start steps output
+
+still-counted : (deed : Deed) → TurnsNothing (counted_deed deed) → TurnsNothing deed
+still-counted (Sets wants) none = none
+still-counted (Turns byte) none = tt
+still-counted Nothing none = tt
+
+read-counted : (config : Config) (passes output : ℕ) (deed : Deed) (held : Held) (before : List Event) →
+    IsReadFor config passes output (counted_deed deed) held before → IsReadFor config passes output deed held before
+read-counted config passes output (Sets wants) held before read = read
+read-counted config passes output (Turns byte) held before read = read
+read-counted config passes output Nothing held before read = tt
+
+sound-counted : (config : Config) (passes : ℕ) (part : PartRegisters) (before : List Event) (steps : List RailStep) →
+    AreSound config passes part before (map counted_step steps) → AreSound config passes part before steps
+sound-counted config passes part before [] sound = tt
+sound-counted config passes part before (step ∷ steps) sound = (
+  record {
+    here = sound.0.here;
+    still = still-counted step.deed sound.0.still;
+    read = read-counted config passes step.output step.deed (stair_of (start_of config passes before) steps step.output) before
+        (subst (λ (h : Held). IsReadFor config passes step.output (counted_deed step.deed) h before)
+        (stair-counted (start_of config passes before) steps step.output) sound.0.read);
+    missing = sound.0.missing;
+  },
+  sound-counted config passes part before steps sound.1,
+)
+
 pub stairs-go-back : SegmentsBelow → StairsHoldInLives → StairsGoBack
 stairs-go-back laws hold = record {
   there = λ config passes part before stop step newest left spelled lived sound c.
       goes-back laws config passes part before spelled stop step newest left lived sound c;
-  back = λ config passes part before stop events step newest spelled lived sound c d over output register here.
+  back = λ config passes part before stop events step newest downs spelled lived sound c are d over output register here.
       let lived' = lived-start laws config passes part stop d lived in
       let same : newest ++ [] ≡ newest = append-nil newest in
       let way = goes-back laws config passes part before spelled stop step newest [] lived'
       (subst (λ (l : List RailStep). AreSound config passes part before (step ∷ l)) (sym same) sound)
       (subst (λ (l : List RailStep). IsStairs config passes part before (step ∷ l) stop) (sym same) c) in
-      (hold config passes events spelled lived).over part (downs_of (start_of config passes before) (step ∷ newest) [] []) stop
-      way.sound d over output register here
+      let all : AreSound config passes part stop downs = sound-counted config passes part stop downs
+      (subst (λ (l : List RailStep). AreSound config passes part stop l) (sym are) way.sound) in
+      (hold config passes events spelled lived).over part downs stop all d over output register here
+      ∙ sym (ap (λ (h : Held). h register) (stair-counted (start_of config passes stop) downs output))
+      ∙ ap (λ (l : List RailStep). stair_of (start_of config passes stop) l output register) are
       ∙ way.words output register here;
 }
 
@@ -1227,15 +1331,22 @@ module _ (laws : SegmentsBelow) (config : Config) (passes : ℕ) (part : PartReg
       there = ap (λ (o : Option ℕ). option_map_or possible_only o (possible_at s (Out output register)))
           (has-none part planned.shape register (wanted-has part wants planned.there register some))
 
-  known-deed : (deed : Deed) (before : List Event) (done : List RailStep) →
+  -- a register of which a word is wanted isn't OPERATION: all of its word counts
+  wanted-counts : (wants : Wants) → wants Operation ≡ None → (register : Reg) (word : ℕ) → wants register ≡ Some word →
+      held_at config passes events output register ≡ counts_at config passes events output register
+  wanted-counts wants none Operation word wanted = absurd (let bad = sym none ∙ wanted in cc)
+  wanted-counts wants none register word wanted = refl
+
+  known-deed : (deed : Deed) (before : List Event) (done : List RailStep) → TurnsNothing deed →
       IsReadFor config passes output deed (held_at config passes events output) events →
-      ((register : Reg) → held_at config passes events output register
+      ((register : Reg) → counts_at config passes events output register
       ≡ stair_of (start_of config passes before) done output register) →
       IsKnownFrom config passes part before done output deed events
-  known-deed (Sets wants) before done read words = λ limits order register word is wanted.
-      known-plan limits order wants register word read is wanted ∙ ap (λ (w : ℕ). Some w) (words register)
-  known-deed (Turns byte) before done read words = λ word is. sole-held-at Operation word read is ∙ words Operation
-  known-deed Nothing before done read words = tt
+  known-deed (Sets wants) before done none read words = λ limits order register word is wanted.
+      known-plan limits order wants register word read is wanted
+      ∙ ap (λ (w : ℕ). Some w) (wanted-counts wants none register word wanted ∙ words register)
+  known-deed (Turns byte) before done none read words = λ word is. ap command_of (sole-held-at Operation word read is) ∙ words Operation
+  known-deed Nothing before done none read words = tt
 
 pub stairs-are-followed : SegmentsBelow → StairsAreFollowed
 stairs-are-followed laws = record {
@@ -1245,7 +1356,7 @@ stairs-are-followed laws = record {
   more = λ config passes part before events event step done c steady may. goes-on config passes part event c steady may;
   known = λ config passes part before events step done spelled lived sound c over.
       let at = at-of laws config passes part before spelled c sound.1 lived over in
-      known-deed laws config passes part step.output events lived sound.0.here step.deed before done
+      known-deed laws config passes part step.output events lived sound.0.here step.deed before done sound.0.still
       (read-at laws config passes part before spelled at step.output sound.0.here step.deed sound.0.read)
       (λ register. at.words step.output register sound.0.here);
 }

@@ -25,9 +25,9 @@ use Rattle.pm_world.specs.Life.{now}
 use Rattle.pm_world.specs.Lived.{IsLived}
 use Rattle.pm_world.specs.Plans.{held_at}
 use Rattle.pm_world.specs.State.{asked}
-use Rattle.pm_stairs_laws.specs.Back.{back_step, downs_of}
+use Rattle.pm_stairs_laws.specs.Back.{back_step, counted_step, downs_of}
 use Rattle.pm_stairs_laws.specs.Due.{IsOf, step_under}
-use Rattle.pm_stairs_laws.specs.Stairs.{AreOver, AreSound, Deed, IsStairs, MayRest, Nothing, RailStep, Rails, Sets, Turns, start_of}
+use Rattle.pm_stairs_laws.specs.Stairs.{AreOver, AreSound, Deed, IsStairs, MayRest, Nothing, RailStep, Rails, Sets, Turns, counts_at, start_of}
 
 -- what a step in words does
 abbrev pub deed_of : WordAct → Deed
@@ -85,10 +85,10 @@ pub data IsClimb (config : Config) (passes : ℕ) (part : PartRegisters) (steps 
       IsClimb config passes part steps before begun backs ahead stairs events → step_under new ≡ step_under stairs →
       IsClimb config passes part steps before begun backs ahead new events
 
--- steps that undo those that have begun, each by the words of its own stair
+-- steps that undo those that have begun, each by the words of its own stair, as far as they count
 abbrev pub AreBacks : Rails → List RailStep → List RailStep → Type 0
 AreBacks start [] [] = Unit {0}
-AreBacks start (step ∷ done) (back ∷ backs) = (back ≡ back_step start done step) × AreBacks start done backs
+AreBacks start (step ∷ done) (back ∷ backs) = (counted_step back ≡ back_step start done step) × AreBacks start done backs
 AreBacks start steps backs = ⊥
 
 -- the steps that have begun, the newest first, and those ahead are these
@@ -120,10 +120,11 @@ pub record IsOnWayBack (start : Rails) (begun downs : List RailStep) : Type 0 wh
   pub newest : List RailStep
   pub left : List RailStep
   pub is : begun ≡ newest ++ left
-  pub down : downs ≡ downs_of start newest left []
+  pub down : map counted_step downs ≡ downs_of start newest left []
 
 -- A caller that stops wherever it will, and then carries out the steps that it has noted by stairs of their own: it is on the way back
--- (`way`), and where the stairs say that all is reached, each register of each output has its word of before (`back`).
+-- (`way`), and where the stairs say that all is reached, each register of each output has its word of before, but for bits of
+-- OPERATION that don't count (`back`).
 pub record ClimbsComeBack : Type 0 where
   pub way : (config : Config) (passes : ℕ) (part : PartRegisters) (steps : List Step) (before : List Event) (begun backs : List WordStep)
       (ahead : List Step) (stairs : Stairs) (stop : List Event) (downs ups : List WordStep) (left : List Step) (back : Stairs) (events : List Event) →
@@ -138,4 +139,4 @@ pub record ClimbsComeBack : Type 0 where
       IsClimb config passes part steps before begun backs ahead stairs stop → AreSound config passes part before (rail_steps begun) →
       IsClimb config passes part (map step_of backs) stop downs ups left back events → IsGuardAt config passes part events g →
       Goes g tries (first left) back Reached new → (output : ℕ) (register : Reg) → output < config.count →
-      held_at config passes events output register ≡ held_at config passes before output register
+      counts_at config passes events output register ≡ counts_at config passes before output register

@@ -20,6 +20,7 @@ use Rattle.pm_world.specs.Honest.{IsSpelled}
 use Rattle.pm_world.specs.Life.{now}
 use Rattle.pm_world.specs.Lived.{IsLived}
 use Rattle.pm_world.specs.State.{asked}
+use Rattle.pm_stairs.specs.Command.{command_of}
 use Rattle.pm_stairs_laws.specs.Stairs.{AreOver, AreSound, Deed, IsStairs, MayRest, Nothing, RailStep, Sets, Turns, stair_of, start_of}
 
 -- an order that a deed has next, by what the host knows now
@@ -36,7 +37,7 @@ MayNext config passes part output deed events (Some (host.Order (Out other regis
 MayNext config passes part output deed events (Some (host.Send RestoreUserAll)) = ⊥
 MayNext config passes part output deed events job = Unit {0}
 
--- what is known of an output where a step begins: of each word that is wanted the old one, and of OPERATION the old byte
+-- what is known of an output where a step begins: of each word that is wanted the old one, and of OPERATION the old command
 abbrev pub IsKnownFrom : Config → ℕ → PartRegisters → List Event → List RailStep → ℕ → Deed → List Event → Type 0
 IsKnownFrom config passes part before done output (Sets wants) events =
     (limits : OutputLimits) (order : Option PlanOrder) (register : Reg) (word : ℕ) →
@@ -45,7 +46,7 @@ IsKnownFrom config passes part before done output (Sets wants) events =
     ≡ Some (stair_of (start_of config passes before) done output register)
 IsKnownFrom config passes part before done output (Turns byte) events = (word : ℕ) →
     sole (possible_at (now config passes events).host (Out output Operation)) ≡ Some word →
-    word ≡ stair_of (start_of config passes before) done output Operation
+    command_of word ≡ stair_of (start_of config passes before) done output Operation
 IsKnownFrom config passes part before done output Nothing events = Unit {0}
 
 -- Steps are carried out event by event. None has begun where the host is idle at first (`none`), and an event that asks for

@@ -30,6 +30,7 @@ use Rattle.pm_world.specs.Lived.{IsLived}
 use Rattle.pm_world.specs.Plans.{IsPlansOrder, held_at}
 use Rattle.pm_world.specs.Possible.{has_read}
 use Rattle.pm_world.specs.State.{asked}
+use Rattle.pm_stairs.specs.Command.{command_of, same_command}
 
 -- ---- Steps and stairs ----
 
@@ -44,17 +45,25 @@ pub record RailStep : Type 0 where
   pub output : ℕ
   pub deed : Deed
 
--- the words of an output after a deed
+-- A word of a register that counts: of OPERATION its command, without the bits that don't count.
+abbrev pub counted : Reg → ℕ → ℕ
+counted Operation word = command_of word
+counted register word = word
+
+abbrev pub counts : Held → Held
+counts held register = counted register (held register)
+
+-- the words of an output after a deed, as far as they count
 abbrev pub done_to : Held → Deed → Held
 done_to held (Sets wants) = goal_of held wants
-done_to held (Turns byte) = put held Operation byte
+done_to held (Turns byte) = put held Operation (command_of byte)
 done_to held Nothing = held
 
 -- the words of each output's registers
 abbrev pub Rails : Type 0
 Rails = ℕ → Held
 
--- A stair: the words of each output after these steps, which are newest first.
+-- A stair: the words of each output after these steps, which are newest first, as far as they count.
 abbrev pub stair_of : Rails → List RailStep → Rails
 stair_of start [] output = start output
 stair_of start (step ∷ done) output =
@@ -73,9 +82,13 @@ abbrev pub stands_at : Config → ℕ → List Event → ℕ → Stand
 stands_at config passes events output =
     record { on = has_on (held_at config passes events output Operation); volts = commands config passes events output }
 
+-- the words of an output's registers at a moment, as far as they count
+abbrev pub counts_at : Config → ℕ → List Event → ℕ → Held
+counts_at config passes events output = counts (held_at config passes events output)
+
 -- the stair of these steps, from what each output's words were before
 abbrev pub start_of : Config → ℕ → List Event → Rails
-start_of config passes before output = held_at config passes before output
+start_of config passes before output = counts_at config passes before output
 
 abbrev pub stair_stand : Config → ℕ → List Event → List RailStep → ℕ → Stand
 stair_stand config passes before steps output =
@@ -119,13 +132,14 @@ IsAtRest config passes (event ∷ later) before =
     × IsAtRest config passes later before
 
 -- A step is over by what the host knows: the plan has no further order, whatever the limits are; or the host is idle, and
--- OPERATION is known to hold the byte; or the host is idle, where nothing is ordered
+-- OPERATION is known to hold a byte that is the command which is wanted; or the host is idle, where nothing is ordered
 abbrev pub IsOver : Config → ℕ → PartRegisters → ℕ → Deed → List Event → Type 0
 IsOver config passes part output (Sets wants) events =
     (limits : OutputLimits) × (plan_of part (now config passes events).host limits output wants ≡ Ok None)
 IsOver config passes part output (Turns byte) events =
     (is_busy (now config passes events).host ≡ false)
-    × (known_word (Out output Operation) (possible_at (now config passes events).host (Out output Operation)) ≡ Some byte)
+    × ((word : ℕ) × (known_word (Out output Operation) (possible_at (now config passes events).host (Out output Operation)) ≡ Some word)
+    × (same_command byte word ≡ true))
 IsOver config passes part output Nothing events = is_busy (now config passes events).host ≡ false
 
 -- the last of the steps is over; where there is none, the host is idle
@@ -183,13 +197,13 @@ AreSound config passes part before (step ∷ done) =
 -- ---- What holds ----
 
 -- The outputs stand at the start, where no step has begun. Otherwise all but that of the step under way hold the words
--- of the stair of those before it; and that one stands as at this stair, or as at the next.
+-- of the stair of those before it, but for bits of OPERATION that don't count; and that one stands as at this stair, or as at the next.
 abbrev pub IsBetween : Config → ℕ → List Event → List RailStep → List Event → Type 0
 IsBetween config passes before [] events = (output : ℕ) (register : Reg) → output < config.count →
-    held_at config passes events output register ≡ start_of config passes before output register
+    held_at config passes events output register ≡ held_at config passes before output register
 IsBetween config passes before (step ∷ done) events =
     ((output : ℕ) (register : Reg) → output < config.count → (output == step.output) ≡ false →
-    held_at config passes events output register ≡ stair_of (start_of config passes before) done output register)
+    counts_at config passes events output register ≡ stair_of (start_of config passes before) done output register)
     × ((stands_at config passes events step.output ≡ stair_stand config passes before done step.output)
     ⊎ (stands_at config passes events step.output ≡ stair_stand config passes before (step ∷ done) step.output))
 
@@ -215,7 +229,8 @@ pub record WasBetween (config : Config) (passes : ℕ) (part : PartRegisters) (b
 -- however orders end: at each moment the outputs are at the stair of the steps before the one under way, but for the output
 -- of that, which stands as at this stair or as at the next (`between`), so that each stands as at one of these two (`each`);
 -- at an earlier moment fewer steps or the same had begun, and it held there too (`earlier`): so no stair is skipped, and none
--- comes again. Where the last step is over, by what the host knows, each output holds the words of its stair (`over`). What is
+-- comes again. Where the last step is over, by what the host knows, each output holds the words of its stair, but for bits of OPERATION
+-- that don't count (`over`). What is
 -- asked of other steps before is so afterwards (`read`, `missing`), so that others may follow, wherever these were stopped.
 pub record KeepsStairs (config : Config) (passes : ℕ) (events : List Event) : Type 0 where
   pub between : (part : PartRegisters) (steps : List RailStep) (before : List Event) →
@@ -233,7 +248,7 @@ pub record KeepsStairs (config : Config) (passes : ℕ) (events : List Event) : 
   pub over : (part : PartRegisters) (steps : List RailStep) (before : List Event) →
       AreSound config passes part before steps → IsStairs config passes part before steps events →
       AreOver config passes part steps events → (output : ℕ) (register : Reg) → output < config.count →
-      held_at config passes events output register ≡ stair_of (start_of config passes before) steps output register
+      counts_at config passes events output register ≡ stair_of (start_of config passes before) steps output register
   pub read : (part : PartRegisters) (steps : List RailStep) (before : List Event) (cell : Cell) →
       AreSound config passes part before steps → IsStairs config passes part before steps events →
       (has_read config passes cell before ≡ true → restarted_since config passes cell before ≡ false) →

@@ -39,6 +39,8 @@ pub(crate) struct Part {
     pub(crate) mutes: usize,
     /// How many of these are left.
     pub(crate) mute: usize,
+    /// The bits that OPERATION reads as 1 whatever was written.
+    pub(crate) reserved: u16,
     /// The command codes of its frames, the register's of one by PAGE_PLUS.
     pub(crate) codes: [u8; 96],
 }
@@ -161,10 +163,8 @@ impl Part {
                 .map(|status| (if off { status | 0x0840 } else { status }, 2)),
             0x8B if self.has_vout => Some((self.word(output, 1), 2)),
             0x40 => self.limit.map(|limit| (limit, 2)),
-            _ => place_of(code).map(|place| (
-                self.word(output, place),
-                if place == 0 { 1 } else { 2 },
-            )),
+            0x01 => Some((self.word(output, 0) | self.reserved, 1)),
+            _ => place_of(code).map(|place| (self.word(output, place), 2)),
         }
     }
 

@@ -10,7 +10,7 @@ use Rattle.pm_host.specs.Told.{entry_told, is_awaited}
 use Rattle.pm_course.specs.Frames as frames
 use Rattle.pm_course.specs.Lemmas.Awaited.{comes-awaited}
 use Rattle.pm_sequence.specs.Frames.{nothing}
-use Rattle.pm_stairs.specs.Frames.{course_open}
+use Rattle.pm_stairs.specs.OpenCourse.{course_open}
 use Rattle.pm_memory.specs.declared.sequence_image.SequenceImage.{SequenceImage}
 use Rattle.pm_memory.specs.Guard.{guard_of}
 use Rattle.pm_memory.specs.Hosted.{guard_in}

@@ -9,7 +9,7 @@ returns-clause-stops c = found-lived c.run_all.result _ _
 
 pub returns-clause-back : goal.returns-clause-back
 returns-clause-back c = found-lived c.run_all.result _ _
-    (λ lived spelled part before stop step newest sound stairs downs over output register here.
-    c.stairs_go_back.ensures.back c.args.c c.args.passes part before stop _ step newest spelled lived sound stairs downs over
+    (λ lived spelled part before stop step newest downs sound stairs are down over output register here.
+    c.stairs_go_back.ensures.back c.args.c c.args.passes part before stop _ step newest downs spelled lived sound stairs are down over
     output register here)
     c.run_all.ensures.lived c.run_all.ensures.sound

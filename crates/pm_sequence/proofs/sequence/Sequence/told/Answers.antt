@@ -4,7 +4,7 @@ use Rattle.pm_host.specs.Refusals.{may_come}
 use Rattle.pm_host.specs.Told.{entry_told, is_awaited}
 use Rattle.pm_course.specs.Frames as course
 use Rattle.pm_course.specs.Lemmas.Awaited.{comes-awaited}
-use Rattle.pm_stairs.specs.Frames.{course_open}
+use Rattle.pm_stairs.specs.OpenCourse.{course_open}
 use Rattle.pm_sequence.specs.Frames.{nothing}
 use Rattle.pm_sequence.proofs.Hosts.{hears-told, unheard}
 use Rattle.pm_sequence.proofs.sequence.Sequence.told.Goals as goal
