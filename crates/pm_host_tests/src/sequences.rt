@@ -50,6 +50,12 @@ pub(crate) const LOOKS: Looks = Looks {
     rounds: 4,
 };
 
+// Of a rail that isn't looked at.
+pub(crate) const NOT: Looks = Looks {
+    is_wanted: false,
+    ..LOOKS
+};
+
 pub(crate) const MUST: Looks = Looks {
     is_wanted: true,
     must_deliver: true,

@@ -2,7 +2,7 @@
 
 use crate::checks::equal;
 use crate::sequences::part::{Part, Run, carried};
-use crate::sequences::{DOWN, LOOKS, PART, UP, guard, on};
+use crate::sequences::{DOWN, LOOKS, NOT, PART, UP, guard, on};
 use pm_course::{CourseEnd, Refusal};
 use pm_limits::Guard;
 use pm_sequence::{End, Looks, Rules, Sequence, Step};
@@ -22,11 +22,6 @@ static UNLOOKED: [u8; 19] = [
     0x20, 0x01, 0x21, 0x24, 0x2B, 0x10, 0x20, 0x01, 0x21, 0x24, 0x2B, 0x10, 0x01, 0x01, 0x20, 0x01,
     0x21, 0x24, 0x2B,
 ];
-
-const NOT: Looks = Looks {
-    is_wanted: false,
-    ..LOOKS
-};
 
 // A list whose steps all turn on output 0 of one part, at first off, and what it comes to.
 fn turned_on(rt: &impl Abort, rules: Rules, looks: Looks, guard: Guard, part: Part) -> (Run, Part) {
@@ -167,6 +162,11 @@ fn a_step_has_two_orders_at_most_that_turn_on(rt: HostRuntime) {
             ..PART
         };
         let (run, part) = turned_on(&rt, UP, LOOKS, guard(&rt), part);
-        equal(&rt, &(run.end, part.writes), &(Some(*end), *writes), &(*loses, *mutes));
+        equal(
+            &rt,
+            &(run.end, part.writes),
+            &(Some(*end), *writes),
+            &(*loses, *mutes),
+        );
     }
 }

@@ -1,8 +1,10 @@
 //! Lists that ask before orders, leave steps that stop, or go on from what an earlier list heard.
 
 use crate::checks::equal;
-use crate::sequences::part::Part;
-use crate::sequences::{DOWN, ListRow, MUST, PART, UP, after, check_lists, guard, off, over, sets};
+use crate::sequences::part::{Part, carried};
+use crate::sequences::{
+    DOWN, ListRow, MUST, NOT, PART, UP, after, check_lists, guard, off, on, over, sets,
+};
 use pm_course::{CourseEnd, FrameCourse};
 use pm_delivery::{Heard, Question, Verdict};
 use pm_host::{Job, Untold};
@@ -357,4 +359,43 @@ fn what_no_frame_was_sent_for_changes_nothing(rt: HostRuntime) {
         &Ok(()),
         &"the write ended",
     );
+}
+
+#[test]
+fn what_an_output_held_is_read_before_it_is_turned_off(rt: HostRuntime) {
+    let going = Rules {
+        ends_at_restart: false,
+        ..UP
+    };
+    let restarted = End::Stopped(StepEnd::Restarted);
+    // The rules, how the list ends, how many frames it has, and what OPERATION holds then: it was 80h as the host read it, and is A8h since.
+    let rows: [(Rules, End, usize, u16); 2] = [
+        (UP, restarted, 1, 0xA8),
+        (going, End::Reached, 3, 0x00),
+    ];
+    for (rules, end, frames, held) in &rows {
+        let mut guards = [guard(&rt)];
+        let mut parts = [PART];
+        let _ = carried(
+            Sequence::new(60, UP),
+            &mut guards,
+            &mut parts,
+            &[on(0, 0, NOT)],
+        );
+        parts[0].words[0][0] = 0xA8;
+        let before = parts[0].frames;
+        let run = carried(
+            Sequence::new(60, *rules),
+            &mut guards,
+            &mut parts,
+            &[off(0, 0, NOT)],
+        );
+        let [part] = parts;
+        equal(
+            &rt,
+            &(run.end, part.frames.wrapping_sub(before), part.words[0][0]),
+            &(Some(*end), *frames, *held),
+            frames,
+        );
+    }
 }
