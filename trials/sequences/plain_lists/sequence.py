@@ -125,7 +125,8 @@ class Sequence:
     def asked(self, step, place, course, wanted):
         """A job, None of a step that is over, and the course then. It stops if it is neither."""
         said, after = course.says(self.parts[step.host])
-        is_unsure = step.act == "turns" and self.parts[step.host].only(step.output, OPERATION) is None
+        is_unread = place != self.under and turns_off(step) and (step.output, OPERATION) not in course.survey.read
+        is_unsure = step.act == "turns" and (is_unread or self.parts[step.host].only(step.output, OPERATION) is None)
         is_right = said[0] == "order" and self.is_due(step, wanted, said)
         if said[0] in ("learn", "check") or is_right and (place == self.under or not is_unsure):
             return said, after
@@ -135,11 +136,11 @@ class Sequence:
             raise Stopped(place, *said)
         if not is_unsure or said[0] == "order" and not is_right:
             raise Stopped(place, "changed")
-        # What OPERATION holds is read before it is ordered, so that it can be undone.
+        # What OPERATION holds is read before it is ordered, and again in a step that turns it off, so that it can be undone.
         if not course.survey.left:
             raise Stopped(place, "spent", OPERATION, course.fault)
         after = copy.deepcopy(course)
-        after.survey.left -= 1
+        after.survey.left, after.survey.asked = after.survey.left - 1, ("check", (step.output, OPERATION))
         return ("check", (step.output, OPERATION)), after
 
     def is_due(self, step, wanted, order):
