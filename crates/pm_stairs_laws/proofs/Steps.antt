@@ -749,7 +749,7 @@ module _ (laws : SegmentsBelow) (config : Config) (passes : ℕ) (part : PartReg
     pub read-at : {done : List RailStep} {events : List Event} → At done events → (output : ℕ) → output < config.count → (deed : Deed) →
         IsReadFor config passes output deed (stair_of start done output) before →
         IsReadFor config passes output deed (held_at config passes events output) events
-    read-at at output here (Sets wants) read = λ register needed.
+    read-at {events = events} at output here (Sets wants) read = λ register needed.
         at.fresh (Out output register)
         (read register (subst (λ (h : Held). is_needed h wants register ≡ true) (held-is at output here)
         (needed-counts (held_at config passes events output) wants register ∙ needed)))
@@ -1189,14 +1189,14 @@ done-counted held (Sets wants) = refl
 done-counted held (Turns byte) = ap (λ (word : ℕ). put held Operation word) (itself-commanded byte)
 done-counted held Nothing = refl
 
-stair-counted : (start : Rails) (steps : List RailStep) (output : ℕ) →
-    stair_of start (map counted_step steps) output ≡ stair_of start steps output
-stair-counted start [] output = refl
-stair-counted start (step ∷ steps) output = go (output == step.output) (stair-counted start steps output) where
-  go : (b : Bool) → stair_of start (map counted_step steps) output ≡ stair_of start steps output →
-      cond b (done_to (stair_of start (map counted_step steps) output) (counted_deed step.deed))
-      (stair_of start (map counted_step steps) output) ≡ cond b (done_to (stair_of start steps output) step.deed) (stair_of start steps output)
-  go true same = ap (λ (h : Held). done_to h (counted_deed step.deed)) same ∙ done-counted (stair_of start steps output) step.deed
+stair-counted : (rails : Rails) (steps : List RailStep) (output : ℕ) →
+    stair_of rails (map counted_step steps) output ≡ stair_of rails steps output
+stair-counted rails [] output = refl
+stair-counted rails (step ∷ steps) output = go (output == step.output) (stair-counted rails steps output) where
+  go : (b : Bool) → stair_of rails (map counted_step steps) output ≡ stair_of rails steps output →
+      cond b (done_to (stair_of rails (map counted_step steps) output) (counted_deed step.deed))
+      (stair_of rails (map counted_step steps) output) ≡ cond b (done_to (stair_of rails steps output) step.deed) (stair_of rails steps output)
+  go true same = ap (λ (h : Held). done_to h (counted_deed step.deed)) same ∙ done-counted (stair_of rails steps output) step.deed
   go false same = same
 
 still-counted : (deed : Deed) → TurnsNothing (counted_deed deed) → TurnsNothing deed
