@@ -19,6 +19,7 @@ A file has a block for each run, a blank line between them. The lines of a block
     field: O NAME WORD   what a part of field.py has at first, by the names of trials/field/field.h; - for the device
     volts: V V ..        at how many volts the rails of such a part are behind the run
     transfers: N         how many transfers such a part heard
+    operation: BYTE ..   what OPERATION of its outputs was written to hold
     status: N            the status
     out: TEXT, err: TEXT     a line of standard output, of standard error
 
@@ -80,6 +81,7 @@ class Run:
     fields: list = field(default_factory=list)
     volts: str = ""
     transfers: str = ""
+    operation: str = ""
     faults: dict = field(default_factory=dict)
     functions: int = I2C_FUNC_I2C
     held: str = "1000"
@@ -96,7 +98,7 @@ class Run:
             # `ok*6` stands for six of them.
             several = (word.partition("*") for word in text.split())
             self.mishaps = " ".join(" ".join([word] * int(count or 1)) for word, _, count in several)
-        elif key in ("name", "words", "part", "held", "writes", "looks", "volts", "transfers"):
+        elif key in ("name", "words", "part", "held", "writes", "looks", "volts", "transfers", "operation"):
             setattr(self, key, text)
         elif key in ("out", "err"):
             setattr(self, key, f"{getattr(self, key)}{text}\n")

@@ -134,7 +134,8 @@ impl Wishes {
 pub enum Act {
     /// Registers get words or voltages, by the plan.
     Sets(Wishes),
-    /// OPERATION gets this byte: on, off, or a margin.
+    /// OPERATION gets this byte: on, off, or a margin. The step is over if the part holds a byte that differs in bit 0 only, which is reserved, or in
+    /// bits 1 and 0, unless bits 5:4 are 11.
     Turns(u8),
     /// Nothing is ordered, and all that decides what the output commands is read.
     Surveys,

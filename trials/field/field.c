@@ -186,7 +186,7 @@ static const place WORDS[] = {
 static const place OUTPUTS[] = {
     OF_OUTPUT("is_run_low", is_run_low), OF_OUTPUT("is_good_low", is_good_low), OF_OUTPUT("pin_command", pin_command),
     OF_OUTPUT("on_ms", on_ms), OF_OUTPUT("off_ms", off_ms), OF_OUTPUT("ramp_ms", ramp_ms), OF_OUTPUT("good_ms", good_ms),
-    OF_OUTPUT("is_off_early", is_off_early), OF_OUTPUT("stored_trim", stored.trim),
+    OF_OUTPUT("reserved", reserved), OF_OUTPUT("is_off_early", is_off_early), OF_OUTPUT("stored_trim", stored.trim),
     {"trip_at", offsetof(field_output, trip_at), 4}, OF_OUTPUT("error", error),
     OF_OUTPUT("has_tripped", has_tripped), OF_OUTPUT("STATUS_VOUT", vout), OF_OUTPUT("STATUS_IOUT", iout),
     OF_OUTPUT("STATUS_INPUT", input), OF_OUTPUT("STATUS_TEMPERATURE", temperature)};

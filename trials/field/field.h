@@ -37,6 +37,7 @@ typedef struct {
     uint16_t pin_command;   /* the word of VOUT_COMMAND that pins give at a start; 0 where none do */
     uint16_t on_ms, off_ms, ramp_ms; /* how long it goes up, coasts down and moves */
     uint16_t good_ms;       /* how long after its voltage is good it says so */
+    uint16_t reserved;      /* the bits of OPERATION that read 1 whatever was written */
     uint16_t is_off_early;  /* 1 where it says OFF as it is turned off, though it coasts */
     uint32_t trip_at;       /* it trips before the frame behind so many of its bus, 0 for never */
     int16_t error;          /* how many words READ_VOUT is above the voltage */

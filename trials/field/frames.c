@@ -80,10 +80,18 @@ static uint16_t read_vout_of(const field_part *part, uint8_t at) {
     return (uint16_t)(word < 0 ? 0 : word > 0xFFFF ? 0xFFFF : word);
 }
 
+/* OPERATION as it is held, with the bits that read 1. 0, or 1 where there is none. */
+static uint8_t read_cell(const field_part *part, uint8_t at, uint8_t code, uint16_t *word) {
+    uint16_t held = 0;
+    if (pm_part_word(&part->chip, at, code, &held)) return 1;
+    return *word = (uint16_t)(*word | held), 0;
+}
+
 /* The word that a register of an output has where this file answers it: its size, or 0 where the model part answers. */
 static uint8_t word_of(const field_part *part, uint8_t code, uint8_t at, uint16_t *word) {
     const field_output *out = &part->out[at];
     switch (code) {
+    case OPERATION: *word = out->reserved; return *word && !read_cell(part, at, code, word) ? 1 : 0;
     case ON_OFF_CONFIG: *word = out->held.on_off_config; return 1;
     case 0x40: *word = out->held.ov_fault; return 2;
     case 0x42: *word = out->held.ov_warn; return 2;

@@ -16,10 +16,11 @@ typedef struct {
     int is_dead;          /* OFF is 1 whatever OPERATION says */
     int trips;            /* a write of VOUT_COMMAND makes it dead, and VOUT_OV_FAULT is 1 from then on */
     int has_tripped, frames, writes;
+    uint16_t reserved;    /* the bits that OPERATION reads as 1 whatever was written */
 } part;
 
 static const part good = {{{0x80, 0x1000, 0x4000, 0x1100, 0x0F00, 0}, {0x80, 0x1000, 0x4000, 0x1100, 0x0F00, 0}},
-                          1, 1, 0x2000, 100000, 0, 0, 0, 0, 0, 0};
+                          1, 1, 0x2000, 100000, 0, 0, 0, 0, 0, 0, 0};
 static part parts[2];
 static pm_host hosts[2];
 static pm_host *const at_hosts[2] = {&hosts[0], &hosts[1]};
@@ -96,7 +97,7 @@ static int carried(const part *on, int output, uint8_t code, uint16_t *word) {
     }
     if (place < 0)
         return 0;
-    *word = on->words[output][place];
+    *word = (uint16_t)(on->words[output][place] | (place == 0 ? on->reserved : 0));
     return place == 0 ? 1 : 2;
 }
 
@@ -521,7 +522,7 @@ static void pass(void *context, uint32_t milliseconds) {
 
 static void comes_up_anew(uint8_t rules, int frames) {
     static const part is_off = {{{0x00, 0x0DC3, 0x4000, 0x1100, 0x0F00, 0}, {0x80, 0x1000, 0x4000, 0x1100, 0x0F00, 0}},
-                                1, 1, 0x2000, 100000, 0, 0, 0, 0, 0, 0};
+                                1, 1, 0x2000, 100000, 0, 0, 0, 0, 0, 0, 0};
     void *const at_patients[2] = {&patients[0], &patients[1]};
     int at, reached = 0;
     steps[0] = off(0, 0, 1);
@@ -574,6 +575,44 @@ static void any_bytes(void) {
     }
 }
 
+/* A list that turns an output to one byte and then to another, of a part whose OPERATION reads bits as 1: how it ends, what is held, what the
+ * host knows of it then, and the writes. Bits 1 and 0 don't count of these bytes; bit 2 does. */
+static void reserved_bits(void) {
+    static const struct {
+        const char *name;
+        uint16_t reserved;
+        uint8_t first, second, kind;
+        uint16_t held, known;
+        int writes;
+    } table[] = {
+        {"off and on, bit 0", 1, 0x00, 0x80, 1, 0x80, 0x81, 3},
+        {"on and off, bit 0", 1, 0x80, 0x00, 1, 0x00, 0x01, 2},
+        {"on and off, bit 1", 2, 0x80, 0x00, 1, 0x00, 0x02, 2},
+        {"off and on, both bits", 3, 0x40, 0x80, 1, 0x80, 0x83, 3},
+        {"off, bit 2", 4, 0x00, 0x00, 3, 0x00, 0x04, 4},
+    };
+    size_t at;
+    for (at = 0; at < sizeof table / sizeof *table; at++) {
+        part bits = good;
+        pm_words known;
+        bits.reserved = table[at].reserved;
+        begin(&bits, &good, 2);
+        steps[0] = step_of(0, 0, 1);
+        steps[0].kind = 2;
+        steps[0].byte = table[at].first;
+        steps[1] = steps[0];
+        steps[1].byte = table[at].second;
+        row(table[at].name, "answer",
+            pm_run_sequence(&sequence, at_hosts, at_parts, 2, steps, 2, records, 2, put, ask, pause_for, told), 0x95);
+        row(table[at].name, "kind", sequence.said.kind, table[at].kind);
+        row(table[at].name, "held", parts[0].words[0][0], table[at].held);
+        row(table[at].name, "writes", parts[0].writes, table[at].writes);
+        row(table[at].name, "number", pm_host_possible_words(&hosts[0], 0, 0x01, &known), 0);
+        row(table[at].name, "count", known.count, 1);
+        row(table[at].name, "known", known.words[0], table[at].known);
+    }
+}
+
 int main(void) {
     size_t at;
     row("sizes", "sequence", (long long)pm_sequence_size(), 376);
@@ -591,6 +630,7 @@ int main(void) {
     comes_up_anew(0, 32);
     refusals();
     any_bytes();
+    reserved_bits();
     printf("%d passed, %d failed\n", passed, failed);
     return failed != 0;
 }

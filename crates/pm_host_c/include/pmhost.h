@@ -349,7 +349,9 @@ typedef struct {
     uint8_t host;   /* the place of its host among yours, 0 to 7 */
     uint8_t output; /* 0 to 7 */
     uint8_t kind;   /* PM_SETS, PM_TURNS, PM_STEP_SURVEYS or PM_STEP_RESTS */
-    uint8_t byte;   /* of PM_TURNS, otherwise 0 */
+    uint8_t byte;   /* of PM_TURNS, otherwise 0. Bit 0 doesn't count, nor does bit 1 unless bits 5:4 are 11: the step is over if the part
+                     * holds a byte that differs in these only, and pm_host_possible_words says which. A part that holds one already
+                     * gets no order that turns its output on */
     uint8_t unused[4];
     pm_sequence_wish command, max, margin_high, margin_low, min; /* of PM_SETS */
     uint8_t looks;            /* PM_LOOK_NOT, PM_LOOK or PM_LOOK_MUST */

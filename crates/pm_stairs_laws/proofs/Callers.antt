@@ -264,7 +264,7 @@ byte-over : (busy : Bool) (known : Option ℕ) (byte : ℕ) → (not busy && opt
     (busy ≡ false) × ((word : ℕ) × (known ≡ Some word) × (same_command byte word ≡ true))
 byte-over true known byte is = cc
 byte-over false None byte is = cc
-byte-over false (Some word) byte is = (refl, (word, (refl, is)))
+byte-over false (Some word) byte is = (refl, (word, refl, is))
 
 -- a word that is known is the only one that is possible
 accepted-word : (accepts : Bool) (word byte : ℕ) → rule accepts word ≡ Some byte → ◌≡◌ {A = Option ℕ} (Some word) (Some byte)
@@ -333,7 +333,7 @@ module _ (config : Config) (passes : ℕ) (part : PartRegisters) (events : List 
   answered-over limits output (word.Sets words) is = (None, last-none (plan_of part s limits output (wants_of words)) is)
   answered-over limits output (word.Turns byte) is =
       let over = byte-over (is_busy s) (known_word (Out output Operation) (possible_at s (Out output Operation))) byte is in
-      let one = sole-of-known (Out output Operation) (sole (possible_at s (Out output Operation))) over.1.0 over.1.1.0 in
+      let one = sole-of-known (Out output Operation) (sole (possible_at s (Out output Operation))) over.1.0 over.1.1 in
       (over.0, one ∙ ap (λ (o : Option ℕ). Some (unwrap_or o 0)) (sym one))
   answered-over limits output word.Nothing is = not-true (is_busy s) is
 

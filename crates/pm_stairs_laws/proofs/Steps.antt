@@ -538,7 +538,7 @@ module _ (laws : SegmentsBelow) (config : Config) (passes : ℕ) (part : PartReg
   same-counts r = goal-counts (held_at config passes events output) wants none r ∙ ap (counted r) (same-goal r)
       ∙ sym (goal-counts (held_at config passes before output) wants none r)
 
-  -- by the words that are held, or by what counts of them
+  -- what the output does is the same by the words that are held and by what counts of them
   stand-goal : stand_by (value_for config output) (goal_of (held_at config passes before output) wants)
       ≡ stand_by (value_for config output) (goal_of (counts_at config passes before output) wants)
   stand-goal = sym (stand-counts (value_for config output) (goal_of (held_at config passes before output) wants))
@@ -606,9 +606,9 @@ module _ (laws : SegmentsBelow) (config : Config) (passes : ℕ) (part : PartReg
   possible-byte : IsOver config passes part output (Turns byte) events' →
       command_of (held_at config passes events' output Operation) ≡ command_of byte
   possible-byte over = ap command_of (sym held' ∙ ap (λ (o : Option ℕ). unwrap_or o 0) known)
-      ∙ sym (eqb-true (command_of byte) (command_of over.1.0) over.1.1.1) where
+      ∙ sym (eqb-true (command_of byte) (command_of over.1.0) over.1.2) where
         known : known_word (Out output Operation) (possible_at (now config passes events').host (Out output Operation)) ≡ Some over.1.0
-        known = over.1.1.0
+        known = over.1.1
 
         cell : Cell
         cell = Out output Operation
@@ -749,7 +749,7 @@ module _ (laws : SegmentsBelow) (config : Config) (passes : ℕ) (part : PartReg
     pub read-at : {done : List RailStep} {events : List Event} → At done events → (output : ℕ) → output < config.count → (deed : Deed) →
         IsReadFor config passes output deed (stair_of start done output) before →
         IsReadFor config passes output deed (held_at config passes events output) events
-    read-at at output here (Sets wants) read = λ register needed.
+    read-at {events = events} at output here (Sets wants) read = λ register needed.
         at.fresh (Out output register)
         (read register (subst (λ (h : Held). is_needed h wants register ≡ true) (held-is at output here)
         (needed-counts (held_at config passes events output) wants register ∙ needed)))
@@ -1017,16 +1017,16 @@ stair-commanded : (config : Config) (passes : ℕ) (part : PartRegisters) (befor
     AreSound config passes part before done → (output : ℕ) →
     command_of (stair_of (start_of config passes before) done output Operation) ≡ stair_of (start_of config passes before) done output Operation
 stair-commanded config passes part before [] sound output = itself-commanded (held_at config passes before output Operation)
-stair-commanded config passes part before (step ∷ done) sound output = go (output == step.output) where
-  old : Held
-  old = stair_of (start_of config passes before) done output
+stair-commanded config passes part before (step ∷ done) sound output =
+    go (output == step.output) (stair-commanded config passes part before done sound.1 output)
+  where
+    old : Held
+    old = stair_of (start_of config passes before) done output
 
-  earlier : command_of (old Operation) ≡ old Operation
-  earlier = stair-commanded config passes part before done sound.1 output
-
-  go : (b : Bool) → command_of (cond b (done_to old step.deed) old Operation) ≡ cond b (done_to old step.deed) old Operation
-  go true = commanded-deed old step.deed sound.0.still earlier
-  go false = earlier
+    go : (b : Bool) → command_of (old Operation) ≡ old Operation →
+        command_of (cond b (done_to old step.deed) old Operation) ≡ cond b (done_to old step.deed) old Operation
+    go true earlier = commanded-deed old step.deed sound.0.still earlier
+    go false earlier = earlier
 
 -- what undoes a deed turns nothing where it doesn't
 back-still : (old : Held) (deed : Deed) → TurnsNothing deed → TurnsNothing (back_of old deed)
@@ -1189,15 +1189,15 @@ done-counted held (Sets wants) = refl
 done-counted held (Turns byte) = ap (λ (word : ℕ). put held Operation word) (itself-commanded byte)
 done-counted held Nothing = refl
 
-stair-counted : (start : Rails) (steps : List RailStep) (output : ℕ) →
-    stair_of start (map counted_step steps) output ≡ stair_of start steps output
-stair-counted start [] output = refl
-stair-counted start (step ∷ steps) output = go (output == step.output) where
-  go : (b : Bool) → cond b (done_to (stair_of start (map counted_step steps) output) (counted_deed step.deed))
-      (stair_of start (map counted_step steps) output) ≡ cond b (done_to (stair_of start steps output) step.deed) (stair_of start steps output)
-  go true = ap (λ (h : Held). done_to h (counted_deed step.deed)) (stair-counted start steps output)
-      ∙ done-counted (stair_of start steps output) step.deed
-  go false = stair-counted start steps output
+stair-counted : (rails : Rails) (steps : List RailStep) (output : ℕ) →
+    stair_of rails (map counted_step steps) output ≡ stair_of rails steps output
+stair-counted rails [] output = refl
+stair-counted rails (step ∷ steps) output = go (output == step.output) (stair-counted rails steps output) where
+  go : (b : Bool) → stair_of rails (map counted_step steps) output ≡ stair_of rails steps output →
+      cond b (done_to (stair_of rails (map counted_step steps) output) (counted_deed step.deed))
+      (stair_of rails (map counted_step steps) output) ≡ cond b (done_to (stair_of rails steps output) step.deed) (stair_of rails steps output)
+  go true same = ap (λ (h : Held). done_to h (counted_deed step.deed)) same ∙ done-counted (stair_of rails steps output) step.deed
+  go false same = same
 
 still-counted : (deed : Deed) → TurnsNothing (counted_deed deed) → TurnsNothing deed
 still-counted (Sets wants) none = none

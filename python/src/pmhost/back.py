@@ -9,6 +9,7 @@ from . import clock
 from .course import in_hexadecimal
 from .device import Device
 from .errors import SAYINGS, ChangedRefused, refusal
+from .operation import same_command
 from .sequence import WHY, Said, SequenceStep, Wishes
 from .step_run import StepRun
 from .survey import only_word
@@ -84,9 +85,15 @@ def carried_out(part: Device, held: Held) -> str:
     end, form = run.carry_out(), part.host.format(held.output)
     if held.form is not None and form != held.form:
         return "its voltages have another format now"
-    if end.is_well and all(only_word(part, held.output, register) == word for register, word in held.words.items()):
+    if end.is_well and all(is_held(part, held.output, register, word) for register, word in held.words.items()):
         return ""
     return why_not(end, part.transfers)
+
+
+def is_held(part: Device, output: int, register: str, word: int) -> bool:
+    """Whether a register is known to hold a word; OPERATION its command."""
+    known = only_word(part, output, register)
+    return known is not None and (known == word or register == OPERATION and same_command(word, known))
 
 
 def why_not(end: Said, transfers: Transfers) -> str:

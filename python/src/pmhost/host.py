@@ -76,6 +76,8 @@ class Host:
         self._passes = whole(passes, 1, 15, "passes")
         has = registers_image(lacks)
         accepted(library.pm_host_new_with(REFERENCE(self._image), address, outputs, passes, REFERENCE(has)))
+        # What it saw was a command that was read back with bits that don't count.
+        self.is_restart_denied = False
 
     @property
     def reference(self) -> Any:
@@ -183,6 +185,7 @@ class Host:
     def restart(self) -> None:
         """Drops the open job and all that is known; the limits stay."""
         accepted(library.pm_host_restart(REFERENCE(self._image)))
+        self.is_restart_denied = False
         if self.listener is not None:
             self.listener.restarted()
 
@@ -379,11 +382,12 @@ class Host:
 
     @property
     def restart_seen(self) -> bool:
-        """Whether a restart of the device was seen since the host started."""
+        """Whether a restart of the device was seen since the host started. A command of OPERATION that a step reads back with bits that don't count is
+        none."""
         number = library.pm_host_restart_seen(REFERENCE(self._image))
         if number > 1:
             raise refusal(number)
-        return bool(number == 1)
+        return bool(number == 1) and not self.is_restart_denied
 
     # ---- Its memory ----
 

@@ -11,8 +11,8 @@ PAGE_PLUS_WRITE = 0x05
 # The bits of which one is 1 where an output that is on isn't at VOUT_COMMAND, and the register that they select.
 ANOTHER = 0x30
 SELECTED = {0x00: "VOUT_COMMAND", 0x10: "VOUT_MARGIN_LOW", 0x20: "VOUT_MARGIN_HIGH"}
-# The bits of a margin: they select it, and say whether the part acts on faults. The lowest two say neither.
-OF_MARGIN = 0xFC
+# The bits of a command: they turn on or off, select a margin, and say whether the part acts on faults. The lowest two say none of these.
+OF_COMMAND = 0xFC
 
 
 def margin_byte(side: str, ignore_faults: bool = False) -> int:
@@ -29,7 +29,22 @@ def selected_by(byte: int) -> Optional[str]:
 
 def ignores_faults(byte: int) -> bool:
     """Whether an output is on at a margin at which the part ignores faults, by 94h to 97h or A4h to A7h."""
-    return byte & OF_MARGIN in UNPROTECTED.values()
+    return byte & OF_COMMAND in UNPROTECTED.values()
+
+
+def command_of(byte: int) -> int:
+    """A byte without the bits that don't count: bit 0, which is reserved, and bit 1 unless bits 5:4 are 11, as the library has it."""
+    return byte & (0xFE if byte & ANOTHER == ANOTHER else OF_COMMAND)
+
+
+def same_command(wanted: int, held: int) -> bool:
+    """Whether a byte that is held is the command that is wanted, but for these bits: a step to that byte is over then."""
+    return command_of(wanted) == command_of(held)
+
+
+def uncounted(wanted: int, held: int) -> str:
+    """By which bits a byte that is held as its command isn't the one that is wanted."""
+    return {1: "bit 0 doesn't count", 2: "bit 1 doesn't count"}.get(wanted ^ held, "bits 1 and 0 don't count")
 
 
 def turns_on(frame: bytes) -> bool:

@@ -14,7 +14,7 @@ from .course import FAULTS, REGISTERS, TRIES, CourseEnd, Job
 from .errors import accepted, name_of
 from .host import Host
 from .looks import FAULT_LIMITS, Looks
-from .operation import ON
+from .operation import ON, same_command
 from .packets import read_write
 from .states import Bus, Sending, Step
 from .transfers import Transfers
@@ -334,7 +334,7 @@ class Sequence:
         asked once why nobody answers, if the first job had no answer at all and nothing was written; with an answer it ends the loop by a Said of
         the kind `nobody`, whose fault that is, and without one the list goes on. Whatever is raised meanwhile goes on to the caller, with the job
         that was under way ended as unknown."""
-        kept, order, is_open, is_heard, has_sent = Transfers() if transfers is None else transfers, None, False, False, False
+        kept, order, is_open, is_heard, has_sent, was_seen = Transfers() if transfers is None else transfers, None, False, False, False, False
         try:
             while True:
                 if has_sent:
@@ -352,8 +352,16 @@ class Sequence:
                 if not is_open:
                     kept.begin()
                     order = None if found.is_request else ordered(self.host, found)
-                step = self._hear(found, self.host.came(buses[self.place], found, kept))
+                    was_seen = self.host.restart_seen
+                host = self.host
+                words = confirmed_words(host) if host.is_restart_denied else {}
+                step = self._hear(found, host.came(buses[self.place], found, kept))
                 is_open = not step.is_over
+                if order is not None and not was_seen and reads_command(order, step):
+                    # The host takes it for a restart of the part, which it isn't.
+                    host.is_restart_denied = True
+                elif words and any(word != words.get(cell, word) for cell, word in confirmed_words(host).items()):
+                    host.is_restart_denied = False
                 if step.is_over and order is not None and after_order is not None and after_order(order, step) is False:
                     return Said("stopped", self.begun)
                 if step.is_over and not is_heard:
@@ -383,6 +391,16 @@ def read_of_rail(bus: Bus, host: Host, sending: Sending) -> bytes:
     except OSError:
         return b""
     return b"" if not came or is_ones(came) else bytes([host.address << 1 | 1]) + came
+
+
+def confirmed_words(host: Host) -> dict[tuple[int | None, str], int]:
+    """The words that are confirmed, by their cells."""
+    return {(it.output, it.register): it.confirmed for it in host.known_cells() if it.confirmed is not None}
+
+
+def reads_command(order: Job, step: Step) -> bool:
+    """Whether an order of OPERATION was read back as its command, with bits that don't count."""
+    return order.register == "OPERATION" and step.kind == "differs" and same_command(order.word or 0, step.word or 0)
 
 
 def ordered(host: Host, sending: Sending) -> Job:

@@ -16,7 +16,7 @@ from ..delivered import Delivered, beyond_of, register_words
 from ..device import Device
 from ..errors import SAYINGS, ChangedRefused, RailRefused, refusal
 from ..looks import Looks
-from ..operation import MARGINS, ON, margin_byte, selected_by
+from ..operation import MARGINS, ON, margin_byte, same_command, selected_by, uncounted
 from ..parts import BadRails
 from ..rail_run import Restarted, Stopped
 from ..rails import Rail
@@ -249,7 +249,7 @@ class RailTest:
                 is_held = "isn't known" if word is None else f"is {in_hexadecimal(register, word)}"
                 raise Restarted(f"{self.rail.name}: at {point}: {self.rail.part or 'the part'} restarted: {register} {is_held} now: call again")
         held = only_word(self.part, self.rail.output, OPERATION)
-        return "" if held == byte else f"{OPERATION} isn't {byte:02X} any more"
+        return "" if held is not None and same_command(byte, held) else f"{OPERATION} isn't {byte:02X} any more"
 
     # ---- What is said ----
 
@@ -263,6 +263,11 @@ class RailTest:
         except RailRefused as fault:
             is_restart = isinstance(fault, ChangedRefused) and fault.is_restart
             raise (Restarted if is_restart else Stopped)(f"{self.rail.name}: {with_advice(fault)}") from None
+
+    def held_back(self) -> str:
+        """How OPERATION is held once the rail is back."""
+        held = only_word(self.part, self.rail.output, OPERATION)
+        return " confirmed" if held in (ON, None) else f", held as {held:02X}: {uncounted(ON, held)}"
 
     def why_ended(self, byte: int, end: CourseEnd) -> str:
         """Why a byte of OPERATION isn't reached."""
@@ -285,7 +290,7 @@ def judge_board(board: Board) -> None:
     board.read()
     for rail in board.rails:
         byte = only_word(board.on(rail), rail.output, OPERATION)
-        if rail.is_on and byte is not None and byte != ON:
+        if rail.is_on and byte is not None and not same_command(ON, byte):
             said = cell_words(argparse.Namespace(output=rail.output), board.on(rail), OPERATION, byte)
             raise Stopped(f"{rail.name}: {said}: `on` first")
     board.take()
@@ -330,7 +335,7 @@ def tell(arguments: argparse.Namespace, begun: list[RailTest], rows: list[Row], 
         lines = [("rail", "point", "commands", "READ_VOUT", "STATUS_WORD"), *(row.columns() for row in rows)]
         wide = [max(len(line[at]) for line in lines) for at in range(4)]
         call.say_lines(["  ".join([*(line[at].ljust(wide[at]) for at in range(4)), line[4]]).rstrip() for line in lines])
-        call.say_lines([f"{each.rail.name}: back, {OPERATION} {ON:02X} confirmed" for each in begun if each.is_back])
+        call.say_lines([f"{each.rail.name}: back, {OPERATION} {ON:02X}{each.held_back()}" for each in begun if each.is_back])
     backs = [{"rail": each.rail.name, "point": "back", "confirmed": each.is_back} for each in begun]
     end = "restarted" if status == RESTARTED else "stopped" if why else "done"
     return call.say(Answer(said(arguments), end, "", status, why, rows=[*(row.by_names() for row in rows), *backs],

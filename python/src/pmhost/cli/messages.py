@@ -26,6 +26,8 @@ GROUPS = (
     Group("What is printed", """Each command that was begun has a line: its name and output, a colon, and what came of it. `known`, `probe`, `apply` and
 `verify` have lines of their own.""", (
         Message("`VOUT_COMMAND 34CD 3.300048V confirmed`", "it was read back"),
+        Message("`OPERATION 80 on, held as 81: bit 0 doesn't count`",
+                "of `on`, `off`, `margin` and `up`: the part reads a reserved bit as 1, and holds what was ordered but for that bit; status 0"),
         Message("`..; the output commands 3.300048V, within 3.135V to 3.465V, delivers 3.300048V`",
                 "the output commands just what was ordered, and [the rail delivers it](#does-the-rail-deliver)"),
         Message("`..; OPERATION selects VOUT_MARGIN_HIGH: the output commands ..`",

@@ -9,7 +9,7 @@ from ..course import CourseEnd, in_hexadecimal
 from ..delivered import Delivered, beyond_of
 from ..device import FORMAT_UNKNOWN, Device
 from ..errors import SAYINGS, ChangedRefused, PlanRefused, RailRefused, Refused, TrimRefused, refusal
-from ..operation import avsbus, ignores_faults
+from ..operation import avsbus, ignores_faults, uncounted
 from ..rail_run import OUTSIDE
 from ..sequence import WHY
 from ..states import Step
@@ -246,6 +246,10 @@ def reached(arguments: argparse.Namespace, part: Device, register: str, state: C
     assert found.word is not None
     cell = cell_words(arguments, part, register, found.word, state.form)
     words = f"{register} accepted{cell.removeprefix(register)}" if is_accepted else f"{cell} confirmed"
+    if register == "OPERATION" and found.word != run.step.byte:
+        if arguments.command == "word":
+            return differs_in_bits(arguments, part, found)
+        words = f"{cell_words(arguments, part, register, run.step.byte)}, held as {found.word:02X}: {uncounted(run.step.byte, found.word)}"
     if state.form is None:
         found.text = f"{words}; what the output commands isn't known, since its format wasn't learned"
     else:
@@ -258,6 +262,15 @@ def reached(arguments: argparse.Namespace, part: Device, register: str, state: C
         found.text += "; set; nothing to deliver" * run.delivered.has_nothing_to_deliver
     if found.restart_seen and state.form is not None:
         found.text += "; restart seen, or the part rounds" if is_accepted else "; restart seen"
+    return found
+
+
+def differs_in_bits(arguments: argparse.Namespace, part: Device, found: Answer) -> Answer:
+    """A byte was named as such, and the part holds its command with bits that don't count."""
+    assert found.word is not None
+    found.status, found.end = 1, "differs"
+    found.text = f"{cell_words(arguments, part, 'OPERATION', found.word)} differs"
+    found.why = f"OPERATION: the part holds {found.word:02X}, and {uncounted(arguments.byte, found.word)}: `on`, `off` and `margin` take that"
     return found
 
 
