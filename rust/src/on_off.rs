@@ -6,7 +6,7 @@ use crate::bus::Bus;
 use crate::host::Sending;
 use crate::packet::Block;
 
-/// What turns an output off, by its ON_OFF_CONFIG (PMBus 1.3 Part II, ON_OFF_CONFIG). It is told in the words of `pmhost`.
+/// What turns an output off, by its ON_OFF_CONFIG (PMBus 1.3 Part II, ON_OFF_CONFIG). It prints itself in the words of `pmhost`.
 ///
 /// ```
 /// use pmhost::OnOffConfig;
