@@ -5,7 +5,7 @@ use pmhost::*;
 const ROWS: &str = include_str!("../../../trials/c/rows/on_off.txt");
 
 #[test]
-fn bytes() {
+fn a_byte_says_what_turns_an_output_off() {
     let rows: Vec<_> = ROWS.lines().filter(|line| !line.starts_with('#')).map(|line| line.split_once(' ').unwrap()).collect();
     assert_eq!(rows.len(), 39);
     for (byte, what) in rows {
@@ -35,7 +35,7 @@ impl Bus for Answers {
 }
 
 #[test]
-fn it_is_asked_once() {
+fn on_off_config_is_asked_once() {
     for (answer, wanted) in [
         (Ok([0x01, 0x16, 0xC0]), Some(OnOffConfig::Pin)),
         (Ok([0x01, 0x16, 0xC1]), None), // another packet error code

@@ -22,8 +22,10 @@ static void bytes_of(FILE *file) {
     char line[200], what[16];
     unsigned byte;
     while (fgets(line, sizeof line, file))
-        if (line[0] != '#' && sscanf(line, "%2x %15s", &byte, what) == 2)
+        if (line[0] != '#' && sscanf(line, "%2x %15s", &byte, what) == 2) {
+            line[strcspn(line, "\n")] = 0;
             row(line, pm_heeds_operation((uint8_t)byte), number_of(what));
+        }
 }
 
 /* A register that is read by PAGE_PLUS: what comes after the read address, and what the call makes of it. */
