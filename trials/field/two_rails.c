@@ -36,7 +36,7 @@ uint32_t milliseconds(void *context) {
 
 void wait_for(void *context, uint32_t milliseconds) {
     (void)context;
-    part.now += 1000 * (int64_t)milliseconds;
+    part.now += 1000 * (uint64_t)milliseconds;
 }
 
 /* The rails begin off, at 1 V. A row sets one thing more of the second one, or of the part. */
