@@ -27,6 +27,8 @@ pub enum OnOffConfig {
 impl OnOffConfig {
     /// Its command code.
     pub const CODE: u8 = 0x02;
+    // How many bytes it has.
+    const SIZE: u8 = 1;
 
     /// What a byte of it says.
     pub fn of(byte: u8) -> OnOffConfig {
@@ -54,10 +56,10 @@ impl OnOffConfig {
     /// ```
     #[must_use]
     pub fn ask<B: Bus>(address: u8, output: u8, bus: &mut B) -> Option<OnOffConfig> {
-        let frame = Block::paged_request(address, output, OnOffConfig::CODE, 1).ok()?;
+        let frame = Block::paged_request(address, output, OnOffConfig::CODE, OnOffConfig::SIZE).ok()?;
         let mut answer = [address << 1 | 1, 0, 0, 0];
         let came = bus.send(&Sending::Request { frame, answer: answer.len() }, &mut answer[1..]).ok()?;
-        let block = Block::read_paged(address, output, OnOffConfig::CODE, 1, &answer[..came + 1]).ok()?;
+        let block = Block::read_paged(address, output, OnOffConfig::CODE, OnOffConfig::SIZE, &answer[..came + 1]).ok()?;
         Some(OnOffConfig::of(block[0]))
     }
 

@@ -28,6 +28,7 @@ impl Bus for Answers {
     fn transaction(&mut self, address: u8, operations: &mut [Operation<'_>]) -> Result<(), NoAnswer> {
         let [Operation::Write(request), Operation::Read(answer)] = operations else { panic!("{operations:?}") };
         assert_eq!((address, *request), (0x58, &[0x06, 0x02, 0x01, 0x02][..]));
+        assert_eq!(**answer, [0; 3]); // as a bus is promised
         self.1 += 1;
         answer.copy_from_slice(&self.0?);
         Ok(())
