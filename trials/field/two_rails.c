@@ -59,6 +59,8 @@ int main(void) {
     row("the second rail trips", 1, "VOUT_UV_FAULT_LIMIT", 0x1E00);
     row("a fault limit is too near", 1, "VOUT_OV_FAULT_LIMIT", 0x1C00);
     row("the RUN pin of the first is low", 0, "is_run_low", 1);
+    row("OPERATION turns the second rail neither on nor off", 1, "ON_OFF_CONFIG", 0x16);
+    row("there is no ON_OFF_CONFIG", 0, "lacks", 0x02);
     row("writes are refused", 0, "WRITE_PROTECT", 0x80);
     row("the bus goes away for ever", 0, "away_at_write", 2);
     row("the bus goes away with the first rail on", 0, "away_at_write", 3);
