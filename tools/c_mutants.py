@@ -16,12 +16,19 @@ UNITS = {name for each in os.listdir(SOURCES) for name in re.findall(r"#\[test\]
 # The programs with rows, by the name that a bug's test begins with: the sources, and the words that they get.
 PROGRAMS = {
     "run_rows.c": (["trials/c/rows/run_rows.c"], []),
+    "on_off_rows.c": (["trials/c/rows/on_off_rows.c"], ["trials/c/rows/on_off.txt"]),
     "patient_rows.c": (["trials/c/rows/patient_rows.c"], []),
     "target_rows.c": (["trials/c/rows/target_rows.c"], []),
     "course rows": (["trials/course/rows.c"], ["trials/course/rows.txt"]),
     "delivery rows": (["trials/delivery/rows.c"], []),
     "sequence rows": (["trials/sequences_c/rows.c"], []),
     "field rows": ([f"trials/field/{each}.c" for each in ("rows", "field", "frames")], ["trials/field/rows.txt"]),
+}
+# The examples, each with what it prints.
+EXAMPLES = {
+    "bring-up": (["examples/c/bring_up.c"], "examples/c/bring_up.expected"),
+    "firmware": (["-Iexamples/firmware", *(f"examples/firmware/{each}.c" for each in ("main", "simulated_bus", "hosted"))],
+                 "examples/firmware/console.expected"),
 }
 HEADERS = ("-Icrates/pm_host_c/include", "-Icrates/pm_device_c/include")
 WRAPPED = "-Wl," + ",".join(f"--wrap={name}" for name in ("open", "ioctl", "close", "fcntl", "clock_gettime", "nanosleep"))
@@ -101,8 +108,8 @@ class Copy:
         if test in PROGRAMS:
             status, text = sound.once(test, lambda: self.rows(test))
             return status in (0, 1) and f"\n{row}: " not in "\n" + text
-        if test == "bring-up":
-            return sound.once(test, self.example) == read(os.path.join(ROOT, "examples", "c", "bring_up.expected")).strip()
+        if test in EXAMPLES:
+            return sound.once(test, lambda: self.example(test)) == read(os.path.join(ROOT, EXAMPLES[test][1])).strip()
         if test == "dropped answers":
             return sound.once(bug.said["test"], lambda: self.warns(row))
         if test == "i2c_dev.c":
@@ -124,10 +131,10 @@ class Copy:
         self.program("rows", *sources)
         return self.run("timeout", "60", "./rows", *words)
 
-    def example(self):
-        """What the example of rails in order says."""
-        self.program("bring_up", "examples/c/bring_up.c")
-        return self.run("timeout", "60", "./bring_up")[1].strip()
+    def example(self, name):
+        """What an example says."""
+        self.program("example", *EXAMPLES[name][0])
+        return self.run("timeout", "60", "./example")[1].strip()
 
     def warns(self, call):
         """Whether gcc warns of this call alone on a line."""

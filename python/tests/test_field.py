@@ -7,12 +7,13 @@ import threading
 import unittest
 from dataclasses import replace
 
-from pmhost import Device, LimitRefused, Looks, MarginRefused, ModelPart, ModelPartBus, NotDelivered, Output, PlanRefused, Sequence, SequenceStep, Unknown
+from pmhost import Device, LimitRefused, Looks, MarginRefused, ModelPart, ModelPartBus, NotDelivered, Output, PlanRefused, Sequence, SequenceStep, Unknown, on_off
 
 from . import field_boards, field_calls
 from .field import ADDRESS, Field, FieldBus
 from .fixtures import free
 from .kernel import FakeKernel
+from .running import ROOT
 from .runs import blocks, called
 from .seeded import seeded
 from .test_runs import Blocks
@@ -169,6 +170,14 @@ class Api(unittest.TestCase):
         steps = [SequenceStep.sets(0, 0, {"VOUT_COMMAND": "1.05V"}, Looks()), replace(SequenceStep.rests(0, 0, Looks()), must=True)]
         end = Sequence([device.host], steps).run([device.bus])
         self.assertEqual((end.kind, end.step, end.verdict.kind), ("fails", 1, "commanded off"))
+
+    def test_what_turns_an_output_off(self):
+        """The rows of trials/c/rows/on_off.txt, which C and Rust run, too; of a byte that nobody answered nothing is known."""
+        with open(os.path.join(ROOT, "trials", "c", "rows", "on_off.txt"), encoding="utf-8") as file:
+            rows = [line.split() for line in file if not line.startswith("#")]
+        words = {"OPERATION": "", "pin": "only its pin turns it off", "supply": "nothing but its supply turns it off"}
+        self.assertEqual([on_off.unheeded(int(byte, 16)) for byte, _ in rows], [words[what] for _, what in rows])
+        self.assertEqual((len(rows), on_off.unheeded(None)), (39, ""))
 
     def test_off_of_a_part_that_stays_on_is_raised(self):
         _, device = self.device(("ON_OFF_CONFIG", 0x16))

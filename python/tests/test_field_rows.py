@@ -18,7 +18,7 @@ from .runs import called
 ROWS = os.path.join(ROOT, "trials", "field", "rows.txt")
 LEAST, MOST = 800000, 1300000
 # Milliseconds until so many rounds have been asked.
-SETTLE = {1: 0, 2: 20, 7: 630}
+SETTLE = {1: 0, 2: 10, 7: 630}
 VERDICT_WORDS = {each: each.replace(" to be", "").replace(" ", "-") for each in VERDICTS}
 ORDERS = {"set": "VOUT_COMMAND", "word": "VOUT_COMMAND", "power": "OPERATION"}
 

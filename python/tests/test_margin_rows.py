@@ -6,6 +6,7 @@ import unittest
 from unittest import mock
 
 from pmhost import ModelPart, ModelPartBus, Output, Packet, clock
+from pmhost.values import NAMES
 
 from .kernel import BoardKernel
 from .runs import called
@@ -13,7 +14,8 @@ from .test_board_files import table_of
 from .test_margin_tests import BOARD, Part, rail_of
 from .test_sequences import ORDER, Watched
 
-HIGH, LOW, ON = 0xA8, 0x98, 0x80
+HIGH, LOW, ON, PAGE_PLUS_READ = 0xA8, 0x98, 0x80, 0x06
+ALL = {**NAMES, 0x20: "VOUT_MODE"}
 CORE, IO = [(0, HIGH), (0, LOW), (0, ON)], [(1, HIGH), (1, LOW), (1, ON)]
 
 
@@ -84,6 +86,21 @@ class Deaf(Watched):
         return [] if found and int(found[2], 16) == self.byte else super().hear(frame, ending)
 
 
+class Asked(Watched):
+    """A part that keeps which registers were read before each order, with its byte."""
+
+    def __init__(self, starts):
+        super().__init__(starts)
+        self.asked, self.before = [], []
+
+    def hear(self, frame, ending):
+        before, heard = len(self.orders), super().hear(frame, ending)
+        if ending == "restart":
+            self.asked.append(ALL.get(frame[4 if frame[1] == PAGE_PLUS_READ else 1]))
+        self.before += [(byte, [*self.asked]) for _, byte in self.orders[before:]]
+        return heard
+
+
 class Time:
     """A clock that goes by what is waited alone, and a little at each question."""
 
@@ -129,6 +146,19 @@ class Rows(unittest.TestCase):
         self.assertEqual([(row["point"], row.get("faults_ignored")) for row in found["rows"][:4]],
                          [("nominal", False), ("high", True), ("low", True), ("nominal", False)])
 
+    def test_an_order_follows_directly_the_reads_by_which_it_is_judged(self):
+        """Of each order, the way back too: the survey of the list, which reads WRITE_PROTECT and the register that is selected next behind the others;
+        then what `pmhost` reads once more. The rail was measured before."""
+        _, orders, _, _ = self.run_test("core", kind=Asked)
+        self.assertEqual([byte for byte, _ in self.part.before], [byte for _, byte in orders])
+        now = "VOUT_COMMAND"
+        for byte, asked in self.part.before:
+            then = {HIGH: "VOUT_MARGIN_HIGH", LOW: "VOUT_MARGIN_LOW", ON: "VOUT_COMMAND"}[byte]
+            with self.subTest(byte=byte):
+                self.assertEqual((sorted(asked[-12:-7]), asked[-7:]), (sorted(["VOUT_MODE", "OPERATION", now, "VOUT_MAX", "VOUT_MIN"]), [
+                    "WRITE_PROTECT", then, "VOUT_MODE", "VOUT_MAX", "VOUT_MIN", "OPERATION", then]))
+            now = then
+
     def test_named_rails_alone(self):
         self.assertEqual(self.run_test("io")[:2], (0, IO))
         status, orders, _, err = self.run_test("io", "aux")
@@ -158,7 +188,7 @@ class Rows(unittest.TestCase):
             status, orders, _, err = self.run_test("core", kind=StoredHigh, mishaps=["ok"] * place + ["restart"])
             with self.subTest(place=place):
                 self.assertIn(orders, ([], [(0, ON)]), err)
-                self.assertIn("OPERATION A8 on, margin high: `on` first: nothing was ordered" if status == 1 else "u1 restarted", err)
+                self.assertRegex(err, "OPERATION A8 on, margin high: `on` first: nothing was ordered" if status == 1 else "(u1|the part) restarted")
             ends.append(status)
         self.assertEqual(set(ends), {1, 3})
 

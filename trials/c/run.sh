@@ -290,6 +290,7 @@ pm_host_run_course(&host, &course, 0, 0, 0).kind
 pm_sequence_judge(&record, &host, 0x1000, &judgement)
 pm_paged_request(0x58, 0, 0x40, 2, &sending)
 pm_read_paged(0x58, 0, 0x40, 2, sending.bytes, 5, &block)
+pm_ask_paged(0x58, 0, 0x02, 1, 0, 0, &block)
 pm_sequence_next(&sequence, &host, &step, 1, &record, 1, &sending)
 pm_run_sequence(&sequence, hosts, 0, 1, &step, 1, &record, 1, 0, 0, 0, 0)
 END
@@ -389,6 +390,7 @@ for each in $compilers; do
         program "$name maker" examples/c/maker.expected "$compiler $strict" examples/c/maker.c $rest --
         program "$name pm_target" trials/c/rows/target_rows.expected "$compiler $strict" trials/c/rows/target_rows.c $rest --
         program "$name pm_host_run" trials/c/rows/run_rows.expected "$compiler $strict" trials/c/rows/run_rows.c $rest --
+        program "$name ON_OFF_CONFIG" trials/c/rows/on_off_rows.expected "$compiler $strict" trials/c/rows/on_off_rows.c $rest -- trials/c/rows/on_off.txt
         program "$name courses" trials/course/rows.expected "$compiler $strict" trials/course/rows.c $rest -- trials/course/rows.txt trials/course/accept.txt
         program "$name deliveries" trials/delivery/rows.expected "$compiler $strict" trials/delivery/rows.c $rest --
         program "$name sequences" trials/sequences_c/rows.expected "$compiler $strict" trials/sequences_c/rows.c $rest --

@@ -36,7 +36,7 @@ uint32_t milliseconds(void *context) {
 
 void wait_for(void *context, uint32_t milliseconds) {
     (void)context;
-    part.now += 1000 * (int64_t)milliseconds;
+    part.now += 1000 * (uint64_t)milliseconds;
 }
 
 /* The rails begin off, at 1 V. A row sets one thing more of the second one, or of the part. */
@@ -59,6 +59,8 @@ int main(void) {
     row("the second rail trips", 1, "VOUT_UV_FAULT_LIMIT", 0x1E00);
     row("a fault limit is too near", 1, "VOUT_OV_FAULT_LIMIT", 0x1C00);
     row("the RUN pin of the first is low", 0, "is_run_low", 1);
+    row("OPERATION turns the second rail neither on nor off", 1, "ON_OFF_CONFIG", 0x16);
+    row("there is no ON_OFF_CONFIG", 0, "lacks", 0x02);
     row("writes are refused", 0, "WRITE_PROTECT", 0x80);
     row("the bus goes away for ever", 0, "away_at_write", 2);
     row("the bus goes away with the first rail on", 0, "away_at_write", 3);

@@ -6,7 +6,10 @@
 #include <stdlib.h>
 #include <string.h>
 
-/* A part with two outputs. STATUS_WORD follows OPERATION, and READ_VOUT follows VOUT_COMMAND. */
+/* What a rail does at a look after an order: STATUS_WORD, STATUS_VOUT and READ_VOUT; FFFFh of one that gives no answer. */
+typedef struct { uint16_t status, vout, reading; } moment;
+
+/* A part with two outputs. STATUS_WORD follows OPERATION, and READ_VOUT follows VOUT_COMMAND, but for what its moments say after an order. */
 typedef struct {
     uint16_t words[2][6]; /* OPERATION, VOUT_COMMAND, VOUT_MAX, VOUT_MARGIN_HIGH, VOUT_MARGIN_LOW, VOUT_MIN */
     int has_status, has_vout;
@@ -17,10 +20,13 @@ typedef struct {
     int trips;            /* a write of VOUT_COMMAND makes it dead, and VOUT_OV_FAULT is 1 from then on */
     int has_tripped, frames, writes;
     uint16_t reserved;    /* the bits that OPERATION reads as 1 whatever was written */
+    const moment *moments; /* four of them, the last one for ever */
+    int looks;            /* how often STATUS_WORD was read after the last write */
+    int restarts;         /* at which of these looks OPERATION is 00 again; 0 for never */
 } part;
 
 static const part good = {{{0x80, 0x1000, 0x4000, 0x1100, 0x0F00, 0}, {0x80, 0x1000, 0x4000, 0x1100, 0x0F00, 0}},
-                          1, 1, 0x2000, 100000, 0, 0, 0, 0, 0, 0, 0};
+                          1, 1, 0x2000, 100000, 0, 0, 0, 0, 0, 0, 0, NULL, 0, 0};
 static part parts[2];
 static pm_host hosts[2];
 static pm_host *const at_hosts[2] = {&hosts[0], &hosts[1]};
@@ -61,6 +67,7 @@ static uint8_t put(void *context, const uint8_t *bytes, uint64_t count) {
     part *on = (part *)context;
     int is_gone = on->gone_after <= on->frames++, place = place_of(bytes[4]);
     on->writes++;
+    on->looks = 0;
     if (is_gone)
         return PM_UNHEARD;
     if ((on->is_deaf && bytes[3] == 0) || place < 0 || count < 7)
@@ -72,12 +79,19 @@ static uint8_t put(void *context, const uint8_t *bytes, uint64_t count) {
 }
 
 /* The word of a register, and how many bytes it has; 0 if the part has no such register. */
-static int carried(const part *on, int output, uint8_t code, uint16_t *word) {
+static int carried(part *on, int output, uint8_t code, uint16_t *word) {
     int off = on->is_dead || !(on->words[output][0] & 0x80), place = place_of(code);
     *word = 0;
     if (code == 0x20) {
         *word = 0x14;
         return 1;
+    }
+    if (code == 0x79 && on->writes && ++on->looks == on->restarts)
+        on->words[output][0] = 0;
+    if (on->moments && on->writes && (code == 0x79 || code == 0x7A || code == 0x8B)) {
+        const moment *now = &on->moments[on->looks < 4 ? on->looks - 1 : 3];
+        *word = code == 0x79 ? now->status : code == 0x7A ? now->vout : now->reading;
+        return *word == 0xFFFF ? 0 : code == 0x7A ? 1 : 2;
     }
     if (code == 0x79) {
         *word = (uint16_t)((off ? 0x0840 : 0) | (on->has_tripped ? 0x8020 : 0));
@@ -418,6 +432,58 @@ static void ways_back(void) {
     row("off", "back", records[0].back.host << 16 | records[0].back.kind << 8 | records[0].back.byte, 0x10280);
 }
 
+/* What ends a look before its rail has had its time, of four rounds with 70 ms between them: a fault that is new, and nothing else. The first is a
+ * rail that is turned on or raised to 1.2 V, or lowered to it; its limits are 1.1 V and 1.3 V. */
+typedef struct {
+    const char *name;
+    uint16_t from; /* what VOUT_COMMAND holds before; 0 of a rail that is turned on at 1.2 V */
+    moment moments[4];
+    int restarts;
+    uint8_t kind, verdict;
+    int pauses;
+} timed;
+
+#define WELL {0, 0, 0x1333}
+static const timed timed_rows[] = {
+    {"on: off without a fault, and then on", 0, {{0x0840, 0, 0}, {0x0840, 0, 0}, WELL, WELL}, 0, 1, 1, 30},
+    {"on: off without a fault for ever", 0, {{0x0840, 0, 0}, {0x0840, 0, 0}, {0x0840, 0, 0}, {0x0840, 0, 0}}, 0, 14, 4, 70},
+    {"on: off with a new fault", 0, {{0x8860, 0x80, 0}, WELL, WELL, WELL}, 0, 14, 4, 0},
+    {"on: a new fault, and it isn't off", 0, {{0x8000, 0x10, 0x1333}, WELL, WELL, WELL}, 0, 14, 5, 0},
+    {"on: a fault at the second look", 0, {{0x0800, 0, 0x0800}, {0x8860, 0x80, 0}, WELL, WELL}, 0, 14, 4, 10},
+    {"on: a warning is no fault", 0, {{0x8000, 0x20, 0x0800}, {0x8000, 0x20, 0x0800}, {0x8000, 0x20, 0x1333}, WELL}, 0, 1, 1, 30},
+    {"on: below the lower limit, and then right", 0, {{0x0800, 0, 0x0400}, {0x0800, 0, 0x0C00}, {0, 0, 0x1300}, WELL}, 0, 1, 1, 30},
+    {"on: above the upper limit, and then right", 0, {{0, 0, 0x1800}, {0, 0, 0x1800}, WELL, WELL}, 0, 1, 1, 30},
+    {"on: above the upper limit for ever", 0, {{0, 0, 0x1800}, {0, 0, 0x1800}, {0, 0, 0x1800}, {0, 0, 0x1800}}, 0, 14, 6, 70},
+    {"on: power good comes late", 0, {{0x0800, 0, 0x1333}, {0x0800, 0, 0x1333}, {0x0800, 0, 0x1333}, WELL}, 0, 1, 1, 70},
+    {"on: no STATUS_WORD in a round, and then it is right", 0, {{0xFFFF, 0, 0}, {0xFFFF, 0, 0}, WELL, WELL}, 0, 1, 1, 10},
+    {"on: no READ_VOUT in a round, and then it is right", 0, {{0, 0, 0xFFFF}, WELL, WELL, WELL}, 0, 1, 1, 10},
+    {"on: the part restarts, and stays off", 0, {WELL, {0x0840, 0, 0}, {0x0840, 0, 0}, {0x0840, 0, 0}}, 1, 1, 1, 0},
+    {"on: the part restarts at a look, and stays off", 0, {{0x0800, 0, 0}, {0x0840, 0, 0}, {0x0840, 0, 0}, {0x0840, 0, 0}}, 2, 14, 4, 70},
+    {"raised: above the upper limit, and then right", 0x1200, {{0, 0, 0x1800}, {0, 0, 0x1800}, WELL, WELL}, 0, 1, 1, 30},
+    {"raised: above the upper limit for ever", 0x1200, {{0, 0, 0x1800}, {0, 0, 0x1800}, {0, 0, 0x1800}, {0, 0, 0x1800}}, 0, 14, 6, 70},
+    {"raised: still at the old voltage", 0x1200, {{0, 0, 0x1000}, {0, 0, 0x1200}, {0, 0, 0x1300}, WELL}, 0, 1, 1, 30},
+    {"lowered: above the upper limit, and then right", 0x1800, {{0, 0, 0x1800}, {0, 0, 0x1700}, {0, 0, 0x1600}, WELL}, 0, 1, 1, 70},
+    {"lowered: above the upper limit for ever", 0x1800, {{0, 0, 0x1800}, {0, 0, 0x1800}, {0, 0, 0x1800}, {0, 0, 0x1800}}, 0, 14, 6, 70},
+    {"lowered: a new fault", 0x1800, {{0x8860, 0x80, 0}, WELL, WELL, WELL}, 0, 14, 4, 0},
+};
+
+static void one_timed(const timed *is) {
+    part first = good;
+    first.words[0][0] = is->from ? 0x80 : 0;
+    first.words[0][1] = is->from ? is->from : 0x1333;
+    begin(&first, &good, 2);
+    parts[0].moments = is->moments;
+    parts[0].restarts = is->restarts;
+    if (pm_host_new(&hosts[0], 0x58, 2, 2) || pm_host_set_limits(&hosts[0], 0, 1100000, 1300000) || pm_host_no_limits(&hosts[0], 1))
+        exit(1);
+    steps[0] = is->from ? sets(0, 0, 1200000, 2) : off(0, 0, 2);
+    steps[0].byte = is->from ? 0 : 0x80;
+    row(is->name, "answer", run(steps, 1), 0x95);
+    row(is->name, "end", sequence.said.kind, is->kind);
+    row(is->name, "verdict", is->kind == 1 ? found.verdict : sequence.said.verdict, is->verdict);
+    row(is->name, "pauses", pauses, is->pauses);
+}
+
 /* Each refusal, which changes nothing but the frame. */
 static void refuses(const char *name, uint64_t count, uint64_t room, uint8_t wanted) {
     pm_sequence was = sequence;
@@ -522,7 +588,10 @@ static void pass(void *context, uint32_t milliseconds) {
 
 static void comes_up_anew(uint8_t rules, int frames) {
     static const part is_off = {{{0x00, 0x0DC3, 0x4000, 0x1100, 0x0F00, 0}, {0x80, 0x1000, 0x4000, 0x1100, 0x0F00, 0}},
+<<<<<<< HEAD
                                 1, 1, 0x2000, 100000, 0, 0, 0, 0, 0, 0, 0};
+=======
+                                1, 1, 0x2000, 100000, 0, 0, 0, 0, 0, 0, 0, NULL, 0, 0};
     void *const at_patients[2] = {&patients[0], &patients[1]};
     int at, reached = 0;
     steps[0] = off(0, 0, 1);
@@ -619,6 +688,8 @@ int main(void) {
     row("sizes", "version", pm_sequence_version(), 1);
     for (at = 0; at < sizeof set_rows / sizeof *set_rows; at++)
         one_set(&set_rows[at]);
+    for (at = 0; at < sizeof timed_rows / sizeof *timed_rows; at++)
+        one_timed(&timed_rows[at]);
     what_is_kept();
     buses_go();
     lists();

@@ -35,8 +35,7 @@
 #include <stddef.h>
 #include <stdint.h>
 
-/* Before each call whose answer must be asked, since nothing was sent if it is a refusal: a compiler warns if the
- * answer is dropped. */
+/* Before each call whose answer must be asked, since nothing was sent if it is a refusal: a compiler warns if the answer is dropped. */
 #if (defined __cplusplus && __cplusplus >= 201703L) || (defined __STDC_VERSION__ && __STDC_VERSION__ >= 202311L)
 #define PM_MUST_USE [[nodiscard]]
 #elif defined __GNUC__
@@ -54,8 +53,7 @@ extern "C" {
 
 /* The versions of the layouts of a host, a course, what is heard of a rail, and a sequence, and their sizes in bytes. A call takes at most
  * PM_STACK bytes of stack, and those that are named above PM_SEQUENCE_STACK. pm_refusal_name takes PM_NAME_STACK, since a loader may bind
- * memmove in it.
- * docs/c.md has what calls take on each processor. An archive says its own bound as stack-bytes in its section .comment. */
+ * memmove in it. docs/c.md has what calls take on each processor. An archive says its own bound as stack-bytes in its section .comment. */
 #define PM_HOST_VERSION 6
 #define PM_HOST_SIZE 2064
 #define PM_COURSE_VERSION 1
@@ -132,8 +130,7 @@ enum {
  * pm_sequence_next, which says of each what it means. */
 enum { PM_ENDED = 0x95, PM_AGAIN = 0x96, PM_NO_WAY_BACK = 0x97, PM_WAIT = 0x98, PM_ASKED = 0x99, PM_TOLD = 0x9A };
 
-/* The cells: an output and one of these command codes; with WRITE_PROTECT, which is the device's, the
- * output isn't looked at. */
+/* The cells: an output and one of these command codes; with WRITE_PROTECT, which is the device's, the output isn't looked at. */
 enum {
     PM_OPERATION = 0x01,
     PM_WRITE_PROTECT = 0x10,
@@ -199,8 +196,7 @@ typedef struct { uint8_t vout_max, vout_margin_high, vout_margin_low, vout_min; 
 typedef struct { int64_t least, most; } pm_limits;
 typedef struct { int64_t least, greatest; } pm_band;
 
-/* What an output commands, by what is known. An output that is off has its band too, of the register that OPERATION
- * selects then. */
+/* What an output commands, by what is known. An output that is off has its band too, of the register that OPERATION selects then. */
 enum { PM_POWER_ANY = 0, PM_POWER_ON = 1, PM_POWER_OFF = 2 };
 enum { PM_SELECTED_ANY = 0, PM_SELECTED_AVSBUS = 0xFF };
 typedef struct {
@@ -453,12 +449,11 @@ uint8_t pm_host_new(pm_host *host, uint8_t address, uint8_t outputs, uint8_t pas
 PM_MUST_USE
 uint8_t pm_host_new_with(pm_host *host, uint8_t address, uint8_t outputs, uint8_t passes, const pm_registers *registers);
 
-/* Gives an output limits, or narrower ones than it has: a least and a most in microvolts. From then on every order for
- * the output is judged by them, however it is asked. A voltage (VOUT_COMMAND, VOUT_MAX, VOUT_MIN, the margins) is judged by the
- * value of the word that would be sent. A byte of OPERATION that leaves the output on is judged by the band that would then
- * hold. Turning an output off is never refused by a limit. pm_host_restart keeps limits, pm_host_new drops them. A
- * word that was ordered before stays possible, and what the part or its store holds no host knows: check the
- * registers, and ask pm_host_limits_state. PM_NO_HOST, H4, N5 beyond 10^15, L1, L6, and H3 if an order of the output is
+/* Gives an output limits, or narrower ones than it has: a least and a most in microvolts. From then on every order for the output is judged by
+ * them, however it is asked. A voltage (VOUT_COMMAND, VOUT_MAX, VOUT_MIN, the margins) is judged by the value of the word that would be sent. A
+ * byte of OPERATION that leaves the output on is judged by the band that would then hold. Turning an output off is never refused by a limit.
+ * pm_host_restart keeps limits, pm_host_new drops them. A word that was ordered before stays possible, and what the part or its store holds no
+ * host knows: check the registers, and ask pm_host_limits_state. PM_NO_HOST, H4, N5 beyond 10^15, L1, L6, and H3 if an order of the output is
  * open that the new limits would refuse, since its frame may be sent again. */
 PM_MUST_USE
 uint8_t pm_host_set_limits(pm_host *host, uint8_t output, int64_t least, int64_t most);
@@ -484,20 +479,17 @@ uint8_t pm_host_limits_state(const pm_host *host, uint8_t output);
  * its voltage to AVSBus, N5 if an end is beyond 10^15 microvolts; then nothing is written. */
 uint8_t pm_host_band(const pm_host *host, uint8_t output, pm_band *band);
 
-/* Begins an order: at most `passes` times the word is written once and read back once. It ends as
- * PM_DONE, PM_DIFFERS or PM_UNKNOWN. PM_NO_HOST, PM_NO_CELL, H3, H4, L7, then by the output's limits L8, L2, L3 or L4,
- * then H5, L8, L2 or L5 of OPERATION, H6. */
+/* Begins an order: at most `passes` times the word is written once and read back once. It ends as PM_DONE, PM_DIFFERS or PM_UNKNOWN. PM_NO_HOST,
+ * PM_NO_CELL, H3, H4, L7, then by the output's limits L8, L2, L3 or L4, then H5, L8, L2 or L5 of OPERATION, H6. */
 PM_MUST_USE
 uint8_t pm_host_order(pm_host *host, uint8_t output, uint8_t code, uint16_t word);
 
-/* Begins an order of the word nearest to a number of microvolts, in the format that the last learn of the
- * output found. PM_NO_HOST, PM_NO_CELL, H3, H4, L7, H5, H7, N5, N3 or N4, then L8, L3 or L4 by the value of that
- * word, H6. */
+/* Begins an order of the word nearest to a number of microvolts, in the format that the last learn of the output found. PM_NO_HOST, PM_NO_CELL,
+ * H3, H4, L7, H5, H7, N5, N3 or N4, then L8, L3 or L4 by the value of that word, H6. */
 PM_MUST_USE
 uint8_t pm_host_order_microvolts(pm_host *host, uint8_t output, uint8_t code, int64_t microvolts);
 
-/* Begins a check: the cell is read at most `passes` times. PM_DONE or PM_UNKNOWN. PM_NO_HOST, PM_NO_CELL,
- * H3, H4, L7. */
+/* Begins a check: the cell is read at most `passes` times. PM_DONE or PM_UNKNOWN. PM_NO_HOST, PM_NO_CELL, H3, H4, L7. */
 PM_MUST_USE
 uint8_t pm_host_check(pm_host *host, uint8_t output, uint8_t code);
 
@@ -510,10 +502,9 @@ uint8_t pm_host_learn(pm_host *host, uint8_t output);
 PM_MUST_USE
 uint8_t pm_host_clear(pm_host *host, uint8_t output);
 
-/* Begins to send STORE_USER_ALL, which stores the outputs' settings for a restart of the device to load, or
- * RESTORE_USER_ALL, which brings them back, until it is acknowledged, at most `passes` times. PM_DONE says
- * no more than that; or PM_UNKNOWN. From the start of a restore on no word of an output is confirmed and any
- * is possible, until its cell is read. PM_NO_HOST, H3. */
+/* Begins to send STORE_USER_ALL, which stores the outputs' settings for a restart of the device to load, or RESTORE_USER_ALL, which brings them
+ * back, until it is acknowledged, at most `passes` times. PM_DONE says no more than that; or PM_UNKNOWN. From the start of a restore on no word
+ * of an output is confirmed and any is possible, until its cell is read. PM_NO_HOST, H3. */
 PM_MUST_USE
 uint8_t pm_host_store(pm_host *host);
 PM_MUST_USE
@@ -608,9 +599,8 @@ uint8_t pm_course_frame(pm_course *course, pm_host *host, pm_sending *sending);
 pm_step pm_course_write_ended(pm_course *course, pm_host *host, uint8_t acked);
 pm_step pm_course_read_ended(pm_course *course, pm_host *host, const uint8_t *bytes, uint64_t count);
 
-/* The same, and what is to be sent next, as pm_course_frame hands it out: one call is cheaper than two. It is PM_NOTHING once the course
- * has ended, and, if `stops` isn't 0, before an order: that doesn't begin, and pm_course_frame begins it. It is refused as the call
- * above. */
+/* The same, and what is to be sent next, as pm_course_frame hands it out: one call is cheaper than two. It is PM_NOTHING once the course has
+ * ended, and, if `stops` isn't 0, before an order: that doesn't begin, and pm_course_frame begins it. It is refused as the call above. */
 pm_step pm_course_after_write(pm_course *course, pm_host *host, uint8_t acked, uint8_t stops, pm_sending *sending);
 pm_step pm_course_after_read(pm_course *course, pm_host *host, const uint8_t *bytes, uint64_t count, uint8_t stops,
                              pm_sending *sending);
@@ -637,8 +627,7 @@ uint8_t pm_course_goal(const pm_course *course, const pm_host *host, uint8_t cod
 /* A name: characters of ASCII, and zeros after them, so that `text` is a string of C. */
 typedef struct { char text[32]; } pm_name;
 
-/* The letter and the name of a refusal, as "H6 TooUncertain". PM_NO_NAME if the number is none; then nothing is
- * written. */
+/* The letter and the name of a refusal, as "H6 TooUncertain". PM_NO_NAME if the number is none; then nothing is written. */
 uint8_t pm_refusal_name(uint8_t number, pm_name *name);
 
 /* The name of the kind of a step: "next", "done", "differs", "unknown", "learned". PM_NO_NAME for another number. */
@@ -672,8 +661,7 @@ typedef struct {
 /* The packet error code of bytes. */
 uint8_t pm_pec(const uint8_t *bytes, uint64_t count);
 
-/* The bytes of a packet to a device. PM_NO_ADDRESS; PM_NO_PACKET if the numbers mean none, or the code
- * doesn't have this layout. */
+/* The bytes of a packet to a device. PM_NO_ADDRESS; PM_NO_PACKET if the numbers mean none, or the code doesn't have this layout. */
 uint8_t pm_packet_write(uint8_t address, const pm_packet *packet, pm_sending *frame);
 
 /* What the bytes of a write, and of a request, to a device say. PM_NO_ADDRESS, F1 to F8. */
@@ -722,12 +710,11 @@ uint8_t pm_read_paged(uint8_t address, uint8_t page, uint8_t code, uint8_t size,
 /* ---- Sequences ---- */
 
 /* Steps of several outputs of at most eight hosts, one after another; one output is a list of one step. The fault limits are read and judged
- * before each order that leaves an output on, and the rail is asked once its step is over. A step begins only if the one before is over by
- * what its host knows then, or was left. Over one host each output then commands what it did before its step or what that step brings it to,
- * in the list's order, whatever is lost, cut or repeated, while the part doesn't restart and nobody else orders. Begin no job and no restore
- * of these outputs meanwhile. pm_run_sequence, at the end of this header, is the loop.
- * An end PM_REACHED says that each step is over, that none was left, and that each rail with PM_LOOK_MUST delivered, or went off, after its
- * step's last order. */
+ * before each order that leaves an output on, and the rail is asked once its step is over. A step begins only if the one before is over by what
+ * its host knows then, or was left. Over one host each output then commands what it did before its step or what that step brings it to, in the
+ * list's order, whatever is lost, cut or repeated, while the part doesn't restart and nobody else orders. Begin no job and no restore of these
+ * outputs meanwhile. pm_run_sequence, at the end of this header, is the loop. An end PM_REACHED says that each step is over, that none was left,
+ * and that each rail with PM_LOOK_MUST delivered, or went off, after its step's last order. */
 
 /* Makes a sequence, whatever stood in the memory: no step has begun, and each has at most this many jobs. `rules` is 0 or the sum of: */
 enum {
@@ -786,11 +773,10 @@ enum {
     PM_UNHEARD = 0x3C    /* nobody acknowledged the address; it counts as not acknowledged */
 };
 
-/* A bus of yours. `write` puts a packet on it, the address byte first and the PEC last, and answers PM_ACKED, PM_NOT_ACKED
- * or PM_UNHEARD. `read` sends a request, then a repeated start and the read address, and writes what comes after that to
- * `answer`, whose `room` bytes are 0 before. It answers how many bytes came, 0 if none did or the transfer failed. A HAL
- * that sends the address by itself is handed the bytes after it. Neither call may try again by itself, nor hand over an
- * older answer. */
+/* A bus of yours. `write` puts a packet on it, the address byte first and the PEC last, and answers PM_ACKED, PM_NOT_ACKED or PM_UNHEARD. `read`
+ * sends a request, then a repeated start and the read address, and writes what comes after that to `answer`, whose `room` bytes are 0 before. It
+ * answers how many bytes came, 0 if none did or the transfer failed. A HAL that sends the address by itself is handed the bytes after it.
+ * Neither call may try again by itself, nor hand over an older answer. */
 typedef uint8_t (*pm_write)(void *context, const uint8_t *bytes, uint64_t count);
 typedef uint64_t (*pm_read)(void *context, const uint8_t *request, uint64_t count, uint8_t *answer, uint64_t room);
 
@@ -893,6 +879,27 @@ static inline pm_sequence_step pm_surveys(uint8_t host, uint8_t output) {
     pm_sequence_step step = pm_turns(host, output, 0);
     step.kind = PM_STEP_SURVEYS;
     return step;
+}
+
+/* Reads a register by PAGE_PLUS over a bus, in one try: pm_paged_request, and what pm_read_paged makes of what came. F1 if nothing did. */
+PM_MUST_USE
+static inline uint8_t pm_ask_paged(uint8_t address, uint8_t page, uint8_t code, uint8_t size, pm_read read, void *context, pm_block *block) {
+    pm_sending frame;
+    uint8_t answer[36], number = pm_paged_request(address, page, code, size, &frame);
+    uint64_t count = number == PM_OK ? pm_answer(&frame, answer, read, context) : 0;
+    if (size == 0 && count > 1 && answer[1] <= 32 && count > answer[1] + 3u)
+        count = answer[1] + 3u;
+    return number == PM_OK ? pm_read_paged(address, page, code, size, answer, count, block) : number;
+}
+
+/* What turns an output off, by its ON_OFF_CONFIG (02h, a byte; PMBus 1.3 Part II, ON_OFF_CONFIG). None of these is 0: compare the answer. */
+enum {
+    PM_HEEDS_OPERATION = 0x9B, /* OPERATION does: bits 4 and 3 are 1 */
+    PM_HEEDS_PIN = 0x9C,       /* only its CONTROL pin does: bits 4 and 2 are 1, and bit 3 is 0 */
+    PM_HEEDS_NEITHER = 0x9D    /* nothing but its supply does */
+};
+static inline uint8_t pm_heeds_operation(uint8_t byte) {
+    return (byte & 0x18) == 0x18 ? PM_HEEDS_OPERATION : (byte & 0x14) == 0x14 ? PM_HEEDS_PIN : PM_HEEDS_NEITHER;
 }
 
 /* Whether a verdict is that the rail delivers, of a part without STATUS_WORD by its READ_VOUT, or went off after an order that turned it off;

@@ -32,9 +32,12 @@ class Looks:
 
     @property
     def rounds(self) -> int:
-        """How often all is asked: once, and after each wait that ends in time."""
-        rounds, wait, passed = 1, FIRST_WAIT, FIRST_WAIT
-        while passed <= self.settle:
-            rounds, wait = rounds + 1, 2 * wait
-            passed += wait
+        """How often all is asked: once, and after each wait, until the rail's time has passed."""
+        rounds, wait, passed = 1, FIRST_WAIT, 0
+        while passed < self.settle:
+            rounds, wait, passed = rounds + 1, 2 * wait, passed + wait
         return rounds
+
+    def wait(self, milliseconds: int) -> int:
+        """How long a wait of so many milliseconds is, which follows shorter ones: at most up to the end of the rail's time."""
+        return min(milliseconds, self.settle + FIRST_WAIT - milliseconds)

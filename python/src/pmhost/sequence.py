@@ -344,7 +344,7 @@ class Sequence:
                     if found.is_end or told is not None and told(found) is False:
                         return found
                     if found.kind == "wait":
-                        clock.wait(found.milliseconds / 1000)
+                        clock.wait(self._wait(found) / 1000)
                     continue
                 if self.host.frame() is None:
                     self.read_ended(read_of_rail(buses[self.place], self.host, found))
@@ -371,6 +371,11 @@ class Sequence:
         except BaseException:
             self.give_up()
             raise
+
+    def _wait(self, said: Said) -> int:
+        """How many milliseconds a wait takes: that of a step as it says, and that of a look up to the end of its rail's time."""
+        looks = None if said.step >= self.begun else self.steps[said.step].looks
+        return said.milliseconds if looks is None else looks.wait(said.milliseconds)
 
     def _hear(self, sending: Sending, came: bytes | bool) -> Step:
         """The list hears what came of a job's frame."""

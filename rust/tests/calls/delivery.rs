@@ -7,7 +7,8 @@ use pmhost::*;
 /// `v` READ_VOUT gives none, `f` the fault limits give none, `g` power good is missing, `u` a fault of VOUT_UV comes with an order,
 /// `o` VOUT_OV_FAULT stands from the beginning, `c` CML comes with an order, `q` STATUS_WORD gives no answer after one, `p` READ_VOUT comes
 /// with another PEC, `i` a fault of IOUT comes with an order and STATUS_IOUT gives no answer, `d` READ_VOUT comes with another PEC in the
-/// first round and gives no answer then, `x` READ_VOUT is nothing but FFh, `k` no write is acknowledged, `z` nothing is answered.
+/// first round and gives no answer then, `x` READ_VOUT is nothing but FFh, `k` no write is acknowledged, `z` nothing is answered, `h` READ_VOUT is
+/// three times as high.
 struct Rail {
     part: Part,
     wrong: &'static str,
@@ -50,7 +51,7 @@ impl Rail {
     /// The bytes of a register of the layer; `None` of another one, or where it gives no answer.
     fn held(&self, code: u8) -> Option<Option<(u16, usize)>> {
         let volts = if self.status() & 0x40 != 0 { 0 } else { self.commanded() };
-        let read = if self.is('l') { volts * 9 / 10 } else { volts };
+        let read = if self.is('l') { volts * 9 / 10 } else { volts * if self.is('h') { 3 } else { 1 } };
         Some(match code {
             0x40 => (!self.is('f')).then_some((0x14CD, 2)),
             0x42 => (!self.is('f')).then_some((0x1333, 2)),
@@ -239,6 +240,26 @@ fn each_call_reads_the_limits_and_none_asks_a_register_that_is_missing() {
     let looks = Looks { has_read_vout: false, ..rounds(3) };
     let found = set(&mut host, &mut SequenceRecord::default(), &mut rail, 1_100_000, looks).unwrap();
     assert_eq!((found.to_string().as_str(), asked(&rail, 0x8B)), ("delivers by STATUS_WORD", 0));
+}
+
+#[test]
+fn a_new_fault_alone_ends_a_look_before_the_time_of_its_rail_has_passed() {
+    let raised = Act::Sets(Wishes::microvolts(1_100_000));
+    for (wrong, act, said, milliseconds) in [
+        ("h", Act::Turns(0x80), "READ_VOUT 3V is OUTSIDE 0.5V to 2V", 630),
+        ("h", raised, "READ_VOUT 3.300292V is OUTSIDE 0.5V to 2V", 630),
+        ("r", Act::Turns(0x80), "STATUS_WORD 0840 POWER_GOOD#, OFF: the rail is off", 630),
+        ("u", Act::Turns(0x80), "STATUS_WORD 8000 VOUT and STATUS_VOUT 10 VOUT_UV_FAULT: VOUT_UV_FAULT came with this call", 0),
+        ("", Act::Turns(0x80), "delivers 1V", 0),
+    ] {
+        let mut rail = Rail::of(wrong, if act == Act::Turns(0x80) { 0x00 } else { 0x80 });
+        let (step, mut waited) = (SequenceStep::new(0, 0, act).with_looks(Some(Looks::default())), 0);
+        let found = match host().deliver(&step, &mut SequenceRecord::default(), &mut rail, |each| waited += each) {
+            Ok(verdict) => verdict.to_string(),
+            Err(why) => why.to_string(),
+        };
+        assert_eq!((found.as_str(), waited), (said, milliseconds), "{wrong}");
+    }
 }
 
 #[test]

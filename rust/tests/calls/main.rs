@@ -6,6 +6,7 @@ mod ends;
 #[cfg(field)]
 mod field_rows;
 mod formats;
+mod on_off;
 #[cfg(target_os = "linux")]
 mod other_library;
 mod patience;

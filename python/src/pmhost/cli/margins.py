@@ -171,20 +171,21 @@ class RailTest:
         self.measure(POINTS[-1])
 
     def go(self, points: tuple[str, ...]) -> None:
-        """Brings the rail to these points, which were judged before, as one list, and measures each before the next one's order. Stopped if a
-        byte isn't confirmed."""
+        """Brings the rail to these points, which were judged before, as one list, and measures each before anything of the next one is read: no other
+        transfer stands between the survey of an order and that. Stopped if a byte isn't confirmed."""
         left, orders = list(points), [0] * len(points)
 
         def told(said: Said) -> None:
+            if said.kind == "wait":
+                self.measure(left.pop(0))
             if said.kind == "order":
-                while len(points) - len(left) < said.step:
-                    self.measure(left.pop(0))
                 orders[said.step] += 1
                 turn_on.judge(self.part, self.step_to(points[said.step]))
                 self.call.maybe = f"{self.rail.name} may be on a margin"
 
         self.part.transfers = Transfers()
-        steps = [replace(self.step_to(point), looks=None) for point in points]
+        # A step that waits says so once the one before it is over.
+        steps = [replace(self.step_to(point), looks=None, wait=int(place > 0)) for place, point in enumerate(points)]
         run, bus = Sequence([self.part.host], steps, replace(UP, asks=True), TRIES), believed(self.part.bus, self.part.host)
         with self.stopping():
             end = run.run([bus], told, transfers=self.part.transfers, ask=self.call.places()[self.rail.part].ask_operation)

@@ -93,7 +93,7 @@ asked again for `--settle`, since a ramp takes time. This is tested, and not pro
         Message("`STATUS_WORD 8860 VOUT, .. and STATUS_VOUT 80 VOUT_OV_FAULT: the rail is off`",
                 "it tripped, or something else has it off; status 1",
                 "`why`"),
-        Message("`READ_VOUT 0.156005V is OUTSIDE 0.8V to 1.3V`", "it has another voltage; status 1", "`why`"),
+        Message("`READ_VOUT 0.25708V is OUTSIDE 0.8V to 1.3V`", "it has another voltage; status 1", "`why`"),
         Message("`..; the output is commanded off, and would command ..`", "OPERATION has it off", "`on`"),
         Message("the same with `; set; nothing to deliver`",
                 "of `set` and `word`: the part heeds OPERATION by ON_OFF_CONFIG, and says that it is off",
