@@ -28,7 +28,7 @@ def worth(form, word):
 
 
 class Differs(Exception):
-    """A letter of what is claimed, or `model`, and what isn't so."""
+    """Which claim is broken, `parts` of those of the library's parts, and by what."""
 
 
 class Life(World):
@@ -81,9 +81,9 @@ class Life(World):
             _ = made.set_limits(output, *map(of_microvolts, limits)) if limits else made.no_limits(output)
         return made
 
-    def fails(self, letter, words):
-        if self.only in (None, letter):
-            raise Differs(letter, words)
+    def fails(self, claim, words):
+        if self.only in (None, claim):
+            raise Differs(claim, words)
 
     # ---- Frames ----
 
@@ -99,7 +99,7 @@ class Life(World):
             is_taken = False
         wanted = bytes(reply) if isinstance(reply, list) else b""
         if (answer, is_taken) != (wanted, bool(wanted) or reply in ("silent", "taken")):
-            self.fails("model", f"part {place} answers {answer.hex(' ') or is_taken} to {bytes(frame).hex(' ')}, by the plain one {reply}")
+            self.fails("parts", f"part {place} answers {answer.hex(' ') or is_taken} to {bytes(frame).hex(' ')}, by the plain one {reply}")
         return is_taken, answer
 
     def written(self, place, frame):
@@ -191,7 +191,7 @@ class Life(World):
             self.shown[place] = image, past, held
             for found, wanted in zip(held, plain_shows(plain)):
                 if found != wanted:
-                    self.fails("model", f"part {place}, by the library {found}, by the plain one {wanted}")
+                    self.fails("parts", f"part {place}, by the library {found}, by the plain one {wanted}")
 
     def knows(self):
         """What a host says that it knows is held, unless the part was touched since it read that last."""
@@ -205,7 +205,7 @@ class Life(World):
             for cell, confirmed, possible in known:
                 held = self.plain[place].cells[cell[1:]]
                 if self.touched.get(place, -1) <= self.good.get(cell, 0) and (confirmed not in (None, held) or held not in (possible or (held,))):
-                    self.fails("a", f"{cell} holds {held:04X}, and the host says {confirmed} or {possible}")
+                    self.fails("known", f"{cell} holds {held:04X}, and the host says {confirmed} or {possible}")
 
 
 def library_shows(part):

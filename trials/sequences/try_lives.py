@@ -1,20 +1,20 @@
 #!/usr/bin/env python3
-"""Random lives: lists of steps up and down over several parts by the library, and their ways back, while others use the bus and parts restart. At each
-moment, after each frame and each event, the library's parts agree with plain converters, and of the lists these hold:
+"""Random lives: lists of steps up and down over several parts, and their ways back, by the library, while others use the bus and parts restart. At each
+moment, after each frame and each event, the library's parts agree with plain converters, and this holds of the lists:
 
-    a   a word that a host says is known is held, and a held one is among the possible ones, unless its part restarted since its last good answer
-    b   each output holds the words of its steps that are over; that of the step under way stands as before it or as it leaves it
-    c   an output whose step was left stands as before that step or as it leaves it, too
-    d   a list that has reached all holds each wanted word, and each rail that has to deliver was found to by answers after its last order
-    e   a way back that has reached all gives each register its word of before the list
-    f   an end is one that pmhost.h names, what it names was read so, and no frame follows it; directly before each write of OPERATION with bit 7
-        set the list reads what decides what the output commands, and nothing else
+    known     a word that a host says is known is held, and a held one is possible, unless its part restarted since its last good answer
+    in order  each output holds the words of its steps that are over; that of the step under way stands as before it or as it leaves it
+    left      so does an output whose step was left, which no later frame changes
+    reached   a list that has reached all holds each wanted word, and each rail that has to deliver was found to, by answers after its last order
+    back      a way back that has reached all gives each register its word of before the list
+    fresh     directly before each write of OPERATION with bit 7 set the list reads all that decides what the output commands, and nothing else
+    ended     an end is one that pmhost.h names, what it names was read so, and no frame follows it
 
     trials/sequences/try_lives.py [SEED [COUNT]] [--life N] [--plant N]
 
-b, c and e are said of a part that didn't restart. Frames and acknowledgements are lost, acknowledgements false, frames and answers damaged; others
-read, write PAGE, clear status, and in some lives order. `--life` prints one life. `--plant` plants one of twelve faults: a life has to find it by
-its letter.
+A part that restarted, or took another's order, is left out of `in order`, `left` and `back` from then on, and no other part is. Frames and
+acknowledgements are lost, acknowledgements false, frames and answers damaged; others read, write PAGE, clear status, and in some lives order. `--life`
+prints one life. `--plant` plants one of twelve faults: a life has to find it by the claim that it breaks.
 """
 import collections
 import random
@@ -114,11 +114,11 @@ class Watch:
         """A write of the list: of OPERATION with bit 7 set directly after all was read that decides what its output would command."""
         rail, life = (place, frame[3]), self.life
         if self.under is None or frame[1] != PAGE_PLUS_WRITE or rail != self.rail_of(self.under):
-            life.fails("f", f"a write comes that is no order of the step {self.under}: {frame.hex(' ')}")
+            life.fails("in order", f"a write comes that is no order of the step {self.under}: {frame.hex(' ')}")
         elif frame[4] == OPERATION and frame[5] >= ON:
             needed = {MODE, OPERATION, selected(frame[5]), MAX, MIN, PROTECT[1]} - life.missing[place] - (self.fresh if rail == self.rail else set())
             if needed:
-                life.fails("f", f"{', '.join(map(name_of, needed))} wasn't read directly before {frame.hex(' ')}")
+                life.fails("fresh", f"{', '.join(map(name_of, needed))} wasn't read directly before {frame.hex(' ')}")
             life.counts["orders that turn on"] += 1
         self.ordered[self.under], self.fresh = life.moment, set()
         life.counts["orders"] += 1
@@ -196,15 +196,15 @@ class Watch:
     def stands(self, rail, words):
         """An output holds the words of its steps that are over; that of the step under way holds words of before it and after it, and stands as at one of
         both."""
-        base, letter = self.base[rail], "c" if rail in self.left else "b"
+        base, claim = self.base[rail], "left" if rail in self.left else "in order"
         if self.under is None or rail != self.rail_of(self.under):
             if words != base:
-                self.life.fails(letter, f"output {rail} holds {shown(words)}, and by its steps {shown(base)}")
+                self.life.fails(claim, f"output {rail} holds {shown(words)}, and by its steps {shown(base)}")
             return
         goal, stand = self.goal(self.steps[self.under], base), self.life.stand
         if words not in (base, goal) and (stand(rail, words) not in (stand(rail, base), stand(rail, goal))
                                           or any(words[each] not in (base[each], goal[each]) for each in words)):
-            self.life.fails(letter, f"output {rail} holds {shown(words)}, by its steps {shown(base)} and then {shown(goal)}")
+            self.life.fails(claim, f"output {rail} holds {shown(words)}, by its steps {shown(base)} and then {shown(goal)}")
 
     # ---- What an end says ----
 
@@ -218,7 +218,7 @@ class Watch:
                  "restarted": is_touched, "changed": is_touched, "left": is_all and end.word == len(self.left) > 0, "reached": is_all and not self.left,
                  **dict.fromkeys(("refused", "spent", "unjudged", "fails"), not is_all)}.get(end.kind, False)
         if again != [end, end] or any(host.frame() for host in life.hosts) or not is_so:
-            life.fails("f", f"the list ended so: {end}; asked again: {again}")
+            life.fails("ended", f"the list ended so: {end}; asked again: {again}")
         if end.kind == "reached":
             self.is_over()
             self.look()
@@ -228,7 +228,7 @@ class Watch:
         """The way back of this list has reached all."""
         for rail, words in self.life.words().items():
             if rail[0] not in self.life.touched and words != self.before[rail]:
-                self.life.fails("e", f"all is back, and output {rail} holds {shown(words)}, not {shown(self.before[rail])}")
+                self.life.fails("back", f"all is back, and output {rail} holds {shown(words)}, not {shown(self.before[rail])}")
 
     def reached(self):
         """Each wanted word is held, unless its part restarted since it was read last, and each rail that has to deliver was found to."""
@@ -238,12 +238,12 @@ class Watch:
             found, why = self.found.get(place, (0, "nothing was said"))
             life.counts["rails that had to deliver"] += step.looks is not None and step.must
             if step.looks and step.must and (why or found < self.ordered[place]):
-                life.fails("d", f"all is reached, and of the rail of step {place} {why or 'this was before its last order'}")
+                life.fails("reached", f"all is reached, and of the rail of step {place} {why or 'this was before its last order'}")
         for cell, (place, word) in last.items():
             answer = max((moment for (each, begun), moment in self.good.items() if each == cell and begun <= place + 1), default=0)
             held = life.plain[cell[0]].cells[cell[1:]]
             if life.touched.get(cell[0], -1) < answer and held != word:
-                life.fails("d", f"all is reached, and {cell} holds {held:04X}, not {word:04X}")
+                life.fails("reached", f"all is reached, and {cell} holds {held:04X}, not {word:04X}")
 
     def why_not_found(self, place):
         """Why the answers since its last order don't say that the rail of a step does what it is to, None if they do. A register that was asked in vain
@@ -328,28 +328,28 @@ def asks_between(self, frame):
     return bool(self.read([frame[0], 0x06, 2, frame[3], STATUS_WORD], 4)) and WRITE(self, frame)
 
 
-# Faults: what is wrong, the letter of the claim that finds it, whose it is, its name, and what stands in its place.
+# Faults: what is wrong, the claim that it breaks, whose it is, its name, and what stands in its place.
 WRITTEN, LEAVES, WRITE, STEP_OF, RUN, NEXT, WAY_BACK = Life.written, Watch.leaves, PartBus.write, step_of, Sequence.run, Sequence.next, Sequence.way_back
 PLANTS = [
-    ("the plain converter cuts nothing", "model", Converter, "commanding", Converter.selected),
-    ("restarts and others' orders don't count", "a", Life, "touches", lambda self, place: None),
-    ("restarts and others' orders don't count", "b", Life, "touches", lambda self, place: None),
-    ("a part gives another output a word, too", "b", Life, "written", lands_beside),
-    ("a step that was left leaves a word that nobody ordered", "c", Watch, "leaves", leaves_another_word),
-    ("restarts and others' orders don't count", "d", Life, "touches", lambda self, place: None),
-    ("a rail that has to deliver needn't", "d", sys.modules[__name__], "step_of", lambda step: STEP_OF(step._replace(must=False))),
-    ("the last step back isn't carried out", "e", Sequence, "way_back", lambda self: WAY_BACK(self)[:-1]),
-    ("each write goes twice", "f", PartBus, "write", lambda self, frame: WRITE(self, frame) and WRITE(self, frame)),
-    ("a rail is read before each write", "f", PartBus, "write", asks_between),
-    ("a job is open at the end", "f", Sequence, "run", lambda self, *given: (RUN(self, *given), self.hosts[0].check(0, "OPERATION"))[0]),
-    ("an end names another kind", "f", Sequence, "next", lambda self: NEXT(self) if self.left == 0 else Said("does", self.begun, True))]
+    ("the plain converter cuts nothing", "parts", Converter, "commanding", Converter.selected),
+    ("restarts and others' orders don't count", "known", Life, "touches", lambda self, place: None),
+    ("restarts and others' orders don't count", "in order", Life, "touches", lambda self, place: None),
+    ("a part gives another output a word, too", "in order", Life, "written", lands_beside),
+    ("a step that was left leaves a word that nobody ordered", "left", Watch, "leaves", leaves_another_word),
+    ("restarts and others' orders don't count", "reached", Life, "touches", lambda self, place: None),
+    ("a rail that has to deliver needn't", "reached", sys.modules[__name__], "step_of", lambda step: STEP_OF(step._replace(must=False))),
+    ("the last step back isn't carried out", "back", Sequence, "way_back", lambda self: WAY_BACK(self)[:-1]),
+    ("each write goes twice", "fresh", PartBus, "write", lambda self, frame: WRITE(self, frame) and WRITE(self, frame)),
+    ("a rail is read before each write", "fresh", PartBus, "write", asks_between),
+    ("a job is open at the end", "ended", Sequence, "run", lambda self, *given: (RUN(self, *given), self.hosts[0].check(0, "OPERATION"))[0]),
+    ("an end names another kind", "ended", Sequence, "next", lambda self: NEXT(self) if self.left == 0 else Said("does", self.begun, True))]
 
 
 def finds(plant, life):
-    """Whether a life finds a planted fault by its letter, and nothing without it."""
-    _, letter, *where = PLANTS[plant - 1]
+    """Whether a life finds a planted fault by the claim that it breaks, and nothing without it."""
+    _, claim, *where = PLANTS[plant - 1]
     with mock.patch.object(*where):
-        found, _ = one_life(life, collections.Counter(), letter)
+        found, _ = one_life(life, collections.Counter(), claim)
     return found is not None and one_life(life, collections.Counter())[0] is None
 
 
