@@ -14,7 +14,7 @@ moment, after each frame and each event, the library's parts agree with plain co
 
 A part that restarted, or took another's order, is left out of `in order`, `left` and `back` from then on, and no other part is. Frames and
 acknowledgements are lost, acknowledgements false, frames and answers damaged; others read, write PAGE, clear status, and in some lives order. `--life`
-prints one life. `--plant` plants one of twelve faults: a life has to find it by the claim that it breaks.
+prints one life. `--plant` plants one of fourteen faults: a life has to find it by the claim that it breaks.
 """
 import collections
 import random
@@ -316,6 +316,16 @@ def lands_beside(self, place, frame):
     return WRITTEN(self, place, frame) and self.arrives([*beside, pec(beside)], False)[0]
 
 
+def takes_nothing(self, place, frame, is_request):
+    """Writes are acknowledged and dropped, and read back as if they were taken."""
+    dropped, cell = vars(self).setdefault("dropped", {}), (place, *frame[3:5])
+    if not is_request:
+        dropped[cell] = frame[5:-1]
+        return True
+    came = bytes([frame[0] | 1, len(dropped.get(cell, b""))]) + dropped.get(cell, b"")
+    return came + bytes([pec(frame + came)]) if cell in dropped else TRANSFER(self, place, frame, is_request)
+
+
 def leaves_another_word(self, rail):
     """What a step has left gets a word that nobody ordered."""
     write = [2 * self.life.parts[rail[0]].address, PAGE_PLUS_WRITE, 4, rail[1], CODES["VOUT_MARGIN_LOW"], 0x23, 0x01]
@@ -329,14 +339,17 @@ def asks_between(self, frame):
 
 
 # Faults: what is wrong, the claim that it breaks, whose it is, its name, and what stands in its place.
-WRITTEN, LEAVES, WRITE, STEP_OF, RUN, NEXT, WAY_BACK = Life.written, Watch.leaves, PartBus.write, step_of, Sequence.run, Sequence.next, Sequence.way_back
+WRITTEN, TRANSFER, LEAVES, WRITE, STEP_OF = Life.written, Life.transfer, Watch.leaves, PartBus.write, step_of
+RUN, NEXT, WAY_BACK = Sequence.run, Sequence.next, Sequence.way_back
 PLANTS = [
     ("the plain converter cuts nothing", "parts", Converter, "commanding", Converter.selected),
     ("restarts and others' orders don't count", "known", Life, "touches", lambda self, place: None),
     ("restarts and others' orders don't count", "in order", Life, "touches", lambda self, place: None),
+    ("what is written isn't taken, and read back", "in order", Life, "transfer", takes_nothing),
     ("a part gives another output a word, too", "in order", Life, "written", lands_beside),
     ("a step that was left leaves a word that nobody ordered", "left", Watch, "leaves", leaves_another_word),
     ("restarts and others' orders don't count", "reached", Life, "touches", lambda self, place: None),
+    ("what is written isn't taken, and read back", "reached", Life, "transfer", takes_nothing),
     ("a rail that has to deliver needn't", "reached", sys.modules[__name__], "step_of", lambda step: STEP_OF(step._replace(must=False))),
     ("the last step back isn't carried out", "back", Sequence, "way_back", lambda self: WAY_BACK(self)[:-1]),
     ("each write goes twice", "fresh", PartBus, "write", lambda self, frame: WRITE(self, frame) and WRITE(self, frame)),
