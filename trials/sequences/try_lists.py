@@ -55,10 +55,13 @@ PLANTS = [
 class World:
     """Model parts under faults. `answers` has what is answered otherwise than a part would, by part, output and code: bytes, or None for silence."""
 
+    # How many parts are drawn, and how many outputs each has at most.
+    PARTS, OUTPUTS = (1, 1, 2, 2, 3, 4), 3
+
     def __init__(self, draw):
         self.draw, self.away = draw, 0
         self.is_calm, self.rate, self.restarts = draw.random() < 0.5, draw.choice((0, 0, 0.01, 0.05, 0.2)), draw.choice((0, 0, 0.01, 0.03))
-        self.parts = [self.part(place, draw.randint(1, 3)) for place in range(draw.choice((1, 1, 2, 2, 3, 4)))]
+        self.parts = [self.part(place, draw.randint(1, self.OUTPUTS)) for place in range(draw.choice(self.PARTS))]
         self.answers = {(place, output, code): answer for place, part in enumerate(self.parts) for output in range(part.outputs)
                         for code, answer in self.rail().items()}
 
@@ -66,8 +69,12 @@ class World:
         return 0x1000 + self.draw.randint(-far, far) // 64 * 64
 
     def part(self, place, outputs):
+        return ModelPart(*self.setup(place, outputs))
+
+    def setup(self, place, outputs):
+        """A part as it starts: its address, its outputs, its coefficients and WRITE_PROTECT."""
         protect = 0 if self.is_calm else self.draw.choice((0,) * 6 + (0x80, 0x40, 0x20))
-        return ModelPart(0x40 + place, [self.output() for _ in range(outputs)], self.draw.choice(((1, 0, 3), (100, -5, 1), (-2, 7, 2))), protect)
+        return 0x40 + place, [self.output() for _ in range(outputs)], self.draw.choice(((1, 0, 3), (100, -5, 1), (-2, 7, 2))), protect
 
     def output(self):
         low, command, high = sorted(self.near(0x180) for _ in range(3))
@@ -105,10 +112,17 @@ class World:
         fate = self.draw.choice(("lost", "deaf", "acked", "bit", "cut", "long", "other")) if self.draw.random() < self.rate else "ok"
         self.away, fate = max(self.away - 1, 0), "deaf" if self.away else fate
         if not is_request:
-            return fate == "acked" if fate in ("deaf", "acked") else ModelPartBus(self.parts[place]).write(bytes(frame)) and fate != "lost"
+            return fate == "acked" if fate in ("deaf", "acked") else self.written(place, frame) and fate != "lost"
         came = b"" if fate in ("deaf", "lost") else self.answer(place, frame)
         changed = {"bit": came[:-1] + bytes([came[-1] ^ 4]), "cut": came[:-1], "long": came + b"\0", "other": bytes([came[0] ^ 2]) + came[1:]} if came else {}
         return changed.get(fate, came)
+
+    def written(self, place, frame):
+        return ModelPartBus(self.parts[place]).write(bytes(frame))
+
+    def read(self, place, frame):
+        came = ModelPartBus(self.parts[place]).read(bytes(frame), 255)
+        return came and bytes([frame[0] + 1]) + came
 
     def answer(self, place, frame):
         output, code = frame[3] if frame[1] == 0x06 else None, frame[-1]
@@ -116,8 +130,7 @@ class World:
         if payload == b"" and code == 0x8B and self.draw.random() < 0.2:
             payload = self.near(0x300).to_bytes(2, "little")
         if not payload:
-            came = b"" if payload is None else ModelPartBus(self.parts[place]).read(bytes(frame), 255)
-            return came and bytes([frame[0] + 1]) + came
+            return b"" if payload is None else self.read(place, frame)
         came = bytes([frame[0] + 1, len(payload)]) + payload
         return came + bytes([pec([*frame, *came])])
 

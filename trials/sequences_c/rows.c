@@ -588,9 +588,6 @@ static void pass(void *context, uint32_t milliseconds) {
 
 static void comes_up_anew(uint8_t rules, int frames) {
     static const part is_off = {{{0x00, 0x0DC3, 0x4000, 0x1100, 0x0F00, 0}, {0x80, 0x1000, 0x4000, 0x1100, 0x0F00, 0}},
-<<<<<<< HEAD
-                                1, 1, 0x2000, 100000, 0, 0, 0, 0, 0, 0, 0};
-=======
                                 1, 1, 0x2000, 100000, 0, 0, 0, 0, 0, 0, 0, NULL, 0, 0};
     void *const at_patients[2] = {&patients[0], &patients[1]};
     int at, reached = 0;
