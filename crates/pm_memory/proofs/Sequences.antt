@@ -21,8 +21,8 @@ use Rattle.pm_memory.specs.ListImage.{list_image, list_in}
 use Rattle.pm_memory.proofs.Courses.{kept}
 use Rattle.pm_memory.proofs.Kept.{flag-kept, wanted-kept}
 
-look-kept : (l : Look) → look_read (look_image l) ≡ l
-look-kept l = rw (
+look-kept : (l : Look) (turned_on : ℕ) → look_read (look_image l turned_on) ≡ l
+look-kept l turned_on = rw (
   flag-kept l.status.has_answered,
   flag-kept l.vout.has_answered,
   flag-kept l.probe.is_there,
@@ -152,7 +152,7 @@ list-kept q is = list-at q q.stairs.under q.stairs.coming is.under is.coming
 sequence-kept : (q : Sequence) (said : SaidImage) → IsKeptSequence q → sequence_in (sequence_image q said) ≡ Some q
 sequence-kept q said is = rw (
   list-kept q.list is.list,
-  look-kept q.look,
+  look-kept q.look q.turned_on,
   phase-kept q.phase,
   is.told,
   fresh-told q.told q.fresh,

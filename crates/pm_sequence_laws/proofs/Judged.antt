@@ -120,7 +120,7 @@ on-few true true h o = cc
 on-few true false h o = refl
 on-few false two h o = cc
 
--- and isn't the third of its step
+-- An order that turns on and was let through isn't the third of its step.
 twice-goes : (two : Bool) (job : Job) (x : Gate) → twice_gate two job x ≡ gate_is.Goes
     → (x ≡ gate_is.Goes) × (is_on_order job ≡ true → two ≡ false)
 twice-goes two job gate_is.Goes h = (refl, on-few (is_on_order job) two h)
@@ -157,7 +157,7 @@ fresh-by g q step job list begins goes =
     (fresh-goes q.fresh (begins || list.stairs.reading) job (judged_gate g q step job list.stairs.under)
     (let-through g q step job list begins goes)).1
 
--- nor the third of its step
+-- The job that a list names of the step under way, and that was let through, isn't the third order that turns on.
 few-parts : (two : Bool) → (true && not two) ≡ false → two ≡ true
 few-parts true h = refl
 few-parts false h = cc
