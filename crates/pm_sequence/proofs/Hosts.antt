@@ -4,7 +4,6 @@ use Rattle.std.specs.Prelude.{◌||◌, option_map, Result, Ok, Err, IsSomeAnd, 
 use Rattle.pm_table.specs.declared.cell.Cell.TheVariants.{Out, Protect}
 use Rattle.pm_host.specs.declared.fault.Untold.{Untold}
 use Rattle.pm_host.specs.declared.host.Told.{Told}
-use Rattle.pm_host.specs.declared.host.Told.TheVariants as told
 use Rattle.pm_host.specs.declared.question.Question.TheVariants.{Word, Mode, Coefficients}
 use Rattle.pm_host.specs.declared.stage.Stage.{Stage}
 use Rattle.pm_host.specs.declared.stage.Stage.TheVariants.{Writes, Reads, Asks, Sends}

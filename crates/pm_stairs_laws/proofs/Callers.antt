@@ -30,7 +30,7 @@ use Rattle.pm_stairs.specs.{declared.stairs.Move.Move, declared.stairs.Move.TheV
 use Rattle.pm_stairs.specs.{declared.stairs.Under.Under, declared.step.Act.Act, declared.step.Step.Step, declared.step.WordAct.WordAct}
 use Rattle.pm_stairs.specs.{declared.step.WordStep.WordStep}
 use Rattle.pm_rail.specs.declared.course.Course.{Course}
-use Rattle.pm_stairs.specs.Command.{command_of, same_command}
+use Rattle.pm_stairs.specs.Command.{same_command}
 use Rattle.pm_stairs.specs.Due.{asked_for, due_now, ended_for, giving, is_due_order, is_settled, is_unread_off, looking, said_of, due_of, plan_order}
 use Rattle.pm_stairs.specs.Stairs as goes
 use Rattle.pm_stairs.specs.Stairs.{AsksAhead, Goes, GoesAhead, GoesUnder, SaysStep, ahead_move, begins_now, trying, under_move}
@@ -41,7 +41,7 @@ use Rattle.pm_stairs.specs.declared.said.StepEnd.TheVariants as why
 use Rattle.pm_stairs.specs.declared.stairs.Move.TheVariants as move
 use Rattle.pm_stairs.specs.declared.step.Act.TheVariants as act
 use Rattle.pm_stairs.specs.declared.step.WordAct.TheVariants as word
-use Rattle.pm_world.specs.{Confirmed.restarts_converter, Honest.IsSpelled, Job.asked_by, Lemmas.Plans.last-none, Life.now, Plans.held_at}
+use Rattle.pm_world.specs.{Confirmed.restarts_converter, Honest.IsSpelled, Job.asked_by, Lemmas.Plans.last-none, Life.now}
 use Rattle.pm_world.specs.{State.asked, declared.event.Event.Event, declared.event.Event.TheVariants.RestartDevice}
 use Rattle.pm_world.specs.Lived.{EventsAreLived, IsLived}
 use Rattle.pm_stairs_laws.specs.Back.{back_of, StairsGoBack, back_step, counted_deed, counted_step, downs_of}

@@ -1,7 +1,7 @@
 -- Words of an output as far as they count: what an output does by them is what it does by those that it holds.
 use Rattle.std.specs.Option.{option_map_or}
 use Rattle.std.specs.Prelude.{◌*◌, ◌/◌, ◌%◌, is_some, unwrap_or, ◌||◌}
-use Rattle.std.proofs.Common.{◌≡◌, ℕ, Bool, true, false, cond, Option, Some, None, refl, sym, ◌∙◌, ap, List, [], ◌∷◌, ◌<◌, ◌==◌, arith}
+use Rattle.std.proofs.Common.{◌≡◌, ℕ, Bool, true, false, cond, Option, Some, None, refl, sym, ◌∙◌, ap, ◌<◌, ◌==◌, arith}
 use Rattle.std.proofs.Math.Nat.{div-div-eq-div-mul, mul-div_cancel}
 use Rattle.pm_table.specs.{declared.operation.Operation.Operation as Asks, declared.reg.Reg.Reg}
 use Rattle.pm_table.specs.declared.operation.Operation.TheVariants as asks

@@ -8,7 +8,6 @@ use Rattle.pm_rail.specs.Registers.{Held}
 use Rattle.pm_world.specs.declared.event.Event.{Event}
 use Rattle.pm_world.specs.Honest.{IsSpelled}
 use Rattle.pm_world.specs.Lived.{IsLived}
-use Rattle.pm_world.specs.Plans.{held_at}
 use Rattle.pm_stairs.specs.Command.{command_of}
 use Rattle.pm_stairs_laws.specs.Stairs.{AreOver, AreSound, Deed, IsStairs, Nothing, RailStep, Rails, Sets, Turns, counts_at, stair_of, start_of}
 

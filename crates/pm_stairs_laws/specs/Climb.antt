@@ -23,7 +23,6 @@ use Rattle.pm_world.specs.Honest.{IsSpelled}
 use Rattle.pm_world.specs.Job.{asked_by}
 use Rattle.pm_world.specs.Life.{now}
 use Rattle.pm_world.specs.Lived.{IsLived}
-use Rattle.pm_world.specs.Plans.{held_at}
 use Rattle.pm_world.specs.State.{asked}
 use Rattle.pm_stairs_laws.specs.Back.{back_step, counted_step, downs_of}
 use Rattle.pm_stairs_laws.specs.Due.{IsOf, step_under}

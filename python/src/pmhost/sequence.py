@@ -352,7 +352,7 @@ class Sequence:
                 if not is_open:
                     kept.begin()
                     order = None if found.is_request else ordered(self.host, found)
-                    was_seen = self.host.restart_seen
+                    was_seen = order is not None and order.register == "OPERATION" and self.host.restart_seen
                 host = self.host
                 words = confirmed_words(host) if host.is_restart_denied else {}
                 step = self._hear(found, host.came(buses[self.place], found, kept))

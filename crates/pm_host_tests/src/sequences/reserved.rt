@@ -5,6 +5,7 @@ use crate::sequences::part::{Part, carried};
 use crate::sequences::{DOWN, LOOKS, PART, UP, guard};
 use pm_course::CourseEnd;
 use pm_delivery::Heard;
+use pm_limits::Guard;
 use pm_sequence::{End, Looks, Rules, Sequence, Step};
 use pm_stairs::{Act, Placed, Step as Output, StepEnd, same_command};
 use pm_table::{Cell, Reg};
@@ -65,157 +66,162 @@ type ByteRow = (
     (u16, u16, u16),
     End,
     u16,
-    Option<u16>,
+    u16,
     usize,
 );
 
+const RESTARTED: End = End::Stopped(StepEnd::Restarted);
+
+const HOLDS_84: End = End::Stopped(StepEnd::Course(CourseEnd::Differs(Reg::Operation, 0x84)));
+
+const HOLDS_80: End = End::Stopped(StepEnd::Course(CourseEnd::Differs(Reg::Operation, 0x80)));
+
+static BYTE_ROWS: [ByteRow; 14] = [
+    (
+        "on",
+        UP,
+        LOOKS,
+        (0x80, 0x00, 1),
+        End::Reached,
+        0x80,
+        0x81,
+        1,
+    ),
+    (
+        "on, unlooked at",
+        UP,
+        NOT,
+        (0x80, 0x00, 1),
+        End::Reached,
+        0x80,
+        0x81,
+        1,
+    ),
+    (
+        "on, held already",
+        UP,
+        LOOKS,
+        (0x80, 0x80, 1),
+        End::Reached,
+        0x80,
+        0x81,
+        0,
+    ),
+    (
+        "on, bit 1",
+        UP,
+        LOOKS,
+        (0x80, 0x00, 2),
+        End::Reached,
+        0x80,
+        0x82,
+        1,
+    ),
+    (
+        "on, both bits",
+        DOWN,
+        LOOKS,
+        (0x80, 0x00, 3),
+        End::Reached,
+        0x80,
+        0x83,
+        1,
+    ),
+    (
+        "margin low",
+        UP,
+        NOT,
+        (0x94, 0x80, 3),
+        End::Reached,
+        0x94,
+        0x97,
+        1,
+    ),
+    (
+        "off",
+        DOWN,
+        LOOKS,
+        (0x00, 0x80, 1),
+        End::Reached,
+        0x00,
+        0x01,
+        2,
+    ),
+    (
+        "off, with a way back",
+        UP,
+        LOOKS,
+        (0x00, 0x80, 1),
+        End::Reached,
+        0x00,
+        0x01,
+        2,
+    ),
+    (
+        "off, bit 1",
+        DOWN,
+        LOOKS,
+        (0x00, 0x80, 2),
+        End::Reached,
+        0x00,
+        0x02,
+        2,
+    ),
+    (
+        "off, held already",
+        DOWN,
+        LOOKS,
+        (0x00, 0x00, 1),
+        End::Reached,
+        0x00,
+        0x01,
+        2,
+    ),
+    (
+        "soft off",
+        DOWN,
+        LOOKS,
+        (0x40, 0x80, 3),
+        End::Reached,
+        0x40,
+        0x43,
+        2,
+    ),
+    (
+        "on, bit 2",
+        UP,
+        LOOKS,
+        (0x80, 0x00, 4),
+        RESTARTED,
+        0x80,
+        0x84,
+        1,
+    ),
+    (
+        "on, bit 2, on the way down",
+        DOWN,
+        LOOKS,
+        (0x80, 0x00, 4),
+        HOLDS_84,
+        0x80,
+        0x84,
+        2,
+    ),
+    (
+        "off, bit 7",
+        DOWN,
+        LOOKS,
+        (0x00, 0x80, 0x80),
+        HOLDS_80,
+        0x00,
+        0x80,
+        4,
+    ),
+];
+
 #[test]
 fn a_step_to_a_byte_is_over_but_for_reserved_bits(rt: HostRuntime) {
-    let differs = |word| End::Stopped(StepEnd::Course(CourseEnd::Differs(Reg::Operation, word)));
-    let restarted = End::Stopped(StepEnd::Restarted);
-    let rows: [ByteRow; 14] = [
-        (
-            "on",
-            UP,
-            LOOKS,
-            (0x80, 0x00, 1),
-            End::Reached,
-            0x80,
-            Some(0x81),
-            1,
-        ),
-        (
-            "on, unlooked at",
-            UP,
-            NOT,
-            (0x80, 0x00, 1),
-            End::Reached,
-            0x80,
-            Some(0x81),
-            1,
-        ),
-        (
-            "on, held already",
-            UP,
-            LOOKS,
-            (0x80, 0x80, 1),
-            End::Reached,
-            0x80,
-            Some(0x81),
-            0,
-        ),
-        (
-            "on, bit 1",
-            UP,
-            LOOKS,
-            (0x80, 0x00, 2),
-            End::Reached,
-            0x80,
-            Some(0x82),
-            1,
-        ),
-        (
-            "on, both bits",
-            DOWN,
-            LOOKS,
-            (0x80, 0x00, 3),
-            End::Reached,
-            0x80,
-            Some(0x83),
-            1,
-        ),
-        (
-            "margin low",
-            UP,
-            NOT,
-            (0x94, 0x80, 3),
-            End::Reached,
-            0x94,
-            Some(0x97),
-            1,
-        ),
-        (
-            "off",
-            DOWN,
-            LOOKS,
-            (0x00, 0x80, 1),
-            End::Reached,
-            0x00,
-            Some(0x01),
-            2,
-        ),
-        (
-            "off, with a way back",
-            UP,
-            LOOKS,
-            (0x00, 0x80, 1),
-            End::Reached,
-            0x00,
-            Some(0x01),
-            2,
-        ),
-        (
-            "off, bit 1",
-            DOWN,
-            LOOKS,
-            (0x00, 0x80, 2),
-            End::Reached,
-            0x00,
-            Some(0x02),
-            2,
-        ),
-        (
-            "off, held already",
-            DOWN,
-            LOOKS,
-            (0x00, 0x00, 1),
-            End::Reached,
-            0x00,
-            Some(0x01),
-            2,
-        ),
-        (
-            "soft off",
-            DOWN,
-            LOOKS,
-            (0x40, 0x80, 3),
-            End::Reached,
-            0x40,
-            Some(0x43),
-            2,
-        ),
-        (
-            "on, bit 2",
-            UP,
-            LOOKS,
-            (0x80, 0x00, 4),
-            restarted,
-            0x80,
-            Some(0x84),
-            1,
-        ),
-        (
-            "on, bit 2, on the way down",
-            DOWN,
-            LOOKS,
-            (0x80, 0x00, 4),
-            differs(0x84),
-            0x80,
-            Some(0x84),
-            2,
-        ),
-        (
-            "off, bit 7",
-            DOWN,
-            LOOKS,
-            (0x00, 0x80, 0x80),
-            differs(0x80),
-            0x00,
-            Some(0x80),
-            4,
-        ),
-    ];
-    for (name, rules, looks, (byte, before, reserved), end, held, known, writes) in &rows {
+    for (name, rules, looks, (byte, before, reserved), end, held, known, writes) in &BYTE_ROWS {
         let rules = Rules {
             leaves: false,
             ..*rules
@@ -230,26 +236,25 @@ fn a_step_to_a_byte_is_over_but_for_reserved_bits(rt: HostRuntime) {
             &mut parts,
             &[turns(*byte, *looks)],
         );
-        let cell = Cell::Out(0, Reg::Operation);
-        let word = guards[0]
-            .host()
-            .state()
-            .known
-            .possible(cell)
-            .listed()
-            .and_then(only);
         equal(
             &rt,
-            &(run.end, parts[0].words[0][0], word, parts[0].writes),
-            &(Some(*end), *held, *known, *writes),
+            &(
+                run.end,
+                parts[0].words[0][0],
+                operation_of(&guards[0]),
+                parts[0].writes,
+            ),
+            &(Some(*end), *held, Some(*known), *writes),
             name,
         );
     }
 }
 
-fn only(words: &[u16]) -> Option<u16> {
-    match words {
-        [word] => Some(*word),
+// The byte that a host knows OPERATION of output 0 to hold.
+fn operation_of(guard: &Guard) -> Option<u16> {
+    let cell = Cell::Out(0, Reg::Operation);
+    match guard.host().state().known.possible(cell).listed() {
+        Some([word]) => Some(*word),
         _ => None,
     }
 }
@@ -274,8 +279,6 @@ const ANEW: [u16; 6] = [0x80, 0x1800, 0x4000, 0x1100, 0x0F00, 0x0000];
 
 #[test]
 fn a_part_that_comes_up_anew_has_restarted(rt: HostRuntime) {
-    let restarted = Some(End::Stopped(StepEnd::Restarted));
-    let reached = Some(End::Reached);
     for frames in 1..19usize {
         let mut parts = [Part {
             reserved: 1,
@@ -286,7 +289,7 @@ fn a_part_that_comes_up_anew_has_restarted(rt: HostRuntime) {
         parts[0].words[0][0] = 0x00;
         let steps = [turns(0x80, NOT)];
         let run = carried(Sequence::new(60, UP), &mut [guard(&rt)], &mut parts, &steps);
-        let wanted = if frames < 2 { reached } else { restarted };
-        equal(&rt, &(frames, run.end), &(frames, wanted), &"on");
+        let wanted = if frames < 2 { End::Reached } else { RESTARTED };
+        equal(&rt, &(frames, run.end), &(frames, Some(wanted)), &"on");
     }
 }
