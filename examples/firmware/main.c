@@ -197,7 +197,7 @@ static int turn_off(const rail *it) {
     if (is_ordered) {
         steps[0] = pm_turns(it->part, it->output, 0x00);
         is_off = is_reached(1, OFF_TRIES, 0);
-        if (list.said.kind == PM_STILL_DIFFERS && is_lifted(it->part))
+        if (!is_off && list.said.kind != PM_RAIL_FAILS && is_lifted(it->part)) /* the byte isn't held */
             is_off = is_reached(1, OFF_TRIES, 0);
     }
     if (!is_heard)
