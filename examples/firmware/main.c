@@ -113,12 +113,12 @@ static void *const at_buses[PARTS] = {&bus, &bus};
 /* Whether MFR_MODEL begins with what is named: 1; 0 by a good answer; -1 if none came. */
 static int is_model(const part *it) {
     const pm_sending request = {PM_REQUEST, 2, 35, 0, {(uint8_t)(it->address << 1), MFR_MODEL}};
-    uint8_t answer[36];
+    uint8_t answer[35];
     pm_block text;
     for (int pass = 0; it->model && pass < PASSES; pass++) {
         uint64_t at = 0, count = pm_answer(&request, answer, pm_patient_read, &bus);
-        if (count > 1 && answer[1] <= 32 && count > answer[1] + 3u)
-            count = answer[1] + 3u; /* what was read behind a shorter text is none of it */
+        if (count > answer[1] + 3u)
+            count = answer[1] + 3u; /* what was read beyond a text is none of it */
         if (pm_read_block(it->address, MFR_MODEL, answer, count, &text) != PM_OK)
             continue;
         while (at < text.length && text.bytes[at] == (uint8_t)it->model[at])
@@ -197,7 +197,7 @@ static int turn_off(const rail *it) {
     if (is_ordered) {
         steps[0] = pm_turns(it->part, it->output, 0x00);
         is_off = is_reached(1, OFF_TRIES, 0);
-        if (list.said.kind == PM_STILL_DIFFERS && is_lifted(it->part))
+        if (!is_off && list.said.kind != PM_RAIL_FAILS && is_lifted(it->part)) /* the byte isn't held */
             is_off = is_reached(1, OFF_TRIES, 0);
     }
     if (!is_heard)

@@ -77,7 +77,8 @@ impl Verdict {
         matches!(self, Verdict::Delivers { .. } | Verdict::DeliversByReadVout { .. } | Verdict::WentOff)
     }
 
-    /// Whether there is nothing to deliver: the output is commanded off, and wasn't asked. A rail that is to be on isn't up then.
+    /// Whether there is nothing to deliver: the output is commanded off, and wasn't asked. A rail that is to be on isn't up then. By its
+    /// [`OnOffConfig`](crate::OnOffConfig) its pin may have it on all the same.
     #[must_use]
     pub fn has_nothing_to_deliver(&self) -> bool {
         matches!(self, Verdict::CommandedOff)

@@ -885,11 +885,14 @@ static inline pm_sequence_step pm_surveys(uint8_t host, uint8_t output) {
 PM_MUST_USE
 static inline uint8_t pm_ask_paged(uint8_t address, uint8_t page, uint8_t code, uint8_t size, pm_read read, void *context, pm_block *block) {
     pm_sending frame;
-    uint8_t answer[36], number = pm_paged_request(address, page, code, size, &frame);
-    uint64_t count = number == PM_OK ? pm_answer(&frame, answer, read, context) : 0;
-    if (size == 0 && count > 1 && answer[1] <= 32 && count > answer[1] + 3u)
-        count = answer[1] + 3u;
-    return number == PM_OK ? pm_read_paged(address, page, code, size, answer, count, block) : number;
+    uint8_t answer[35], number = pm_paged_request(address, page, code, size, &frame);
+    uint64_t count;
+    if (number != PM_OK)
+        return number;
+    count = pm_answer(&frame, answer, read, context);
+    if (size == 0 && count > answer[1] + 3u)
+        count = answer[1] + 3u; /* what was read beyond a block is none of it */
+    return pm_read_paged(address, page, code, size, answer, count, block);
 }
 
 /* What turns an output off, by its ON_OFF_CONFIG (02h, a byte; PMBus 1.3 Part II, ON_OFF_CONFIG). None of these is 0: compare the answer. */

@@ -32,19 +32,24 @@ static void bytes_of(FILE *file) {
 typedef struct {
     const char *name;
     uint8_t code, size, room, came, answer[8], is, length, first;
+    uint8_t letters; /* a block of so many letters A, in the place of the answer; ones beyond it */
 } asked;
 
 static const asked asked_rows[] = {
-    {"ON_OFF_CONFIG", 0x02, 1, 3, 3, {0x01, 0x16, 0xC0}, 0, 1, 0x16},
-    {"another PEC", 0x02, 1, 3, 3, {0x01, 0x16, 0xC1}, 0x35, 9, 9},
-    {"another count", 0x02, 1, 3, 3, {0x02, 0x16, 0xC0}, 0x34, 9, 9},
-    {"one byte less", 0x02, 1, 3, 2, {0x01, 0x16}, 0x32, 9, 9},
-    {"no answer", 0x02, 1, 3, 0, {0}, 0x31, 9, 9},
-    {"an answer that nobody counted", 0x02, 1, 3, 9, {0x01, 0x16, 0xC0}, 0x31, 9, 9},
-    {"a block that ends before its room", 0x9A, 0, 34, 34, {0x02, 'A', 'B', 0xE1, 0xFF, 0xFF, 0xFF, 0xFF}, 0, 2, 'A'},
-    {"a block whose count is above 32", 0x9A, 0, 34, 34, {0x21, 'A', 'B'}, 0x34, 9, 9},
-    {"a code that PAGE_PLUS doesn't carry", 0x00, 1, 0, 3, {0}, 0xE4, 9, 9},
-    {"a greater size", 0x02, 33, 0, 3, {0}, 0xE4, 9, 9},
+    {"ON_OFF_CONFIG", 0x02, 1, 3, 3, {0x01, 0x16, 0xC0}, 0, 1, 0x16, 0},
+    {"another PEC", 0x02, 1, 3, 3, {0x01, 0x16, 0xC1}, 0x35, 9, 9, 0},
+    {"another count", 0x02, 1, 3, 3, {0x02, 0x16, 0xC0}, 0x34, 9, 9, 0},
+    {"one byte less", 0x02, 1, 3, 2, {0x01, 0x16}, 0x32, 9, 9, 0},
+    {"no answer", 0x02, 1, 3, 0, {0}, 0x31, 9, 9, 0},
+    {"an answer that nobody counted", 0x02, 1, 3, 9, {0x01, 0x16, 0xC0}, 0x31, 9, 9, 0},
+    {"a block that ends before its room", 0x9A, 0, 34, 34, {0x02, 'A', 'B', 0xE1, 0xFF, 0xFF, 0xFF, 0xFF}, 0, 2, 'A', 0},
+    {"a block of no letter", 0x9A, 0, 34, 34, {0x00, 0xA8, 0xFF, 0xFF, 0xFF, 0xFF, 0xFF, 0xFF}, 0, 0, 0, 0},
+    {"a block with one byte beyond it", 0x9A, 0, 34, 34, {0}, 0, 31, 'A', 31},
+    {"a block as long as its room", 0x9A, 0, 34, 34, {0}, 0, 32, 'A', 32},
+    {"a block that is cut", 0x9A, 0, 34, 3, {0x02, 'A', 'B', 0xE1}, 0x32, 9, 9, 0},
+    {"a block whose count is above 32", 0x9A, 0, 34, 34, {0x21, 'A', 'B'}, 0x34, 9, 9, 0},
+    {"a code that PAGE_PLUS doesn't carry", 0x00, 1, 0, 3, {0}, 0xE4, 9, 9, 0},
+    {"a greater size", 0x02, 33, 0, 3, {0}, 0xE4, 9, 9, 0},
 };
 static uint64_t room_seen, asks;
 
@@ -55,6 +60,14 @@ static uint64_t ask(void *context, const uint8_t *request, uint64_t count, uint8
     room_seen = room;
     if (count == 5 && memcmp(request, wanted, 4) == 0 && request[4] == is->code)
         memcpy(answer, is->answer, room < 8 ? (size_t)room : 8);
+    if (is->letters) {
+        uint8_t bytes[40] = {0xB0, 0x06, 0x02, 0x01, 0x9A, 0xB1};
+        bytes[6] = is->letters;
+        memset(bytes + 7, 'A', is->letters);
+        memset(answer, 0xFF, (size_t)room);
+        memcpy(answer, bytes + 6, is->letters + 1u);
+        answer[is->letters + 1u] = pm_pec(bytes, is->letters + 7u);
+    }
     return is->came;
 }
 
