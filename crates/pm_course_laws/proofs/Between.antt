@@ -55,9 +55,10 @@ module _ (held : Held) (passes : ℕ) (alike : LivesAlike held passes) (before :
   writes-so : (output : ℕ) (wants : Wants) (later : List Happening) → MayAllHappen held passes (later ++ before) →
       WritesWanted k passes output wants (events later) past → EachAsks (MayWrite output wants) held passes later before
   writes-so output wants [] may all = tt
-  writes-so output wants (Happens event ∷ later) may all =
-      (subst (λ (a : Option host.Job). MayWrite output wants a) (asked-is held passes alike before later event may.1) all.0,
-      writes-so output wants later may.1 all.1)
+  writes-so output wants (Happens event ∷ later) may all = (
+    subst (λ (a : Option host.Job). MayWrite output wants a) (asked-is held passes alike before later event may.1) all.0,
+    writes-so output wants later may.1 all.1,
+  )
   writes-so output wants (Hears bytes ending ∷ later) may all = writes-so output wants later may.1 all
 
   -- the course of the life

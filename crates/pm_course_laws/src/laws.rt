@@ -32,7 +32,7 @@ use pm_world::{
 /// orders nothing (`unformed`), nor does a survey (`surveys`). A course that turns the output off goes the way to that byte
 /// (`off`). A course to a byte that leaves the output on orders nothing but that byte, once it has read WRITE_PROTECT and that
 /// allows it (`on`). It may check the register that the byte selects, so this asks that nothing is checked that the part doesn't
-/// have, as a guard lets no such check begin (`had`). The calls of a course are the steps of such a life (`hands`, `hears`).
+/// have, as a guard lets no such check begin (`had`).
 ///
 /// Nothing is said of what the words are after the moment at which a course says `Reached`. A converter of a life has one format, so
 /// that an exchange of the part is a restart, after which nothing is said.

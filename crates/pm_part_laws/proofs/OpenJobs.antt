@@ -63,9 +63,6 @@ both-true : (a b : Bool) → (a && b) ≡ true → (a ≡ true) × (b ≡ true)
 both-true true b is = (refl, is)
 both-true false b is = cc
 
-same-bytes : (a b : List ℕ) → a ≡ b → bytes_eq a b ≡ true
-same-bytes a b is = (bytes_eq-Decides a b).1 is
-
 -- two converters that answer the whole request alike, and of whose answers the same came back
 whole-same : (one other : Held) (frame : List ℕ) (way : Arrival) (so so' : Back) →
     answer_of other frame arrival.Whole ≡ answer_of one frame arrival.Whole →
@@ -80,7 +77,7 @@ whole-same one other frame way so so' alike came-is whole =
     let back-is : back_bytes (answer_of one frame way) so ≡ answer_of one frame way =
     (bytes_eq-Decides (back_bytes (answer_of one frame way) so) (answer_of one frame way)).0 parts.1 in
     ap₂ (λ (a b : Bool). a && b) parts.0
-    (same-bytes (back_bytes (answer_of other frame way) so') (answer_of other frame way) (came-is ∙ (back-is ∙ answers)))
+    ((bytes_eq-Decides (back_bytes (answer_of other frame way) so') (answer_of other frame way)).1 (came-is ∙ (back-is ∙ answers)))
 
 -- ---- The same of events and of happenings ----
 
@@ -155,7 +152,7 @@ module _ (held : Held) (passes : ℕ) (alike : LivesAlike held passes) where
         reads = reads;
         legal = refl;
         returned = ap₂ (λ (a b : Bool). a && b || is_legal_return frame (whole_answer request) false answer answer)
-            (same-bytes frame frame refl) (same-bytes answer answer refl);
+            ((bytes_eq-Decides frame frame).1 refl) ((bytes_eq-Decides answer answer).1 refl);
       } in
       let tells = alike.tells happened (Exchange arrival.Whole back.Whole) ((exchange-free s arrival.Whole back.Whole said, tt), may) in
       let n-share = exchange-share n arrival.Whole back.Whole request (ap sending_in host ∙ sends) reads in
@@ -273,9 +270,14 @@ module _ (held : Held) (passes : ℕ) (alike : LivesAlike held passes) where
   come-so [] before after may come = ap events come
   come-so (acked ∷ more) before after may (stage, middle, is, taken, comes, come) =
       let may-middle = before-frames more middle after may come in
-      let may-before = before-frame acked stage before middle may-middle comes in
-      (stage, events middle, stage-is before (Some stage) may-before is, taken, comes-so acked stage before middle may-middle is comes,
-      come-so more middle after may come)
+      let may-before = before-frame acked stage before middle may-middle comes in (
+        stage,
+        events middle,
+        stage-is before (Some stage) may-before is,
+        taken,
+        comes-so acked stage before middle may-middle is comes,
+        come-so more middle after may come,
+      )
 
   -- what a frame makes of a job, and how it ends
   words-are : (happened : List Happening) → MayAllHappen held passes happened → (cell : Cell) →

@@ -68,7 +68,7 @@ turn_by modes words passes acked (Writes cell word pass) = GoesOn (Reads cell wo
 turn_by modes words passes acked (Reads cell word pass) = read_turn passes cell word pass (words cell)
 turn_by modes words passes acked (Sends command tries) = send_turn passes command tries acked
 
--- by those after these events
+-- what it makes of a job by what the converter holds after these events
 abbrev pub turn_of : Config → ℕ → List Event → Bool → Stage → Turn
 turn_of config passes before acked stage = turn_by (mode_for config) (held_after config passes before) passes acked stage
 
@@ -109,7 +109,7 @@ good_end_by words passes (Writes cell word pass) = order_end (is_allowed (words 
 good_end_by words passes (Reads cell word pass) =
     order_end (not (pass + 1 == passes) && is_allowed (words Protect) (cell_code cell)) word (words cell)
 
--- by those that it holds after these events
+-- how the job ends by what the converter holds after these events
 abbrev pub good_end : Config → ℕ → List Event → Stage → JobEnd
 good_end config passes before stage = good_end_by (held_after config passes before) passes stage
 
