@@ -1,5 +1,5 @@
 -- A course to wishes while the part restarts, by the life that is like what happened beside it.
-use Rattle.std.proofs.Common.{◌≡◌, ℕ, Bool, true, false, List, [], ◌∷◌, ◌++◌, Option, Some, Ok, refl, sym, ◌∙◌, ap, ap₂, subst}
+use Rattle.std.proofs.Common.{◌≡◌, ℕ, List, [], ◌∷◌, ◌++◌, Option, Some, Ok, refl, sym, ◌∙◌, ap, ap₂, subst}
 use Rattle.std.proofs.Common.{append_assoc}
 use Rattle.std.specs.List.{list_any}
 use Rattle.pm_num.specs.AnyFormat.{Shape, shape_value}
@@ -26,9 +26,8 @@ use Rattle.pm_world.specs.Life.{now}
 use Rattle.pm_world.specs.Limited.{commands as world_commands}
 use Rattle.pm_world.specs.Mixed.{LiesAmong, start_let_go}
 use Rattle.pm_part_laws.specs.Alike.{LivesAlike, SameSettingsLiveAlike}
-use Rattle.pm_part_laws.specs.Happenings.{EachAsks, Happening, Happens, Hears, MayAllHappen, beside, restarts}
+use Rattle.pm_part_laws.specs.Happenings.{EachAsks, Happening, Happens, Hears, MayAllHappen, beside}
 use Rattle.pm_part_laws.specs.Lemmas.Narrow.{at, config, earlier-may, later-restarts, missing-at, read-at, shape-at, since, since-append}
-use Rattle.pm_part_laws.specs.OwnWords.{commands}
 use Rattle.pm_restart_laws.specs.Restarts.{AsksNoStore, CoursesKeepBetween, GoesOn, IsNoStore}
 use Rattle.pm_course_laws.specs.Between.{FrameCoursesKeepBetween, GoesOnBeside}
 use Rattle.pm_course_laws.specs.FrameWays.{FrameCoursesGoTheirWay}

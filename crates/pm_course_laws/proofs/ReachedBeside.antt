@@ -1,5 +1,5 @@
 -- What the end Reached is worth beside a part, by the life that is like what happened there.
-use Rattle.std.proofs.Common.{◌≡◌, ℕ, List, ◌++◌, Option, Some, None, Ok, sym, ◌∙◌, ap, subst}
+use Rattle.std.proofs.Common.{ℕ, List, ◌++◌, Option, Some, None, Ok, sym, ◌∙◌, ap, subst}
 use Rattle.std.specs.Prelude.{IsSomeAnd}
 use Rattle.pm_num.specs.AnyFormat.{Shape}
 use Rattle.pm_table.specs.declared.cell.Cell.TheVariants.{Out, Protect}

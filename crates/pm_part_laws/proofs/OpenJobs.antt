@@ -11,7 +11,7 @@ use Rattle.pm_table.specs.VoutMode.{mode_of}
 use Rattle.pm_model.specs.Settings.{Words, word_at}
 use Rattle.pm_device.specs.declared.config.Config.{Config}
 use Rattle.pm_device.specs.declared.converter.Ending.TheVariants.{Restart, Stop}
-use Rattle.pm_device.specs.Held.{Held, mode_for}
+use Rattle.pm_device.specs.Held.{Held}
 use Rattle.pm_device.specs.Reply.{reply_of}
 use Rattle.pm_host.specs.declared.job.JobEnd.{JobEnd}
 use Rattle.pm_host.specs.declared.question.Question.TheVariants.{Word, Mode, Coefficients}
@@ -21,7 +21,7 @@ use Rattle.pm_host.specs.Frames.{frames_left}
 use Rattle.pm_host.specs.Messages.{cell_read}
 use Rattle.pm_host.specs.Question.{question_message}
 use Rattle.pm_host.specs.Summary.{Summary, sending_in, stage_message}
-use Rattle.pm_host.specs.Transcript.{Entry, Got}
+use Rattle.pm_host.specs.Transcript.{Got}
 use Rattle.pm_world.specs.declared.event.Arrival.{Arrival}
 use Rattle.pm_world.specs.declared.event.Arrival.TheVariants as arrival
 use Rattle.pm_world.specs.declared.event.Back.{Back}
@@ -32,14 +32,13 @@ use Rattle.pm_world.specs.GoodBus.{IsRead, IsWritten, comes_whole, delivers_whol
 use Rattle.pm_world.specs.GoodTurns.{ComeWhole, ComesWhole, OpenJobsEnd, Took, Turn, good_end, good_end_by, mode_turn, read_turn, turn_of}
 use Rattle.pm_world.specs.Legal.{answer_in, back_bytes, ending_of, frame_of, heard_bytes, is_heard_whole, is_legal_hearing, is_legal_return}
 use Rattle.pm_world.specs.Life.{now}
-use Rattle.pm_world.specs.State.{State, event_cause, next, share_of}
+use Rattle.pm_world.specs.State.{State, next}
 use Rattle.pm_part_laws.specs.Alike.{LivesAlike, SameSettingsLiveAlike, back_of, came, event_like}
 use Rattle.pm_part_laws.specs.Happenings.{Happening, Happens, Hears, MayAllHappen, beside}
 use Rattle.pm_part_laws.specs.Moves.{words_at}
 use Rattle.pm_part_laws.specs.OpenJobs.{ComeWholeBeside, ComesWholeBeside, IsReadBeside, IsWrittenBeside, OpenJobsEndBeside, delivers, good_end_at}
 use Rattle.pm_part_laws.specs.OpenJobs.{is_aside, is_look, turn_at}
-use Rattle.pm_part_laws.specs.Settings.{modes_of}
-use Rattle.pm_part_laws.specs.Lemmas.Narrow.{at, at-more, at-since, config, earlier-may, likely, modes-at, since}
+use Rattle.pm_part_laws.specs.Lemmas.Narrow.{at, at-more, at-since, config, earlier-may, modes-at, since}
 use Rattle.pm_part_laws.specs.Lemmas.Pageless.{answer_of, heard-so}
 use Rattle.pm_part_laws.proofs.Alike.{Exchanged, exchange-free, exchange-share, exchanges}
 

@@ -160,14 +160,7 @@ module _ (held : Held) (passes : ℕ) (alike : LivesAlike held passes) where
       (alike.tells before event may)
       ∙ surprises-same (setup_of config passes) older (told held passes before) cell (share_of (beside held passes before) event).told
 
-  -- the converter's restarts
-  pub steady-at : (happened : List Happening) → list_any restarts_converter (at happened) ≡ list_any restarts happened
-  unfolding narrow
-  steady-at [] = alike.reached.steady
-  steady-at (Happens event ∷ before) =
-      ap₂ (λ (a b : Bool). a || b) (restarts-like (beside held passes before) event) (steady-at before)
-  steady-at (Hears bytes ending ∷ before) = steady-at before
-
+  -- a restart of the converter since the host's last good answer for a cell
   pub since-at : ListsSayEnough → (cell : Cell) (happened : List Happening) → MayAllHappen held passes happened →
       world_since config passes cell (at happened) ≡ restarted_since held passes cell happened
   unfolding restarted_since world_since narrow

@@ -1,4 +1,4 @@
-use Rattle.std.proofs.Common.{Bool, true, subst}
+use Rattle.std.proofs.Common.{Bool, subst}
 use Rattle.pm_course_laws.specs.FramesBeside.{IsFrameCourseBeside}
 use Rattle.pm_law_tests.proofs.exports.a_frame_that_ended_and_the_next.Goals as goal
 

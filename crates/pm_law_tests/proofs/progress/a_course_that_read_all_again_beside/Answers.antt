@@ -1,4 +1,4 @@
-use Rattle.std.proofs.Common.{List, ◌++◌, append_assoc, ap, subst, sym, ◌∙◌}
+use Rattle.std.proofs.Common.{List, ◌++◌, append_assoc, subst, sym, ◌∙◌}
 use Rattle.pm_host.specs.Summary.{Summary}
 use Rattle.pm_course.specs.declared.course_end.CourseEnd.TheVariants.{Reached}
 use Rattle.pm_course.specs.declared.course_end.CourseNext.TheVariants.{Ended}
