@@ -1,5 +1,5 @@
--- The calls of a course as steps of its life, and all that holds of courses.
-use Rattle.std.proofs.Common.{Bool, List, None, Ok, Option, Some, [], ap, false, refl, subst, sym, true, ℕ, ◌++◌, ◌∙◌, ◌∷◌, ◌≡◌}
+-- What a course says by a guard, and all that holds of courses.
+use Rattle.std.proofs.Common.{Bool, None, Ok, Option, Some, [], false, refl, subst, sym, true, ℕ, ◌∷◌, ◌≡◌}
 use Rattle.std.specs.Prelude.{not, option_map}
 use Rattle.pm_table.specs.declared.cell.Cell.TheVariants.{Out, Protect}
 use Rattle.pm_table.specs.Rules.{first, rule}
@@ -8,25 +8,15 @@ use Rattle.pm_host.specs.declared.job.Job.{Job as Asked}
 use Rattle.pm_host.specs.declared.job.Job.TheVariants.{Check, Learn, Order, OrderMicro, Send}
 use Rattle.pm_host.specs.Jobs.{accepted_job}
 use Rattle.pm_host.specs.Refusals.{cell_fault, micro_word}
-use Rattle.pm_device.specs.declared.config.Config.{Config}
-use Rattle.pm_host.specs.Summary.{Summary, step_of}
+use Rattle.pm_host.specs.Summary.{Summary}
 use Rattle.pm_limits.specs.declared.part_registers.PartRegisters.{PartRegisters}
 use Rattle.pm_limits.specs.declared.fault.LimitFault.TheVariants.{MissingRegister}
 use Rattle.pm_limits.specs.Guard.{Guarded, LetsBegin, limits_at, of_host}
 use Rattle.pm_limits.specs.Part.{has_register}
-use Rattle.pm_limits.specs.FaultWords.{limit_fault_number}
 use Rattle.pm_course.specs.declared.course_end.CourseNext.{CourseNext}
 use Rattle.pm_course.specs.declared.frame_course.FrameCourse.{FrameCourse}
-use Rattle.pm_course.specs.declared.frames.Sending.{Sending}
 use Rattle.pm_course.specs.FrameCourse.{SaysNext}
-use Rattle.pm_course.specs.Frames.{HandsOut, Hears, again, begun as begun_job, heard, over as ended, refused as refused_job}
-use Rattle.pm_course.specs.Heard.{heard_by}
-use Rattle.pm_course.specs.Surprise.{surprises}
-use Rattle.pm_world.specs.declared.event.Event.{Event}
-use Rattle.pm_world.specs.Ended.{begins_other}
-use Rattle.pm_world.specs.Life.{now}
-use Rattle.pm_world.specs.State.{share_of}
-use Rattle.pm_course_laws.specs.FrameLives.{FrameCoursesHoldInLives, Handed, IsFrameCourse, IsHad, asks, begins_job, goes_on, hears, over, refused, stays}
+use Rattle.pm_course_laws.specs.FrameLives.{FrameCoursesHoldInLives, IsHad}
 use Rattle.pm_course_laws.specs.FrameWays.{FrameCoursesGoTheirWay}
 use Rattle.pm_course_laws.proofs.Names.{Given}
 use Rattle.pm_course_laws.proofs.Off.{keeps-off}
@@ -34,8 +24,6 @@ use Rattle.pm_course_laws.proofs.On.{keeps-on}
 use Rattle.pm_course_laws.proofs.OrdersNothing.{surveys-order-nothing, unformed-order-nothing}
 use Rattle.pm_course_laws.proofs.ToWishes.{goes, keeps}
 use Rattle.pm_host.specs.Transcript as host
-
--- ---- What the calls of a course do is what its life is made of ----
 
 -- a guard begins no check of a register that the part doesn't have
 pub had-so : (g new : Guarded) (job : Asked) (output : ℕ) → LetsBegin g job (Ok tt) new → IsHad g.registers output (accepted_job g.host job)
@@ -65,36 +53,6 @@ said-so part g s c is next host' registers says =
     subst (λ (p : PartRegisters). SaysNext p (limits_at g c.course.survey.output) s c next is) registers
     (subst (λ (x : Summary). SaysNext g.registers (limits_at g c.course.survey.output) x c next is) host' says)
 
-pub hands-so : (config : Config) (passes : ℕ) (part : PartRegisters) (begun c is : FrameCourse) (own : Bool) (later before : List Event)
-    (g new : Guarded) (sent : Option Sending) → IsFrameCourse config passes part begun before c own later →
-    g.host ≡ (now config passes (later ++ before)).host → g.registers ≡ part → HandsOut g c sent new is →
-    Handed config passes part begun before own later g new is
-hands-so config passes part begun c is own later before g new sent was host' registers
-    (again stage frame open' mine sending) = stays refl was
-hands-so config passes part begun c is own later before g new sent was host' registers (begun_job job frame new' is' says lets sending) =
-    begins_job job lets (λ event asked'. asks (limits_at g c.course.survey.output) c is own later event job was
-    (said-so part g (now config passes (later ++ before)).host c is _ host' registers says) asked')
-hands-so config passes part begun c is own later before g new sent was host' registers (ended end is' says) =
-    stays refl (over (limits_at g c.course.survey.output) c is own later end was
-    (said-so part g (now config passes (later ++ before)).host c is _ host' registers says))
-hands-so config passes part begun c is own later before g new sent was host' registers (refused_job job fault is' says refuses) =
-    stays refl (refused (limits_at g c.course.survey.output) c is' own later job (limit_fault_number fault) was
-    (said-so part g (now config passes (later ++ before)).host c is' _ host' registers says))
-
-pub hears-so : (config : Config) (passes : ℕ) (part : PartRegisters) (begun c is : FrameCourse) (later before : List Event)
-    (g new : Guarded) (event : Event) (entry : host.Entry) → IsFrameCourse config passes part begun before c true later →
-    g.host ≡ (now config passes (later ++ before)).host → begins_other event ≡ false →
-    (share_of (now config passes (later ++ before)) event).told ≡ Some entry → Hears g c entry (Ok tt) new is →
-    IsFrameCourse config passes part begun before is (goes_on (step_of g.host entry)) (event ∷ later)
-hears-so config passes part begun c is later before g new event entry was host' alone told heard' = go entry is told heard' where
-  go : (e : host.Entry) (f : FrameCourse) → (share_of (now config passes (later ++ before)) event).told ≡ Some
-      e → Hears g c e (Ok tt) new f →
-      IsFrameCourse config passes part begun before f (goes_on (step_of g.host e)) (event ∷ later)
-  go e f tells (heard stage new' open' comes next limits registers) =
-      subst (λ (s : Summary). IsFrameCourse config passes part begun before
-      (heard_by c s.setup.addr stage e (surprises s stage e) (step_of s e)) (goes_on (step_of s e)) (event ∷ later)) (sym host')
-      (hears c later event stage e was alone (sym (ap (λ (s : Summary). s.stage) host') ∙ open') tells)
-
 -- ---- What a course that hands out frames is worth over a life ----
 
 pub hold-in-lives : Given → FrameCoursesHoldInLives
@@ -105,10 +63,6 @@ hold-in-lives laws = record {
       unformed-order-nothing laws config passes part output words voltages tries before refusal spelled faults c own later lived b;
   surveys = λ config passes part output tries c own later before spelled lived b.
       surveys-order-nothing laws config passes part output tries c own later before lived b;
-  hands = λ config passes part begun c is own later before g new sent was host registers handed.
-      hands-so config passes part begun c is own later before g new sent was host registers handed;
-  hears = λ config passes part begun c is later before g new event entry was host alone told heard'.
-      hears-so config passes part begun c is later before g new event entry was host alone told heard';
   off = λ config passes part output byte tries c own later before off spelled lived b.
       keeps-off laws config passes part output byte tries before spelled b.here off c own later lived b;
   on = λ config passes part output byte tries c own later before on spelled lived had b.

@@ -71,9 +71,6 @@ module _ (part : PartRegisters) (limits : OutputLimits) (s : Summary) (c : Frame
   abbrev IsFresh : Says → Type 0
   IsFresh x = (j : Asked) → x.next ≡ Job j → x.after.end ≡ None
 
-  ends-fresh : (end : CourseEnd) → IsFresh (ends_with c end)
-  ends-fresh end j is = cc
-
   for-fresh : (after : Course) (named : Asked) (r : Result Asked Refusal) → IsFresh (saying_for c after named r)
   for-fresh after named (Err refusal) j is = cc
   for-fresh after named (Ok asked) j is = refl

@@ -55,7 +55,7 @@ use Rattle.pm_course_laws.specs.FramesBeside.{asks, begins, begins_job, besides,
 use Rattle.pm_course_laws.proofs.Calls.{said-so}
 
 -- the words of an output's registers
-abbrev registers-in : ℕ → Words → rail.Held
+abbrev pub registers-in : ℕ → Words → rail.Held
 registers-in output words register = word_at words (Out output register)
 
 module _ (held : Held) (passes : ℕ) (alike : LivesAlike held passes) (before : List Happening) where
@@ -84,7 +84,7 @@ module _ (held : Held) (passes : ℕ) (alike : LivesAlike held passes) (before :
   tells-is later event may = ap (λ (l : List Event). (share_of (now c' passes l) (likely held passes alike (later ++ before) event)).told)
       (sym (at-since held passes alike later before)) ∙ alike.tells (later ++ before) event may
 
-  asked-is : (later : List Happening) (event : Event) → MayAllHappen held passes (later ++ before) →
+  pub asked-is : (later : List Happening) (event : Event) → MayAllHappen held passes (later ++ before) →
       asked (now c' passes (later-events later ++ past)) (likely held passes alike (later ++ before) event)
       ≡ asked (beside held passes (later ++ before)) event
   asked-is later event may = ap (λ (l : List Event). asked (now c' passes l) (likely held passes alike (later ++ before) event))
@@ -153,7 +153,7 @@ module _ (held : Held) (passes : ℕ) (alike : LivesAlike held passes) (before :
       world_held c' passes (later-events later ++ past) output ≡ held_at held passes (later ++ before) output
   held-is later may output = ap (registers-in output) (like later may).words
 
-  commands-is : (later : List Happening) → MayAllHappen held passes (later ++ before) → (output : ℕ) →
+  pub commands-is : (later : List Happening) → MayAllHappen held passes (later ++ before) → (output : ℕ) →
       world_commands c' passes (later-events later ++ past) output ≡ commands held passes (later ++ before) output
   commands-is later may output = ap (λ (l : List Event). world_commands c' passes l output) (sym (at-since held passes alike later before))
       ∙ commands-at held passes alike (later ++ before) may output
@@ -161,13 +161,13 @@ module _ (held : Held) (passes : ℕ) (alike : LivesAlike held passes) (before :
   -- two moments of what happened later
   module _ (later rest newer older : List Happening) (split : later
       ≡ rest ++ (newer ++ older)) (may : MayAllHappen held passes (later ++ before)) where
-    abbrev rest-events : List Event
+    abbrev pub rest-events : List Event
     rest-events = since held passes alike rest ((newer ++ older) ++ before)
 
-    abbrev newer-events : List Event
+    abbrev pub newer-events : List Event
     newer-events = since held passes alike newer (older ++ before)
 
-    split-so : later-events later ≡ rest-events ++ (newer-events ++ later-events older)
+    pub split-so : later-events later ≡ rest-events ++ (newer-events ++ later-events older)
     split-so = ap later-events split ∙ (since-append held passes alike rest (newer ++ older) before
         ∙ ap (λ (l : List Event). rest-events ++ l) (since-append held passes alike newer older before))
 
@@ -182,7 +182,7 @@ module _ (held : Held) (passes : ℕ) (alike : LivesAlike held passes) (before :
     newer-is : (newer-events ++ later-events older) ++ past ≡ later-events (newer ++ older) ++ past
     newer-is = ap (λ (l : List Event). l ++ past) (sym (since-append held passes alike newer older before))
 
-    step-so : (output : ℕ) (goal goal' : Ratio) → goal ≡ goal' →
+    pub step-so : (output : ℕ) (goal goal' : Ratio) → goal ≡ goal' →
         IsStep goal (world_commands c' passes (later-events older ++ past) output)
         (world_commands c' passes ((newer-events ++ later-events older) ++ past) output) →
         IsStep goal' (commands held passes (older ++ before) output) (commands held passes ((newer ++ older) ++ before) output)
@@ -201,7 +201,7 @@ module _ (held : Held) (passes : ℕ) (alike : LivesAlike held passes) (before :
     held-older output = held-is older may-older output
 
   -- what is wanted of an output, and what it would command with a byte of OPERATION
-  goal-is : (output : ℕ) (wanted : Wanted) → MayAllHappen held passes before →
+  pub goal-is : (output : ℕ) (wanted : Wanted) → MayAllHappen held passes before →
       world_goal c' passes output wanted past ≡ goal_at held passes output wanted before
   goal-is output wanted may = ap₂ (λ (s : Shape) (h : rail.Held). commands_by (shape_value s) (goal_of h (wants_of wanted)))
       (shape-at held passes alike output)

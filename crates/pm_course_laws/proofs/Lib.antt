@@ -21,4 +21,6 @@ mod ChainFrames
 mod FrameSurveys
 mod Progress
 mod FramesBeside
+mod ReachedBeside
+mod Between
 mod ProgressBeside

@@ -33,7 +33,6 @@ use Rattle.pm_rail.specs.declared.wanted.Wanted.{Wanted}
 use Rattle.pm_rail.specs.Course.{course_of}
 use Rattle.pm_rail.specs.Orders.{limits_fault, protection_fault, words_fault}
 use Rattle.pm_rail.specs.Plan.{commands_by, goal_of, next_register, put}
-use Rattle.pm_rail.specs.declared.survey.Survey.{Survey}
 use Rattle.pm_rail.specs.Registers.{Wants, wants_of}
 use Rattle.pm_rail.specs.Registers as rail
 use Rattle.pm_course.specs.declared.course_end.CourseNext.TheVariants.{Ended, Job}
@@ -51,14 +50,15 @@ use Rattle.pm_world.specs.Life.{now}
 use Rattle.pm_world.specs.Lived.{IsLived}
 use Rattle.pm_part_laws.specs.Alike.{IsLike, LivesAlike, SameSettingsLiveAlike}
 use Rattle.pm_part_laws.specs.Happenings.{Happening, Happens, MayAllHappen, beside}
-use Rattle.pm_part_laws.specs.Lemmas.Narrow.{asked-like, at, at-since, config, earlier-may, likely, shape-at, since, since-at}
+use Rattle.pm_part_laws.specs.Lemmas.Narrow.{asked-like, at, at-since, config, earlier-may, likely, shape-at, since}
 use Rattle.pm_course_laws.specs.Chains.{EndsBy, FitsPart, IsAskedFor, IsSwitched, Pair, byte_tries, held_fault, tries_for, words_of}
 use Rattle.pm_course_laws.specs.FrameLives.{goes_on}
 use Rattle.pm_course_laws.specs.Progress.{EndsSo, FrameCoursesGetThere, GetsRead, GetsSwitched, GetsThere, IsUndisturbed, pair_at}
 use Rattle.pm_course_laws.specs.Progress as life_of
-use Rattle.pm_course_laws.specs.ProgressBeside.{FrameCoursesGetThereBeside, IsUndisturbedBeside, ReadsStandBeside, asks, begins, looks, pair_beside, reads, writes}
+use Rattle.pm_course_laws.specs.ProgressBeside.{FrameCoursesGetThereBeside, IsUndisturbedBeside, asks, begins, looks, pair_beside, reads, writes}
 use Rattle.pm_course_laws.specs.Reached.{ReadsStand}
 use Rattle.pm_course_laws.proofs.FramesBeside.{host-is, later-events, like, past, steps, tells-is}
+use Rattle.pm_course_laws.proofs.ReachedBeside.{stands-like}
 
 -- ---- Two moments that are alike ----
 
@@ -271,14 +271,6 @@ module _ (held : Held) (passes : ℕ) (alike : LivesAlike held passes) (part : P
           (tells-is held passes alike before l (Exchange Whole back.Whole) may ∙ told'))
       undisturbed c mine n later (looks f o m l bytes ending was) may = undisturbed f o m l was may.1
 
-  -- the answers that a survey counts
-  stands-so : ListsSayEnough → (v : Survey) (happened : List Happening) → MayAllHappen held passes happened →
-      ReadsStandBeside held passes v happened → ReadsStand own passes v (at held passes alike happened)
-  stands-so lists v happened may stand = record {
-    registers = λ register read. since-at held passes alike lists (Out v.output register) happened may ∙ stand.registers register read;
-    protect = λ read. since-at held passes alike lists Protect happened may ∙ stand.protect read;
-  }
-
 pub get-there-beside : SameSettingsLiveAlike → ListsSayEnough → FrameCoursesGetThere → FrameCoursesGetThereBeside
 get-there-beside alike lists law = record {
   begins = λ held passes part limits output words wanted voltages tries c mine n later before is here means idle there fits enough undisturbed'.
@@ -318,7 +310,7 @@ get-there-beside alike lists law = record {
       (subst (λ (l : List Event). is_busy (now (config held passes all) passes l).host ≡ false) split
       (ap is_busy (all.like (earlier ++ before) may).host ∙ idle)) on once many
       (subst (λ (l : List Event). ReadsStand (config held passes all) passes begun.course.survey l) split
-      (stands-so held passes all part limits lists begun.course.survey (earlier ++ before) may stand)) there
+      (stands-like held passes all lists begun.course.survey (earlier ++ before) may stand)) there
       (subst (λ (l : List Event). FitsPart part (now (config held passes all) passes l).device output (wants_of wanted)) split
       (fits-is first' part output (wants_of wanted) fits))
       (subst (λ (l : List Event). IsUndisturbed (config held passes all) passes part limits begun l c mine n

@@ -5,4 +5,6 @@ pub mod Reached
 pub mod Chains
 pub mod Progress
 pub mod FramesBeside
+pub mod Between
 pub mod ProgressBeside
+pub mod ReachedBeside

@@ -1,5 +1,6 @@
 //! The laws, over nothing but definitions.
 
+ghost use Rattle.pm_course_laws.specs.Between.{FrameCoursesKeepBetween};
 ghost use Rattle.pm_course_laws.specs.FrameLives.{FrameCoursesHoldInLives};
 ghost use Rattle.pm_course_laws.specs.FramesBeside.{FrameCoursesHoldBeside};
 ghost use Rattle.pm_course_laws.specs.FrameWays.{FrameCoursesGoTheirWay};
@@ -7,11 +8,13 @@ ghost use Rattle.pm_course_laws.specs.Chains.{ChainsEnd};
 ghost use Rattle.pm_course_laws.specs.Progress.{FrameCoursesGetThere};
 ghost use Rattle.pm_course_laws.specs.ProgressBeside.{FrameCoursesGetThereBeside};
 ghost use Rattle.pm_course_laws.specs.Reached.{ReachedSinceItRead};
+ghost use Rattle.pm_course_laws.specs.ReachedBeside.{ReachedSinceItReadBeside};
 
 use pm_device::{requests_latch_at_most, words_have_an_origin};
 use pm_host::{open_orders_are_uncertain, transcripts_are_followed};
 use pm_part_laws::same_settings_live_alike;
 use pm_rail::{courses_end, surveys_end_known};
+use pm_restart_laws::courses_keep_between;
 use pm_table::{cells_are_told_apart, cells_have_places};
 use pm_world::{
     courses_hold_in_lives, events_are_lived, good_frames_end_jobs, learned_formats_are_true,
@@ -29,7 +32,7 @@ use pm_world::{
 /// orders nothing (`unformed`), nor does a survey (`surveys`). A course that turns the output off goes the way to that byte
 /// (`off`). A course to a byte that leaves the output on orders nothing but that byte, once it has read WRITE_PROTECT and that
 /// allows it (`on`). It may check the register that the byte selects, so this asks that nothing is checked that the part doesn't
-/// have, as a guard lets no such check begin (`had`). The calls of a course are the steps of such a life (`hands`, `hears`).
+/// have, as a guard lets no such check begin (`had`).
 ///
 /// Nothing is said of what the words are after the moment at which a course says `Reached`. A converter of a life has one format, so
 /// that an exchange of the part is a restart, after which nothing is said.
@@ -136,4 +139,30 @@ pub fn frame_courses_get_there_beside()
     same_settings_live_alike();
     lists_say_enough();
     frame_courses_get_there();
+}
+
+/// What [`reached_since_it_read`] says of a life, beside any part, whatever PAGE it is at and whatever an earlier host left in it, while
+/// anybody reads it between the frames.
+pub fn reached_since_it_read_beside()
+    ensures { ReachedSinceItReadBeside }
+{
+    same_settings_live_alike();
+    lists_say_enough();
+    reached_since_it_read();
+}
+
+/// A course to wishes that hands out frames, beside any part, however often that restarts, however its frames are lost, cut, damaged or
+/// repeated, and whatever anybody reads of it between them.
+///
+/// Nothing is written to its output but the words that the wishes have in the part's format, if nothing else is ordered or stored and
+/// nothing is restored (`writes`). At each moment before the part first restarts the output commands what it did at an earlier one, or what
+/// is wanted (`earlier`). From then on, if neither the stored words nor those that are to be held at the end are cut, and OPERATION selects
+/// the same register as it did, the output commands a value between its start value and what is wanted (`between`). A start value that the
+/// stored VOUT_MAX or VOUT_MIN cuts may be let go as far as the wanted limits (`let_go`).
+pub fn frame_courses_keep_between_beside()
+    ensures { FrameCoursesKeepBetween }
+{
+    same_settings_live_alike();
+    frame_courses_go_their_way();
+    courses_keep_between();
 }

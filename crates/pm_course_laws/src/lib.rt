@@ -10,5 +10,5 @@ mod laws;
 pub use laws::{
     chains_end, frame_courses_get_there, frame_courses_get_there_beside,
     frame_courses_go_their_way, frame_courses_hold_beside, frame_courses_hold_in_lives,
-    reached_since_it_read,
+    frame_courses_keep_between_beside, reached_since_it_read, reached_since_it_read_beside,
 };

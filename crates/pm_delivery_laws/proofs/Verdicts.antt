@@ -91,11 +91,6 @@ pub voltage-read : (output : ℕ) → IsWordRead output command.read_vout
 unfolding line_of
 voltage-read output = record { fits = refl; two = refl }
 
--- the word of a payload of two bytes is the register's
-word-of : (size word : ℕ) (payload : List ℕ) → size ≡ 2 → payload ≡ take size (word % 256 ∷ word / 256 ∷ []) →
-    (payload ≡ word % 256 ∷ word / 256 ∷ [])
-word-of size word payload two is = is ∙ ap (λ n. take n (word % 256 ∷ word / 256 ∷ [])) two
-
 -- the word that a good answer of a code says is what the part's register said, and the part heard the whole request
 pub record IsOwn (device : Held) (output code word : ℕ) (heard : List ℕ) (ending : Ending) : Type 0 where
   pub heard_is : heard ≡ paged_request device.config.addr output code

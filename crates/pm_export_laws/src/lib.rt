@@ -5,4 +5,4 @@
 
 mod laws;
 
-pub use laws::{exports_are_steps, sequence_calls_are_runs};
+pub use laws::{exports_are_steps_beside, sequence_calls_are_runs};

@@ -3,6 +3,7 @@ pub mod ByName
 pub mod Beside
 pub mod Deliveries
 pub mod Drivers
+pub mod Exports
 pub mod FrameCourses
 pub mod Late
 pub mod Restarts

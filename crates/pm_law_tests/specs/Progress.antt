@@ -7,6 +7,7 @@ use Rattle.pm_table.specs.Protection.{is_allowed}
 use Rattle.pm_model.specs.Settings.{word_at}
 use Rattle.pm_device.specs.declared.config.Config.{Config}
 use Rattle.pm_host.specs.Refusals.{is_busy}
+use Rattle.pm_host.specs.Summary.{Summary}
 use Rattle.pm_limits.specs.declared.output_limits.OutputLimits.{OutputLimits}
 use Rattle.pm_limits.specs.declared.part_registers.PartRegisters.{PartRegisters}
 use Rattle.pm_limits.specs.Part.{all_registers}
@@ -30,8 +31,11 @@ use Rattle.pm_course_laws.specs.FrameLives.{IsFrameCourse, Means}
 use Rattle.pm_course_laws.specs.Progress.{GetsRead, GetsSwitched, GetsThere, IsUndisturbed, pair_at}
 use Rattle.pm_course_laws.specs.ProgressBeside.{IsUndisturbedBeside, pair_beside}
 use Rattle.pm_course_laws.specs.Reached.{HoldsWanted}
-use Rattle.pm_part_laws.specs.Happenings.{Happening, beside}
-use Rattle.pm_law_tests.specs.Beside.{PartLife}
+use Rattle.pm_course_laws.specs.FramesBeside.{IsFrameCourseBeside}
+use Rattle.pm_course_laws.specs.ReachedBeside.{HoldsWantedBeside}
+use Rattle.pm_part_laws.specs.Happenings.{Happening, beside, restarts}
+use Rattle.pm_part_laws.specs.Surveys.{AreRead as PartAreRead, MissingUnread as PartUnread}
+use Rattle.pm_law_tests.specs.Beside.{PartLife, both_in}
 use Rattle.pm_limits.specs.Guard.{limits_at}
 
 -- a course to wishes of a part with every register, with 28 tries
@@ -57,7 +61,7 @@ WishesAreReachedOnce config passes events = (part : PartRegisters) (limits : Lis
     GetsThere output wanted 28 (pair_at part limits config passes (earlier ++ before))
     (pair_at part limits config passes (later ++ (earlier ++ before))) c own n
 
--- one that says Reached, where the converter didn't restart since the first of these answers of its last survey
+-- one that says Reached, where the converter didn't restart since the first of these answers of its last survey; and one beside a part
 abbrev pub ReachedIsHeld : Config → ℕ → List Event → Type 0
 ReachedIsHeld config passes events = (part : PartRegisters) (limits : OutputLimits) (output : ℕ) (words wanted : Wanted) (voltages : Voltages)
     (tries : ℕ) (c is : FrameCourse) (own : Bool) (newer older before : List Event) → events ≡ newer ++ (older ++ before) →
@@ -67,6 +71,17 @@ ReachedIsHeld config passes events = (part : PartRegisters) (limits : OutputLimi
     MissingUnread config passes part output events → HoldsMissing part config (now config passes events).device.words output →
     last_end c.end ≡ None → SaysNext part limits (now config passes events).host c (Ended Reached) is →
     HoldsWanted config passes part output wanted events
+
+abbrev pub ReachedIsHeldBeside : PartLife → Summary → Type 0
+ReachedIsHeldBeside life host = (part : PartRegisters) (limits : OutputLimits) (output : ℕ) (words wanted : Wanted) (voltages : Voltages)
+    (tries : ℕ) (c is : FrameCourse) (own : Bool) (newer older before : List Happening) → life.happened ≡ newer ++ (older ++ before) →
+    output < life.held.config.count → Means life.held.config output words voltages wanted →
+    IsFrameCourseBeside life.held life.passes part (going_on (course_of output words tries) voltages) before c own (newer ++ older) →
+    PartAreRead life.held life.passes c.course.survey newer (older ++ before) → list_any restarts newer ≡ false →
+    PartUnread life.held life.passes part output life.happened →
+    HoldsMissing part life.held.config (both_in life).device.words output →
+    last_end c.end ≡ None → SaysNext part limits host c (Ended Reached) is →
+    HoldsWantedBeside life.held life.passes part output wanted life.happened
 
 -- a course to a byte of OPERATION, of a part with every register, with 20 tries
 abbrev pub BytesAreReached : Config → ℕ → List Event → Type 0

@@ -16,15 +16,21 @@ use Rattle.pm_course.specs.declared.frame_course.FrameCourse.{FrameCourse}
 use Rattle.pm_course.specs.declared.voltages.Voltages.{Voltages}
 use Rattle.pm_course.specs.FrameCourse.{going_on}
 use Rattle.pm_world.specs.declared.event.Event.{Event}
-use Rattle.pm_world.specs.Across.{WritesWanted, stored_at}
+use Rattle.pm_world.specs.Across.{MayWrite, WritesWanted, stored_at}
 use Rattle.pm_world.specs.Confirmed.{restarts_converter}
 use Rattle.pm_world.specs.Courses.{IsCourse, goal_at}
 use Rattle.pm_world.specs.Life.{now}
 use Rattle.pm_world.specs.Limited.{commands}
 use Rattle.pm_world.specs.Mixed.{LiesAmong}
 use Rattle.pm_world.specs.Plans.{held_at}
+use Rattle.pm_part_laws.specs.Happenings.{EachAsks, Happening, beside, restarts}
+use Rattle.pm_part_laws.specs.OwnWords.{commands as part_commands}
+use Rattle.pm_part_laws.specs.Surveys.{held_at as part_held}
+use Rattle.pm_restart_laws.specs.Restarts.{AsksNoStore, IsNoStore}
+use Rattle.pm_course_laws.specs.Between.{stored_at as part_stored}
 use Rattle.pm_course_laws.specs.FrameLives.{IsFrameCourse, Means}
-use Rattle.pm_restart_laws.specs.Restarts.{AsksNoStore}
+use Rattle.pm_course_laws.specs.FramesBeside.{IsFrameCourseBeside, goal_at as part_goal}
+use Rattle.pm_law_tests.specs.Beside.{PartLife}
 
 -- At each moment of these events after a restart of the part, since a course began, the output commands a value between its start value and
 -- what is wanted, where neither is cut and OPERATION selects the same register.
@@ -49,3 +55,24 @@ WritesWishes config passes events = (part : PartRegisters) (output : ℕ) (words
     is_busy (now config passes before).host ≡ false → Means config output words voltages wanted →
     IsFrameCourse config passes part (going_on (course_of output words tries) voltages) before c own later →
     AsksNoStore config passes later before → WritesWanted config passes output (wants_of wanted) later before
+
+-- the same beside a part as it is, of a course to wishes that hands out frames
+unfoldable pub LiesBetweenBeside : PartLife → Type 0
+LiesBetweenBeside life = (part : PartRegisters) (output : ℕ) (words wanted : Wanted) (voltages : Voltages) (tries : ℕ) (c : FrameCourse)
+    (own : Bool) (rest later before : List Happening) → life.happened ≡ (rest ++ later) ++ before → output < life.held.config.count →
+    is_busy (beside life.held life.passes before).host ≡ false → Means life.held.config output words voltages wanted →
+    IsFrameCourseBeside life.held life.passes part (going_on (course_of output words tries) voltages) before c own (rest ++ later) →
+    EachAsks IsNoStore life.held life.passes (rest ++ later) before → list_any restarts later ≡ true →
+    selected_register (part_stored life.held life.passes before output Operation)
+    ≡ selected_register (part_held life.held life.passes before output Operation) →
+    is_cut_by (value_for life.held.config output) (part_stored life.held life.passes before output) ≡ false →
+    is_cut_by (value_for life.held.config output) (goal_of (part_held life.held life.passes before output) (wants_of wanted)) ≡ false →
+    LiesAmong (commands_by (value_for life.held.config output) (part_stored life.held life.passes before output) ∷
+    part_goal life.held life.passes output wanted before ∷ []) (part_commands life.held life.passes (later ++ before) output)
+
+unfoldable pub WritesWishesBeside : PartLife → Type 0
+WritesWishesBeside life = (part : PartRegisters) (output : ℕ) (words wanted : Wanted) (voltages : Voltages) (tries : ℕ) (c : FrameCourse)
+    (own : Bool) (later before : List Happening) → life.happened ≡ later ++ before → output < life.held.config.count →
+    is_busy (beside life.held life.passes before).host ≡ false → Means life.held.config output words voltages wanted →
+    IsFrameCourseBeside life.held life.passes part (going_on (course_of output words tries) voltages) before c own later →
+    EachAsks IsNoStore life.held life.passes later before → EachAsks (MayWrite output (wants_of wanted)) life.held life.passes later before

@@ -1,6 +1,6 @@
 //! A host beside a part as it is, whatever was there before, while anybody reads the part.
 
-ghost use Rattle.std.specs.Prelude.{◌≡◌, ◌≢◌, ◌⊎◌, ◌<◌, ◌∷◌, ◌++◌, ℕ, Bool, [], List, Some, false, true, IfOk, IfSome, OnOk, length, slice_get, slice_index_or};
+ghost use Rattle.std.specs.Prelude.{◌≡◌, ◌≢◌, ◌⊎◌, ◌<◌, ◌≤◌, ◌+◌, ◌∷◌, ◌++◌, ℕ, Bool, [], List, None, Some, false, true, IfOk, IfSome, OnOk, length, slice_get, slice_index_or};
 ghost use Rattle.std.specs.List.{list_any};
 ghost use Rattle.pm_num.specs.AnyFormat.{shape_of};
 ghost use Rattle.pm_table.specs.Cell.{IsCell, cell_code};
@@ -10,6 +10,7 @@ ghost use Rattle.pm_table.specs.declared.cell.Cell.TheVariants.{Protect};
 ghost use Rattle.pm_model.specs.Settings.{word_at};
 ghost use Rattle.pm_device.specs.Held.{shape_for};
 ghost use Rattle.pm_device.specs.declared.converter.Ending.TheVariants.{Restart};
+ghost use Rattle.pm_host.specs.Frames.{frames_left};
 ghost use Rattle.pm_host.specs.Marks.{marks};
 ghost use Rattle.pm_host.specs.Possible.{is_possible};
 ghost use Rattle.pm_host.specs.Messages.{cell_write};
@@ -17,6 +18,7 @@ ghost use Rattle.pm_host.specs.Summary.{standing_at};
 ghost use Rattle.pm_host.specs.Transcript.{Order};
 ghost use Rattle.pm_host.specs.declared.knowledge.Standing.TheVariants.{Confirmed};
 ghost use Rattle.pm_host.specs.declared.job.JobEnd.TheVariants.{Differs};
+ghost use Rattle.pm_host.specs.declared.stage.Stage.{Stage as AnyStage};
 ghost use Rattle.pm_limits.specs.Band.{InBand, band_at};
 ghost use Rattle.pm_limits.specs.Bounds.{IsWithin};
 ghost use Rattle.pm_limits.specs.Part.{all_registers};
@@ -27,6 +29,7 @@ ghost use Rattle.pm_check_laws.specs.CheckedBeside.{TellsLog};
 ghost use Rattle.pm_rail.specs.Survey.{is_surveyed};
 ghost use Rattle.pm_rail.specs.declared.survey.Survey.{Survey};
 ghost use Rattle.pm_world.specs.Bands.{AreShort};
+ghost use Rattle.pm_world.specs.GoodTurns.{Took};
 ghost use Rattle.pm_world.specs.Honest.{is_whole};
 ghost use Rattle.pm_world.specs.Legal.{frame_of};
 ghost use Rattle.pm_world.specs.Setup.{setup_of};
@@ -41,6 +44,7 @@ ghost use Rattle.pm_part_laws.specs.Happenings.{Happening, Happens, Hears, begin
 ghost use Rattle.pm_part_laws.specs.HonestOrders.{events_in, honest_frames};
 ghost use Rattle.pm_part_laws.specs.Limits.{AreGuarded, BandStands, BeginsWithin};
 ghost use Rattle.pm_part_laws.specs.Moves.{MovesBy, words_at};
+ghost use Rattle.pm_part_laws.specs.OpenJobs.{ComeWholeBeside, ComesWholeBeside, good_end_at, turn_at};
 ghost use Rattle.pm_part_laws.specs.OwnWords.{CommandsOwn, commands};
 ghost use Rattle.pm_part_laws.specs.Surveys.{AreRead, IsOneValue};
 ghost use Rattle.pm_law_tests.specs.Beside.{GuardedLife, IsLeft, LedTo, PartLife, ReachedIsHeld, both_in};
@@ -54,9 +58,9 @@ use pm_limits::{Band, PartRegisters, band_of, whole_parts_miss_nothing};
 use pm_num::{AnyFormat, Frac};
 use pm_part_laws::{
     bands_beside, confirmed_beside, differing_beside, exact_beside, formats_beside,
-    honest_orders_beside, limits_beside, own_words_beside, parts_stay_parts, possible_beside,
-    reads_keep_settings, same_settings_live_alike, seen_beside, settings_move_beside,
-    surveys_beside,
+    honest_orders_beside, limits_beside, open_jobs_end_beside, own_words_beside, parts_stay_parts,
+    possible_beside, reads_keep_settings, same_settings_live_alike, seen_beside,
+    settings_move_beside, surveys_beside,
 };
 use pm_table::Cell as Place;
 use pm_world::{SetupFault, plans_hold_in_lives, spell, starts_are_parts};
@@ -221,6 +225,25 @@ pub fn an_order_that_goes_through(host: &Host, device: &Converter, cell: Place, 
         (standing_at host.now cell ≡ Confirmed word) × (word_at device.now.words cell ≡ word) }
 {
     honest_orders_beside();
+}
+
+/// The open job, whichever it is, ends or goes on as its stage says, if the last that happened is a frame of it that came whole (`turn`).
+/// Once all its frames come whole they are no more than it had left (`few`), and where it ended by them it ended so (`ends`).
+pub fn a_job_that_ends(host: &Host, device: &Converter)
+    ghost life: { PartLife }
+    requires led { LedTo life host.now device.now }
+    ensures turn { (before : List Happening) (stage : AnyStage) (acked : Bool) →
+        (beside life.held life.passes before).host.stage ≡ Some stage →
+        ComesWholeBeside life.held life.passes acked stage before life.happened →
+        Took host.now.stage (both_in life).end (turn_at life.held life.passes before acked stage) }
+    ensures few { (before : List Happening) (frames : List Bool) → ComeWholeBeside life.held life.passes frames before life.happened →
+        length frames + frames_left host.now ≤ frames_left (beside life.held life.passes before).host }
+    ensures ends { (before : List Happening) (frames : List Bool) (stage : AnyStage) →
+        (beside life.held life.passes before).host.stage ≡ Some stage →
+        ComeWholeBeside life.held life.passes frames before life.happened → host.now.stage ≡ None →
+        (both_in life).end ≡ Some (good_end_at life.held life.passes before stage) }
+{
+    open_jobs_end_beside();
 }
 
 /// A format that a host learned is the part's.

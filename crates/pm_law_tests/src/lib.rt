@@ -16,6 +16,7 @@
 //! - `ends`: what the host says when a job begins and ends, and what an order that differs says of the converter.
 //! - `damage`: damage that the packet error code betrays is legal.
 //! - `deliveries`: what a look is worth, at a verdict that a rail delivers or went off.
+//! - `exports`: the calls that C makes of a course are its steps, beside a part as it is.
 //! - `exact`: what the host calls possible is exact, and the words that show it can be had in a world.
 //! - `bands`: a band is exact if the possible words are.
 //! - `logs`: what an accepted log is worth, and that nothing less would do.
@@ -29,7 +30,7 @@
 //! - `frame_courses`: what a course that hands out frames is worth.
 //! - `progress`: that a course which hands out frames gets there, and what its end is worth by its last survey.
 //! - `beside`: what a host knows, and what it orders comes to, beside a part as it is while anybody reads it.
-//! - `restarts`: what a course is worth if the part restarts before it has ended.
+//! - `restarts`: what a course is worth if the part restarts before it has ended, in a run and beside a part as it is.
 //! - `late`: what a host's words are worth beside a part that takes each write late.
 //! - `sequences`: what a list of steps is worth whose rails are looked at.
 //! - `stairs`: what steps of several outputs are worth, up, back, and wherever they stop.
@@ -45,6 +46,7 @@ pub mod deliveries;
 pub mod drivers;
 pub mod ends;
 pub mod exact;
+pub mod exports;
 pub mod frame_courses;
 pub mod further;
 pub mod good;

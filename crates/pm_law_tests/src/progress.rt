@@ -9,11 +9,12 @@ ghost use Rattle.pm_rail.specs.Course.{course_of};
 ghost use Rattle.pm_rail.specs.Registers.{wants_of};
 ghost use Rattle.pm_course_laws.specs.Chains.{Chain, ChainEnds, FitsPart, HasLife, IsUnderWay, Pair, tries_for};
 ghost use Rattle.pm_law_tests.specs.Beside.{LedTo, PartLife};
-ghost use Rattle.pm_law_tests.specs.Progress.{BytesAreReached, BytesAreReachedBeside, ReachedIsHeld, SurveysAreReached, SurveysAreReachedBeside, WishesAreReached, WishesAreReachedBeside, WishesAreReachedOnce};
+ghost use Rattle.pm_law_tests.specs.Progress.{BytesAreReached, BytesAreReachedBeside, ReachedIsHeld, ReachedIsHeldBeside, SurveysAreReached, SurveysAreReachedBeside, WishesAreReached, WishesAreReachedBeside, WishesAreReachedOnce};
 
 use crate::further::run_all;
 use pm_course_laws::{
     chains_end, frame_courses_get_there, frame_courses_get_there_beside, reached_since_it_read,
+    reached_since_it_read_beside,
 };
 use pm_device::{Config, Converter};
 use pm_host::Host;
@@ -92,6 +93,16 @@ pub fn a_course_that_read_all_again(
 {
     reached_since_it_read();
     run_all(c, passes, events)
+}
+
+/// Each course to wishes that says `Reached` beside a part as it is, is right, whatever restarted before the answers of its last survey, and
+/// whatever anybody read of the part.
+pub fn a_course_that_read_all_again_beside(host: &Host, device: &Converter)
+    ghost life: { PartLife }
+    requires led { LedTo life host.now device.now }
+    ensures { ReachedIsHeldBeside life host.now }
+{
+    reached_since_it_read_beside();
 }
 
 /// A course by jobs that nothing disturbs has an end after 28 of them, whether it begins now or is under way.

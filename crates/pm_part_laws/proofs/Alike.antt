@@ -214,18 +214,18 @@ pageless laws s is (Deliver arrival) plain free = go (sending_in s.host) refl fr
 -- ---- an exchange ----
 
 -- what a legal exchange says
-record Exchanged (s : State) (arrival : Arrival) (so : Back) : Type 0 where
-  message : Message
-  sending : sending_in s.host ≡ Some message
-  reads : is_read_message message ≡ true
-  legal : is_legal_hearing (frame_of s.host.setup.addr message) (heard_bytes (frame_of s.host.setup.addr message) arrival)
+pub record Exchanged (s : State) (arrival : Arrival) (so : Back) : Type 0 where
+  pub message : Message
+  pub sending : sending_in s.host ≡ Some message
+  pub reads : is_read_message message ≡ true
+  pub legal : is_legal_hearing (frame_of s.host.setup.addr message) (heard_bytes (frame_of s.host.setup.addr message) arrival)
       (ending_of Restart arrival) ≡ true
-  returned : is_legal_return (frame_of s.host.setup.addr message) (whole_answer message)
+  pub returned : is_legal_return (frame_of s.host.setup.addr message) (whole_answer message)
       (is_heard_whole (frame_of s.host.setup.addr message) (heard_bytes (frame_of s.host.setup.addr message) arrival) (ending_of Restart arrival))
       (answer_of s.device (frame_of s.host.setup.addr message) arrival)
       (back_bytes (answer_of s.device (frame_of s.host.setup.addr message) arrival) so) ≡ true
 
-exchanges : (s : State) (arrival : Arrival) (so : Back) → event_cause s (Exchange arrival so) ≡ None → Exchanged s arrival so
+pub exchanges : (s : State) (arrival : Arrival) (so : Back) → event_cause s (Exchange arrival so) ≡ None → Exchanged s arrival so
 exchanges s arrival so free = go (sending_in s.host) refl free where
   go : (m : Option Message) → sending_in s.host ≡ m → option_or None (exchange_cause s arrival so m) ≡ None → Exchanged s arrival so
   go None e none = cc
@@ -248,7 +248,7 @@ exchanges s arrival so free = go (sending_in s.host) refl free where
       }
 
 -- an exchange is against nothing, if it says this
-exchange-free : (s : State) (arrival : Arrival) (so : Back) → Exchanged s arrival so → event_cause s (Exchange arrival so) ≡ None
+pub exchange-free : (s : State) (arrival : Arrival) (so : Back) → Exchanged s arrival so → event_cause s (Exchange arrival so) ≡ None
 exchange-free s arrival so is =
     let frame = frame_of s.host.setup.addr is.message in
     let heard = heard_bytes frame arrival in
@@ -260,7 +260,7 @@ exchange-free s arrival so is =
     (back_bytes (answer_in (reply_of s.device heard (ending_of (cond b Restart Stop) arrival))) so))) NotBetrayed))) is.reads
     ∙ ap₂ (λ x y. option_or (rule (not x) NotBetrayed) (rule (not y) NotBetrayed)) is.legal is.returned)
 
-exchange-share : (s : State) (arrival : Arrival) (so : Back) (message : Message) → sending_in s.host ≡ Some message → is_read_message message ≡ true →
+pub exchange-share : (s : State) (arrival : Arrival) (so : Back) (message : Message) → sending_in s.host ≡ Some message → is_read_message message ≡ true →
     share_of s (Exchange arrival so) ≡ record {
       heard = Some (device.Hearing (heard_bytes (frame_of s.host.setup.addr message) arrival) (ending_of Restart arrival));
       told = Some (Got (back_bytes (answer_of s.device (frame_of s.host.setup.addr message) arrival) so));

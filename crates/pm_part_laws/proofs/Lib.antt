@@ -8,4 +8,5 @@ mod Limits
 mod Surveys
 mod Exact
 mod HonestOrders
+mod OpenJobs
 mod Parts

@@ -20,47 +20,19 @@ use Rattle.pm_rail.specs.Registers.{Wants, wants_of}
 use Rattle.pm_rail.specs.Survey as survey
 use Rattle.pm_rail.specs.Survey.{asking, is_surveyed, next_job, nothing_read, wanted_in}
 use Rattle.pm_world.specs.declared.event.Event.{Event}
-use Rattle.pm_world.specs.Confirmed.{reads_cell}
 use Rattle.pm_world.specs.Laws.{ListsSayEnough}
 use Rattle.pm_world.specs.Life.{now}
 use Rattle.pm_world.specs.Surveys.{AreKnownSince as WorldKnown, AreRead as WorldRead, SurveysHoldInLives, cells_at as world_cells}
-use Rattle.pm_world.specs.Surveys.{was_read as world_was}
 use Rattle.pm_part_laws.specs.Alike.{LivesAlike, SameSettingsLiveAlike}
 use Rattle.pm_part_laws.specs.Answers.{answers}
 use Rattle.pm_part_laws.specs.Happenings.{Happening, Happens, Hears, MayAllHappen, beside}
 use Rattle.pm_part_laws.specs.Surveys.{AreKnownSince, AreRead, SurveysHoldBeside, cells_at, was_read}
-use Rattle.pm_part_laws.specs.Lemmas.Narrow.{commands-at, missing-at, answers-at, asked-like, at, at-since, config, earlier-may}
-use Rattle.pm_part_laws.specs.Lemmas.Narrow.{later-begins, later-restarts, likely, read-at, shape-at, since, since-append, since-at}
+use Rattle.pm_part_laws.specs.Lemmas.Narrow.{commands-at, missing-at, asked-like, at, at-since, config, earlier-may}
+use Rattle.pm_part_laws.specs.Lemmas.Narrow.{later-begins, later-restarts, likely, read-at, read-beside, read-like, shape-at, since, since-append, since-at}
 
 module _ (held : Held) (passes : ℕ) (alike : LivesAlike held passes) where
   abbrev c : Config
   c = config held passes alike
-
-  -- what was read later, in both
-  was-at : (cell : Cell) (later before : List Happening) → MayAllHappen held passes (later ++ before) →
-      world_was c passes cell (since held passes alike later before) (at held passes alike before) ≡ was_read held passes cell later before
-  was-at cell [] before may = refl
-  was-at cell (Happens event ∷ later) before may =
-      ap₂ (λ (a b : Bool). a || b)
-      (ap (λ (l : List Event). reads_cell c passes cell l (likely held passes alike (later ++ before) event)) (sym
-      (at-since held passes alike later before))
-      ∙ answers-at held passes alike cell event (later ++ before) may)
-      (was-at cell later before may.1)
-  was-at cell (Hears bytes ending ∷ later) before may = was-at cell later before may.1
-
-  read-like : (v : Survey) (later before : List Happening) → MayAllHappen held passes (later ++ before) → AreRead held passes v later before →
-      WorldRead c passes v (since held passes alike later before) (at held passes alike before)
-  read-like v later before may are = record {
-    registers = λ register has. was-at (Out v.output register) later before may ∙ are.registers register has;
-    protect = λ has. was-at Protect later before may ∙ are.protect has;
-  }
-
-  read-beside : (v : Survey) (later before : List Happening) → MayAllHappen held passes (later ++ before) →
-      WorldRead c passes v (since held passes alike later before) (at held passes alike before) → AreRead held passes v later before
-  read-beside v later before may are = record {
-    registers = λ register has. sym (was-at (Out v.output register) later before may) ∙ are.registers register has;
-    protect = λ has. sym (was-at Protect later before may) ∙ are.protect has;
-  }
 
   -- what the host knows, in both
   module _ (lists : ListsSayEnough) (happened : List Happening) (may : MayAllHappen held passes happened) where

@@ -11,6 +11,7 @@ pub mod Limits
 pub mod Surveys
 pub mod Exact
 pub mod HonestOrders
+pub mod OpenJobs
 pub mod Parts
 -- How it is kept.
 pub mod Lemmas

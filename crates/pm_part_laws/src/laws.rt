@@ -7,6 +7,7 @@ ghost use Rattle.pm_part_laws.specs.HonestOrders.{HonestOrdersGoThrough};
 ghost use Rattle.pm_part_laws.specs.Knowledge.{ConfirmedIsHeld, PossibleIsHeld, SeenIsTrue};
 ghost use Rattle.pm_part_laws.specs.Limits.{BandsAreHeld, PartsStayLimited};
 ghost use Rattle.pm_part_laws.specs.Moves.{DiffersNeverTook, PartsMoveByTheOpenJob};
+ghost use Rattle.pm_part_laws.specs.OpenJobs.{OpenJobsEndBeside};
 ghost use Rattle.pm_part_laws.specs.OwnWords.{PartsCommandOwn};
 ghost use Rattle.pm_part_laws.specs.Parts.{PartsStayParts};
 ghost use Rattle.pm_part_laws.specs.Settings.{ReadsKeepSettings};
@@ -19,7 +20,7 @@ use pm_limits::guarded_orders_are_within;
 use pm_world::{
     bands_are_held, confirmed_settings_are_held, differing_orders_never_took,
     honest_orders_go_through, learned_formats_are_true, lists_say_enough, lives_are_followed,
-    lives_are_orders, lives_leave_parts, lives_stay_limited, parts_are_reached,
+    lives_are_orders, lives_leave_parts, lives_stay_limited, open_jobs_end, parts_are_reached,
     possible_words_are_exact, possible_words_are_held, settings_move_by_the_open_job,
     stored_configs_start_so, surveys_hold_in_lives,
 };
@@ -166,6 +167,16 @@ pub fn honest_orders_beside()
 {
     same_settings_live_alike();
     honest_orders_go_through();
+}
+
+/// Each frame of an open job that comes whole makes of the job just what its stage says (`turn`). Once its frames come whole there are no
+/// more of them than the job had left (`few`), and it ends as it should (`ends`), whatever went before and whatever is read of the part
+/// between its frames.
+pub fn open_jobs_end_beside()
+    ensures { OpenJobsEndBeside }
+{
+    same_settings_live_alike();
+    open_jobs_end();
 }
 
 /// Whatever happened beside a part, it is one beside which another host may begin, with however many passes.

@@ -11,7 +11,7 @@ mod laws;
 
 pub use laws::{
     bands_beside, confirmed_beside, differing_beside, exact_beside, formats_beside,
-    honest_orders_beside, limits_beside, own_words_beside, parts_stay_parts, possible_beside,
-    reads_keep_settings, same_settings_live_alike, seen_beside, settings_move_beside,
-    surveys_beside,
+    honest_orders_beside, limits_beside, open_jobs_end_beside, own_words_beside, parts_stay_parts,
+    possible_beside, reads_keep_settings, same_settings_live_alike, seen_beside,
+    settings_move_beside, surveys_beside,
 };

@@ -391,9 +391,6 @@ module _ (laws : Given) (config : Config) (passes : ℕ) (part : PartRegisters) 
   abbrev steps_at : List Event → Summary
   steps_at es = (now config passes (es ++ before)).host
 
-  abbrev StepsStays : List Event → Type 0
-  StepsStays later = Stays laws config passes part output wanted before spelled here missing later
-
   abbrev StepsReading : Course → List Event → Type 0
   StepsReading course es = Reading laws config passes part output wanted before spelled here missing course es
 

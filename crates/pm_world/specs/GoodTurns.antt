@@ -1,6 +1,6 @@
 -- What a frame that nothing disturbs makes of any open job, whatever went before, and how the job ends once its frames come
 -- so: this project's own choice. Lists are newest first.
-use Rattle.std.specs.Prelude.{◌≡◌, ◌+◌, ◌≤◌, ℕ, ◌==◌, Bool, true, not, ◌&&◌, if◌then◌else◌, List, [], ◌∷◌, length, Result, Ok, Some, None}
+use Rattle.std.specs.Prelude.{◌≡◌, ◌+◌, ◌≤◌, ℕ, ◌==◌, Bool, true, not, ◌&&◌, if◌then◌else◌, List, [], ◌∷◌, length, Option, Result, Ok, Some, None}
 use Rattle.pm_table.specs.declared.cell.Cell.{Cell}
 use Rattle.pm_table.specs.declared.cell.Cell.TheVariants.{Protect}
 use Rattle.pm_table.specs.Cell.{cell_code}
@@ -58,23 +58,27 @@ send_turn passes command tries acked =
     if acked then Ends Done
     else (if tries + 1 == passes then Ends Unknown else GoesOn (Sends command (tries + 1)))
 
--- What a frame that comes whole makes of a job, of each stage, after these events. The write of an order is followed by a
--- read of its cell, acknowledged or not, and allowed by WRITE_PROTECT or not.
+-- What a frame that comes whole makes of a job, of each stage, by the VOUT_MODE bytes of the converter and the words that it holds. The write
+-- of an order is followed by a read of its cell, acknowledged or not, and allowed by WRITE_PROTECT or not.
+abbrev pub turn_by : (ℕ → ℕ) → (Cell → ℕ) → ℕ → Bool → Stage → Turn
+turn_by modes words passes acked (Asks (Word cell) tries) = Ends Done
+turn_by modes words passes acked (Asks (Mode output) tries) = mode_turn output (mode_of (modes output))
+turn_by modes words passes acked (Asks (Coefficients output) tries) = Ends Learned
+turn_by modes words passes acked (Writes cell word pass) = GoesOn (Reads cell word pass)
+turn_by modes words passes acked (Reads cell word pass) = read_turn passes cell word pass (words cell)
+turn_by modes words passes acked (Sends command tries) = send_turn passes command tries acked
+
+-- what it makes of a job by what the converter holds after these events
 abbrev pub turn_of : Config → ℕ → List Event → Bool → Stage → Turn
-turn_of config passes before acked (Asks (Word cell) tries) = Ends Done
-turn_of config passes before acked (Asks (Mode output) tries) = mode_turn output (mode_of (mode_for config output))
-turn_of config passes before acked (Asks (Coefficients output) tries) = Ends Learned
-turn_of config passes before acked (Writes cell word pass) = GoesOn (Reads cell word pass)
-turn_of config passes before acked (Reads cell word pass) =
-    read_turn passes cell word pass (held_after config passes before cell)
-turn_of config passes before acked (Sends command tries) = send_turn passes command tries acked
+turn_of config passes before acked stage = turn_by (mode_for config) (held_after config passes before) passes acked stage
 
 -- a job took this turn: it is open no more and ended so, or it is open at this stage
+abbrev pub Took : Option Stage → Option JobEnd → Turn → Type 0
+Took stage ended (Ends end) = (stage ≡ None) × (ended ≡ Some end)
+Took stage ended (GoesOn next) = (stage ≡ Some next) × (ended ≡ None)
+
 abbrev pub Turns : Config → ℕ → List Event → Turn → Type 0
-Turns config passes after (Ends end) =
-    (stage_after config passes after ≡ None) × ((now config passes after).end ≡ Some end)
-Turns config passes after (GoesOn stage) =
-    (stage_after config passes after ≡ Some stage) × ((now config passes after).end ≡ None)
+Turns config passes after turn = Took (stage_after config passes after) (now config passes after).end turn
 
 -- the write of a command is acknowledged
 abbrev pub is_taken : Bool → Stage → Bool
@@ -94,18 +98,20 @@ ComeWhole config passes (acked ∷ more) before after =
 abbrev pub order_end : Bool → ℕ → ℕ → JobEnd
 order_end takes word held = if held == word then Done else (if takes then Done else Differs held)
 
--- How an open job ends from this stage on, after these events, once all its frames come whole. An order is done but where
+-- How an open job ends from this stage on, by the words that the converter holds, once all its frames come whole. An order is done but where
 -- its cell holds another word, and either WRITE_PROTECT forbids its code or the read of its last pass is what is left.
+abbrev pub good_end_by : (Cell → ℕ) → ℕ → Stage → JobEnd
+good_end_by words passes (Asks (Word cell) tries) = Done
+good_end_by words passes (Asks (Mode output) tries) = Learned
+good_end_by words passes (Asks (Coefficients output) tries) = Learned
+good_end_by words passes (Sends command tries) = Done
+good_end_by words passes (Writes cell word pass) = order_end (is_allowed (words Protect) (cell_code cell)) word (words cell)
+good_end_by words passes (Reads cell word pass) =
+    order_end (not (pass + 1 == passes) && is_allowed (words Protect) (cell_code cell)) word (words cell)
+
+-- how the job ends by what the converter holds after these events
 abbrev pub good_end : Config → ℕ → List Event → Stage → JobEnd
-good_end config passes before (Asks (Word cell) tries) = Done
-good_end config passes before (Asks (Mode output) tries) = Learned
-good_end config passes before (Asks (Coefficients output) tries) = Learned
-good_end config passes before (Sends command tries) = Done
-good_end config passes before (Writes cell word pass) =
-    order_end (is_allowed (held_after config passes before Protect) (cell_code cell)) word (held_after config passes before cell)
-good_end config passes before (Reads cell word pass) =
-    order_end (not (pass + 1 == passes) && is_allowed (held_after config passes before Protect) (cell_code cell)) word
-    (held_after config passes before cell)
+good_end config passes before stage = good_end_by (held_after config passes before) passes stage
 
 -- Each frame of an open job that comes whole makes of the job just what its stage says, whatever went before (`turn`). Once its frames come
 -- whole there are no more of them than the job had left (`few`), and it ends just as said (`ends`).

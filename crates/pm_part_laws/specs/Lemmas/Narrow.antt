@@ -4,12 +4,13 @@ use Rattle.std.proofs.Common.{append_assoc}
 use Rattle.std.specs.Prelude.{option_and_then, slice_index, unwrap_or}
 use Rattle.std.specs.Result.{result_ok}
 use Rattle.pm_num.specs.AnyFormat.{InLinear11, Shape, shape_value}
-use Rattle.pm_table.specs.declared.cell.Cell.TheVariants.{Out}
+use Rattle.pm_table.specs.declared.cell.Cell.TheVariants.{Out, Protect}
 use Rattle.pm_model.specs.Commanded.{commanded}
 use Rattle.pm_model.specs.Settings.{Words, word_at}
 use Rattle.pm_limits.specs.declared.part_registers.PartRegisters.{PartRegisters}
 use Rattle.pm_limits.specs.Part.{missing_word}
 use Rattle.pm_limits.specs.Band.{decides}
+use Rattle.pm_rail.specs.declared.survey.Survey.{Survey}
 use Rattle.pm_world.specs.Bands.{BandStands as WorldStands, HoldsMissing}
 use Rattle.pm_world.specs.Uncertainty.{since_restart}
 use Rattle.pm_world.specs.Limited.{commands as world_commands}
@@ -41,6 +42,7 @@ use Rattle.pm_world.specs.Possible.{restarts_host}
 use Rattle.pm_world.specs.Retelling.{open_pending as world_pending, pending_of}
 use Rattle.pm_world.specs.Setup.{setup_of}
 use Rattle.pm_world.specs.State.{State, asked, share_of}
+use Rattle.pm_world.specs.Surveys.{AreRead as WorldRead, was_read as world_was}
 use Rattle.pm_part_laws.specs.Alike.{LivesAlike, event_like, events_like, narrow, renewed}
 use Rattle.pm_part_laws.specs.Answers.{answers, has_read, renews, restarted_between, restarted_since, restarted_since_host, surprises_by}
 use Rattle.pm_part_laws.specs.Happenings.{Happening, Happens, Hears, MayAllHappen, begins_another, beside, restarts, told}
@@ -48,6 +50,7 @@ use Rattle.pm_part_laws.specs.Limits.{BandStands}
 use Rattle.pm_part_laws.specs.Moves.{open_pending}
 use Rattle.pm_part_laws.specs.OwnWords.{commands}
 use Rattle.pm_part_laws.specs.Settings.{modes_of}
+use Rattle.pm_part_laws.specs.Surveys.{AreRead, was_read}
 use Rattle.pm_part_laws.specs.Lemmas.Renewed.{newest-same, open-same, reads-same, surprises-same}
 
 -- an event and the like one
@@ -157,14 +160,7 @@ module _ (held : Held) (passes : ℕ) (alike : LivesAlike held passes) where
       (alike.tells before event may)
       ∙ surprises-same (setup_of config passes) older (told held passes before) cell (share_of (beside held passes before) event).told
 
-  -- the converter's restarts
-  pub steady-at : (happened : List Happening) → list_any restarts_converter (at happened) ≡ list_any restarts happened
-  unfolding narrow
-  steady-at [] = alike.reached.steady
-  steady-at (Happens event ∷ before) =
-      ap₂ (λ (a b : Bool). a || b) (restarts-like (beside held passes before) event) (steady-at before)
-  steady-at (Hears bytes ending ∷ before) = steady-at before
-
+  -- a restart of the converter since the host's last good answer for a cell
   pub since-at : ListsSayEnough → (cell : Cell) (happened : List Happening) → MayAllHappen held passes happened →
       world_since config passes cell (at happened) ≡ restarted_since held passes cell happened
   unfolding restarted_since world_since narrow
@@ -243,6 +239,31 @@ module _ (held : Held) (passes : ℕ) (alike : LivesAlike held passes) where
   later-renews (Happens event ∷ later) before =
       ap₂ (λ (a b : Bool). a || b) (renews-like (beside held passes (later ++ before)) event) (later-renews later before)
   later-renews (Hears bytes ending ∷ later) before = later-renews later before
+
+  -- what was read later
+  pub was-at : (cell : Cell) (later before : List Happening) → MayAllHappen held passes (later ++ before) →
+      world_was config passes cell (since later before) (at before) ≡ was_read held passes cell later before
+  was-at cell [] before may = refl
+  was-at cell (Happens event ∷ later) before may =
+      ap₂ (λ (a b : Bool). a || b)
+      (ap (λ (l : List Event). reads_cell config passes cell l (likely (later ++ before) event)) (sym (at-since later before))
+      ∙ answers-at cell event (later ++ before) may)
+      (was-at cell later before may.1)
+  was-at cell (Hears bytes ending ∷ later) before may = was-at cell later before may.1
+
+  pub read-like : (v : Survey) (later before : List Happening) → MayAllHappen held passes (later ++ before) → AreRead held passes v later before →
+      WorldRead config passes v (since later before) (at before)
+  read-like v later before may are = record {
+    registers = λ register has. was-at (Out v.output register) later before may ∙ are.registers register has;
+    protect = λ has. was-at Protect later before may ∙ are.protect has;
+  }
+
+  pub read-beside : (v : Survey) (later before : List Happening) → MayAllHappen held passes (later ++ before) →
+      WorldRead config passes v (since later before) (at before) → AreRead held passes v later before
+  read-beside v later before may are = record {
+    registers = λ register has. sym (was-at (Out v.output register) later before may) ∙ are.registers register has;
+    protect = λ has. sym (was-at Protect later before may) ∙ are.protect has;
+  }
 
   -- the later of these events, one part after another
   pub since-append : (newer later before : List Happening) → since (newer ++ later) before ≡ since newer (later ++ before) ++ since later before

@@ -352,7 +352,7 @@ return-same request needed true one other came alike legal =
 return-same request needed false one other came alike legal = legal
 
 -- a request that was heard whole is the request
-heard-so : (request : List ℕ) (way : Arrival) → is_heard_whole request (heard_bytes request way) (ending_of Restart way) ≡ true →
+pub heard-so : (request : List ℕ) (way : Arrival) → is_heard_whole request (heard_bytes request way) (ending_of Restart way) ≡ true →
     (heard_bytes request way ≡ request) × (ending_of Restart way ≡ Restart)
 heard-so request arrival.Whole h = (refl, refl)
 heard-so request (arrival.Cut count) h = cc
