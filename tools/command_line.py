@@ -55,11 +55,6 @@ def said(action):
     return (action.help or "").replace("%%", "%")
 
 
-def brief(action):
-    """The first words of what is said of an option: what it is."""
-    return re.split(r"[;.] ", said(action))[0]
-
-
 # ---- Markdown ----
 
 def quoted(text):
@@ -91,7 +86,17 @@ def table(heads, rows):
 
 
 def list_of(options):
-    return "\n".join(wrapped(f"- `{flag(it)}`: {quoted(said(it))}.").rstrip("\n") for it in options) + "\n"
+    return "\n".join(wrapped(f"- `{flag(it)}`: {quoted(said(it))}.").rstrip("\n") for it in options) + "\n" if options else ""
+
+
+def list_of_words(parser, places, name):
+    """What is said of a command's words and options. A longer text that an earlier command of the page has is a link to it."""
+    earlier = {}
+    for it in words_of(parser):
+        place = places.setdefault((flag(it), said(it)), name)
+        earlier.setdefault(place if len(said(it).split()) > 5 else name, []).append(it)
+    linked = [f"- {', '.join(f'`{flag(it)}`' for it in those)}: as of [{place}](#{place}).\n" for place, those in earlier.items() if place != name]
+    return "".join([list_of(earlier.get(name, [])), *linked])
 
 
 def sections(parser, commands):
@@ -102,11 +107,12 @@ def sections(parser, commands):
              else COMMANDS[name].brief) for name, found in commands.items()]
     yield "## The commands", table(("command", "what it does"), rows)
     yield "## Options of a bus", list_of(bus_options(parser))
+    places = {}
     for name, found in commands.items():
         if has_more(name, found):
             about = COMMANDS[name]
             parts = [block("sh", about.example), block("text", about.prints) if about.prints else "", wrapped(quoted(about.text)) if about.text else "",
-                     list_of(words_of(found)) if words_of(found) else ""]
+                     list_of_words(found, places, name)]
             yield f"### {name}", "\n".join(filter(None, parts))
     for group in GROUPS:
         yield f"## {group.title}", "\n".join(filter(None, (wrapped(group.before) if group.before else "", messages(group), wrapped(group.after) if group.after else "")))
@@ -132,7 +138,7 @@ def page(parser, commands):
 
 def lines_of(text):
     """A text in lines of a manual page, words of commands in bold."""
-    bold = re.sub(r"(?<!\w)-+", lambda it: "\\-" * len(it[0]), re.sub(r"`([^`]*)`", r"\\fB\1\\fR", text))
+    bold = re.sub(r"`([^`]*)`", r"\\fB\1\\fR", re.sub(r"(?<!\w)-+", lambda it: "\\-" * len(it[0]), text))
     return "\n".join(re.sub(r"^([.'])", r"\\&\1", line) for line in textwrap.wrap(" ".join(bold.split()), 78, break_long_words=False, break_on_hyphens=False))
 
 
@@ -157,7 +163,7 @@ def manual(parser, commands):
              ".Nd supply voltages over PMBus, by a proved host", ".Sh SYNOPSIS", ".Nm", ".Op Ar options", ".Ar command", ".Op Cm + Ar command ...", ".Nm",
              ".Fl Fl completion | Fl Fl version | Fl Fl help", ".Sh DESCRIPTION", lines_of(first)]
     lines += [".Pp", lines_of("`pmhost --help` says more, as does `pmhost COMMAND --help`, which has an example."), ".Ss Commands", *items(rows), ".Ss Options of a bus",
-              *items((", ".join(it.option_strings) + flag(it).removeprefix(it.option_strings[0]), sentence(brief(it))) for it in bus_options(parser)),
+              lines_of(", ".join(f"`{flag(it)}`" for it in bus_options(parser)) + ": `pmhost --help` says what each does, and what is so without it."),
               ".Sh EXIT STATUS", lines_of(status), ".Sh EXAMPLES", ".Bd -literal -offset indent", textwrap.dedent(example).rstrip("\n"), ".Ed",
               ".Sh SEE ALSO", ".Xr pmb 1", ".Sh CAVEATS", lines_of("The library below is proved; the command, its bus and its files are tested.")]
     return "\n".join(lines) + "\n"
