@@ -46,13 +46,9 @@ def flag(action):
     return flag_of(action) if action.option_strings else action.metavar
 
 
-def words_of(parser):
-    """What is said of a command's words and options: those words aside that each command has."""
-    return [*(it for it in parser._actions if not it.option_strings and it.metavar not in ("O", "FILE", "VOLTAGE")), *own_options(parser)]
-
-
-def said(action):
-    return (action.help or "").replace("%%", "%")
+def brief(action):
+    """The first words of what is said of an option: what it is."""
+    return re.split(r"[;.] ", (action.help or "").replace("%%", "%"))[0]
 
 
 # ---- Markdown ----
@@ -86,40 +82,33 @@ def table(heads, rows):
 
 
 def list_of(options):
-    return "\n".join(wrapped(f"- `{flag(it)}`: {quoted(said(it))}.").rstrip("\n") for it in options) + "\n" if options else ""
-
-
-def list_of_words(parser, places, name):
-    """What is said of a command's words and options. A longer text that an earlier command of the page has is a link to it."""
-    earlier = {}
-    for it in words_of(parser):
-        place = places.setdefault((flag(it), said(it)), name)
-        earlier.setdefault(place if len(said(it).split()) > 5 else name, []).append(it)
-    linked = [f"- {', '.join(f'`{flag(it)}`' for it in those)}: as of [{place}](#{place}).\n" for place, those in earlier.items() if place != name]
-    return "".join([list_of(earlier.get(name, [])), *linked])
+    return "\n".join(wrapped(f"- `{flag(it)}`: {quoted(brief(it))}.").rstrip("\n") for it in options) + "\n"
 
 
 def sections(parser, commands):
     """The parts of the page: what stands below each heading."""
     example, rest = re.search(EXAMPLE, WHOLE, re.S).groups()
     yield "# The command line", "\n".join([MADE, "", wrapped(quoted(WHOLE.partition("\n")[0])), block("sh", textwrap.dedent(example)), wrapped(quoted(rest))])
-    rows = [(f"`{usage_of(name, found)}`", f"[{COMMANDS[name].brief}]({PAGES.get(name, f'#{name}')})" if name in PAGES or has_more(name, found)
+    rows = [(f"`{call_of(name, found)}`", f"[{COMMANDS[name].brief}]({PAGES.get(name, f'#{name}')})" if name in PAGES or has_more(name)
              else COMMANDS[name].brief) for name, found in commands.items()]
-    yield "## The commands", table(("command", "what it does"), rows)
-    yield "## Options of a bus", list_of(bus_options(parser))
-    places = {}
-    for name, found in commands.items():
-        if has_more(name, found):
+    yield "## The commands", wrapped("`pmhost COMMAND --help` says what each word and option is, and has an example.") + "\n" + table(("command", "what it does"), rows)
+    yield "## Options of a bus", wrapped("`pmhost --help` says more of each, and what is so without it.") + "\n" + list_of(bus_options(parser))
+    for name in commands:
+        if has_more(name):
             about = COMMANDS[name]
-            parts = [block("sh", about.example), block("text", about.prints) if about.prints else "", wrapped(quoted(about.text)) if about.text else "",
-                     list_of_words(found, places, name)]
-            yield f"### {name}", "\n".join(filter(None, parts))
+            printed = [block("sh", about.example), block("text", about.prints)] if about.prints else []
+            yield f"### {name}", "\n".join([*printed, wrapped(quoted(about.text))])
     for group in GROUPS:
         yield f"## {group.title}", "\n".join(filter(None, (wrapped(group.before) if group.before else "", messages(group), wrapped(group.after) if group.after else "")))
 
 
-def has_more(name, found):
-    return bool(COMMANDS[name].text or words_of(found)) and name not in PAGES
+def has_more(name):
+    return bool(COMMANDS[name].text) and name not in PAGES
+
+
+def call_of(name, parser):
+    """How a command is called, with its own options."""
+    return " ".join([usage_of(name, parser), *(f"[{flag(it)}]" for it in (() if name in ("faults", "torture", "capture") else own_options(parser)))])
 
 
 def messages(group):
@@ -157,8 +146,7 @@ def sentence(text):
 def manual(parser, commands):
     first, (example, rest) = WHOLE.partition("\n")[0], re.search(EXAMPLE, WHOLE, re.S).groups()
     status = rest.split("\n\n")[-1]
-    rows = [(" ".join([usage_of(name, found), *(f"[{flag(it)}]" for it in (() if name in ("faults", "torture") else own_options(found)))]),
-             sentence(COMMANDS[name].brief)) for name, found in commands.items()]
+    rows = [(call_of(name, found), sentence(COMMANDS[name].brief)) for name, found in commands.items()]
     lines = [".\\\" Made by tools/command_line.py.", ".Dd November 29, 2026", ".Dt PMHOST 1", ".Os", ".Sh NAME", ".Nm pmhost",
              ".Nd supply voltages over PMBus, by a proved host", ".Sh SYNOPSIS", ".Nm", ".Op Ar options", ".Ar command", ".Op Cm + Ar command ...", ".Nm",
              ".Fl Fl completion | Fl Fl version | Fl Fl help", ".Sh DESCRIPTION", lines_of(first)]
