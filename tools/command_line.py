@@ -27,7 +27,7 @@ sys.argv[0] = NAMED
 PAGE, MANUAL = "docs/command-line.md", "docs/pmhost.1"
 # Commands that have pages of their own.
 PAGES = {"apply": "board-file.md", "verify": "board-file.md", "faults": "simulation.md#both-ends-over-a-bad-bus", "torture": "torture.md",
-         "capture": "captures.md"}
+         "capture": "captures.md", "on": "sequences.md", "off": "sequences.md", "up": "sequences.md", "margin-test": "sequences.md#margin-tests"}
 MADE = "<!-- Made by tools/command_line.py: change python/src/pmhost/cli/about.py, parser.py or messages.py, and call it with --write. -->"
 WIDTH = 140
 # The examples of the whole help, and what stands below them.
@@ -91,19 +91,19 @@ def sections(parser, commands):
     yield "# The command line", "\n".join([MADE, "", wrapped(quoted(WHOLE.partition("\n")[0])), block("sh", textwrap.dedent(example)), wrapped(quoted(rest))])
     rows = [(f"`{call_of(name, found)}`", f"[{COMMANDS[name].brief}]({PAGES.get(name, f'#{name}')})" if name in PAGES or has_more(name)
              else COMMANDS[name].brief) for name, found in commands.items()]
-    yield "## The commands", wrapped("`pmhost COMMAND --help` says what each word and option is, and has an example.") + "\n" + table(("command", "what it does"), rows)
+    yield "## The commands", wrapped("`pmhost COMMAND --help` says what each does step by step, what each word and option is, and has an example.") + "\n" + table(("command", "what it does"), rows)
     yield "## Options of a bus", wrapped("`pmhost --help` says more of each, and what is so without it.") + "\n" + list_of(bus_options(parser))
     for name in commands:
         if has_more(name):
             about = COMMANDS[name]
-            printed = [block("sh", about.example), block("text", about.prints)] if about.prints else []
-            yield f"### {name}", "\n".join([*printed, wrapped(quoted(about.text))])
+            yield f"### {name}", "\n".join([block("sh", about.example), block("text", about.prints), wrapped(quoted(about.text))])
     for group in GROUPS:
         yield f"## {group.title}", "\n".join(filter(None, (wrapped(group.before) if group.before else "", messages(group), wrapped(group.after) if group.after else "")))
 
 
 def has_more(name):
-    return bool(COMMANDS[name].text) and name not in PAGES
+    """Whether a command has a section of the page: what it prints isn't one of the lines of the tables alone."""
+    return bool(COMMANDS[name].prints) and name not in PAGES
 
 
 def call_of(name, parser):
