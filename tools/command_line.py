@@ -27,7 +27,7 @@ sys.argv[0] = NAMED
 PAGE, MANUAL = "docs/command-line.md", "docs/pmhost.1"
 # Commands that have pages of their own.
 PAGES = {"apply": "board-file.md", "verify": "board-file.md", "faults": "simulation.md#both-ends-over-a-bad-bus", "torture": "torture.md",
-         "capture": "captures.md"}
+         "capture": "captures.md", **dict.fromkeys(("on", "off", "up"), "sequences.md"), "margin-test": "sequences.md#margin-tests"}
 MADE = "<!-- Made by tools/command_line.py: change python/src/pmhost/cli/about.py, parser.py or messages.py, and call it with --write. -->"
 WIDTH = 140
 # The examples of the whole help, and what stands below them.
@@ -46,18 +46,9 @@ def flag(action):
     return flag_of(action) if action.option_strings else action.metavar
 
 
-def words_of(parser):
-    """What is said of a command's words and options: those words aside that each command has."""
-    return [*(it for it in parser._actions if not it.option_strings and it.metavar not in ("O", "FILE", "VOLTAGE")), *own_options(parser)]
-
-
-def said(action):
-    return (action.help or "").replace("%%", "%")
-
-
 def brief(action):
     """The first words of what is said of an option: what it is."""
-    return re.split(r"[;.] ", said(action))[0]
+    return re.split(r"[;.] ", (action.help or "").replace("%%", "%"))[0]
 
 
 # ---- Markdown ----
@@ -91,29 +82,35 @@ def table(heads, rows):
 
 
 def list_of(options):
-    return "\n".join(wrapped(f"- `{flag(it)}`: {quoted(said(it))}.").rstrip("\n") for it in options) + "\n"
+    return "\n".join(wrapped(f"- `{flag(it)}`: {quoted(brief(it))}.").rstrip("\n") for it in options) + "\n"
 
 
 def sections(parser, commands):
     """The parts of the page: what stands below each heading."""
     example, rest = re.search(EXAMPLE, WHOLE, re.S).groups()
     yield "# The command line", "\n".join([MADE, "", wrapped(quoted(WHOLE.partition("\n")[0])), block("sh", textwrap.dedent(example)), wrapped(quoted(rest))])
-    rows = [(f"`{usage_of(name, found)}`", f"[{COMMANDS[name].brief}]({PAGES.get(name, f'#{name}')})" if name in PAGES or has_more(name, found)
+    rows = [(f"`{call_of(name, found)}`", f"[{COMMANDS[name].brief}]({PAGES.get(name, f'#{name}')})" if name in PAGES or has_more(name)
              else COMMANDS[name].brief) for name, found in commands.items()]
-    yield "## The commands", table(("command", "what it does"), rows)
-    yield "## Options of a bus", list_of(bus_options(parser))
-    for name, found in commands.items():
-        if has_more(name, found):
+    further = "`pmhost COMMAND --help` says what each does step by step, what each word and option is, and has an example."
+    yield "## The commands", "\n".join([wrapped(further), table(("command", "what it does"), rows)])
+    yield "## Options of a bus", "\n".join([wrapped("`pmhost --help` says more of each, and what is so without it."), list_of(bus_options(parser))])
+    for name in commands:
+        if has_more(name):
             about = COMMANDS[name]
-            parts = [block("sh", about.example), block("text", about.prints) if about.prints else "", wrapped(quoted(about.text)) if about.text else "",
-                     list_of(words_of(found)) if words_of(found) else ""]
-            yield f"### {name}", "\n".join(filter(None, parts))
+            yield f"### {name}", "\n".join([block("sh", about.example), block("text", about.prints), wrapped(quoted(about.text))])
     for group in GROUPS:
         yield f"## {group.title}", "\n".join(filter(None, (wrapped(group.before) if group.before else "", messages(group), wrapped(group.after) if group.after else "")))
 
 
-def has_more(name, found):
-    return bool(COMMANDS[name].text or words_of(found)) and name not in PAGES
+def has_more(name):
+    """Whether a command has a section of the page: what it prints isn't one of the lines of the tables alone."""
+    return bool(COMMANDS[name].prints) and name not in PAGES
+
+
+def call_of(name, parser):
+    """How a command is called, with its own options."""
+    own = () if name in ("faults", "torture") else own_options(parser)
+    return " ".join([usage_of(name, parser), *(f"[{flag(it)}]" for it in own)])
 
 
 def messages(group):
@@ -132,32 +129,29 @@ def page(parser, commands):
 
 def lines_of(text):
     """A text in lines of a manual page, words of commands in bold."""
-    bold = re.sub(r"(?<!\w)-+", lambda it: "\\-" * len(it[0]), re.sub(r"`([^`]*)`", r"\\fB\1\\fR", text))
+    bold = re.sub(r"`([^`]*)`", lambda it: "\\fB" + it[1].replace("-", "\\-") + "\\fR", text)
+    bold = re.sub(r"(?<![\w\\])-+", lambda it: "\\-" * len(it[0]), bold)
     return "\n".join(re.sub(r"^([.'])", r"\\&\1", line) for line in textwrap.wrap(" ".join(bold.split()), 78, break_long_words=False, break_on_hyphens=False))
 
 
-def items(rows):
-    yield ".Bl -tag -width Ds"
-    for head, text in rows:
-        yield ".It Cm " + head.replace("-", "\\-")
+def items(texts):
+    """A list without marks, one text below the other."""
+    yield ".Bl -item -compact"
+    for text in texts:
+        yield ".It"
         yield lines_of(text)
     yield ".El"
-
-
-def sentence(text):
-    return text[0].upper() + text[1:] + "."
 
 
 def manual(parser, commands):
     first, (example, rest) = WHOLE.partition("\n")[0], re.search(EXAMPLE, WHOLE, re.S).groups()
     status = rest.split("\n\n")[-1]
-    rows = [(" ".join([usage_of(name, found), *(f"[{flag(it)}]" for it in (() if name in ("faults", "torture") else own_options(found)))]),
-             sentence(COMMANDS[name].brief)) for name, found in commands.items()]
     lines = [".\\\" Made by tools/command_line.py.", ".Dd November 29, 2026", ".Dt PMHOST 1", ".Os", ".Sh NAME", ".Nm pmhost",
              ".Nd supply voltages over PMBus, by a proved host", ".Sh SYNOPSIS", ".Nm", ".Op Ar options", ".Ar command", ".Op Cm + Ar command ...", ".Nm",
              ".Fl Fl completion | Fl Fl version | Fl Fl help", ".Sh DESCRIPTION", lines_of(first)]
-    lines += [".Pp", lines_of("`pmhost --help` says more, as does `pmhost COMMAND --help`, which has an example."), ".Ss Commands", *items(rows), ".Ss Options of a bus",
-              *items((", ".join(it.option_strings) + flag(it).removeprefix(it.option_strings[0]), sentence(brief(it))) for it in bus_options(parser)),
+    lines += [".Pp", lines_of("`pmhost --help` says what each command and option of a bus does, and `pmhost COMMAND --help` more, with an example."),
+              ".Ss Commands", *items(f"`{call_of(name, found)}`" for name, found in commands.items()),
+              ".Ss Options of a bus", lines_of(", ".join(f"`{flag(it)}`" for it in bus_options(parser)) + "."),
               ".Sh EXIT STATUS", lines_of(status), ".Sh EXAMPLES", ".Bd -literal -offset indent", textwrap.dedent(example).rstrip("\n"), ".Ed",
               ".Sh SEE ALSO", ".Xr pmb 1", ".Sh CAVEATS", lines_of("The library below is proved; the command, its bus and its files are tested.")]
     return "\n".join(lines) + "\n"
