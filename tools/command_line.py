@@ -46,9 +46,13 @@ def flag(action):
     return flag_of(action) if action.option_strings else action.metavar
 
 
+def said(action):
+    return (action.help or "").replace("%%", "%")
+
+
 def brief(action):
     """The first words of what is said of an option: what it is."""
-    return re.split(r"[;.] ", (action.help or "").replace("%%", "%"))[0]
+    return re.split(r"[;.] ", said(action))[0]
 
 
 # ---- Markdown ----
@@ -82,7 +86,7 @@ def table(heads, rows):
 
 
 def list_of(options):
-    return "\n".join(wrapped(f"- `{flag(it)}`: {quoted(brief(it))}.").rstrip("\n") for it in options) + "\n"
+    return "\n".join(wrapped(f"- `{flag(it)}`: {quoted(said(it))}.").rstrip("\n") for it in options) + "\n"
 
 
 def sections(parser, commands):
@@ -93,7 +97,7 @@ def sections(parser, commands):
              else COMMANDS[name].brief) for name, found in commands.items()]
     further = "`pmhost COMMAND --help` says what each does step by step, what each word and option is, and has an example."
     yield "## The commands", "\n".join([wrapped(further), table(("command", "what it does"), rows)])
-    yield "## Options of a bus", "\n".join([wrapped("`pmhost --help` says more of each, and what is so without it."), list_of(bus_options(parser))])
+    yield "## Options of a bus", list_of(bus_options(parser))
     for name in commands:
         if has_more(name):
             about = COMMANDS[name]
@@ -134,13 +138,16 @@ def lines_of(text):
     return "\n".join(re.sub(r"^([.'])", r"\\&\1", line) for line in textwrap.wrap(" ".join(bold.split()), 78, break_long_words=False, break_on_hyphens=False))
 
 
-def items(texts):
-    """A list without marks, one text below the other."""
-    yield ".Bl -item -compact"
-    for text in texts:
-        yield ".It"
+def items(rows):
+    yield ".Bl -tag -width Ds"
+    for head, text in rows:
+        yield ".It Cm " + head.replace("-", "\\-")
         yield lines_of(text)
     yield ".El"
+
+
+def sentence(text):
+    return text[0].upper() + text[1:] + "."
 
 
 def manual(parser, commands):
@@ -149,9 +156,10 @@ def manual(parser, commands):
     lines = [".\\\" Made by tools/command_line.py.", ".Dd November 29, 2026", ".Dt PMHOST 1", ".Os", ".Sh NAME", ".Nm pmhost",
              ".Nd supply voltages over PMBus, by a proved host", ".Sh SYNOPSIS", ".Nm", ".Op Ar options", ".Ar command", ".Op Cm + Ar command ...", ".Nm",
              ".Fl Fl completion | Fl Fl version | Fl Fl help", ".Sh DESCRIPTION", lines_of(first)]
-    lines += [".Pp", lines_of("`pmhost --help` says what each command and option of a bus does, and `pmhost COMMAND --help` more, with an example."),
-              ".Ss Commands", *items(f"`{call_of(name, found)}`" for name, found in commands.items()),
-              ".Ss Options of a bus", lines_of(", ".join(f"`{flag(it)}`" for it in bus_options(parser)) + "."),
+    rows = [(call_of(name, found), sentence(COMMANDS[name].brief)) for name, found in commands.items()]
+    lines += [".Pp", lines_of("`pmhost --help` says more, as does `pmhost COMMAND --help`, which has an example."), ".Ss Commands", *items(rows),
+              ".Ss Options of a bus",
+              *items((", ".join(it.option_strings) + flag(it).removeprefix(it.option_strings[0]), sentence(brief(it))) for it in bus_options(parser)),
               ".Sh EXIT STATUS", lines_of(status), ".Sh EXAMPLES", ".Bd -literal -offset indent", textwrap.dedent(example).rstrip("\n"), ".Ed",
               ".Sh SEE ALSO", ".Xr pmb 1", ".Sh CAVEATS", lines_of("The library below is proved; the command, its bus and its files are tested.")]
     return "\n".join(lines) + "\n"
