@@ -9,5 +9,6 @@ mod laws;
 
 pub use laws::{
     calls_are_runs, earlier_answers_count, finds_are_verdicts, limits_are_read, orders_are_fresh,
-    orders_are_judged, orders_are_told, orders_go_once, orders_stop_at_two, reached_sequences_deliver, sequences_turn,
+    orders_are_judged, orders_are_told, orders_go_once, orders_stop_at_two,
+    reached_sequences_deliver, sequences_turn,
 };
