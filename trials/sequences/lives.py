@@ -36,7 +36,7 @@ class Life(World):
     after each event and each frame, and `moment` counts these. `touched` has when a part last restarted or took another's order, `good` when a host
     last had a good answer for a cell, and `words_read` its word. `only` names the claim whose faults count, None all."""
 
-    PARTS, OUTPUTS = (2, 2, 2, 3, 4), 4
+    PARTS, OUTPUTS, RESERVED = (2, 2, 2, 3, 4), 4, (0,)
 
     def __init__(self, draw, only=None):
         self.plain, self.moment, self.log, self.look, self.only = [], 0, [], lambda: None, only

@@ -5,7 +5,7 @@ the same frames, waits, orders that come next, verdicts and ends, to hear the sa
     trials/sequences/try_lists.py [--lists N] [--seed N] [--first N] [--plant N]
 
 Transfers are lost, damaged and falsely acknowledged; parts restart, are exchanged, silent, lack registers, and answer what nobody expects. Some lists
-are broken off or followed by their way back. The first difference is printed with its list and last 30 frames. `--plant` plants one of twelve bugs.
+are broken off or followed by their way back. The first difference is printed with its list and last 30 frames. `--plant` plants one of seventeen bugs.
 """
 import collections
 import random
@@ -30,17 +30,17 @@ from tests.plain.limits import VOLTAGES  # noqa: E402
 from tests.plain.packets import CODES, name_of as register_of, pec  # noqa: E402
 
 CODE_OF = CODES | {name: code for name, (code, _) in plain_lists.look.ASKED.items()}
-BYTES = (0x80,) * 8 + (0x00, 0x00, 0x40, 0xA8, 0xA4, 0x98, 0x94, 0x88, 0x90, 0xB0)
+BYTES = (0x80,) * 8 + (0x00, 0x00, 0x40, 0xA8, 0xA4, 0x98, 0x94, 0x88, 0x90, 0xB0, 0x81, 0x02)
 # How many milliseconds a rail is given, by the rounds that these have; wishes that are refused more often than not.
 SETTLE = {1: 0, 2: 10, 3: 30, 5: 150, 11: 10230}
 FAR = [("word", 0x4000), ("word", 0), ("microvolts", 3300000), ("microvolts", -100000)]
 
-# Twelve bugs of the plain side: what is wrong, whose it is, its name, and what stands in its place.
-MINE, BEGINS = plain_side.Sequence, plain_side.Sequence.begins
+# Seventeen bugs of the plain side: what is wrong, whose it is, its name, and what stands in its place.
+MINE, BEGINS, HEARS = plain_side.Sequence, plain_side.Sequence.begins, plain_side.Sequence.hears_word
 PLANTS = [
     ("a look at the end of a step is left out", MINE, "looks_after", lambda self, step: setattr(self, "is_looked", True) or []),
     ("the wait before a step counts for the next one too", MINE, "begins", lambda self, *it: BEGINS(self, *it) or setattr(self, "is_waited", True)),
-    ("a restart isn't seen", MINE, "sees_restart", lambda self, course: None),
+    ("a restart isn't seen", MINE, "sees_restart", lambda self: None),
     ("orders aren't judged by the fault limits", MINE, "judge", lambda self, step, place, wanted: None),
     ("a way back that would be refused isn't said", MINE, "why_no_way_back", lambda self, step, back: None),
     ("a step that turns off reads first", plain_side, "turns_off", lambda step: False),
@@ -49,14 +49,20 @@ PLANTS = [
     ("after orders all isn't read once more", Course, "is_carried_out", lambda self, part: False),
     ("nothing is read anew before an output is turned on", plain_side, "turns_on", lambda job: False),
     ("an order that turns on is written in each pass", plain_side, "is_unsent", lambda job, writes: False),
-    ("WRITE_PROTECT isn't read before an output is turned on", Course, "turning", lambda self, part, job: job)]
+    ("WRITE_PROTECT isn't read before an output is turned on", Course, "turning", lambda self, part, job: job),
+    ("a step has a third order that turns on", plain_side, "MOST_ON", 3),
+    ("what an output held isn't read before it is turned off", MINE, "is_unread", lambda self, step, course: False),
+    ("a reserved bit of OPERATION counts", plain_side, "same_command", lambda byte, other: byte == other),
+    ("bit 3 of OPERATION doesn't count", plain_side, "same_command", lambda byte, other: byte | 8 == other | 8),
+    ("no restart is seen once an order of OPERATION differed", MINE, "hears_word",
+     lambda self, course, *it: HEARS(self, course, *it[:-1], None))]
 
 
 class World:
     """Model parts under faults. `answers` has what is answered otherwise than a part would, by part, output and code: bytes, or None for silence."""
 
-    # How many parts are drawn, and how many outputs each has at most.
-    PARTS, OUTPUTS = (1, 1, 2, 2, 3, 4), 3
+    # How many parts are drawn, how many outputs each has at most, and which bits of OPERATION an output reads as 1, whatever was written.
+    PARTS, OUTPUTS, RESERVED = (1, 1, 2, 2, 3, 4), 3, (0,) * 6 + (0x01, 0x02, 0x03, 0x08)
 
     def __init__(self, draw):
         self.draw, self.away = draw, 0
@@ -64,6 +70,7 @@ class World:
         self.parts = [self.part(place, draw.randint(1, self.OUTPUTS)) for place in range(draw.choice(self.PARTS))]
         self.answers = {(place, output, code): answer for place, part in enumerate(self.parts) for output in range(part.outputs)
                         for code, answer in self.rail().items()}
+        self.reserved = {(place, output): draw.choice(self.RESERVED) for place, part in enumerate(self.parts) for output in range(part.outputs)}
 
     def near(self, far):
         return 0x1000 + self.draw.randint(-far, far) // 64 * 64
@@ -130,7 +137,11 @@ class World:
         if payload == b"" and code == 0x8B and self.draw.random() < 0.2:
             payload = self.near(0x300).to_bytes(2, "little")
         if not payload:
-            return b"" if payload is None else self.read(place, frame)
+            came = b"" if payload is None else self.read(place, frame)
+            reserved = self.reserved.get((place, output), 0) if code == 0x01 else 0
+            if not came or not reserved:
+                return came
+            payload = bytes([came[2] | reserved])
         came = bytes([frame[0] + 1, len(payload)]) + payload
         return came + bytes([pec([*frame, *came])])
 

@@ -16,12 +16,25 @@ Rules = namedtuple("Rules", "keeps_back ends_at_restart leaves asks")
 Step = namedtuple("Step", "host output act wishes byte looks must lacks wait before", defaults=({}, 0, None, False, (), 0, (0, None, 0)))
 
 
+# How many orders that turn its output on a step has at most.
+MOST_ON = 2
+
+
 def turns_on(job):
     return job[0] == "order" and job[1][1] == OPERATION and is_on(job[2])
 
 
 def is_unsent(job, writes):
     return writes > 0 and turns_on(job)
+
+
+def command_of(byte):
+    """A byte of OPERATION without the bits that don't count: bit 0, and bit 1 unless bits 5:4 are 11."""
+    return byte & (0xFE if byte & 0x30 == 0x30 else 0xFC)
+
+
+def same_command(byte, other):
+    return command_of(byte) == command_of(other)
 
 
 class Stopped(Exception):
@@ -125,7 +138,9 @@ class Sequence:
     def asked(self, step, place, course, wanted):
         """A job, None of a step that is over, and the course then. It stops if it is neither."""
         said, after = course.says(self.parts[step.host])
-        is_unread = place != self.under and turns_off(step) and (step.output, OPERATION) not in course.survey.read
+        if step.act == "turns" and self.is_settled(step, course, said):
+            return None, course
+        is_unread = place != self.under and turns_off(step) and self.is_unread(step, course)
         is_unsure = step.act == "turns" and (is_unread or self.parts[step.host].only(step.output, OPERATION) is None)
         is_right = said[0] == "order" and self.is_due(step, wanted, said)
         if said[0] in ("learn", "check") or is_right and (place == self.under or not is_unsure):
@@ -143,15 +158,27 @@ class Sequence:
         after.survey.left, after.survey.asked = after.survey.left - 1, ("check", (step.output, OPERATION))
         return ("check", (step.output, OPERATION)), after
 
+    def is_unread(self, step, course):
+        return (step.output, OPERATION) not in course.survey.read
+
     def is_due(self, step, wanted, order):
         """An order is due by the words with which its step began."""
         if step.act == "turns":
             return order[1:] == ((step.output, OPERATION), step.byte)
         return step.act == "sets" and self.parts[step.host].plan(step.output, wanted) == (order[1][1], order[2])
 
+    def is_settled(self, step, course, said):
+        """The command of a step is held, but for bits that don't count: without an order of one that leaves the output on, once all was read since the
+        last one; of one that turns it off once that was ordered, and differed."""
+        is_held = self.has_all(step, {})
+        if said[0] == "order":
+            return is_held and (not course.has_ordered if is_on(step.byte) else (step.output, OPERATION) in course.differed)
+        return is_held and said[:2] == ("differs", OPERATION)
+
     def has_all(self, step, wanted):
         if step.act == "turns":
-            return self.parts[step.host].known(step.output, OPERATION) == step.byte
+            held = self.parts[step.host].known(step.output, OPERATION)
+            return held is not None and same_command(step.byte, held)
         return step.act != "sets" or self.parts[step.host].plan(step.output, wanted) is None
 
     def undoes(self, step, wanted):
@@ -185,7 +212,7 @@ class Sequence:
         if turns_on(job) and self.fresh != place:
             self.surveys_anew(place)
             return False
-        if turns_on(job) and place == self.under and self.turned_on == 2:
+        if turns_on(job) and place == self.under and self.turned_on == MOST_ON:
             raise Stopped(place, "spent", OPERATION, self.course.fault)
         if self.rules.asks and self.told != job:
             self.told = job
@@ -223,21 +250,31 @@ class Sequence:
                 part.told(("finished", came))
                 course.fault = None if came else "no acknowledgement"
                 continue
+            confirmed = part.standing(job[1]) if job[0] == "check" else None
             part.told(("got", list(came)))
             self.fresh = self.fresh if came else None
             fault = answer_fault(part.address, message, came) if came else ("no answer",)
             if fault or job[0] != "order":
                 course.fault = fault and fault[0]
             mode = None if fault or job[0] != "learn" else 0x40 if message[0] == "coefficients" else came[2]
-            if any(mark[0] == "good" and mark[3] for mark in part.marks[marks:]):
-                self.sees_restart(course)
+            for mark in part.marks[marks:]:
+                if mark[0] == "good":
+                    self.hears_word(course, job, mark[2], mark[3], confirmed)
         course.told(job, part.job(), mode)
         if self.has_restarted:
             raise Stopped(self.begun if course is self.coming else self.under, "restarted")
 
-    def sees_restart(self, course):
-        """An answer came that couldn't: the part restarted, or was exchanged. The format is learned anew."""
-        course.survey.has_learned = False
+    def hears_word(self, course, job, word, is_surprise, confirmed):
+        """A word came that couldn't: the part restarted, or was exchanged, but if it is the command that was ordered, with bits that don't count. The
+        host forgets what else was possible then: so once an order of OPERATION differed, another word than the confirmed one shows it too."""
+        if is_surprise:
+            course.survey.has_learned = False
+        is_command = job[0] == "order" and job[1][1] == OPERATION and same_command(job[2], word)
+        has_changed = confirmed not in (None, word) and (course.output, OPERATION) in course.differed
+        if is_surprise and not is_command or has_changed:
+            self.sees_restart()
+
+    def sees_restart(self):
         self.has_restarted |= self.rules.ends_at_restart
 
     def looks_before(self, step):

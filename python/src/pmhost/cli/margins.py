@@ -189,7 +189,7 @@ class RailTest:
         run, bus = Sequence([self.part.host], steps, replace(UP, asks=True), TRIES), believed(self.part.bus, self.part.host)
         with self.stopping():
             end = run.run([bus], told, transfers=self.part.transfers, ask=self.call.places()[self.rail.part].ask_operation)
-            if orders[min(end.step, len(points) - 1)] == 2:
+            if not end.is_well and orders[end.step] == 2:
                 turn_on.refuse_third(self.step_to(points[end.step]), end)
         if not end.is_well:
             point = points[end.step]
