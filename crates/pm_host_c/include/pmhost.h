@@ -730,7 +730,8 @@ void pm_sequence_new(pm_sequence *sequence, uint16_t tries, uint8_t rules);
  * left before it began. Without PM_KEEPS_BACK `room` may be less, and nothing is kept of the steps beyond. With all but PM_OK the frame is
  * PM_NOTHING.
  *   PM_OK           the frame goes on the bus of that host, and stays the same until pm_sequence_write_ended or pm_sequence_read_ended. Directly
- *                   before a write that pm_is_once names all is read anew that decides what its output would command
+ *                   before a write that pm_is_once names all is read anew that decides what its output would command. A step has two
+ *                   such writes at most, and stops as PM_SPENT then
  *   PM_AGAIN        ask at once, by the host at sequence->host, which may be another
  *   PM_WAIT         ask again once sequence->said.milliseconds have passed: the wait of a step, or the time that a rail is given
  *   PM_ASKED        with PM_ASKS: sequence->said says which order comes next. Nothing has begun. Asked again it begins, if it is still due
