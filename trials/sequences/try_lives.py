@@ -33,6 +33,7 @@ import plain_lists.sequence as plain_side  # noqa: E402
 from lives import ON, Differs, Life, worth  # noqa: E402
 from plain_lists.look import ASKED, fault_of  # noqa: E402
 from plain_lists.part import word_for  # noqa: E402
+from plain_lists.sequence import command_of  # noqa: E402
 from pmhost import Rules, Said, Sequence, clock  # noqa: E402
 from tests.plain.converter import MAX, MIN, OPERATION, PROTECT, REGISTERS, Converter  # noqa: E402
 from tests.plain.limits import selected  # noqa: E402
@@ -44,6 +45,11 @@ PAGE_PLUS_WRITE, OFF_BIT = 0x05, 6
 BAD, SILENCE = "a bad answer", "no answer"
 SURVEYED = {MODE, COEFFICIENTS, *REGISTERS, PROTECT[1]}
 SIZES = {code: size for code, size in ASKED.values()} | {OPERATION: length_of(OPERATION)}
+
+
+def counted(words):
+    """The words of an output, OPERATION without the bits that don't count."""
+    return {**words, OPERATION: command_of(words[OPERATION])}
 
 
 class Cut(BaseException):
@@ -196,12 +202,12 @@ class Watch:
     def stands(self, rail, words):
         """An output holds the words of its steps that are over; that of the step under way holds words of before it and after it, and stands as at one of
         both."""
-        base, claim = self.base[rail], "left" if rail in self.left else "in order"
+        words, base, claim = counted(words), counted(self.base[rail]), "left" if rail in self.left else "in order"
         if self.under is None or rail != self.rail_of(self.under):
             if words != base:
                 self.life.fails(claim, f"output {rail} holds {shown(words)}, and by its steps {shown(base)}")
             return
-        goal, stand = self.goal(self.steps[self.under], base), self.life.stand
+        goal, stand = counted(self.goal(self.steps[self.under], base)), self.life.stand
         if words not in (base, goal) and (stand(rail, words) not in (stand(rail, base), stand(rail, goal))
                                           or any(words[each] not in (base[each], goal[each]) for each in words)):
             self.life.fails(claim, f"output {rail} holds {shown(words)}, by its steps {shown(base)} and then {shown(goal)}")
@@ -227,7 +233,7 @@ class Watch:
     def is_undone(self):
         """The way back of this list has reached all."""
         for rail, words in self.life.words().items():
-            if rail[0] not in self.life.touched and words != self.before[rail]:
+            if rail[0] not in self.life.touched and counted(words) != counted(self.before[rail]):
                 self.life.fails("back", f"all is back, and output {rail} holds {shown(words)}, not {shown(self.before[rail])}")
 
     def reached(self):
@@ -242,7 +248,7 @@ class Watch:
         for cell, (place, word) in last.items():
             answer = max((moment for (each, begun), moment in self.good.items() if each == cell and begun <= place + 1), default=0)
             held = life.plain[cell[0]].cells[cell[1:]]
-            if life.touched.get(cell[0], -1) < answer and held != word:
+            if life.touched.get(cell[0], -1) < answer and (command_of(held) != command_of(word) if cell[2] == OPERATION else held != word):
                 life.fails("reached", f"all is reached, and {cell} holds {held:04X}, not {word:04X}")
 
     def why_not_found(self, place):
