@@ -14,7 +14,7 @@ use Rattle.pm_packets.specs.Otherwise.{has_pec, is_answer, is_nobody, is_refused
 use Rattle.pm_packets.specs.declared.answers.Ones.{Ones}
 use Rattle.pm_values.specs.Modes.{change_of}
 use Rattle.pm_values.specs.declared.mode_changes.ModeChange.{ModeChange}
-use Rattle.pm_values.specs.declared.mode_changes.ModeChange.TheVariants.{OfRestart}
+use Rattle.pm_values.specs.declared.mode_changes.ModeChange.TheVariants.{OfNone, OfRestart}
 use Rattle.pm_capture.specs.Readings.{is_told, is_without_pec, judged_by, other_address}
 use Rattle.pm_capture.specs.declared.comment.ShownPacket.{ShownPacket}
 use Rattle.pm_capture.specs.declared.options.TellOptions.{TellOptions}
@@ -159,10 +159,15 @@ marks_by ones lacks (Some step) = record {
 abbrev pub is_clear : Ones → Option ℕ → Judged → TraceLine → Bool
 is_clear ones other judged parts = not (is_refused ones) && (is_told other judged || has_pec parts.write parts.read)
 
+-- What a packet changes that may be a sign of a restart, which counts where it writes no mode itself.
+abbrev pub or_restart : Bool → ModeChange → ModeChange
+or_restart is_restart OfNone = if is_restart then OfRestart else OfNone
+or_restart is_restart change = change
+
 -- the modes that a packet with these marks may change
 abbrev pub change_by : Marks → Option ℕ → Judged → TraceLine → ModeChange
-change_by marks other judged parts = if marks.is_restart then OfRestart
-    else change_of (is_clear marks.ones other judged parts) marks.page (touch_of parts.write (is_some parts.read))
+change_by marks other judged parts =
+    or_restart marks.is_restart (change_of (is_clear marks.ones other judged parts) marks.page (touch_of parts.write (is_some parts.read)))
 
 -- a packet shows that its part has pages
 abbrev pub shows_pages : Ones → TraceLine → Bool
@@ -198,7 +203,7 @@ is_lost_shown answers shown = shown.is_failed_read && has_answered answers (show
 
 -- the modes that it may change, none of them surely, and what it says of the page
 abbrev pub shown_change : Bool → ShownPacket → ModeChange
-shown_change lost shown = if lost then OfRestart else change_of false None shown.touch
+shown_change lost shown = or_restart lost (change_of false None shown.touch)
 
 abbrev pub shown_use : Bool → ShownPacket → PageUse
 shown_use lost shown = unclear_use shown.touch (if lost then Lost else Beside)

@@ -7,7 +7,7 @@ ghost use Rattle.pm_capture.specs.PageSteps.{heard_if as spec_heard_if, is_lost 
 ghost use Rattle.pm_capture.specs.ShownReadings.{packet_in};
 
 use crate::comment::ShownPacket;
-use crate::told_as::PacketLine;
+use crate::told_as::{PacketLine, or_restart};
 use pm_packets::{Answers, Ones, Packet};
 use pm_trace::{PageUse, Pages, Place, Shown, Standing, is_restore, page_use, unclear_use};
 use pm_values::{ModeChange, mode_change};
@@ -174,11 +174,7 @@ pub fn is_lost_shown(answers: &Answers, shown: &ShownPacket) -> bool
 pub fn shown_change(lost: bool, shown: &ShownPacket) -> ModeChange
     ensures { result ≡ spec_shown_change lost shown.now }
 {
-    if lost {
-        ModeChange::OfRestart
-    } else {
-        mode_change(false, None, shown.touch)
-    }
+    or_restart(lost, mode_change(false, None, shown.touch))
 }
 
 /// What the packet of a comment says of its page.

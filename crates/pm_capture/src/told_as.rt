@@ -4,7 +4,7 @@ ghost use Rattle.pm_trace.specs.ShownLines.{judged_in};
 ghost use Rattle.pm_trace.specs.Trace.{parts_judged, reading_judged};
 ghost use Rattle.pm_packets.specs.Otherwise.{IsCompleted, content_of, is_accepted};
 ghost use Rattle.pm_capture.specs.Readings.{is_checked as spec_is_checked, is_told as spec_is_told};
-ghost use Rattle.pm_capture.specs.PageSteps.{change_by, is_clear as spec_is_clear, shows_pages as spec_shows_pages};
+ghost use Rattle.pm_capture.specs.PageSteps.{change_by, is_clear as spec_is_clear, or_restart as spec_or_restart, shows_pages as spec_shows_pages};
 ghost use Rattle.pm_capture.specs.Readings.{is_without_pec};
 ghost use Rattle.pm_capture.specs.ShownReadings.{packet_in};
 
@@ -36,14 +36,24 @@ pub struct PacketLine<'a> {
 pub fn change_in(marks: &Marks, line: &PacketLine<'_>) -> ModeChange
     ensures { result ≡ change_by marks.now line.now.other (judged_in line.now.shown.now) (packet_in line.now.packet) }
 {
-    if marks.is_restart {
-        return ModeChange::OfRestart;
-    }
     let touch = touch_of(line.packet.write, line.packet.is_read());
     if !matches!(touch, Touch::WritesMode(_)) {
-        return mode_change(false, None, touch);
+        return or_restart(marks.is_restart, mode_change(false, None, touch));
     }
-    mode_change(is_clear(marks.ones, line), marks.page, touch)
+    or_restart(
+        marks.is_restart,
+        mode_change(is_clear(marks.ones, line), marks.page, touch),
+    )
+}
+
+/// What a packet changes that may be a sign of a restart, which counts where it writes no mode itself.
+pub(crate) fn or_restart(is_restart: bool, change: ModeChange) -> ModeChange
+    ensures { result ≡ spec_or_restart is_restart change }
+{
+    match change {
+        ModeChange::OfNone if is_restart => ModeChange::OfRestart,
+        _ => change,
+    }
 }
 
 /// Whether a packet wasn't refused, and is shown as good, or by its code and bytes, or has the right PEC.

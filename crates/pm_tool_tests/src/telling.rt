@@ -258,7 +258,21 @@ static TOLD: [(&[&str], &str, u8, &str, &str); 32] = [
 ];
 
 /// The same of `--gap`, and of more than one fault.
-static TOLD_OF_GAPS: [(&[&str], &str, u8, &str, &str); 17] = [
+static TOLD_OF_GAPS: [(&[&str], &str, u8, &str, &str); 18] = [
+    // A write of VOUT_MODE ends what `--vout` gave, also where its empty read part may be a sign of a restart.
+    (
+        &[
+            "pmb",
+            "decode",
+            "--values",
+            "--explain",
+            "--vout=58:ulinear16/-12",
+        ],
+        "B0 20 / B1 00 00 C1\nB0 20 9B 8C /\nB0 05 04 00 24 AB 8E 3E\n",
+        0,
+        "1 58 code 20 VOUT_MODE read 00 00 C1, no PEC\n2 58 write F3 Long 2 bytes B0 20 9B 8C /\n3 58 page 0 VOUT_MAX write 8EAB\ncount VOUT_MAX 1\ncount code 20 1\nlines 3 accepted 1 other 1 faults 1 bad 0\n",
+        "",
+    ),
     // `--gap`: with both of the others, in one to seven digits.
     (
         &["pmb", "decode", "--times", "--gap=0000005", "--pages"],
