@@ -135,7 +135,7 @@ pub enum Act {
     /// Registers get words or voltages, by the plan.
     Sets(Wishes),
     /// OPERATION gets this byte: on, off, or a margin. The step is over if the part holds a byte that differs in bit 0 only, which is reserved, or in
-    /// bits 1 and 0, unless bits 5:4 are 11.
+    /// bits 1 and 0, unless bits 5:4 are 11. With bit 7 set it is ordered twice at most: then the step stops as [`NotReached::Spent`](crate::NotReached).
     Turns(u8),
     /// Nothing is ordered, and all that decides what the output commands is read.
     Surveys,
