@@ -1,5 +1,5 @@
 -- What a delivery holds, and what its answers say of the rail. This project's own choice, by the bits that the standard has.
-use Rattle.std.specs.Prelude.{ℕ, ◌+◌, ◌==◌, ◌&&◌, ◌||◌, not, nat_lt, if◌then◌else◌, Bool, List, find, Option, None, option_map}
+use Rattle.std.specs.Prelude.{ℕ, ◌+◌, ◌==◌, ◌&&◌, ◌||◌, not, nat_lt, if◌then◌else◌, Bool, List, find, Option, None, is_some, option_map}
 use Rattle.std.specs.Option.{option_or}
 use Rattle.pm_delivery.specs.declared.delivery.Delivery.{Delivery}
 use Rattle.pm_delivery.specs.declared.delivery.FaultBit.{FaultBit}
@@ -12,8 +12,8 @@ use Rattle.pm_delivery.specs.Heard.{is_good, nothing}
 use Rattle.pm_delivery.specs.StatusBits.{has_bit, input, iout_pout, off, power_good_not, status_input_faults, status_iout_faults}
 use Rattle.pm_delivery.specs.StatusBits.{status_temperature_faults, status_vout_faults, status_word_faults, temperature, vout}
 
--- what is looked at: nothing, what stands before an order, what the output does after one that leaves it on, and after one that turns
--- it off
+-- what is looked at: nothing, what stands before an order, what the output does after one that leaves it on, after one that turns it off, and
+-- after one that leaves it on and lowers it
 abbrev pub look_nowhere : ℕ
 look_nowhere = 0
 
@@ -25,6 +25,9 @@ look_after = 2
 
 abbrev pub look_off : ℕ
 look_off = 3
+
+abbrev pub look_lowered : ℕ
+look_lowered = 4
 
 -- what is done about fault limits: nothing is ordered at one, or it is told, or they aren't read
 abbrev pub limits_tell : ℕ
@@ -104,9 +107,16 @@ in_round d round = record d {
   power_good_off = nothing;
 }
 
--- what the output does is looked at
-abbrev pub looking_after : Delivery → Bool → Delivery
-looking_after d is_off = record (in_round d 0) { look = if is_off then look_off else look_after }
+-- what the output does is looked at, after an order that turned it off, or that lowered it, or another one
+abbrev pub look_of : Bool → Bool → ℕ
+look_of is_off lowers = if is_off then look_off else (if lowers then look_lowered else look_after)
+
+abbrev pub looking_after : Delivery → Bool → Bool → Delivery
+looking_after d is_off lowers = record (in_round d 0) { look = look_of is_off lowers }
+
+-- what an output does that is commanded on is looked at
+abbrev pub looks_on : Delivery → Bool
+looks_on d = d.look == look_after || d.look == look_lowered
 
 -- a further round begins
 abbrev pub next_round : ℕ → ℕ
@@ -178,3 +188,7 @@ new_fault d = option_or (option_map (fault_bit StatusWord) (find (is_new d) stat
     (option_or (status_fault d StatusIout iout_pout status_iout_faults)
     (option_or (status_fault d StatusInput input status_input_faults)
     (status_fault d StatusTemperature temperature status_temperature_faults))))
+
+-- OFF is 1 of an output that is commanded on, and no new fault says why
+abbrev pub is_unexplained : Delivery → Bool
+is_unexplained d = looks_on d && (is_off d && not (is_some (new_fault d)))

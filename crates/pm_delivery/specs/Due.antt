@@ -1,5 +1,5 @@
 -- What a delivery asks next. This project's own choice.
-use Rattle.std.specs.Prelude.{ℕ, ◌-◌, ◌==◌, ◌&&◌, ◌||◌, not, nat_lt, if◌then◌else◌, Bool, Option, Some, None, is_some}
+use Rattle.std.specs.Prelude.{ℕ, ◌-◌, ◌==◌, ◌&&◌, ◌||◌, not, nat_lt, if◌then◌else◌, Bool, true, false, Option, Some, None, is_some}
 use Rattle.std.specs.Option.{option_or}
 use Rattle.pm_rail.specs.declared.power.Power.{Power}
 use Rattle.pm_rail.specs.declared.power.Power.TheVariants as power
@@ -12,9 +12,10 @@ use Rattle.pm_delivery.specs.declared.question.Question.TheVariants.{Before, OvF
 use Rattle.pm_delivery.specs.declared.question.Question.TheVariants.{StatusVout, StatusIout, StatusInput, StatusTemperature, ReadVout}
 use Rattle.pm_delivery.specs.declared.question.Question.TheVariants.{PowerGoodOn, PowerGoodOff}
 use Rattle.pm_delivery.specs.declared.reading.Reading.{Reading}
+use Rattle.pm_delivery.specs.declared.reading.Reading.TheVariants as reading
 use Rattle.pm_delivery.specs.declared.verdict.Verdict.{Verdict}
 use Rattle.pm_delivery.specs.declared.verdict.Verdict.TheVariants.{Delivers, DeliversByVoltage, PowerGoodAlone}
-use Rattle.pm_delivery.specs.Deliveries.{has_status, has_vout, heard_of, is_new, is_off, limits_skip, look_after, look_before, look_off, new_fault}
+use Rattle.pm_delivery.specs.Deliveries.{has_status, has_vout, heard_of, is_new, is_off, limits_skip, look_after, look_before, look_off, looks_on, new_fault}
 use Rattle.pm_delivery.specs.Heard.{is_due, is_good}
 use Rattle.pm_delivery.specs.StatusBits.{input, iout_pout, temperature, vout}
 use Rattle.pm_delivery.specs.Verdict.{verdict_on}
@@ -31,9 +32,14 @@ asks_of d passes question summary = if is_new d summary then asks d passes quest
 abbrev pub asks_status : Delivery → ℕ → Question → Option Question
 asks_status d passes question = if has_status d then asks d passes question else None
 
--- READ_VOUT is asked where the part has it, the output isn't off, and no fault is new; of a part without STATUS_WORD always
+-- a further round is left
+abbrev pub is_left : Delivery → Bool
+is_left d = nat_lt d.round d.rounds && nat_lt 1 (d.rounds - d.round)
+
+-- READ_VOUT is asked where the part has it, the output isn't off, and no fault is new or a further round is left; of a part without STATUS_WORD
+-- always
 abbrev pub is_sound : Delivery → Bool
-is_sound d = is_good d.status_word && (not (is_off d) && not (is_some (new_fault d)))
+is_sound d = is_good d.status_word && (not (is_off d) && (not (is_some (new_fault d)) || is_left d))
 
 abbrev pub can_decide : Delivery → Bool
 can_decide d = has_vout d && (not (has_status d) || is_sound d)
@@ -63,23 +69,31 @@ abbrev pub asked : Option Question → Due
 asked None = Nothing
 asked (Some question) = Ask question
 
--- a further round is left
-abbrev pub is_left : Delivery → Bool
-is_left d = nat_lt d.round d.rounds && nat_lt 1 (d.rounds - d.round)
-
 abbrev pub again_or : Delivery → Option Question → Due
 again_or d last = if is_left d then Again else asked last
 
--- once a round has ended: nothing more where the rail delivers or a fault is new; otherwise a further round; and in the last one, where
--- power good alone is missing, at which voltages that begins and ends
+-- once a round has ended: nothing more where the rail delivers; otherwise a further round; and in the last one, where power good alone is
+-- missing, at which voltages that begins and ends
 abbrev pub due_by : Delivery → ℕ → Verdict → Due
 due_by d passes Delivers = Nothing
 due_by d passes DeliversByVoltage = Nothing
 due_by d passes PowerGoodAlone = again_or d (option_or (asks d passes PowerGoodOn) (asks d passes PowerGoodOff))
 due_by d passes verdict = again_or d None
 
+-- A rail fails at once that is off with a new fault, or that is above its upper limit after an order that didn't lower it. What else is wrong may
+-- end until the last round.
+abbrev pub is_above : Reading → Bool
+is_above reading.NotKnown = false
+is_above reading.Outside = false
+is_above reading.Above = true
+is_above reading.Beyond = false
+is_above reading.Right = false
+
+abbrev pub fails_at_once : Delivery → Reading → Bool
+fails_at_once d reading = is_off d && is_some (new_fault d) || d.look == look_after && is_above reading
+
 abbrev pub due_round_over : Delivery → ℕ → Reading → Due
-due_round_over d passes reading = if is_some (new_fault d) then Nothing else due_by d passes (verdict_on d reading)
+due_round_over d passes reading = if fails_at_once d reading then Nothing else due_by d passes (verdict_on d reading)
 
 abbrev pub due_or : Option Question → Due → Due
 due_or None due = due
@@ -102,5 +116,5 @@ due_on d passes power.NotKnown reading = Nothing
 abbrev pub due_of : Delivery → ℕ → Power → Reading → Due
 due_of d passes power reading =
     if d.look == look_before then asked (due_before d passes)
-    else (if d.look == look_after then due_on d passes power reading
+    else (if looks_on d then due_on d passes power reading
     else (if d.look == look_off then due_off d passes else Nothing))

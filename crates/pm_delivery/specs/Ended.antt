@@ -8,7 +8,7 @@ use Rattle.pm_delivery.specs.declared.due.Due.TheVariants.{Ask, Again, Nothing}
 use Rattle.pm_delivery.specs.declared.reading.Reading.{Reading}
 use Rattle.pm_delivery.specs.declared.verdict.Verdict.{Verdict}
 use Rattle.pm_delivery.specs.declared.verdict.Verdict.TheVariants.{NotYet, CommandedOff, NotKnownOn}
-use Rattle.pm_delivery.specs.Deliveries.{look_after, look_off}
+use Rattle.pm_delivery.specs.Deliveries.{look_off, looks_on}
 use Rattle.pm_delivery.specs.Due.{due_of}
 use Rattle.pm_delivery.specs.Verdict.{verdict_off, verdict_on}
 
@@ -27,5 +27,5 @@ verdict_at power.On due verdict = once_over due verdict
 -- what the rail does, of an output with this power whose last reading stands so
 abbrev pub verdict_of : Delivery → ℕ → Power → Reading → Verdict
 verdict_of d passes power reading =
-    if d.look == look_after then verdict_at power (due_of d passes power reading) (verdict_on d reading)
+    if looks_on d then verdict_at power (due_of d passes power reading) (verdict_on d reading)
     else (if d.look == look_off then once_over (due_of d passes power reading) (verdict_off d) else NotYet)

@@ -1,10 +1,11 @@
 -- Which register each question reads (PMBus 1.3 Part II), and what the bytes that come back answer.
-use Rattle.std.specs.Prelude.{ℕ, ◌+◌, ◌*◌, ◌==◌, if◌then◌else◌, List, length, slice_index, Option, Some, None, Result, Ok, Err}
+use Rattle.std.specs.Prelude.{ℕ, Bool, false, not, ◌+◌, ◌*◌, ◌==◌, if◌then◌else◌, List, length, slice_index, Option, Some, None, Result, Ok, Err}
 use Rattle.pm_frame.specs.declared.fault.FrameFault.{FrameFault}
 use Rattle.pm_frame.specs.BlockRead.{block_payload}
 use Rattle.pm_frame.specs.FaultWords.{frame_fault_number}
 use Rattle.pm_frame.specs.PagedRead.{paged_fault}
 use Rattle.pm_table.specs.Codes as command
+use Rattle.pm_table.specs.Operation.{has_on}
 use Rattle.pm_delivery.specs.declared.question.Question.{Question}
 use Rattle.pm_delivery.specs.declared.question.Question.TheVariants.{Before, OvFaultLimit, OvWarnLimit, UvWarnLimit, UvFaultLimit, StatusWord}
 use Rattle.pm_delivery.specs.declared.question.Question.TheVariants.{StatusVout, StatusIout, StatusInput, StatusTemperature, ReadVout}
@@ -59,3 +60,11 @@ answer_by bytes (Some fault) = Err (frame_fault_number fault)
 abbrev pub answer_in : ℕ → ℕ → Question → List ℕ → Result ℕ ℕ
 answer_in addr output question bytes = if length bytes == 0 then Err no_answer
     else answer_by bytes (paged_fault addr output (question_code question) (Some (question_size question)) bytes)
+
+-- the bytes that came back for a read of OPERATION are a good answer with a byte that leaves the output off
+abbrev pub off_by : List ℕ → Option FrameFault → Bool
+off_by bytes None = not (has_on (word_in (block_payload bytes)))
+off_by bytes (Some fault) = false
+
+abbrev pub answers_off : ℕ → ℕ → List ℕ → Bool
+answers_off addr output bytes = off_by bytes (paged_fault addr output command.operation (Some 1) bytes)

@@ -1,15 +1,16 @@
 -- How READ_VOUT stands beside what an output commands and beside its limits, by exact fractions. This project's own choice.
-use Rattle.std.specs.Prelude.{ℕ, ◌*◌, ℤ, pos, ◌*ℤ◌, ◌-ℤ◌, int_lt, nat_lt, unsigned_abs, ◌||◌, if◌then◌else◌, Bool, Option, Some, None}
+use Rattle.std.specs.Prelude.{ℕ, ◌*◌, ℤ, pos, ◌*ℤ◌, ◌-ℤ◌, int_lt, nat_lt, unsigned_abs, ◌||◌, if◌then◌else◌, Bool, false, Option, Some, None}
 use Rattle.pm_num.specs.AnyFormat.{Shape, shape_value}
-use Rattle.pm_num.specs.Ratio.{Ratio}
+use Rattle.pm_num.specs.Ratio.{Ratio, is_above, micros}
 use Rattle.pm_host.specs.Summary.{Summary, format_at}
 use Rattle.pm_limits.specs.Band.{band_at, is_no, within_of}
 use Rattle.pm_limits.specs.declared.output_limits.OutputLimits.{OutputLimits}
+use Rattle.pm_limits.specs.declared.output_limits.OutputLimits.TheVariants.{Unknown, Unlimited, Between}
 use Rattle.pm_limits.specs.declared.band.Band.{Band}
 use Rattle.pm_limits.specs.declared.part_registers.PartRegisters.{PartRegisters}
 use Rattle.pm_delivery.specs.declared.delivery.Delivery.{Delivery}
 use Rattle.pm_delivery.specs.declared.reading.Reading.{Reading}
-use Rattle.pm_delivery.specs.declared.reading.Reading.TheVariants.{NotKnown, Outside, Beyond, Right}
+use Rattle.pm_delivery.specs.declared.reading.Reading.TheVariants.{NotKnown, Outside, Above, Beyond, Right}
 use Rattle.pm_delivery.specs.Heard.{is_good}
 
 -- a reading may be so many thousandths away, 1000 at most
@@ -36,9 +37,14 @@ abbrev pub alone : Ratio → Band
 alone value = record { least = value; greatest = value }
 
 -- a value beside limits, and beside what the output commands
+abbrev pub is_over : OutputLimits → Ratio → Bool
+is_over Unknown value = false
+is_over Unlimited value = false
+is_over (Between bounds) value = is_above value (micros bounds.most)
+
 abbrev pub reading_of : OutputLimits → ℕ → Ratio → Band → Reading
 reading_of limits within value band =
-    if is_no (within_of limits (Some (alone value))) then Outside
+    if is_no (within_of limits (Some (alone value))) then (if is_over limits value then Above else Outside)
     else (if is_below within value band.least || is_beyond within value band.greatest then Beyond else Right)
 
 abbrev pub reading_by : OutputLimits → Delivery → Option Shape → Option Band → Reading

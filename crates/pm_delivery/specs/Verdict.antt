@@ -39,6 +39,7 @@ verdict_without d = if lacks_power_good d then NoPowerGood else Delivers
 abbrev pub verdict_with : Delivery → Reading → Verdict
 verdict_with d reading.NotKnown = not_known d ReadVout
 verdict_with d reading.Outside = OutsideLimits
+verdict_with d reading.Above = OutsideLimits
 verdict_with d reading.Beyond = Beyond
 verdict_with d reading.Right = verdict_right d
 
@@ -58,6 +59,7 @@ verdict_sound d reading (Some fault) = NewFault fault.register fault.place
 abbrev pub verdict_read : Delivery → Reading → Verdict
 verdict_read d reading.NotKnown = not_known d ReadVout
 verdict_read d reading.Outside = OutsideLimits
+verdict_read d reading.Above = OutsideLimits
 verdict_read d reading.Beyond = Beyond
 verdict_read d reading.Right = DeliversByVoltage
 

@@ -3,10 +3,11 @@
 ghost use Rattle.std.specs.Prelude.{◌≡◌, ◌≤◌, length};
 ghost use Rattle.pm_frame.specs.PagedRead.{paged_request as spec_paged_request};
 ghost use Rattle.pm_table.specs.Address.{IsAddress};
-ghost use Rattle.pm_delivery.specs.Questions.{answer_in, question_code, question_size, word_in};
+ghost use Rattle.pm_delivery.specs.Questions.{answer_in, answers_off as spec_answers_off, question_code, question_size, word_in};
 
 use crate::question::Question;
 use pm_frame::{paged_request, read_paged};
+use pm_table::{Code, Operation};
 
 /// The number of an answer that didn't come.
 pub const NO_ANSWER: u8 = 1;
@@ -37,6 +38,18 @@ pub fn answer_of(addr: u8, output: u8, question: Question, bytes: &[u8]) -> Resu
     ) {
         Ok(payload) => Ok(word_of(payload)),
         Err(fault) => Err(fault.number()),
+    }
+}
+
+/// Whether the bytes that came back for a read of an output's OPERATION, the read address first, are a good answer with a byte that leaves
+/// the output off.
+pub fn answers_off(addr: u8, output: u8, bytes: &[u8]) -> bool
+    requires { IsAddress addr }
+    ensures { result ≡ spec_answers_off addr output bytes.now }
+{
+    match read_paged(addr, output, Code::OPERATION.0, Some(1), bytes) {
+        Ok(payload) => !Operation::has_on(word_of(payload)),
+        Err(_) => false,
     }
 }
 

@@ -1,6 +1,6 @@
 ghost use Rattle.std.specs.Prelude.{◌≡◌, find, option_map, true, false};
 ghost use Rattle.pm_delivery.specs.Deliveries.{again, first_question as spec_first_question, has as spec_has, has_status as spec_has_status, has_vout as spec_has_vout, lacks_any, heard_of, in_round};
-ghost use Rattle.pm_delivery.specs.Deliveries.{fault_bit, is_new as spec_is_new, is_off as spec_is_off, lacks_power_good as spec_lacks_power_good};
+ghost use Rattle.pm_delivery.specs.Deliveries.{fault_bit, is_new as spec_is_new, is_off as spec_is_off, is_unexplained as spec_is_unexplained, lacks_power_good as spec_lacks_power_good, look_of as spec_look_of, looks_on as spec_looks_on};
 ghost use Rattle.pm_delivery.specs.Deliveries.{looking_after, looking_before, new_delivery, new_fault as spec_new_fault, next_round as spec_next_round, status_fault as spec_status_fault, with_heard};
 ghost use Rattle.pm_delivery.specs.Heard.{heard_after};
 ghost use Rattle.pm_delivery.specs.StatusBits.{status_word_faults};
@@ -13,8 +13,8 @@ use crate::status::{
     first_bit, has_bit,
 };
 
-/// What is looked at: nothing, what stands before an order, what an output does after an order that leaves it on, or after one
-/// that turns it off.
+/// What is looked at: nothing, what stands before an order, what an output does after an order that leaves it on, after one that turns it off,
+/// or after one that leaves it on and lowers it.
 pub const LOOK_NOWHERE: u8 = 0;
 
 /// STATUS_WORD once, and the fault limits.
@@ -25,6 +25,9 @@ pub const LOOK_AFTER: u8 = 2;
 
 /// What an output does that was turned off.
 pub const LOOK_OFF: u8 = 3;
+
+/// What an output does that is commanded on, after an order that lowered it.
+pub const LOOK_LOWERED: u8 = 4;
 
 /// What is done about fault limits: a word at or beyond one is refused.
 pub const LIMITS_REFUSE: u8 = 0;
@@ -62,7 +65,7 @@ const FOUND_NO_READ_VOUT_BIT: u8 = 3;
 pub struct Delivery {
     /// The output's number, 0 to 7.
     pub output: u8,
-    /// What is looked at: [`LOOK_BEFORE`], [`LOOK_AFTER`], [`LOOK_OFF`], any other number for nothing.
+    /// What is looked at: [`LOOK_BEFORE`], [`LOOK_AFTER`], [`LOOK_OFF`], [`LOOK_LOWERED`], any other number for nothing.
     pub look: u8,
     /// What is done about fault limits: [`LIMITS_TELL`], [`LIMITS_SKIP`], any other number to refuse.
     pub fault_limits: u8,
@@ -191,10 +194,10 @@ impl Delivery {
     }
 
     /// Looks at what the output does: what was heard of that earlier is forgotten, and what stood before the first order is kept.
-    pub fn look_after(&mut self, is_off: bool)
-        ensures { self.new ≡ looking_after self.old is_off }
+    pub fn look_after(&mut self, is_off: bool, lowers: bool)
+        ensures { self.new ≡ looking_after self.old is_off lowers }
     {
-        self.look = if is_off { LOOK_OFF } else { LOOK_AFTER };
+        self.look = look_of(is_off, lowers);
         self.begin_round(0);
     }
 
@@ -333,6 +336,20 @@ impl Delivery {
         fault_in(register, first_bit(heard.word, places))
     }
 
+    /// Whether OFF is 1 of an output that is commanded on, and no new fault says why.
+    pub fn is_unexplained(&self) -> bool
+        ensures { result ≡ spec_is_unexplained self.now }
+    {
+        self.looks_on() && self.is_off() && self.new_fault().is_none()
+    }
+
+    /// Whether what an output does is looked at that is commanded on.
+    pub fn looks_on(&self) -> bool
+        ensures { result ≡ spec_looks_on self.now }
+    {
+        self.look == LOOK_AFTER || self.look == LOOK_LOWERED
+    }
+
     /// Whether the output is off by STATUS_WORD.
     pub(crate) fn is_off(&self) -> bool
         ensures { result ≡ spec_is_off self.now }
@@ -345,6 +362,19 @@ impl Delivery {
         ensures { result ≡ spec_lacks_power_good self.now }
     {
         self.has(POWER_GOOD_NOT)
+    }
+}
+
+// What is looked at after an order that turned the output off, or that lowered it, or another one.
+fn look_of(is_off: bool, lowers: bool) -> u8
+    ensures { result ≡ spec_look_of is_off lowers }
+{
+    if is_off {
+        LOOK_OFF
+    } else if lowers {
+        LOOK_LOWERED
+    } else {
+        LOOK_AFTER
     }
 }
 

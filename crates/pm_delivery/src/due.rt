@@ -2,9 +2,9 @@
 
 ghost use Rattle.std.specs.Prelude.{◌≡◌};
 ghost use Rattle.pm_delivery.specs.Due.{again_or, asked as spec_asked, asks, asks_limits, asks_of, asks_status, asks_vout, is_sound as spec_is_sound, can_decide as spec_can_decide, due_after as spec_due_after, due_before as spec_due_before};
-ghost use Rattle.pm_delivery.specs.Due.{due_by as spec_due_by, due_in_round as spec_due_in_round, due_of, due_off as spec_due_off, due_on as spec_due_on, due_or as spec_due_or, due_round_over, is_left as spec_is_left};
+ghost use Rattle.pm_delivery.specs.Due.{due_by as spec_due_by, due_in_round as spec_due_in_round, due_of, due_off as spec_due_off, due_on as spec_due_on, due_or as spec_due_or, due_round_over, fails_at_once as spec_fails_at_once, is_above as spec_is_above, is_left as spec_is_left};
 
-use crate::delivery::{Delivery, LIMITS_SKIP, LOOK_AFTER, LOOK_BEFORE, LOOK_OFF};
+use crate::delivery::{Delivery, LIMITS_SKIP, LOOK_AFTER, LOOK_BEFORE, LOOK_LOWERED, LOOK_OFF};
 use crate::question::Question;
 use crate::reading::Reading;
 use crate::status::{INPUT, IOUT_POUT, TEMPERATURE, VOUT};
@@ -30,7 +30,7 @@ impl Delivery {
     {
         match self.look {
             LOOK_BEFORE => asked(self.due_before(passes)),
-            LOOK_AFTER => self.due_on(passes, power, reading),
+            LOOK_AFTER | LOOK_LOWERED => self.due_on(passes, power, reading),
             LOOK_OFF => self.due_off(passes),
             _ => Due::Nothing,
         }
@@ -119,11 +119,19 @@ impl Delivery {
     fn due_at_end(&self, passes: u8, reading: Reading) -> Due
         ensures { result ≡ due_round_over self.now passes reading }
     {
-        if self.new_fault().is_some() {
+        if self.fails_at_once(reading) {
             Due::Nothing
         } else {
             self.due_by(passes, self.verdict_on(reading))
         }
+    }
+
+    // Whether the output is off with a new fault, or above its upper limit after an order that didn't lower it.
+    fn fails_at_once(&self, reading: Reading) -> bool
+        ensures { result ≡ spec_fails_at_once self.now reading }
+    {
+        (self.is_off() && self.new_fault().is_some())
+            || (self.look == LOOK_AFTER && is_above(reading))
     }
 
     // What is due once a round has ended with this verdict.
@@ -203,11 +211,22 @@ impl Delivery {
         self.has_vout() && (!self.has_status() || self.is_sound())
     }
 
-    // Whether STATUS_WORD doesn't call the output off, and no fault is new.
+    // Whether STATUS_WORD doesn't call the output off, and no fault is new or a further round is left.
     fn is_sound(&self) -> bool
         ensures { result ≡ spec_is_sound self.now }
     {
-        self.status_word.is_good() && !self.is_off() && self.new_fault().is_none()
+        self.status_word.is_good()
+            && !self.is_off()
+            && (self.new_fault().is_none() || self.is_left())
+    }
+}
+
+fn is_above(reading: Reading) -> bool
+    ensures { result ≡ spec_is_above reading }
+{
+    match reading {
+        Reading::Above => true,
+        _ => false,
     }
 }
 

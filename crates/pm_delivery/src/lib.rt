@@ -20,12 +20,12 @@ mod reading;
 mod status;
 mod verdict;
 
-pub use answers::{NO_ANSWER, answer_of, request};
+pub use answers::{NO_ANSWER, answer_of, answers_off, request};
 pub use beyond::{Judgement, Limit};
 pub use delivery::{
     Delivery, FOUND_NO_READ_VOUT, FOUND_NO_STATUS_WORD, FaultBit, LACKS_READ_VOUT,
     LACKS_STATUS_WORD, LIMITS_REFUSE, LIMITS_SKIP, LIMITS_TELL, LOOK_AFTER, LOOK_BEFORE,
-    LOOK_NOWHERE, LOOK_OFF,
+    LOOK_LOWERED, LOOK_NOWHERE, LOOK_OFF,
 };
 pub use due::Due;
 pub use fault::DeliveryFault;

@@ -3,20 +3,24 @@
 ghost use Rattle.std.specs.Prelude.{◌≡◌, ◌≤◌, ◌<◌, ◌^◌, unsigned_abs, true, None};
 ghost use Rattle.pm_delivery.specs.Heard.{is_good as spec_is_good};
 ghost use Rattle.pm_host.specs.Image.{held};
-ghost use Rattle.pm_delivery.specs.Reading.{is_below as spec_is_below, is_beyond as spec_is_beyond, is_more as spec_is_more, over as spec_over, reading_in, reading_of as spec_reading_of, share as spec_share};
+ghost use Rattle.pm_num.specs.Ratio.{micros};
+ghost use Rattle.pm_delivery.specs.Reading.{is_below as spec_is_below, is_beyond as spec_is_beyond, is_more as spec_is_more, is_over as spec_is_over, over as spec_over, reading_in, reading_of as spec_reading_of, share as spec_share};
 
 use crate::delivery::Delivery;
 use pm_host::State;
-use pm_limits::{Band, OutputLimits, PartRegisters, Within, band_in, within_limits};
-use pm_num::{Frac, NumFormat};
+use pm_limits::{Band, Limits, OutputLimits, PartRegisters, Within, band_in, within_limits};
+use pm_num::{Frac, NumFormat, micro};
+use std::cmp::Ordering;
 
 /// How READ_VOUT stands beside what an output commands, and its limits.
 #[derive(Clone, Copy, Debug, PartialEq, Eq)]
 pub enum Reading {
     /// It gave no good answer, or what the output commands isn't known.
     NotKnown,
-    /// It lies outside the output's limits.
+    /// It lies below the output's limits.
     Outside,
+    /// It lies above them.
+    Above,
     /// It is farther from what the output commands than it may be.
     Beyond,
     /// It lies within the limits, and near what the output commands.
@@ -60,11 +64,36 @@ fn reading_of(limits: &OutputLimits, within: u16, value: &Frac, band: &Band) -> 
         greatest: *value,
     };
     if within_limits(limits, Some(read)) == Within::No {
-        Reading::Outside
+        if is_over(limits, value) {
+            Reading::Above
+        } else {
+            Reading::Outside
+        }
     } else if is_below(within, value, &band.least) || is_beyond(within, value, &band.greatest) {
         Reading::Beyond
     } else {
         Reading::Right
+    }
+}
+
+// Whether a value lies above the upper limit.
+fn is_over(limits: &OutputLimits, value: &Frac) -> bool
+    ensures { result ≡ spec_is_over limits.now value.now }
+{
+    match limits {
+        OutputLimits::Between(bounds) => value.cmp_value(&most_value(bounds)) == Ordering::Greater,
+        _ => false,
+    }
+}
+
+// The upper limit as a fraction.
+fn most_value(bounds: &Limits) -> Frac
+    ensures { result ≡ micros bounds.now.most }
+{
+    let _least = bounds.least();
+    match micro(bounds.most()) {
+        Ok(value) => value,
+        Err(_) => unreachable!(),
     }
 }
 

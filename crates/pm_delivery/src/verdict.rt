@@ -9,7 +9,7 @@ ghost use Rattle.pm_delivery.specs.Verdict.{is_unanswered as spec_is_unanswered,
 ghost use Rattle.pm_delivery.specs.Deliveries.{new_fault};
 ghost use Rattle.pm_table.specs.Rules.{rule};
 
-use crate::delivery::{Delivery, LOOK_AFTER, LOOK_OFF};
+use crate::delivery::{Delivery, LOOK_AFTER, LOOK_LOWERED, LOOK_OFF};
 use crate::due::Due;
 use crate::question::Question;
 use crate::reading::Reading;
@@ -69,7 +69,7 @@ impl Delivery {
     {
         let due = self.due(passes, power, reading);
         match self.look {
-            LOOK_AFTER => verdict_at(power, due, self.verdict_on(reading)),
+            LOOK_AFTER | LOOK_LOWERED => verdict_at(power, due, self.verdict_on(reading)),
             LOOK_OFF => ended(due, self.verdict_off()),
             _ => Verdict::NotYet,
         }
@@ -123,7 +123,7 @@ impl Delivery {
         }
         match reading {
             Reading::NotKnown => self.not_known(Question::ReadVout),
-            Reading::Outside => Verdict::OutsideLimits,
+            Reading::Outside | Reading::Above => Verdict::OutsideLimits,
             Reading::Beyond => Verdict::Beyond,
             Reading::Right => Verdict::DeliversByVoltage,
         }
@@ -194,7 +194,7 @@ impl Delivery {
     {
         match reading {
             Reading::NotKnown => self.not_known(Question::ReadVout),
-            Reading::Outside => Verdict::OutsideLimits,
+            Reading::Outside | Reading::Above => Verdict::OutsideLimits,
             Reading::Beyond => Verdict::Beyond,
             Reading::Right => {
                 if self.lacks_power_good() {

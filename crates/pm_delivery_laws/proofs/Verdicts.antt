@@ -40,7 +40,7 @@ use Rattle.pm_delivery.specs.declared.reading.Reading.TheVariants as read
 use Rattle.pm_delivery.specs.declared.reading.Reading.TheVariants.{Outside, Right}
 use Rattle.pm_delivery.specs.declared.verdict.Verdict.{Verdict}
 use Rattle.pm_delivery.specs.declared.verdict.Verdict.TheVariants.{CommandedOff, Delivers, IsOff, NoPowerGood, NotKnownOn, NotYet, PowerGoodAlone, StillOn, WentOff}
-use Rattle.pm_delivery.specs.Deliveries.{has_status, has_vout, is_off, lacks_power_good, look_after, look_off, new_fault}
+use Rattle.pm_delivery.specs.Deliveries.{has_status, has_vout, is_off, lacks_power_good, look_off, looks_on, new_fault}
 use Rattle.pm_delivery.specs.Due.{due_of}
 use Rattle.pm_delivery.specs.Ended.{once_over, verdict_at, verdict_of}
 use Rattle.pm_delivery.specs.Heard.{asked_more, heard_after, is_good}
@@ -264,6 +264,7 @@ by-power d reading is = go (lacks_power_good d) refl where
     no true Right is = let bad : PowerGoodAlone ≡ Delivers = sym (ap (λ b. cond b PowerGoodAlone Delivers) e) ∙ is in cc
     no true read.NotKnown is = cc
     no true Outside is = cc
+    no true read.Above is = cc
     no true read.Beyond is = cc
 
 known-by : (d : Delivery) (reading : Reading) (register : Option Question) → verdict_known d reading register ≡ Delivers →
@@ -289,6 +290,7 @@ alone-not d reading false is = cc
 alone-not d Right true is = cc
 alone-not d read.NotKnown true is = cc
 alone-not d Outside true is = cc
+alone-not d read.Above true is = cc
 alone-not d read.Beyond true is = cc
 
 on-on : (d : Delivery) (reading : Reading) (has : Bool) → cond has (verdict_status d reading) (verdict_alone d reading) ≡ Delivers → IsOn d
@@ -301,7 +303,7 @@ off-not d true true is = cc
 off-not d true false is = cc
 
 delivers-on : (d : Delivery) (most : ℕ) (power : Power) (reading : Reading) → verdict_of d most power reading ≡ Delivers → IsOn d
-delivers-on d most power reading is = go (d.look == look_after) (d.look == look_off) is where
+delivers-on d most power reading is = go (looks_on d) (d.look == look_off) is where
   go : (after off : Bool) → cond after (verdict_at power (due_of d most power reading) (verdict_on d reading))
       (cond off (once_over (due_of d most power reading) (verdict_off d)) NotYet) ≡ Delivers → IsOn d
   go true off is = on-on d reading (has_status d)
@@ -319,6 +321,7 @@ never-gone d reading None is = go (has_vout d) (lacks_power_good d) reading is w
   with-is false Right e is = let bad : Delivers ≡ WentOff = sym (ap (λ b. cond b PowerGoodAlone Delivers) e) ∙ is in cc
   with-is lacks read.NotKnown e is = cc
   with-is lacks Outside e is = cc
+  with-is lacks read.Above e is = cc
   with-is lacks read.Beyond e is = cc
 
   go : (has lacks : Bool) (reading : Reading) → cond has (verdict_with d reading) (cond lacks NoPowerGood Delivers) ≡ WentOff → ⊥
@@ -335,6 +338,7 @@ alone-gone d reading false is = cc
 alone-gone d Right true is = cc
 alone-gone d read.NotKnown true is = cc
 alone-gone d Outside true is = cc
+alone-gone d read.Above true is = cc
 alone-gone d read.Beyond true is = cc
 
 status-gone : (d : Delivery) (reading : Reading) (good gone : Bool) →
@@ -355,7 +359,7 @@ off-is d is = go (is_good d.status_word) (is_off d) refl is where
   go true false o is = cc
 
 went-off : (d : Delivery) (most : ℕ) (power : Power) (reading : Reading) → verdict_of d most power reading ≡ WentOff → is_off d ≡ true
-went-off d most power reading is = go (d.look == look_after) (d.look == look_off) is where
+went-off d most power reading is = go (looks_on d) (d.look == look_off) is where
   go : (after off : Bool) → cond after (verdict_at power (due_of d most power reading) (verdict_on d reading))
       (cond off (once_over (due_of d most power reading) (verdict_off d)) NotYet) ≡ WentOff → is_off d ≡ true
   go true off is = absurd (on-gone d reading (has_status d)

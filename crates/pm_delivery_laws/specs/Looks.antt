@@ -23,7 +23,7 @@ CameBack device request size heard ending bytes =
 -- A look that began at an earlier moment, and what it has heard since (`begins`, at that moment): it heard what came back of a request of its
 -- own, however that arrived (`hears`), it began a further round (`asks_again`), or anything else happened beside the part (`passes_by`).
 pub data IsLook (held : Held) (passes : ℕ) (before : List Happening) : Delivery → List Happening → Type 0 where
-  begins : (d : Delivery) (is_off : Bool) → IsLook held passes before (looking_after d is_off) []
+  begins : (d : Delivery) (is_off lowers : Bool) → IsLook held passes before (looking_after d is_off lowers) []
   hears : (d : Delivery) (question : Question) (heard : List ℕ) (ending : Ending) (bytes : List ℕ) (later : List Happening) →
       IsLook held passes before d later →
       CameBack (beside held passes (later ++ before)).device (paged_request held.config.addr d.output (question_code question))

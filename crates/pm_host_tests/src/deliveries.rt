@@ -4,7 +4,8 @@
 ghost use Rattle.std.specs.Prelude.{◌<◌};
 
 use crate::checks::{equal, is_true};
-use pm_delivery::{Delivery, Due, Question, Reading, Verdict};
+use pm_delivery::{Delivery, Due, Question, Reading, Verdict, answers_off};
+use pm_frame::{pec, pec_after};
 use pm_rail::Power;
 
 // The command code of each register that is asked, and how many bytes it has.
@@ -41,7 +42,7 @@ fn after_order() -> Delivery {
     let mut delivery = Delivery::new(0, 0, 0, 50, 1);
     delivery.look_before();
     delivery.hear(Question::Before, Ok(0));
-    delivery.look_after(false);
+    delivery.look_after(false, false);
     delivery
 }
 
@@ -130,7 +131,7 @@ fn a_fault_that_stood_before_decides_nothing(rt: HostRuntime) {
     let mut delivery = Delivery::new(0, 0, 0, 50, 1);
     delivery.look_before();
     delivery.hear(Question::Before, Ok(0x8020));
-    delivery.look_after(false);
+    delivery.look_after(false, false);
     delivery.hear(Question::StatusWord, Ok(0x8020));
     delivery.hear(Question::ReadVout, Ok(0x1000));
     let verdict = delivery.verdict(1, Power::On, Reading::Right);
@@ -143,7 +144,7 @@ fn a_fault_of_which_nobody_knows_since_when_decides(rt: HostRuntime) {
     let mut delivery = Delivery::new(0, 0, 0, 50, 1);
     delivery.look_before();
     delivery.hear(Question::Before, Err(0x35));
-    delivery.look_after(false);
+    delivery.look_after(false, false);
     delivery.hear(Question::StatusWord, Ok(0x0020));
     let verdict = delivery.verdict(1, Power::On, Reading::NotKnown);
     equal(
@@ -152,6 +153,127 @@ fn a_fault_of_which_nobody_knows_since_when_decides(rt: HostRuntime) {
         &Verdict::NewFault(Question::StatusWord, 5),
         &1,
     );
+}
+
+// What is looked at, STATUS_WORD after 0000h before the first order, how READ_VOUT stands, which of three rounds it is, what is due then, and
+// what the rail does if that is nothing.
+type RoundRow = (&'static str, bool, u16, Reading, usize, Option<Verdict>);
+
+#[test]
+fn a_rail_fails_at_once_by_two_things_alone(rt: HostRuntime) {
+    let fault = Verdict::NewFault(Question::StatusWord, 5);
+    let rows: [RoundRow; 12] = [
+        (
+            "above",
+            false,
+            0x0000,
+            Reading::Above,
+            0,
+            Some(Verdict::OutsideLimits),
+        ),
+        (
+            "above, once it was lowered",
+            true,
+            0x0000,
+            Reading::Above,
+            0,
+            None,
+        ),
+        (
+            "above still, once it was lowered",
+            true,
+            0x0000,
+            Reading::Above,
+            2,
+            Some(Verdict::OutsideLimits),
+        ),
+        (
+            "above, with a new fault",
+            false,
+            0x0020,
+            Reading::Above,
+            0,
+            Some(fault),
+        ),
+        ("below", false, 0x0000, Reading::Outside, 0, None),
+        ("far away", false, 0x0000, Reading::Beyond, 0, None),
+        ("a new fault", false, 0x0020, Reading::Right, 0, None),
+        (
+            "a new fault still",
+            false,
+            0x0020,
+            Reading::Right,
+            2,
+            Some(fault),
+        ),
+        (
+            "off with a new fault",
+            false,
+            0x0060,
+            Reading::NotKnown,
+            0,
+            Some(Verdict::IsOff),
+        ),
+        (
+            "off with a new fault, lowered",
+            true,
+            0x0060,
+            Reading::NotKnown,
+            0,
+            Some(Verdict::IsOff),
+        ),
+        ("off", false, 0x0840, Reading::NotKnown, 0, None),
+        (
+            "off still",
+            false,
+            0x0840,
+            Reading::NotKnown,
+            2,
+            Some(Verdict::IsOff),
+        ),
+    ];
+    for (name, lowers, status, reading, round, end) in &rows {
+        let mut delivery = Delivery::new(0, 0, 0, 50, 3);
+        delivery.look_before();
+        delivery.hear(Question::Before, Ok(0));
+        delivery.look_after(false, *lowers);
+        for _ in 0..*round {
+            delivery.begin_again();
+        }
+        delivery.hear(Question::StatusWord, Ok(*status));
+        delivery.hear(Question::ReadVout, Ok(0x1000));
+        let due = match end {
+            Some(_) => Due::Nothing,
+            None => Due::Again,
+        };
+        equal(&rt, &delivery.due(1, Power::On, *reading), &due, name);
+        let said = end.unwrap_or(Verdict::NotYet);
+        equal(&rt, &delivery.verdict(1, Power::On, *reading), &said, name);
+        let is_unexplained = *status == 0x0840;
+        equal(&rt, &delivery.is_unexplained(), &is_unexplained, name);
+        delivery.look_after(true, *lowers);
+        is_true(&rt, !delivery.is_unexplained(), name);
+    }
+}
+
+// The bytes that came back for a read of OPERATION of output 1 of the part at 58h, the PEC by hand, and whether they leave the output off.
+#[test]
+fn a_good_answer_alone_says_off(rt: HostRuntime) {
+    let rows: [(&'static str, [u8; 4], bool); 5] = [
+        ("00", [0xB1, 0x01, 0x00, 0x00], true),
+        ("40", [0xB1, 0x01, 0x40, 0x00], true),
+        ("80", [0xB1, 0x01, 0x80, 0x00], false),
+        ("a wrong PEC", [0xB1, 0x01, 0x00, 0x01], false),
+        ("another count", [0xB1, 0x02, 0x00, 0x00], false),
+    ];
+    let sent = pec(&[0xB0, 0x06, 0x02, 0x01, 0x01]);
+    for (name, bytes, off) in &rows {
+        let mut bytes = *bytes;
+        bytes[3] ^= pec_after(sent, &bytes[..3]);
+        equal(&rt, &answers_off(0x58, 1, &bytes), off, name);
+        is_true(&rt, !answers_off(0x58, 0, &bytes), name);
+    }
+    is_true(&rt, !answers_off(0x58, 1, &[]), &"no answer");
 }
 
 #[test]
@@ -188,7 +310,7 @@ static LACKING: [(u8, Due, Verdict); 7] = [
 // A delivery after an order, of a part that lacks this.
 fn lacking(lacks: u8) -> Delivery {
     let mut delivery = Delivery::new(0, 0, lacks, 50, 3);
-    delivery.look_after(false);
+    delivery.look_after(false, false);
     delivery
 }
 
@@ -231,7 +353,7 @@ fn a_reading_alone_decides_or_is_asked_again(rt: HostRuntime) {
 fn an_output_that_was_turned_off_isn_t_known_to_be_off_without_status_word(rt: HostRuntime) {
     for lacks in [1, 4] {
         let mut delivery = lacking(lacks);
-        delivery.look_after(true);
+        delivery.look_after(true, false);
         let due = delivery.due(2, Power::Off, Reading::NotKnown);
         equal(&rt, &due, &Due::Nothing, &lacks);
         let said = delivery.verdict(2, Power::Off, Reading::NotKnown);

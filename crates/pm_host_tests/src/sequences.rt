@@ -35,6 +35,7 @@ pub(crate) const PART: Part = Part {
     loses: 0,
     mutes: 0,
     mute: 0,
+    ramps: 0,
     reserved: 0,
     codes: [0; 96],
 };
@@ -296,7 +297,7 @@ fn a_set_ends_by_what_its_rail_does(rt: HostRuntime) {
             1_200_000,
             End::Does(Verdict::IsOff),
             None,
-            26,
+            30,
             1,
         ),
         (

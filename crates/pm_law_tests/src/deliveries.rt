@@ -17,13 +17,18 @@ use pm_rail::Power;
 use pm_world::answer_in;
 
 /// A look begins beside a part, after whatever happened there.
-pub fn a_look_that_begins(delivery: &mut Delivery, device: &Converter, is_off: bool)
+pub fn a_look_that_begins(
+    delivery: &mut Delivery,
+    device: &Converter,
+    is_off: bool,
+    lowers: bool,
+)
     ghost life: { PartLife }
     requires here { delivery.old.output < life.held.config.count }
     requires part { device.now ≡ (both_in life).device }
     ensures { LooksAt (record { held = life.held; passes = life.passes; later = []; before = life.happened }) delivery.new device.now }
 {
-    delivery.look_after(is_off);
+    delivery.look_after(is_off, lowers);
 }
 
 /// A look that asks the part hears what a look may hear.

@@ -1,6 +1,6 @@
 -- How the memory of a sequence is kept.
 use Rattle.std.proofs.Common.{◌≡◌, ℕ, Option, Some, None, refl, ◌∙◌, ap}
-use Rattle.std.specs.Prelude.{IfSome}
+use Rattle.std.specs.Prelude.{IfSome, Bool, true, false, ◌||◌, ◌==◌, nat_lt}
 use Rattle.pm_course.specs.declared.frame_course.FrameCourse.{FrameCourse}
 use Rattle.pm_stairs.specs.declared.sequence.Sequence.{Sequence as List}
 use Rattle.pm_stairs.specs.declared.stairs.Under.{Under}
@@ -16,23 +16,47 @@ use Rattle.pm_host.specs.declared.job.Job.{Job}
 use Rattle.pm_host.specs.declared.job.Job.TheVariants as asked
 use Rattle.pm_memory.specs.declared.sequence_image.SaidImage.{SaidImage}
 use Rattle.pm_memory.specs.CourseImage.{IsKept}
-use Rattle.pm_memory.specs.SequenceImage.{fresh_number, fresh_read, look_image, look_read, phase_number, phase_read, sequence_image, sequence_in, told_by, told_written, IsKeptList, IsKeptSequence, SequencesAreKept}
+use Rattle.pm_memory.specs.SequenceImage.{answer_number, fresh_number, fresh_read, look_image, look_read, phase_read, phase_written, sequence_image, sequence_in, told_by, told_written, IsKeptList, IsKeptSequence, SequencesAreKept}
 use Rattle.pm_memory.specs.ListImage.{list_image, list_in}
 use Rattle.pm_memory.proofs.Courses.{kept}
 use Rattle.pm_memory.proofs.Kept.{flag-kept, wanted-kept}
+
+there-kept : (there off : Bool) → (answer_number there off == 1 || answer_number there off == 3) ≡ there
+there-kept true true = refl
+there-kept true false = refl
+there-kept false true = refl
+there-kept false false = refl
+
+off-kept : (there off : Bool) → nat_lt 1 (answer_number there off) ≡ off
+off-kept true true = refl
+off-kept true false = refl
+off-kept false true = refl
+off-kept false false = refl
 
 look-kept : (l : Look) (turned_on : ℕ) → look_read (look_image l turned_on) ≡ l
 look-kept l turned_on = rw (
   flag-kept l.status.has_answered,
   flag-kept l.vout.has_answered,
-  flag-kept l.probe.is_there,
+  there-kept l.probe.is_there l.probe.is_off,
+  off-kept l.probe.is_there l.probe.is_off,
   flag-kept l.probe.is_over,
 ) refl
 
-phase-kept : (p : Phase) → phase_read (phase_number p) ≡ p
-phase-kept phase.Steps = refl
-phase-kept phase.Before = refl
-phase-kept phase.After = refl
+phase-kept : (p : Phase) (lowers : Bool) → phase_read (phase_written p lowers) ≡ p
+phase-kept phase.Steps true = refl
+phase-kept phase.Steps false = refl
+phase-kept phase.Before true = refl
+phase-kept phase.Before false = refl
+phase-kept phase.After true = refl
+phase-kept phase.After false = refl
+
+lowers-kept : (p : Phase) (lowers : Bool) → nat_lt 3 (phase_written p lowers) ≡ lowers
+lowers-kept phase.Steps true = refl
+lowers-kept phase.Steps false = refl
+lowers-kept phase.Before true = refl
+lowers-kept phase.Before false = refl
+lowers-kept phase.After true = refl
+lowers-kept phase.After false = refl
 
 fresh-kept : (it : Fresh) → fresh_read (fresh_number it) ≡ it
 fresh-kept fresh.Nothing = refl
@@ -153,7 +177,8 @@ sequence-kept : (q : Sequence) (said : SaidImage) → IsKeptSequence q → seque
 sequence-kept q said is = rw (
   list-kept q.list is.list,
   look-kept q.look q.turned_on,
-  phase-kept q.phase,
+  phase-kept q.phase q.lowers,
+  lowers-kept q.phase q.lowers,
   is.told,
   fresh-told q.told q.fresh,
   is.over,

@@ -1,5 +1,5 @@
 -- A sequence as plain numbers in a caller's memory, and what they mean. This project's own choice.
-use Rattle.std.specs.Prelude.{◌≡◌, ℕ, ◌&&◌, ◌==◌, if◌then◌else◌, Option, Some, None, option_map, IfSome}
+use Rattle.std.specs.Prelude.{◌≡◌, ℕ, Bool, ◌+◌, ◌&&◌, ◌||◌, ◌==◌, nat_lt, if◌then◌else◌, Option, Some, None, option_map, IfSome}
 use Rattle.pm_table.specs.Cell.{cell_at, cell_code, output_of}
 use Rattle.pm_host.specs.declared.job.Job.{Job}
 use Rattle.pm_host.specs.declared.job.Job.TheVariants.{Order, OrderMicro, Check, Learn, Send}
@@ -36,6 +36,10 @@ silence_image s = record { rounds = s.rounds; has_answered = flag s.has_answered
 abbrev pub silence_read : SilenceImage → Silence
 silence_read i = record { rounds = i.rounds; has_answered = i.has_answered == 1 }
 
+-- the read of OPERATION: 1 if any answer came, and 2 more if the last one leaves the output off
+abbrev pub answer_number : Bool → Bool → ℕ
+answer_number there off = flag there + (if off then 2 else 0)
+
 -- with how many orders that turn its output on the step under way had
 abbrev pub look_image : Look → ℕ → LookImage
 look_image l turned_on = record {
@@ -44,7 +48,7 @@ look_image l turned_on = record {
   status = silence_image l.status;
   vout = silence_image l.vout;
   probed = l.probe.asked;
-  is_there = flag l.probe.is_there;
+  is_there = answer_number l.probe.is_there l.probe.is_off;
   is_over = flag l.probe.is_over;
   turned_on = turned_on;
 }
@@ -55,7 +59,7 @@ look_read i = record {
   stood = i.stood;
   status = silence_read i.status;
   vout = silence_read i.vout;
-  probe = record { asked = i.probed; is_there = i.is_there == 1; is_over = i.is_over == 1 };
+  probe = record { asked = i.probed; is_there = i.is_there == 1 || i.is_there == 3; is_off = nat_lt 1 i.is_there; is_over = i.is_over == 1 };
 }
 
 -- ---- A sequence ----
@@ -66,7 +70,11 @@ phase_number phase.Before = 1
 phase_number phase.After = 2
 
 abbrev pub phase_read : ℕ → Phase
-phase_read n = if n == 1 then phase.Before else (if n == 2 then phase.After else phase.Steps)
+phase_read n = if n == 1 || n == 5 then phase.Before else (if n == 2 || n == 6 then phase.After else phase.Steps)
+
+-- with 4 more if the step under way lowers its output
+abbrev pub phase_written : Phase → Bool → ℕ
+phase_written p lowers = phase_number p + (if lowers then 4 else 0)
 
 abbrev pub fresh_number : Fresh → ℕ
 fresh_number fresh.Nothing = 0
@@ -106,6 +114,7 @@ sequence_read i list = record {
   told = told_read i.told;
   fresh = fresh_read i.told.fresh;
   turned_on = i.look.turned_on;
+  lowers = nat_lt 3 i.phase;
   left = i.left;
   end = end_read i.end;
 }
@@ -129,7 +138,7 @@ sequence_image q said = record {
   list = list_image q.list;
   look = look_image q.look q.turned_on;
   look_host = q.look_host;
-  phase = phase_number q.phase;
+  phase = phase_written q.phase q.lowers;
   is_read = flag q.is_read;
   is_shown = flag q.is_shown;
   is_waited = flag q.is_waited;

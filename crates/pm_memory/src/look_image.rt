@@ -1,7 +1,7 @@
 //! A look at a rail in a caller's memory, as plain numbers.
 
 ghost use Rattle.std.specs.Prelude.{◌≡◌};
-ghost use Rattle.pm_memory.specs.SequenceImage.{look_image, look_read, silence_image, silence_read};
+ghost use Rattle.pm_memory.specs.SequenceImage.{answer_number as spec_answer_number, look_image, look_read, silence_image, silence_read};
 
 use pm_delivery::{Delivery, Heard};
 use pm_sequence::{Look, Probe, Silence};
@@ -30,7 +30,7 @@ pub struct LookImage {
     pub vout: SilenceImage,
     /// How often OPERATION was read in this round.
     pub probed: u8,
-    /// 1 if any answer to it came, otherwise 0.
+    /// 1 if any answer to it came, and 2 more if the last one leaves the output off.
     pub is_there: u8,
     /// 1 if it counts already, otherwise 0.
     pub is_over: u8,
@@ -69,7 +69,7 @@ impl LookImage {
             status: SilenceImage::of(look.status),
             vout: SilenceImage::of(look.vout),
             probed: look.probe.asked,
-            is_there: u8::from(look.probe.is_there),
+            is_there: answer_number(look.probe),
             is_over: u8::from(look.probe.is_over),
             turned_on,
         }
@@ -84,7 +84,7 @@ impl LookImage {
         self.status = SilenceImage::of(look.status);
         self.vout = SilenceImage::of(look.vout);
         self.probed = look.probe.asked;
-        self.is_there = u8::from(look.probe.is_there);
+        self.is_there = answer_number(look.probe);
         self.is_over = u8::from(look.probe.is_over);
         self.turned_on = turned_on;
     }
@@ -100,9 +100,17 @@ impl LookImage {
             vout: self.vout.silence(),
             probe: Probe {
                 asked: self.probed,
-                is_there: self.is_there == 1,
+                is_there: self.is_there == 1 || self.is_there == 3,
+                is_off: 1 < self.is_there,
                 is_over: self.is_over == 1,
             },
         }
     }
+}
+
+// The read of OPERATION: 1 if any answer came, and 2 more if the last one leaves the output off.
+fn answer_number(probe: Probe) -> u8
+    ensures { result ≡ spec_answer_number probe.is_there probe.is_off }
+{
+    u8::from(probe.is_there) + if probe.is_off { 2 } else { 0 }
 }

@@ -1,7 +1,7 @@
 //! A sequence in a caller's memory: plain numbers, and what they mean.
 
 ghost use Rattle.std.specs.Prelude.{◌≡◌};
-ghost use Rattle.pm_memory.specs.SequenceImage.{fresh_number, fresh_read, phase_number, phase_read, sequence_image, sequence_in, sequence_meant, told_read, told_written};
+ghost use Rattle.pm_memory.specs.SequenceImage.{fresh_number, fresh_read, phase_number, phase_read, phase_written as spec_phase_written, sequence_image, sequence_in, sequence_meant, told_read, told_written};
 ghost use Rattle.pm_table.specs.Rules.{rule};
 ghost use Rattle.pm_table.specs.Cell.{output_of as spec_output_of};
 
@@ -79,7 +79,8 @@ pub struct SequenceImage {
     pub look: LookImage,
     /// The place of the host whose output is looked at.
     pub look_host: u8,
-    /// What is looked at: 1 what stands before the first order, 2 what the rail does, otherwise nothing.
+    /// What is looked at: 1 what stands before the first order, 2 what the rail does, otherwise nothing. 4 more if the step under way lowers its
+    /// output.
     pub phase: u8,
     /// 1 if what stands before was read, otherwise 0.
     pub is_read: u8,
@@ -206,7 +207,7 @@ impl SequenceImage {
         self.list.write(&sequence.list);
         self.look.write(&sequence.look, sequence.turned_on);
         self.look_host = sequence.look_host;
-        self.phase = phase_number(sequence.phase);
+        self.phase = phase_written(sequence.phase, sequence.lowers);
         self.is_read = flag(sequence.is_read);
         self.is_shown = flag(sequence.is_shown);
         self.is_waited = flag(sequence.is_waited);
@@ -242,6 +243,7 @@ impl SequenceImage {
         is.told = self.told.told();
         is.fresh = fresh_of(self.told.fresh);
         is.turned_on = self.look.turned_on;
+        is.lowers = 3 < self.phase;
         is.left = self.left;
         is.end = self.end.end();
     }
@@ -273,10 +275,17 @@ fn phase_of(number: u8) -> Phase
     ensures { result ≡ phase_read number }
 {
     match number {
-        1 => Phase::Before,
-        2 => Phase::After,
+        1 | 5 => Phase::Before,
+        2 | 6 => Phase::After,
         _ => Phase::Steps,
     }
+}
+
+// With 4 more if the step under way lowers its output.
+fn phase_written(phase: Phase, lowers: bool) -> u8
+    ensures { result ≡ spec_phase_written phase lowers }
+{
+    phase_number(phase) + if lowers { 4 } else { 0 }
 }
 
 fn phase_number(phase: Phase) -> u8

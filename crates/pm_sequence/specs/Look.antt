@@ -8,7 +8,7 @@ use Rattle.pm_delivery.specs.declared.question.Question.{Question}
 use Rattle.pm_delivery.specs.declared.question.Question.TheVariants.{Before, OvFaultLimit, OvWarnLimit, UvWarnLimit, UvFaultLimit, StatusWord}
 use Rattle.pm_delivery.specs.declared.question.Question.TheVariants.{StatusVout, StatusIout, StatusInput, StatusTemperature, ReadVout}
 use Rattle.pm_delivery.specs.declared.question.Question.TheVariants.{PowerGoodOn, PowerGoodOff}
-use Rattle.pm_delivery.specs.Deliveries.{again, heard_of, look_before, with_heard}
+use Rattle.pm_delivery.specs.Deliveries.{again, heard_of, is_unexplained, look_before, looks_on, with_heard}
 use Rattle.pm_delivery.specs.Heard.{asked_more, heard_after}
 use Rattle.pm_delivery.specs.Questions.{no_answer}
 use Rattle.pm_sequence.specs.declared.look.Look.{Look}
@@ -21,7 +21,7 @@ abbrev pub no_silence : Silence
 no_silence = record { rounds = 0; has_answered = false }
 
 abbrev pub new_probe : Probe
-new_probe = record { asked = 0; is_there = false; is_over = false }
+new_probe = record { asked = 0; is_there = false; is_off = false; is_over = false }
 
 abbrev pub looking : Delivery → Look
 looking d = record { delivery = d; stood = d.before; status = no_silence; vout = no_silence; probe = new_probe }
@@ -44,7 +44,10 @@ is_silent_vout l = is_silence l.delivery.read_vout && not l.vout.has_answered
 abbrev pub is_silent : Look → Bool
 is_silent l = is_silent_status l || is_silent_vout l
 
--- OPERATION is read after such a round, until an answer comes
+-- OPERATION is read after such a round, or one in which a rail that is commanded on was off for no new fault, until an answer comes
+abbrev pub asks_operation : Look → Bool
+asks_operation l = is_silent l || is_unexplained l.delivery
+
 abbrev pub probe_due : ℕ → Look → Bool
 probe_due passes l = not l.probe.is_there && nat_lt l.probe.asked passes
 
@@ -90,11 +93,23 @@ over_after l due.Again = record l { delivery = again l.delivery; probe = new_pro
 over_after l due.Nothing = l
 over_after l (due.Ask question) = l
 
+-- An output that is commanded on, and whose OPERATION leaves it off: its part came up anew, or another one orders.
+abbrev pub is_lost : Look → Bool
+is_lost l = looks_on l.delivery && l.probe.is_off
+
+abbrev pub found_act : Bool → Due → LookAct
+found_act lost due = if lost then act.Restarted else over_act due
+
+abbrev pub found_after : Bool → Look → Due → Look
+found_after lost l due = if lost then l else over_after l due
+
 abbrev pub round_act : Look → ℕ → Due → LookAct
-round_act l passes due = if is_silent l && not l.probe.is_over then (if probe_due passes l then act.Probe else act.Again) else over_act due
+round_act l passes due = if asks_operation l && not l.probe.is_over then (if probe_due passes l then act.Probe else act.Again)
+    else found_act (is_lost l) due
 
 abbrev pub round_after : Look → ℕ → Due → Look
-round_after l passes due = if is_silent l && not l.probe.is_over then (if probe_due passes l then l else counted l) else over_after l due
+round_after l passes due = if asks_operation l && not l.probe.is_over then (if probe_due passes l then l else counted l)
+    else found_after (is_lost l) l due
 
 abbrev pub look_act : Look → ℕ → Due → LookAct
 look_act l passes (due.Ask question) = act.Ask question
@@ -129,8 +144,8 @@ heard_as l question answer =
 abbrev pub answered : Look → Question → Result ℕ ℕ → Bool → Look
 answered l question answer silence = if silence then heard_as l question answer else noticed (heard_as l question answer) question
 
--- what came back for the read of OPERATION
-abbrev pub probed : Look → Bool → Look
-probed l silence = record l {
-  probe = record l.probe { asked = asked_more l.probe.asked; is_there = l.probe.is_there || not silence };
+-- what came back for the read of OPERATION: nothing at all, or an answer that leaves the output off, or another one
+abbrev pub probed : Look → Bool → Bool → Look
+probed l silence off = record l {
+  probe = record l.probe { asked = asked_more l.probe.asked; is_there = l.probe.is_there || not silence; is_off = off };
 }

@@ -54,6 +54,7 @@ use Rattle.pm_sequence.specs.declared.sequence.Sequence.{Sequence}
 use Rattle.pm_sequence.specs.declared.step.Step.{Step}
 use Rattle.pm_sequence.specs.Gate.{is_on_order, is_order, is_untold, order_gate, step_gate}
 use Rattle.pm_sequence.specs.Look.{look_act, look_after, looking, new_probe}
+use Rattle.pm_sequence.specs.Lowers.{lowers}
 use Rattle.pm_sequence.specs.Steps.{before_of, is_of, is_unreadable, new_of, same_heard, turns_off}
 use Rattle.pm_delivery.specs.Deliveries.{new_delivery}
 
@@ -72,6 +73,7 @@ new_sequence tries rules = record {
   told = None;
   fresh = fresh.Nothing;
   turned_on = 0;
+  lowers = false;
   left = 0;
   end = None;
 }
@@ -168,8 +170,8 @@ shown q (Some step) = if q.is_shown then Some step.placed else None
 abbrev pub with_list : Sequence → List → Sequence
 with_list q list = record q { list = list }
 
-abbrev pub begun_on : Sequence → ℕ → List → Sequence
-begun_on q turned_on list = record q {
+abbrev pub begun_on : Sequence → ℕ → Bool → List → Sequence
+begun_on q turned_on lowers list = record q {
   list = list;
   is_shown = false;
   is_waited = false;
@@ -177,18 +179,19 @@ begun_on q turned_on list = record q {
   told = None;
   fresh = fresh.Nothing;
   turned_on = turned_on;
+  lowers = lowers;
 }
 
 abbrev pub begun_with : Sequence → List → Sequence
-begun_with q list = begun_on q 0 list
+begun_with q list = begun_on q 0 false list
 
 -- how many orders that turn its output on a step had, with this one, of two at most
 abbrev pub on_count : ℕ → Job → ℕ
 on_count had job = if is_on_order job then (if nat_lt had 2 then had + 1 else 2) else had
 
 -- it begins with this order
-abbrev pub begun_by : Sequence → Job → List → Sequence
-begun_by q job list = begun_on q (on_count 0 job) list
+abbrev pub begun_by : Guarded → Sequence → Job → List → Sequence
+begun_by g q job list = begun_on q (on_count 0 job) (lowers g list.stairs.under) list
 
 -- A job of the step under way, or one that reads for the next one: what was told is past, and a fresh survey stays so if the job is its own.
 -- After an order the next step waits until the rail was looked at again.
@@ -212,20 +215,20 @@ abbrev pub job_after : Sequence → Job → List → Sequence
 job_after q job list = if is_order job then ordered_after q job list else read_after q list
 
 -- a job that is named so has begun: with the first order of a step that begins
-abbrev pub begun_as : Sequence → Act → Job → Sequence
-begun_as q (act.Begins first back) job = begun_by q job q.list
-begun_as q (act.Job named) job = job_after q job q.list
-begun_as q (act.Passes back) job = job_after q job q.list
-begun_as q (act.Order named) job = job_after q job q.list
-begun_as q (act.Ask question) job = job_after q job q.list
-begun_as q act.Probe job = job_after q job q.list
-begun_as q act.Pause job = job_after q job q.list
-begun_as q (act.Wait milliseconds) job = job_after q job q.list
-begun_as q act.Again job = job_after q job q.list
-begun_as q (act.NoWayBack fault) job = job_after q job q.list
-begun_as q (act.Does found) job = job_after q job q.list
-begun_as q (act.Leaves why) job = job_after q job q.list
-begun_as q (act.Ended why) job = job_after q job q.list
+abbrev pub begun_as : Guarded → Sequence → Act → Job → Sequence
+begun_as g q (act.Begins first back) job = begun_by g q job q.list
+begun_as g q (act.Job named) job = job_after q job q.list
+begun_as g q (act.Passes back) job = job_after q job q.list
+begun_as g q (act.Order named) job = job_after q job q.list
+begun_as g q (act.Ask question) job = job_after q job q.list
+begun_as g q act.Probe job = job_after q job q.list
+begun_as g q act.Pause job = job_after q job q.list
+begun_as g q (act.Wait milliseconds) job = job_after q job q.list
+begun_as g q act.Again job = job_after q job q.list
+begun_as g q (act.NoWayBack fault) job = job_after q job q.list
+begun_as g q (act.Does found) job = job_after q job q.list
+begun_as g q (act.Leaves why) job = job_after q job q.list
+begun_as g q (act.Ended why) job = job_after q job q.list
 
 -- an act by which the first step ahead begins with its order
 abbrev pub is_begin : Act → Bool
@@ -299,12 +302,12 @@ needs_look q step = step.looks.is_wanted && not q.is_looked
 abbrev pub look_here : Sequence → Step → Look
 look_here q step = if is_at q step then q.look else looking (new_of step)
 
-abbrev pub again_at : Look → Bool → Look
-again_at l off = record l { delivery = looking_after l.delivery off; probe = new_probe }
+abbrev pub again_at : Look → Bool → Bool → Look
+again_at l off lowers = record l { delivery = looking_after l.delivery off lowers; probe = new_probe }
 
 abbrev pub looking_at : Sequence → Step → Sequence
 looking_at q step = record q {
-  look = again_at (look_here q step) (turns_off step.placed.step.act);
+  look = again_at (look_here q step) (turns_off step.placed.step.act) q.lowers;
   look_host = step.placed.host;
   is_read = q.is_read && is_at q step;
   phase = phase.After;
@@ -362,7 +365,7 @@ after_of g under ahead q turn.Again list = again_after q list
 after_of g under ahead q (turn.Job job) list =
     gated_after (asked_of q list false) under (gate g q under job list false) job (job_after q job list)
 after_of g under ahead q (turn.Begins job back) list =
-    gated_after (asked_of q list true) ahead (gate g q ahead job list true) job (begun_by q job list)
+    gated_after (asked_of q list true) ahead (gate g q ahead job list true) job (begun_by g q job list)
 after_of g under ahead q (turn.Passes back) list = begun_with q list
 after_of g under ahead q (turn.NoWayBack fault) list = with_list q list
 after_of g under ahead q turn.Reached list = reached_after q under ahead list
@@ -443,6 +446,7 @@ said_act g q under (look.Ask question) = act.Ask question
 said_act g q under look.Probe = act.Probe
 said_act g q under look.Pause = act.Pause
 said_act g q under look.Again = act.Again
+said_act g q under look.Restarted = stopped_act q (end.Stopped Restarted)
 said_act g q under look.Over = found_at q under (verdict_in g q.look.delivery)
 
 abbrev pub said_after : Guarded → Sequence → Option Step → LookAct → Sequence
@@ -450,6 +454,7 @@ said_after g q under (look.Ask question) = q
 said_after g q under look.Probe = q
 said_after g q under look.Pause = q
 said_after g q under look.Again = q
+said_after g q under look.Restarted = stopped_after q (end.Stopped Restarted)
 said_after g q under look.Over = judged_after q under (verdict_in g q.look.delivery)
 
 -- what is looked at is sent beside the list's jobs

@@ -10,6 +10,7 @@
 mod frames;
 mod gate;
 mod look;
+mod lowers;
 mod sequence;
 mod sight;
 mod step;

@@ -2,7 +2,7 @@
 
 ghost use Rattle.std.specs.Prelude.{◌≡◌};
 ghost use Rattle.pm_delivery.specs.Heard.{asked_more};
-ghost use Rattle.pm_sequence.specs.Look.{answered as spec_answered, counted as spec_counted, is_silence as spec_is_silence, is_silent as spec_is_silent, is_silent_status as spec_is_silent_status, is_silent_vout as spec_is_silent_vout, lacks as spec_lacks, look_act, look_after, looking, more as spec_more, new_probe, over_act, probe_due as spec_probe_due, probed as spec_probed, round_act, round_after, status_heard as spec_status_heard};
+ghost use Rattle.pm_sequence.specs.Look.{answered as spec_answered, asks_operation as spec_asks_operation, is_lost as spec_is_lost, counted as spec_counted, is_silence as spec_is_silence, is_silent as spec_is_silent, is_silent_status as spec_is_silent_status, is_silent_vout as spec_is_silent_vout, lacks as spec_lacks, look_act, look_after, looking, more as spec_more, new_probe, over_act, probe_due as spec_probe_due, probed as spec_probed, round_act, round_after, status_heard as spec_status_heard};
 
 use pm_delivery::{
     Delivery, Due, FOUND_NO_READ_VOUT, FOUND_NO_STATUS_WORD, Heard, LOOK_BEFORE, NO_ANSWER,
@@ -19,13 +19,15 @@ pub struct Silence {
     pub has_answered: bool,
 }
 
-/// The read of OPERATION after a silent round, which says whether the part is there.
+/// The read of OPERATION after a silent round, which says whether the part is there; and after one in which a rail was off for no new fault.
 #[derive(Clone, Copy, Debug, PartialEq, Eq)]
 pub struct Probe {
     /// How often it was asked in this round.
     pub asked: u8,
     /// Whether any answer came.
     pub is_there: bool,
+    /// Whether the last answer was a good one, of a byte that leaves the output off, in a list that a restart ends.
+    pub is_off: bool,
     /// Whether it counts already.
     pub is_over: bool,
 }
@@ -56,6 +58,8 @@ pub enum LookAct {
     Pause,
     /// To ask again at once.
     Again,
+    /// Nothing: OPERATION leaves an output off that is commanded on.
+    Restarted,
     /// Nothing.
     Over,
 }
@@ -96,12 +100,15 @@ impl Look {
         ensures act { result ≡ round_act self.old passes due }
         ensures after { self.new ≡ round_after self.old passes due }
     {
-        if self.is_silent() && !self.probe.is_over {
+        if self.asks_operation() && !self.probe.is_over {
             if self.probe_due(passes) {
                 return LookAct::Probe;
             }
             *self = self.counted();
             return LookAct::Again;
+        }
+        if self.is_lost() {
+            return LookAct::Restarted;
         }
         match due {
             Due::Again => {
@@ -111,6 +118,20 @@ impl Look {
             }
             _ => LookAct::Over,
         }
+    }
+
+    // Whether OPERATION says more of this round.
+    fn asks_operation(&self) -> bool
+        ensures { result ≡ spec_asks_operation self.now }
+    {
+        self.is_silent() || self.delivery.is_unexplained()
+    }
+
+    // Whether OPERATION leaves an output off that is commanded on.
+    fn is_lost(&self) -> bool
+        ensures { result ≡ spec_is_lost self.now }
+    {
+        self.delivery.looks_on() && self.probe.is_off
     }
 
     // Whether OPERATION is to be read.
@@ -185,12 +206,13 @@ impl Look {
         }
     }
 
-    /// What came back for the read of OPERATION.
-    pub(crate) fn probed(&mut self, is_silence: bool)
-        ensures { self.new ≡ spec_probed self.old is_silence }
+    /// What came back for the read of OPERATION: nothing at all, or an answer that leaves the output off, or another one.
+    pub(crate) fn probed(&mut self, is_silence: bool, is_off: bool)
+        ensures { self.new ≡ spec_probed self.old is_silence is_off }
     {
         self.probe.asked = one_more(self.probe.asked);
         self.probe.is_there = self.probe.is_there || !is_silence;
+        self.probe.is_off = is_off;
     }
 }
 
@@ -201,6 +223,7 @@ fn no_probe() -> Probe
     Probe {
         asked: 0,
         is_there: false,
+        is_off: false,
         is_over: false,
     }
 }

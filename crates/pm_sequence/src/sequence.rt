@@ -7,6 +7,7 @@ ghost use Rattle.pm_sequence.specs.Sequence.{act_of, after_of, afresh_with, ahea
 
 use crate::gate::{Gate, is_judged_order, is_on_order, is_order, is_untold, judge};
 use crate::look::{Look, LookAct};
+use crate::lowers::lowers;
 use crate::step::Step;
 use pm_course::{CourseEnd, FrameCourse};
 use pm_delivery::{Delivery, DeliveryFault, Due, Question, Verdict};
@@ -128,6 +129,8 @@ pub struct Sequence {
     pub fresh: Fresh,
     /// How many orders that turn its output on the step under way had, two at most.
     pub turned_on: u8,
+    /// Whether the step under way lowers an output that is on.
+    pub lowers: bool,
     /// How many steps were left.
     pub left: u16,
     /// How it has ended.
@@ -153,6 +156,7 @@ impl Sequence {
             told: None,
             fresh: Fresh::Nothing,
             turned_on: 0,
+            lowers: false,
             left: 0,
             end: None,
         }
@@ -234,11 +238,11 @@ impl Sequence {
             }
             Turn::Job(job) => {
                 let gate = self.gate(guard, under, job, false);
-                self.gated(under, gate, job, Act::Job(job), was)
+                self.gated(guard, under, gate, job, Act::Job(job), was)
             }
             Turn::Begins(job, back) => {
                 let gate = self.gate(guard, ahead, job, true);
-                self.gated(ahead, gate, job, Act::Begins(job, back), was)
+                self.gated(guard, ahead, gate, job, Act::Begins(job, back), was)
             }
             Turn::Passes(back) => {
                 self.begins();
@@ -308,10 +312,18 @@ impl Sequence {
     }
 
     // What comes of a job that the list, which was this before, names of a step.
-    fn gated(&mut self, step: &Option<Step>, gate: Gate, job: Job, act: Act, was: &List) -> Act
+    fn gated<S: Sight>(
+        &mut self,
+        guard: &S,
+        step: &Option<Step>,
+        gate: Gate,
+        job: Job,
+        act: Act,
+        was: &List,
+    ) -> Act
         ensures act { result ≡ gated_act (asked_of (with_list self.old was.now) self.old.list (spec_is_begin act)) gate job act }
         ensures after { self.new ≡ gated_after (asked_of (with_list self.old was.now) self.old.list (spec_is_begin act)) step.now gate job
-            (begun_as self.old act job) }
+            (begun_as (S.guarded guard.now) self.old act job) }
     {
         match gate {
             Gate::Goes => {
@@ -320,7 +332,7 @@ impl Sequence {
                     self.told = Some(job);
                     return Act::Order(job);
                 }
-                self.begins_as(&act, job);
+                self.begins_as(guard, &act, job);
                 act
             }
             Gate::Looks => {
@@ -387,13 +399,14 @@ impl Sequence {
     }
 
     // A job begins, as the first order of a step or otherwise.
-    fn begins_as(&mut self, act: &Act, job: Job)
-        ensures { self.new ≡ begun_as self.old act.now job }
+    fn begins_as<S: Sight>(&mut self, guard: &S, act: &Act, job: Job)
+        ensures { self.new ≡ begun_as (S.guarded guard.now) self.old act.now job }
     {
         match act {
             Act::Begins(..) => {
                 self.begins();
                 self.turned_on = on_count(0, job);
+                self.lowers = lowers(guard, &self.list.stairs.under);
             }
             _ => self.after_job(job),
         }
@@ -422,6 +435,7 @@ impl Sequence {
         self.told = None;
         self.fresh = Fresh::Nothing;
         self.turned_on = 0;
+        self.lowers = false;
     }
 
     // A job of the step under way, or one that reads for the next one, has begun.
@@ -451,9 +465,10 @@ impl Sequence {
                     self.look_host = step.placed.host;
                     self.is_read = false;
                 }
-                self.look.delivery.look_after(step.turns_off());
+                self.look.delivery.look_after(step.turns_off(), self.lowers);
                 self.look.probe.asked = 0;
                 self.look.probe.is_there = false;
+                self.look.probe.is_off = false;
                 self.look.probe.is_over = false;
                 self.phase = Phase::After;
                 Act::Again
@@ -537,6 +552,7 @@ impl Sequence {
             LookAct::Probe => Act::Probe,
             LookAct::Pause => Act::Pause,
             LookAct::Again => Act::Again,
+            LookAct::Restarted => self.stops(End::Stopped(StepEnd::Restarted)),
             LookAct::Over => {
                 let verdict = self.verdict(guard);
                 self.looked(under, verdict)

@@ -235,7 +235,7 @@ fn a_reading_is_told_in_microvolts(rt: HostRuntime) {
     sequence.list.begun = 1;
     sequence.phase = 2;
     sequence.look.delivery = Delivery::new(0, 2, 0, 50, 1);
-    sequence.look.delivery.look_after(false);
+    sequence.look.delivery.look_after(false, false);
     sequence.look.delivery.read_vout = good(0x1800);
     let steps = [turns(0, 0, 0x80, 1)];
     let said = next(&mut sequence, &mut image, &steps, &mut []);

@@ -2,8 +2,9 @@
 
 use crate::checks::equal;
 use crate::sequences::part::{Part, Run, carried};
-use crate::sequences::{DOWN, LOOKS, NOT, PART, UP, guard, on};
+use crate::sequences::{DOWN, LOOKS, NOT, PART, UP, guard, on, sets};
 use pm_course::{CourseEnd, Refusal};
+use pm_delivery::Verdict;
 use pm_limits::Guard;
 use pm_sequence::{End, Looks, Rules, Sequence, Step};
 use pm_stairs::StepEnd;
@@ -103,6 +104,87 @@ fn no_order_goes_into_a_part_that_came_up_anew(rt: HostRuntime) {
             &(Some(*end), 0, ANEW),
             name,
         );
+    }
+}
+
+#[test]
+fn a_look_that_finds_a_part_anew_ends_at_once(rt: HostRuntime) {
+    let restarted = End::Stopped(StepEnd::Restarted);
+    let off = End::Does(Verdict::IsOff);
+    let going = Rules {
+        leaves: false,
+        ..DOWN
+    };
+    // The rules, how the list ends, and how many frames are sent: STATUS_WORD and OPERATION, or these in each of four rounds.
+    let rows: [(&'static str, Rules, End, usize); 2] = [
+        ("a list that a restart ends", UP, restarted, 29),
+        ("a list that goes on", going, off, 35),
+    ];
+    for (name, rules, end, frames) in &rows {
+        let part = Part {
+            restarts: Some(27),
+            anew: ANEW,
+            ..PART
+        };
+        let (run, part) = turned_on(&rt, *rules, LOOKS, guard(&rt), part);
+        equal(&rt, &(run.end, part.frames), &(Some(*end), *frames), name);
+    }
+}
+
+#[test]
+fn a_voltage_above_its_limit_ends_at_once_unless_it_was_lowered(rt: HostRuntime) {
+    let outside = End::Does(Verdict::OutsideLimits);
+    // OPERATION before, the voltage that it has then, the step, for how many reads READ_VOUT is above the limit, and how the list ends.
+    let rows: [(&'static str, u16, u16, Step, usize, End); 6] = [
+        (
+            "raised",
+            0x80,
+            0x0E00,
+            sets(0, 0, 1_000_000, LOOKS),
+            2,
+            outside,
+        ),
+        (
+            "lowered",
+            0x80,
+            0x1180,
+            sets(0, 0, 1_000_000, LOOKS),
+            2,
+            End::Reached,
+        ),
+        (
+            "lowered, and not in time",
+            0x80,
+            0x1180,
+            sets(0, 0, 1_000_000, LOOKS),
+            9,
+            outside,
+        ),
+        ("turned on", 0x00, 0x1000, on(0, 0, LOOKS), 2, outside),
+        (
+            "from margin high",
+            0xA8,
+            0x1000,
+            on(0, 0, LOOKS),
+            2,
+            End::Reached,
+        ),
+        ("from margin low", 0x98, 0x1000, on(0, 0, LOOKS), 2, outside),
+    ];
+    for (name, operation, command, step, ramps, end) in &rows {
+        let mut parts = [Part {
+            ramps: *ramps,
+            ..PART
+        }];
+        parts[0].words[0][0] = *operation;
+        parts[0].words[0][1] = *command;
+        let run = carried(
+            Sequence::new(60, UP),
+            &mut [narrowed(&rt)],
+            &mut parts,
+            &[*step],
+        );
+        equal(&rt, &run.end, &Some(*end), name);
     }
 }
 

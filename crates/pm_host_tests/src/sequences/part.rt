@@ -39,6 +39,8 @@ pub(crate) struct Part {
     pub(crate) mutes: usize,
     /// How many of these are left.
     pub(crate) mute: usize,
+    /// How often READ_VOUT still reads 1.5 V.
+    pub(crate) ramps: usize,
     /// The bits that OPERATION reads as 1 whatever was written.
     pub(crate) reserved: u16,
     /// The command codes of its frames, the register's of one by PAGE_PLUS.
@@ -161,6 +163,7 @@ impl Part {
             0x79 => self
                 .status
                 .map(|status| (if off { status | 0x0840 } else { status }, 2)),
+            0x8B if self.has_vout && 0 < self.ramps => Some((0x1800, 2)),
             0x8B if self.has_vout => Some((self.word(output, 1), 2)),
             0x40 => self.limit.map(|limit| (limit, 2)),
             0x01 => Some((self.word(output, 0) | self.reserved, 1)),
@@ -191,6 +194,9 @@ impl Part {
                 }
             }
         };
+        if byte_at(bytes, 4) == 0x8B && 0 < self.ramps {
+            self.ramps -= 1;
+        }
         answer[count] = pec_after(pec(bytes), &answer[..count]);
         (answer, count + 1)
     }

@@ -214,7 +214,7 @@ fn faults_are_new_against_what_an_earlier_list_heard(rt: HostRuntime) {
             0x0020,
             1_200_000,
             is_new,
-            22,
+            28,
         ),
         (
             "it stood, and nothing is ordered",
@@ -230,7 +230,7 @@ fn faults_are_new_against_what_an_earlier_list_heard(rt: HostRuntime) {
             0x0020,
             1_000_000,
             is_new,
-            7,
+            13,
         ),
         (
             "no answer came",
@@ -246,7 +246,7 @@ fn faults_are_new_against_what_an_earlier_list_heard(rt: HostRuntime) {
             0x0020,
             1_200_000,
             is_new,
-            23,
+            29,
         ),
     ];
     for (name, before, status, microvolts, end, frames) in &rows {

@@ -8,4 +8,4 @@ pub returns : goal.returns
 returns g c =
     let life : LookLife = record { held = g.life.held; passes = g.life.passes; later = []; before = g.life.happened } in
     subst (λ (d : Delivery). LooksAt life d c.args.device.now) (sym c.look_after.ensures)
-    (record { look = begins c.args.delivery.now c.args.is_off; here = c.requires.0; device_is = c.requires.1 })
+    (record { look = begins c.args.delivery.now c.args.is_off c.args.lowers; here = c.requires.0; device_is = c.requires.1 })
