@@ -29,10 +29,12 @@ use Rattle.pm_sequence.specs.declared.step.Step.{Step}
 use Rattle.pm_sequence.specs.Frames.{job_named, refusal_end, refused_act, refused_after, refused_with}
 use Rattle.pm_sequence.specs.Gate.{is_order, is_untold}
 use Rattle.pm_sequence.specs.Look.{look_act, look_after}
+use Rattle.pm_sequence.specs.Lowers.{lowers}
 use Rattle.pm_sequence.specs.Sequence.{Acts, Steps, act_of, afresh_with, after_of, again_after, ahead_act, ahead_after, asked_of, begun_by, begun_on, begun_with, done_act, done_after, due_in, end_of, found_in, gate, gated_act, gated_after, is_good, job_after, judged_in, looked_act, looked_after, look_before, may_leave, needs_look, on_count, ordered_after, over_act, over_after, read_after, said_act, said_after, shown, spent_end, step_act, step_after, stopped_act, stopped_after, told_with, verdict_in, with_list, with_look}
 use Rattle.pm_sequence.specs.Sequence as does
 use Rattle.pm_sequence_laws.specs.Runs.{Mark, Orders, Does, Leaves, Places, marks_of, must, under_at}
 use Rattle.pm_sequence_laws.proofs.Counts.{Counts, afresh-begun, counts, may_begin}
+use Rattle.pm_stairs.specs.declared.said.StepEnd.TheVariants as ended
 use Rattle.pm_sequence_laws.proofs.Counts as many
 
 abbrev reached : Option End
@@ -122,24 +124,25 @@ module _ (steps : Places) (was : Sequence) where
         stop-kind (asked_of was list false) (spent_end (asked_of was list false)) (λ e. cc) refl (λ e. e) (λ e. e) refl on
 
     -- with whatever count of orders that turn on
-    begun-on-so : (turned_on : ℕ) (list : List_) → Begun steps was (begun_with was list) → Begun steps was (begun_on was turned_on list)
-    begun-on-so turned_on list (same is) = same is
-    begun-on-so turned_on list (one step shown ahead is) = one step shown ahead is
+    begun-on-so : (turned_on : ℕ) (lowers : Bool) (list : List_) → Begun steps was (begun_with was list)
+        → Begun steps was (begun_on was turned_on lowers list)
+    begun-on-so turned_on lowers list (same is) = same is
+    begun-on-so turned_on lowers list (one step shown ahead is) = one step shown ahead is
 
-    begin-kind : (step : Option Step) (job : Job) (back : WordStep) (list : List_) → Begun steps was (begun_with was list) → (is : Gate)
-        → Kind steps was (gated_after (asked_of was list true) step is job (begun_by was job list))
-        (marks_of (gated_after (asked_of was list true) step is job (begun_by was job list)).list.begun
+    begin-kind : (g : Guarded) (step : Option Step) (job : Job) (back : WordStep) (list : List_) → Begun steps was (begun_with was list) → (is : Gate)
+        → Kind steps was (gated_after (asked_of was list true) step is job (begun_by g was job list))
+        (marks_of (gated_after (asked_of was list true) step is job (begun_by g was job list)).list.begun
         (gated_act (asked_of was list true) is job (act.Begins job back)))
-    begin-kind step job back list begun gate_is.Goes =
-        tell-by list true job (begun_by was job list) (act.Begins job back)
-        (orders (begun-on-so (on_count 0 job) list begun) refl refl refl (no-end on)) (is_untold was.asks was.told job)
-    begin-kind step job back list begun gate_is.Looks = look-kind list true step
-    begin-kind step job back list begun (gate_is.Beyond fault) =
+    begin-kind g step job back list begun gate_is.Goes =
+        tell-by list true job (begun_by g was job list) (act.Begins job back)
+        (orders (begun-on-so (on_count 0 job) (lowers g list.stairs.under) list begun) refl refl refl (no-end on)) (is_untold was.asks was.told job)
+    begin-kind g step job back list begun gate_is.Looks = look-kind list true step
+    begin-kind g step job back list begun (gate_is.Beyond fault) =
         stop-kind (asked_of was list true) (end.Beyond fault) (λ e. cc) refl (λ e. e) (λ e. e) refl on
-    begin-kind step job back list begun gate_is.Blind = anew-kind list true
-    begin-kind step job back list begun gate_is.Unjudged =
+    begin-kind g step job back list begun gate_is.Blind = anew-kind list true
+    begin-kind g step job back list begun gate_is.Unjudged =
         stop-kind (asked_of was list true) end.Unjudged (λ e. cc) refl (λ e. e) (λ e. e) refl on
-    begin-kind step job back list begun gate_is.Twice =
+    begin-kind g step job back list begun gate_is.Twice =
         stop-kind (asked_of was list true) (spent_end (asked_of was list true)) (λ e. cc) refl (λ e. e) (λ e. e) refl on
 
     -- all of the newest step is over
@@ -220,7 +223,7 @@ module _ (steps : Places) (was : Sequence) where
         job-kind (under_at steps was.list.begun) job list (count-of list (turn.Job job) refl many)
         (gate g was (under_at steps was.list.begun) job list false)
     turn-kind g (turn.Begins job back) list many =
-        begin-kind (steps was.list.begun) job back list (begun-of list (turn.Begins job back) many)
+        begin-kind g (steps was.list.begun) job back list (begun-of list (turn.Begins job back) many)
         (gate g was (steps was.list.begun) job list true)
     turn-kind g (turn.Passes back) list many = begins (begun-of list (turn.Passes back) many) refl refl refl (no-end on)
     turn-kind g (turn.NoWayBack fault) list many =
@@ -263,6 +266,8 @@ module _ (steps : Places) (was : Sequence) where
     said-kind g l look.Probe = quiet refl (λ e. e) (λ e. e) refl (λ e. e)
     said-kind g l look.Pause = quiet refl (λ e. e) (λ e. e) refl (λ e. e)
     said-kind g l look.Again = quiet refl (λ e. e) (λ e. e) refl (λ e. e)
+    said-kind g l look.Restarted =
+        stop-kind (with_look was l) (end.Stopped ended.Restarted) (λ e. cc) refl (λ e. e) (λ e. e) refl on
     said-kind g l look.Over = found-kind (with_look was l) refl refl refl refl on was.phase (verdict_in g l.delivery)
 
   pub kind : (g : Guarded) (said : Act) (new : Sequence) → Acts g (under_at steps was.list.begun) (steps was.list.begun) was said new

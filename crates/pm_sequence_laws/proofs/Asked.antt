@@ -29,9 +29,10 @@ use Rattle.pm_sequence.specs.declared.sequence.Phase.TheVariants as phase
 use Rattle.pm_sequence.specs.declared.sequence.Sequence.{Sequence}
 use Rattle.pm_sequence.specs.declared.step.Step.{Step}
 use Rattle.pm_sequence.specs.Gate.{is_order, is_untold}
-use Rattle.pm_sequence.specs.Look.{counted, is_silent, look_act, look_after, probe_due}
+use Rattle.pm_sequence.specs.Look.{asks_operation, counted, found_act, found_after, is_lost, look_act, look_after, probe_due}
 use Rattle.pm_sequence.specs.Sequence.{Acts, Steps, after_of, ahead_after, asked_list, begun_by, begun_with, done_after, due_in, gate, gated_after, is_at, is_good, job_after, judged_in, left_out, look_before, looking_at, may_leave, needs_look, read_after, said_after, spent_end, stopped_after, told_with, verdict_in, with_list, with_look}
 use Rattle.pm_sequence.specs.Sequence as does
+use Rattle.pm_stairs.specs.declared.said.StepEnd.TheVariants as ended
 use Rattle.pm_sequence_laws.specs.Read.{LimitsAreRead, WasRead}
 
 -- ---- Acts by which nothing comes to count as read ----
@@ -81,7 +82,7 @@ module _ (q : Sequence) (unread : q.is_read ≡ false) where
       gate-read (asked_list q.list list false) under job (job_after q job list)
       (either-read ⊥ (is_order job) _ (read_after q list) never never) (gate g q under job list false)
   turn-read g under ahead (turn.Begins job back) list =
-      gate-read (asked_list q.list list true) ahead job (begun_by q job list) never (gate g q ahead job list true)
+      gate-read (asked_list q.list list true) ahead job (begun_by g q job list) never (gate g q ahead job list true)
   turn-read g under ahead (turn.Passes back) list = never
   turn-read g under ahead (turn.NoWayBack fault) list = never
   turn-read g under ahead turn.Reached list = over-read list under ahead
@@ -106,16 +107,17 @@ due-is g d at small =
     let here : (d.look == before_number) ≡ true = eq-eqb d.look before_number at in
     rw (small, here) refl
 
-nothing-by : (l : Look) (a b : Bool) → cond a (cond b look.Probe look.Again) look.Over ≡ look.Over
-    → (cond a (cond b l (counted l)) l).delivery ≡ l.delivery
-nothing-by l true true is = cc
-nothing-by l true false is = cc
-nothing-by l false b is = refl
+nothing-by : (l : Look) (a b c : Bool) → cond a (cond b look.Probe look.Again) (found_act c due.Nothing) ≡ look.Over
+    → (cond a (cond b l (counted l)) (found_after c l due.Nothing)).delivery ≡ l.delivery
+nothing-by l true true c is = cc
+nothing-by l true false c is = cc
+nothing-by l false b true is = cc
+nothing-by l false b false is = refl
 
 -- nothing is left to ask once a look before is over, and what was heard stays
 over-facts : (l : Look) (passes : ℕ) (o : Option Question) → look_act l passes (asked o) ≡ look.Over
     → (o ≡ None) × ((look_after l passes (asked o)).delivery ≡ l.delivery)
-over-facts l passes None is = (refl, nothing-by l (is_silent l && not l.probe.is_over) (probe_due passes l) is)
+over-facts l passes None is = (refl, nothing-by l (asks_operation l && not l.probe.is_over) (probe_due passes l) (is_lost l) is)
 over-facts l passes (Some question) is = cc
 
 look-facts : (g : Guarded) (l : Look) → l.delivery.look ≡ before_number → nat_lt l.delivery.output 8 ≡ true
@@ -139,6 +141,8 @@ module _ (g : Guarded) (q : Sequence) (unread : q.is_read ≡ false) (under : Op
   after-read is l look.Probe = never q unread
   after-read is l look.Pause = never q unread
   after-read is l look.Again = never q unread
+  after-read is l look.Restarted =
+      either-read ⊥ (q.leaves && may_leave (end.Stopped ended.Restarted)) (left_out (with_look q l)) _ (never q unread) (never q unread)
   after-read is l look.Over =
       subst (λ (p : Phase). (judged_in p (with_look q l) under (verdict_in g l.delivery)).is_read ≡ true → ⊥) (sym is)
       (done-read l (verdict_in g l.delivery))
@@ -151,6 +155,8 @@ module _ (g : Guarded) (q : Sequence) (unread : q.is_read ≡ false) (under : Op
   before-so is at small look.Probe h e = absurd (never q unread e)
   before-so is at small look.Pause h e = absurd (never q unread e)
   before-so is at small look.Again h e = absurd (never q unread e)
+  before-so is at small look.Restarted h e =
+      absurd (either-read ⊥ (q.leaves && may_leave (end.Stopped ended.Restarted)) _ _ (never q unread) (never q unread) e)
   before-so is at small look.Over h e =
       let facts = look-facts g q.look at small h in
       let l = look_after q.look g.host.setup.passes (due_in g q.look.delivery) in

@@ -26,6 +26,7 @@ use Rattle.pm_sequence.specs.Look.{look_act, look_after}
 use Rattle.pm_sequence.specs.Steps.{is_unreadable}
 use Rattle.pm_sequence.specs.Sequence.{Acts, Steps, act_of, ahead_act, asked_of, done_act, done_after, due_in, found_in, gate, gated_act, is_good, is_good_by, judged_in, may_leave, needs_look, over_act, said_act, said_after, spent_end, stopped_act, stopped_after, verdict_in, with_list, with_look}
 use Rattle.pm_sequence.specs.Sequence as does
+use Rattle.pm_stairs.specs.declared.said.StepEnd.TheVariants as ended
 use Rattle.pm_sequence_laws.specs.Finds.{FindsAreVerdicts, IsDelivered, IsFound, by_voltage, delivers, power_good, went_off}
 
 abbrev is_find : Act → Bool
@@ -99,6 +100,7 @@ said-so g q under (look.Ask question) = none (act.Ask question) refl
 said-so g q under look.Probe = none act.Probe refl
 said-so g q under look.Pause = none act.Pause refl
 said-so g q under look.Again = none act.Again refl
+said-so g q under look.Restarted = none _ (stop-quiet q (end.Stopped ended.Restarted))
 said-so g q under look.Over = found-so g q.phase q under
 
 steps-so : (g : Guarded) (under ahead : Option Step) (q new : Sequence) (said : Act) → Steps g under ahead q said new → FindsSo g under new said

@@ -39,6 +39,7 @@ use Rattle.pm_sequence.specs.Sequence.{Acts, Steps, act_of, after_of, afresh, af
 use Rattle.pm_sequence.specs.Sequence as does
 use Rattle.pm_sequence_laws.specs.Fresh.{BeginsAnew, ComesFresh, OrdersAreFresh, anew, ends, reads, rests, stays}
 use Rattle.pm_sequence_laws.specs.Turned.{is_begin}
+use Rattle.pm_stairs.specs.declared.said.StepEnd.TheVariants as ended
 use Rattle.pm_sequence_laws.proofs.Judged.{NamesSo, a-begin, a-job, acts-so, none}
 
 -- ---- What begins anew ----
@@ -130,7 +131,7 @@ module _ (g : Guarded) (under ahead : Option Step) (old : Sequence) where
       gate-so under job (job_after old job list) (act.Job job) list (turn.Job job) turned (job-so job list (is_order job) refl)
       (gate g old under job list false)
   turn-so (turn.Begins job back) list turned =
-      gate-so ahead job (begun_by old job list) (act.Begins job back) list (turn.Begins job back) turned (ends (act.Begins job back) refl)
+      gate-so ahead job (begun_by g old job list) (act.Begins job back) list (turn.Begins job back) turned (ends (act.Begins job back) refl)
       (gate g old ahead job list true)
   turn-so (turn.Passes back) list turned = ends (act.Passes back) refl
   turn-so (turn.NoWayBack fault) list turned = stays (act.NoWayBack fault) refl refl
@@ -162,6 +163,7 @@ module _ (g : Guarded) (under ahead : Option Step) (old : Sequence) where
   said-so l look.Probe = ends act.Probe refl
   said-so l look.Pause = ends act.Pause refl
   said-so l look.Again = ends act.Again refl
+  said-so l look.Restarted = left-so (with_look old l) (end.Stopped ended.Restarted) refl
   said-so l look.Over = found-so old.phase (with_look old l) (verdict_in g l.delivery) refl
 
   comes : (new : Sequence) (said : Act) → Acts g under ahead old said new → Comes new said

@@ -58,6 +58,7 @@ module _ (g : Guarded) (old : Sequence) (bytes : List ℕ) where
   by-act look.Probe = record { begun = refl; shown = refl; looked = refl; left = refl; ended = refl }
   by-act look.Pause = stays old
   by-act look.Again = stays old
+  by-act look.Restarted = stays old
   by-act look.Over = stays old
 
   by-phase : (p : Phase) → HearsInRun old (heard_at p g old bytes)

@@ -36,6 +36,7 @@ use Rattle.pm_sequence.specs.Sequence.{Acts, Steps, act_of, after_of, ahead_act,
 use Rattle.pm_sequence.specs.Sequence as does
 use Rattle.pm_sequence_laws.proofs.Listed.{either-list}
 use Rattle.pm_sequence_laws.specs.Judged.{IsDue, IsJudged, IsTold, OrdersAreJudged, OrdersAreTold}
+use Rattle.pm_stairs.specs.declared.said.StepEnd.TheVariants as ended
 use Rattle.pm_sequence_laws.specs.Judged as due
 
 -- an act that names a job, or tells one
@@ -84,6 +85,7 @@ said-quiet g q under (look.Ask question) = refl
 said-quiet g q under look.Probe = refl
 said-quiet g q under look.Pause = refl
 said-quiet g q under look.Again = refl
+said-quiet g q under look.Restarted = stop-quiet q (end.Stopped ended.Restarted)
 said-quiet g q under look.Over = found-quiet q.phase q under (verdict_in g q.look.delivery)
 
 pub look-quiet : (g : Guarded) (q : Sequence) (under : Option Step) → is_named (looked_act g q under) ≡ false
@@ -195,7 +197,7 @@ job-goes g under ahead q job list says judged fresh false told = a-job job list 
 begin-goes : (g : Guarded) (under ahead : Option Step) (q : Sequence) (job : Job) (back : WordStep) (list : List)
     → Turns g (shown q ahead) q.list (turn.Begins job back) list → IsJudged g q ahead job list
     → (is_on_order job ≡ true → is_fresh q.fresh true ≡ true) → (b : Bool) → is_untold q.asks q.told job ≡ b
-    → NamesSo g under ahead q (cond b (told_with (asked_of q list true) job) (does.begun_by q job list))
+    → NamesSo g under ahead q (cond b (told_with (asked_of q list true) job) (does.begun_by g q job list))
     (cond b (act.Order job) (act.Begins job back))
 begin-goes g under ahead q job back list says judged fresh true told =
     an-order job told
@@ -219,7 +221,7 @@ job-so g under ahead q job list says gate_is.Twice goes = none _ (stop-quiet (as
 begin-so : (g : Guarded) (under ahead : Option Step) (q : Sequence) (job : Job) (back : WordStep) (list : List)
     → Turns g (shown q ahead) q.list (turn.Begins job back) list
     → (is : Gate) → gate g q ahead job list true ≡ is
-    → NamesSo g under ahead q (gated_after (asked_of q list true) ahead is job (does.begun_by q job list))
+    → NamesSo g under ahead q (gated_after (asked_of q list true) ahead is job (does.begun_by g q job list))
     (gated_act (asked_of q list true) is job (act.Begins job back))
 begin-so g under ahead q job back list says gate_is.Goes goes =
     begin-goes g under ahead q job back list says (judged g q ahead job list true goes) (fresh-by g q ahead job list true goes)

@@ -31,6 +31,7 @@ use Rattle.pm_sequence.specs.Look.{look_act, look_after}
 use Rattle.pm_sequence.specs.Sequence.{Acts, Steps, after_of, ahead_after, asked_list, asked_of, begun_by, begun_with, done_after, due_in, gate, gated_after, is_good, job_after, judged_in, left_out, look_before, may_leave, needs_look, over_after, read_after, said_after, shown, spent_end, stopped_after, told_with, verdict_in, with_list, with_look}
 use Rattle.pm_sequence.specs.Sequence as does
 use Rattle.pm_sequence_laws.specs.Turned.{IsKept, ListGoes, SequencesTurn, is_begin}
+use Rattle.pm_stairs.specs.declared.said.StepEnd.TheVariants as ended
 use Rattle.pm_sequence_laws.specs.Turned as it
 
 -- one of two that have this list
@@ -111,7 +112,7 @@ turn-so g under ahead q (turn.Job job) list turned =
     gate-so g (shown q ahead) q under job (job_after q job list) list (turn.Job job) turned
     (either-list (is_order job) _ (read_after q list) list refl refl) (gate g q under job list false)
 turn-so g under ahead q (turn.Begins job back) list turned =
-    gate-so g (shown q ahead) q ahead job (begun_by q job list) list (turn.Begins job back) turned refl (gate g q ahead job list true)
+    gate-so g (shown q ahead) q ahead job (begun_by g q job list) list (turn.Begins job back) turned refl (gate g q ahead job list true)
 turn-so g under ahead q (turn.Passes back) list turned = it.says (turn.Passes back) turned
 turn-so g under ahead q (turn.NoWayBack fault) list turned = it.says (turn.NoWayBack fault) turned
 turn-so g under ahead q turn.Reached list turned =
@@ -135,6 +136,7 @@ said-so g q under (look.Ask question) = kept refl
 said-so g q under look.Probe = kept refl
 said-so g q under look.Pause = kept refl
 said-so g q under look.Again = kept refl
+said-so g q under look.Restarted = stop-list q (end.Stopped ended.Restarted)
 said-so g q under look.Over = found-so q.phase q under (verdict_in g q.look.delivery)
 
 steps-so : (g : Guarded) (under ahead : Option Step) (q new : Sequence) (said : Act) → Steps g under ahead q said new

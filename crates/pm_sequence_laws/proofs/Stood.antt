@@ -31,10 +31,11 @@ use Rattle.pm_sequence.specs.declared.sequence.Phase.TheVariants as phase
 use Rattle.pm_sequence.specs.declared.sequence.Sequence.{Sequence}
 use Rattle.pm_sequence.specs.declared.step.Step.{Step}
 use Rattle.pm_sequence.specs.Gate.{is_order, is_untold}
-use Rattle.pm_sequence.specs.Look.{is_silent, look_act, look_after, probe_due}
+use Rattle.pm_sequence.specs.Look.{asks_operation, found_act, is_lost, look_act, look_after, probe_due}
 use Rattle.pm_sequence.specs.Sequence.{Acts, Steps, after_of, ahead_after, asked_list, begun_by, begun_with, due_in, found_in, gate, gated_after, job_after, left_out, look_before, looked_act, looking_at, may_leave, needs_look, over_after, read_after, said_act, spent_end, stopped_after, told_with, verdict_in, with_list, with_look}
 use Rattle.pm_sequence.specs.Sequence as does
 use Rattle.pm_sequence_laws.specs.Read.{EarlierAnswersCount}
+use Rattle.pm_stairs.specs.declared.said.StepEnd.TheVariants as ended
 use Rattle.pm_sequence_laws.proofs.Asked.{due-is}
 
 -- ---- Where a look starts ----
@@ -102,7 +103,7 @@ module _ (under ahead : Option Step) where
         gate-starts (asked_list q.list list false) under job (job_after q job list) (under-starts (asked_list q.list list false) under refl)
         (either-starts (is_order job) _ (read_after q list) off off) (gate g q under job list false)
     turn-starts (turn.Begins job back) list =
-        gate-starts (asked_list q.list list true) ahead job (begun_by q job list) (ahead-starts (asked_list q.list list true) ahead refl) off
+        gate-starts (asked_list q.list list true) ahead job (begun_by g q job list) (ahead-starts (asked_list q.list list true) ahead refl) off
         (gate g q ahead job list true)
     turn-starts (turn.Passes back) list = off
     turn-starts (turn.NoWayBack fault) list = off
@@ -144,13 +145,18 @@ before-due d passes is =
     (never-limits (d.fault_limits == limits_skip) (is_due passes d.ov_fault_limit) (is_due passes d.ov_warn_limit)
     (is_due passes d.uv_warn_limit) (is_due passes d.uv_fault_limit)) is
 
-round-never : (a b : Bool) → cond a (cond b look.Probe look.Again) look.Over ≡ look.Ask Before → ⊥
-round-never true true is = cc
-round-never true false is = cc
-round-never false b is = cc
+round-never : (a b c : Bool) → cond a (cond b look.Probe look.Again) (found_act c due.Nothing) ≡ look.Ask Before → ⊥
+round-never true true c is = cc
+round-never true false c is = cc
+round-never false b true is = cc
+round-never false b false is = cc
+
+stops-never : (b : Bool) (why : End) → cond b (act.Leaves why) (act.Ended why) ≡ act.Ask Before → ⊥
+stops-never true why is = cc
+stops-never false why is = cc
 
 asked-before : (l : Look) (passes : ℕ) (o : Option Question) → look_act l passes (asked o) ≡ look.Ask Before → o ≡ Some Before
-asked-before l passes None is = absurd (round-never (is_silent l && not l.probe.is_over) (probe_due passes l) is)
+asked-before l passes None is = absurd (round-never (asks_operation l && not l.probe.is_over) (probe_due passes l) (is_lost l) is)
 asked-before l passes (Some question) is = let same : question ≡ Before = cc in ap (λ (x : Question). Some x) same
 
 module _ (g : Guarded) (q : Sequence) (under : Option Step) (on : q.phase ≡ phase.Before) where
@@ -159,6 +165,8 @@ module _ (g : Guarded) (q : Sequence) (under : Option Step) (on : q.phase ≡ ph
   said-before l look.Probe is = cc
   said-before l look.Pause is = cc
   said-before l look.Again is = cc
+  said-before l look.Restarted is =
+      absurd (stops-never (q.leaves && may_leave (end.Stopped ended.Restarted)) (end.Stopped ended.Restarted) is)
   said-before l look.Over is =
       let wrong : act.Again ≡ act.Ask Before =
       sym (ap (λ (p : Phase). found_in p (with_look q l) under (verdict_in g l.delivery)) on) ∙ is in cc

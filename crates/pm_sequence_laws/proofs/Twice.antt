@@ -33,6 +33,7 @@ use Rattle.pm_sequence.specs.Look.{look_act, look_after}
 use Rattle.pm_sequence.specs.Sequence.{Acts, Steps, act_of, after_of, ahead_act, ahead_after, asked_of, begun_by, begun_with, done_act, done_after, due_in, found_in, gate, gated_act, gated_after, is_good, job_after, judged_in, left_out, look_before, looking_at, may_leave, needs_look, on_count, ordered_after, over_act, over_after, read_after, said_act, said_after, spent_end, stopped_act, stopped_after, told_with, verdict_in, with_list, with_look}
 use Rattle.pm_sequence.specs.Sequence as does
 use Rattle.pm_sequence_laws.specs.Twice.{CountsOn, OrdersStopAtTwo, at_once, counts, first, keeps, passes, turns_on}
+use Rattle.pm_stairs.specs.declared.said.StepEnd.TheVariants as ended
 use Rattle.pm_sequence_laws.proofs.Judged.{few-by}
 
 module _ (g : Guarded) (under ahead : Option Step) (old : Sequence) where
@@ -111,7 +112,7 @@ module _ (g : Guarded) (under ahead : Option Step) (old : Sequence) where
       gate-so under it list false (job_after old it list) (act.Job it) (gate g old under it list false)
       (λ goes. job-so it list (few-by g old under it list goes) (is_order it) refl)
   turn-so (turn.Begins it back) list =
-      gate-so ahead it list true (begun_by old it list) (act.Begins it back) (gate g old ahead it list true) (λ goes. first it back refl)
+      gate-so ahead it list true (begun_by g old it list) (act.Begins it back) (gate g old ahead it list true) (λ goes. first it back refl)
   turn-so (turn.Passes back) list = passes back refl
   turn-so (turn.NoWayBack fault) list = keeps (act.NoWayBack fault) refl refl
   turn-so turn.Reached list = over-so (with_list old list) under ahead refl
@@ -134,6 +135,7 @@ module _ (g : Guarded) (under ahead : Option Step) (old : Sequence) where
   said-so l look.Probe = keeps act.Probe refl refl
   said-so l look.Pause = keeps act.Pause refl refl
   said-so l look.Again = keeps act.Again refl refl
+  said-so l look.Restarted = stop-so (with_look old l) (end.Stopped ended.Restarted) refl
   said-so l look.Over = found-so old.phase (with_look old l) (verdict_in g l.delivery) refl
 
   steps-so : (new : Sequence) (said : Act) → Steps g under ahead old said new → Counts new said
