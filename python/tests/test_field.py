@@ -7,7 +7,8 @@ import threading
 import unittest
 from dataclasses import replace
 
-from pmhost import Device, LimitRefused, Looks, MarginRefused, ModelPart, ModelPartBus, NotDelivered, Output, PlanRefused, Sequence, SequenceStep, Unknown, on_off
+from pmhost import (Device, LimitRefused, Looks, MarginRefused, ModelPart, ModelPartBus, NotDelivered, OnOffRefused, Output, PlanRefused, Sequence,
+                    SequenceStep, Unknown, on_off)
 
 from . import field_boards, field_calls
 from .field import ADDRESS, Field, FieldBus
@@ -183,6 +184,18 @@ class Api(unittest.TestCase):
         _, device = self.device(("ON_OFF_CONFIG", 0x16))
         with self.assertRaisesRegex(NotDelivered, "commanded off, and the part says that it is on"):
             device.turn_off(0)
+
+    def test_on_of_a_part_that_does_not_heed_it_is_refused(self):
+        """Before anything is ordered, or read but ON_OFF_CONFIG, which a part may lack."""
+        said = "ON_OFF_CONFIG is 16, by which OPERATION isn't heeded: only its pin turns it off: drive its pin, or set bits 4 and 3 of ON_OFF_CONFIG"
+        part, device = self.device(("OPERATION", 0), ("ON_OFF_CONFIG", 0x16))
+        with self.assertRaisesRegex(OnOffRefused, said) as it:
+            device.turn_on(0)
+        self.assertEqual((part.lines, part.get("OPERATION"), it.exception.register), (["B0 06 02 00 02 /"], 0, "ON_OFF_CONFIG"))
+        for fields, lacks, asked in (((("ON_OFF_CONFIG", 0x16),), ("ON_OFF_CONFIG",), 0), ((("ON_OFF_CONFIG", 0x1A),), (), 1), ((("lacks", 0x02),), (), 1)):
+            part, device = self.device(("OPERATION", 0), *fields, lacks=lacks)
+            device.turn_on(0)
+            self.assertEqual((part.get("OPERATION"), len([line for line in part.lines if line.endswith(" 02 /")])), (0x80, asked))
 
     def test_no_line_alone_loses_a_refusal(self):
         """Each call raises what the part, the bus or the limits refuse, with the bus's own error as its cause."""

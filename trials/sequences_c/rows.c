@@ -432,8 +432,9 @@ static void ways_back(void) {
     row("off", "back", records[0].back.host << 16 | records[0].back.kind << 8 | records[0].back.byte, 0x10280);
 }
 
-/* What ends a look before its rail has had its time, of four rounds with 70 ms between them: a fault that is new, and nothing else. The first is a
- * rail that is turned on or raised to 1.2 V, or lowered to it; its limits are 1.1 V and 1.3 V. */
+/* What ends a look before its rail has had its time, of four rounds with 70 ms between them: OFF with a fault that is new, a voltage above the upper
+ * limit unless it was lowered, and a part that came up anew. The rail is turned on or raised to 1.2 V, or lowered to it; its limits are 1.1 V and
+ * 1.3 V. */
 typedef struct {
     const char *name;
     uint16_t from; /* what VOUT_COMMAND holds before; 0 of a rail that is turned on at 1.2 V */
@@ -448,19 +449,22 @@ static const timed timed_rows[] = {
     {"on: off without a fault, and then on", 0, {{0x0840, 0, 0}, {0x0840, 0, 0}, WELL, WELL}, 0, 1, 1, 30},
     {"on: off without a fault for ever", 0, {{0x0840, 0, 0}, {0x0840, 0, 0}, {0x0840, 0, 0}, {0x0840, 0, 0}}, 0, 14, 4, 70},
     {"on: off with a new fault", 0, {{0x8860, 0x80, 0}, WELL, WELL, WELL}, 0, 14, 4, 0},
-    {"on: a new fault, and it isn't off", 0, {{0x8000, 0x10, 0x1333}, WELL, WELL, WELL}, 0, 14, 5, 0},
+    {"on: a new fault, and then right", 0, {{0x8000, 0x10, 0x1333}, WELL, WELL, WELL}, 0, 1, 1, 10},
+    {"on: a new fault for ever", 0, {{0x8000, 0x10, 0x1333}, {0x8000, 0x10, 0x1333}, {0x8000, 0x10, 0x1333}, {0x8000, 0x10, 0x1333}}, 0, 14, 5, 70},
+    {"on: a new fault, and then off", 0, {{0x8000, 0x10, 0x1333}, {0x8840, 0x10, 0}, WELL, WELL}, 0, 14, 4, 10},
     {"on: a fault at the second look", 0, {{0x0800, 0, 0x0800}, {0x8860, 0x80, 0}, WELL, WELL}, 0, 14, 4, 10},
     {"on: a warning is no fault", 0, {{0x8000, 0x20, 0x0800}, {0x8000, 0x20, 0x0800}, {0x8000, 0x20, 0x1333}, WELL}, 0, 1, 1, 30},
     {"on: below the lower limit, and then right", 0, {{0x0800, 0, 0x0400}, {0x0800, 0, 0x0C00}, {0, 0, 0x1300}, WELL}, 0, 1, 1, 30},
-    {"on: above the upper limit, and then right", 0, {{0, 0, 0x1800}, {0, 0, 0x1800}, WELL, WELL}, 0, 1, 1, 30},
-    {"on: above the upper limit for ever", 0, {{0, 0, 0x1800}, {0, 0, 0x1800}, {0, 0, 0x1800}, {0, 0, 0x1800}}, 0, 14, 6, 70},
+    {"on: above the upper limit", 0, {{0, 0, 0x1800}, WELL, WELL, WELL}, 0, 14, 6, 0},
+    {"on: above the upper limit at the second look", 0, {{0x0800, 0, 0x0800}, {0, 0, 0x1800}, WELL, WELL}, 0, 14, 6, 10},
+    {"on: above the upper limit, and a new fault", 0, {{0x8000, 0x10, 0x1800}, WELL, WELL, WELL}, 0, 14, 5, 0},
+    {"on: below the lower limit for ever", 0, {{0, 0, 0x0400}, {0, 0, 0x0400}, {0, 0, 0x0400}, {0, 0, 0x0400}}, 0, 14, 6, 70},
     {"on: power good comes late", 0, {{0x0800, 0, 0x1333}, {0x0800, 0, 0x1333}, {0x0800, 0, 0x1333}, WELL}, 0, 1, 1, 70},
     {"on: no STATUS_WORD in a round, and then it is right", 0, {{0xFFFF, 0, 0}, {0xFFFF, 0, 0}, WELL, WELL}, 0, 1, 1, 10},
     {"on: no READ_VOUT in a round, and then it is right", 0, {{0, 0, 0xFFFF}, WELL, WELL, WELL}, 0, 1, 1, 10},
     {"on: the part restarts, and stays off", 0, {WELL, {0x0840, 0, 0}, {0x0840, 0, 0}, {0x0840, 0, 0}}, 1, 1, 1, 0},
-    {"on: the part restarts at a look, and stays off", 0, {{0x0800, 0, 0}, {0x0840, 0, 0}, {0x0840, 0, 0}, {0x0840, 0, 0}}, 2, 14, 4, 70},
-    {"raised: above the upper limit, and then right", 0x1200, {{0, 0, 0x1800}, {0, 0, 0x1800}, WELL, WELL}, 0, 1, 1, 30},
-    {"raised: above the upper limit for ever", 0x1200, {{0, 0, 0x1800}, {0, 0, 0x1800}, {0, 0, 0x1800}, {0, 0, 0x1800}}, 0, 14, 6, 70},
+    {"on: the part restarts at a look, and stays off", 0, {{0x0800, 0, 0}, {0x0840, 0, 0}, {0x0840, 0, 0}, {0x0840, 0, 0}}, 2, 8, 0, 10},
+    {"raised: above the upper limit", 0x1200, {{0, 0, 0x1800}, WELL, WELL, WELL}, 0, 14, 6, 0},
     {"raised: still at the old voltage", 0x1200, {{0, 0, 0x1000}, {0, 0, 0x1200}, {0, 0, 0x1300}, WELL}, 0, 1, 1, 30},
     {"lowered: above the upper limit, and then right", 0x1800, {{0, 0, 0x1800}, {0, 0, 0x1700}, {0, 0, 0x1600}, WELL}, 0, 1, 1, 70},
     {"lowered: above the upper limit for ever", 0x1800, {{0, 0, 0x1800}, {0, 0, 0x1800}, {0, 0, 0x1800}, {0, 0, 0x1800}}, 0, 14, 6, 70},

@@ -14,7 +14,7 @@ from .course import Course, CourseEnd, Job, Wanted
 from .delivered import Delivered, NotDelivered
 from .device import Device
 from .errors import (ChangedRefused, Differs, FrameRefused, HostRefused, LimitRefused, MarginRefused, MemoryRefused, NoFormat, NotDone,
-                     NumberRefused, OtherSource, PartRefused, PlanRefused, PmhostError, Refused, SetupRefused, Spent, TrimRefused, Unknown)
+                     NumberRefused, OnOffRefused, OtherSource, PartRefused, PlanRefused, PmhostError, Refused, SetupRefused, Spent, TrimRefused, Unknown)
 from .host import Host
 from .looks import Looks
 from .packets import Packet, code_request, pec, read_answer, read_block, read_plain, read_request, read_write
@@ -28,8 +28,8 @@ from .voltages import Voltage
 __all__ = [
     "Band", "Bus", "CODES", "ChangedRefused", "Course", "CourseEnd", "Delivered", "Device", "Differs", "Format", "FrameRefused", "Heard", "Host",
     "HostRefused", "Job", "Known", "LINEAR11", "LimitRefused", "Limits", "LinuxBus", "Looks", "MarginRefused", "MemoryRefused", "ModelBus",
-    "ModelPart", "ModelPartBus", "NoBus", "NoFormat", "NoTransfer", "NotDelivered", "NotDone", "NumberRefused", "OtherSource",
-    "Output", "Packet", "PartRefused", "PatientBus", "PlanRefused", "PmhostError", "RailHeard", "RailState", "Refused", "Rules", "Said", "Sending", "Sequence",
+    "ModelPart", "ModelPartBus", "NoBus", "NoFormat", "NoTransfer", "NotDelivered", "NotDone", "NumberRefused", "OnOffRefused",
+    "OtherSource", "Output", "Packet", "PartRefused", "PatientBus", "PlanRefused", "PmhostError", "RailHeard", "RailState", "Refused", "Rules", "Said", "Sending", "Sequence",
     "SequenceStep",
     "SetupRefused", "Smbus2Bus", "Spent", "Step", "Transfers", "TrimRefused", "Unknown", "Verdict", "Voltage", "Wanted", "__version__", "code_request",
     "pec", "read_answer", "read_block", "read_plain", "read_request", "read_write",

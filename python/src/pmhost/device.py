@@ -9,7 +9,7 @@ from typing import Callable, Iterable, Mapping, ParamSpec, TypeVar
 from . import on_off
 from .course import OFF_TRIES, SURVEY_TRIES, TRIES, Job, Wanted, end_fault, wanted_image
 from .delivered import Delivered, NotDelivered, beyond_of
-from .errors import Differs, HostRefused, NotDone, PmhostError, Refused, Unknown, refusal
+from .errors import Differs, HostRefused, NotDone, OnOffRefused, PmhostError, Refused, Unknown, refusal
 from .host import Host
 from .looks import Looks
 from .operation import OFF, ON, margin_byte
@@ -280,7 +280,10 @@ class Device:
 
     def turn_on(self, output: int, tries: int = TRIES) -> RailState:
         """Brings OPERATION to 80h, once what the output will command then is known, and read anew directly before the order (ChangedRefused). L8, L2, L5 by
-        its limits, P7 by WRITE_PROTECT."""
+        its limits, P7 by WRITE_PROTECT. ON_OFF_CONFIG is asked first, in one try: OnOffRefused if by that the part doesn't heed OPERATION. A part whose
+        `lacks` has it isn't asked, and one that gives no good answer is taken to heed it."""
+        if output in range(self.host.outputs) and (why := on_off.why_unheeded(self, output)):
+            raise OnOffRefused(on_off.CONFIG, why, on_off.ADVICE)
         return self.deliver(SequenceStep.turns(0, output, ON), tries, job=f"on {output}")
 
     def turn_off(self, output: int, tries: int = OFF_TRIES) -> RailState:

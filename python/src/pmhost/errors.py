@@ -169,6 +169,10 @@ class TrimRefused(RailRefused):
     words = 'Looks(trim="tell")'
 
 
+class OnOffRefused(RailRefused):
+    """An order that turns an output on whose ON_OFF_CONFIG says that its part doesn't heed OPERATION: nothing was ordered."""
+
+
 class ChangedRefused(RailRefused):
     """An order that turns an output on, and before which a register read otherwise than as it was judged, or gave no good answer: nothing was ordered.
     `is_restart` says that a word was read that wasn't possible."""

@@ -15,6 +15,7 @@ if TYPE_CHECKING:
 CONFIG = "ON_OFF_CONFIG"
 # Its bits: the output is on by a command or a pin, OPERATION counts, the CONTROL pin counts.
 BY_COMMAND, BY_OPERATION, BY_PIN = 0x10, 0x08, 0x04
+ADVICE = "drive its pin, or set bits 4 and 3 of ON_OFF_CONFIG by the part's own tool"
 
 
 def ask(part: Device, output: int) -> int | None:

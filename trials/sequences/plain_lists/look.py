@@ -52,12 +52,13 @@ class Look:
 
     def __init__(self, step):
         self.of, self.step, self.is_off, self.is_read, self.is_before, self.round = asks_for(step), step, False, False, False, 0
+        self.is_lowered = False
         self.heard = {name: Heard() for name in ASKED} | {"before": Heard(*step.before)}
         self.silences, self.answered, self.found = {"STATUS_WORD": 0, "READ_VOUT": 0}, set(), set()
 
-    def begins(self, number, is_off):
-        """A round begins: what was heard of the output is forgotten, and what stood before is kept. It was turned off, or not."""
-        self.round, self.is_off = number, is_off
+    def begins(self, number, is_off, is_lowered):
+        """A round begins: what was heard of the output is forgotten, and what stood before is kept. It was turned off, or lowered, or not."""
+        self.round, self.is_off, self.is_lowered = number, is_off, is_lowered
         self.heard.update({name: Heard() for name in ASKED if name not in FIRST})
 
     def hears(self, question, fault, word, is_silent):
@@ -93,13 +94,30 @@ class Look:
             return self.first(part.passes, status) or (None if is_over else further)
         if not part.is_on(self.step.output) or not status and not self.has("READ_VOUT"):
             return None
-        is_sound = not status or self.heard["STATUS_WORD"].is_good and not self.heard["STATUS_WORD"].bit(OFF) and not self.fault()
+        is_known_on = self.heard["STATUS_WORD"].is_good and not self.heard["STATUS_WORD"].bit(OFF)
+        is_sound = not status or is_known_on and (not self.fault() or further)
         names = status + [name for name, (summary, _) in FAULTS.items() if self.is_new(summary)]
         question = self.first(part.passes, names + ["READ_VOUT"] * (self.has("READ_VOUT") and is_sound))
-        if question or self.fault() or self.on(part)[0].startswith("delivers"):
+        if question or self.fails_at_once(part) or self.on(part)[0].startswith("delivers"):
             return question
         is_alone = self.on(part)[0] == "power good alone"
         return further or (self.first(part.passes, ["POWER_GOOD_ON", "POWER_GOOD_OFF"]) if is_alone else None)
+
+    def looks_on(self):
+        return not self.is_before and not self.is_off
+
+    def is_unexplained(self):
+        """OFF of a rail that is commanded on, without a new fault."""
+        return self.looks_on() and self.heard["STATUS_WORD"].bit(OFF) and not self.fault()
+
+    def fails_at_once(self, part):
+        """Off with a new fault; or above the upper limit, if it wasn't lowered."""
+        return self.heard["STATUS_WORD"].bit(OFF) and self.fault() or not self.is_lowered and self.is_above(part)
+
+    def is_above(self, part):
+        own, heard = part.bounds[self.step.output], self.heard["READ_VOUT"]
+        is_known = heard.is_good and own and band(part, self.step.output, missing=part.missing) is not None
+        return is_known and part.value(self.step.output, heard.word) * 10**6 > own[1]
 
     def is_new(self, place):
         """A bit of STATUS_WORD that wasn't known to be 1 before the first order; none is new if nothing was asked before."""

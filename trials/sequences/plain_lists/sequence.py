@@ -3,7 +3,7 @@ import copy
 from collections import namedtuple
 
 from tests.plain.converter import OPERATION
-from tests.plain.limits import VOLTAGES, selected
+from tests.plain.limits import VOLTAGES, band, selected
 from tests.plain.packets import answer_fault
 from tests.plain.rail import WORDS, Survey, is_on
 
@@ -44,13 +44,14 @@ class Stopped(Exception):
 class Sequence:
     """`under` is the place of the step under way, which began with the words `wanted`; `coming` is the course of the first step ahead. `backs` has
     the steps that undo others, by the places of these, and `heard` what was heard of their rails. `fresh` is the place of the step whose survey began anew,
-    with nothing sent since but its reads, `turned_on` how many orders that turn its output on the step under way had."""
+    with nothing sent since but its reads, `turned_on` how many orders that turn its output on the step under way had, and `lowers` whether that began by
+    lowering an output that was on."""
 
     def __init__(self, parts, steps, rules, tries):
         self.parts, self.steps, self.rules, self.tries = parts, steps, rules, tries
         self.under, self.course, self.wanted, self.coming = None, None, {}, None
         self.begun, self.left, self.look, self.told, self.backs, self.heard = 0, 0, None, None, {}, {}
-        self.fresh, self.turned_on = None, 0
+        self.fresh, self.turned_on, self.lowers = None, 0, False
         self.is_looked = self.is_waited = self.is_warned = self.has_restarted = self.is_over = False
 
     def lines(self):
@@ -122,17 +123,28 @@ class Sequence:
                 yield "told", place, "no way back", *fault
             if fault or not (yield from self.may_begin(step, job, place, wanted)):
                 return
+            lowers = self.is_lower(step, wanted)
             self.begin(step, job, place)
         if self.rules.keeps_back:
             self.backs[place] = back
         self.begins(course, wanted)
         if job is not None:
-            self.turned_on += turns_on(job)
+            self.turned_on, self.lowers = self.turned_on + turns_on(job), lowers
             yield from self.carries_out(step, job, course)
+
+    def is_lower(self, step, wanted):
+        """The step gives an output that is on a voltage below the most that it may command."""
+        part, goal = self.parts[step.host], self.goal(step, wanted) or {}
+        commanded = band(part, step.output, missing=part.missing)
+        if not part.is_on(step.output) or commanded is None:
+            return False
+        registers = {selected(byte) for byte in ([step.byte] if step.act == "turns" else part.possible((step.output, OPERATION)))}
+        word = goal.get(registers.pop()) if len(registers) == 1 else None
+        return word is not None and part.value(step.output, word) < commanded[1]
 
     def begins(self, course, wanted):
         self.under, self.course, self.wanted, self.coming, self.told, self.fresh = self.begun, course, wanted, None, None, None
-        self.begun, self.turned_on = self.begun + 1, 0
+        self.begun, self.turned_on, self.lowers = self.begun + 1, 0, False
         self.is_looked = self.is_waited = self.is_warned = False
 
     def asked(self, step, place, course, wanted):
@@ -287,7 +299,7 @@ class Sequence:
         part = self.parts[step.host]
         if self.look is None or self.look.of != asks_for(step):
             self.look = Look(step)
-        self.look.begins(0, turns_off(step))
+        self.look.begins(0, turns_off(step), self.lowers)
         yield from self.looks(step)
         word, *rest = self.look.verdict(part)
         said, self.heard[self.under] = (word, *rest, self.look.microvolts(part)), dict(self.look.heard)
@@ -297,8 +309,9 @@ class Sequence:
         yield "told", self.under, "does", *said
 
     def looks(self, step):
-        """Asks what is due, and in each round with a silence whether the part answers otherwise."""
-        part, probes, is_there, is_counted, self.fresh = self.parts[step.host], 0, False, False, None
+        """Asks what is due, and in each round with a silence whether the part answers otherwise, and in each one in which a rail is off for no new fault
+        whether its part came up anew."""
+        part, probes, is_there, is_lost, is_counted, self.fresh = self.parts[step.host], 0, False, False, False, None
         request = [2 * part.address, 0x06, 2, step.output]
         while True:
             found = self.look.due(part)
@@ -307,16 +320,20 @@ class Sequence:
                 came = yield "frame", step.host, [*request, code], True
                 fault = fault_of([*request, code], size, came)
                 self.look.hears(found, fault, 0 if fault else int.from_bytes(bytes(came[2:2 + size]), "little"), not came)
-            elif self.look.silent() and not is_counted:
+            elif (self.look.silent() or self.look.is_unexplained()) and not is_counted:
                 if is_there or probes == part.passes:
                     _ = is_there and self.look.counts()
                     is_counted = True
                     continue
-                is_there = bool((yield "frame", step.host, [*request, OPERATION], True))
+                came = yield "frame", step.host, [*request, OPERATION], True
+                is_there, is_good = bool(came), fault_of([*request, OPERATION], 1, came) is None
+                is_lost = self.rules.ends_at_restart and is_good and not is_on(came[2])
                 probes += 1
+            elif is_lost and self.look.looks_on():
+                raise Stopped(self.under, "restarted")
             elif found == "again":
-                self.look.begins(self.look.round + 1, self.look.is_off)
-                probes, is_there, is_counted = 0, False, False
+                self.look.begins(self.look.round + 1, self.look.is_off, self.look.is_lowered)
+                probes, is_there, is_lost, is_counted = 0, False, False, False
                 yield "told", self.under, "wait", min(10 * 2 ** (self.look.round - 1), 5120)
             else:
                 return
