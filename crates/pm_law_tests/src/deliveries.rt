@@ -17,12 +17,7 @@ use pm_rail::Power;
 use pm_world::answer_in;
 
 /// A look begins beside a part, after whatever happened there.
-pub fn a_look_that_begins(
-    delivery: &mut Delivery,
-    device: &Converter,
-    is_off: bool,
-    lowers: bool,
-)
+pub fn a_look_that_begins(delivery: &mut Delivery, device: &Converter, is_off: bool, lowers: bool)
     ghost life: { PartLife }
     requires here { delivery.old.output < life.held.config.count }
     requires part { device.now ≡ (both_in life).device }
