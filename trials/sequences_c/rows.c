@@ -221,7 +221,7 @@ static const set set_rows[] = {
     {"the same, and it has to deliver", 0, 0, 0x2000, 0, 0, 100000, 2, 3, 0, 1200000, 14, 10, 0x79, 0, 0, 21, 1},
     {"a fault limit below the voltage", 1, 1, 0x1200, 0, 0, 100000, 1, 0, 0, 1200000, 11, 0, 0x40, 0, 0, 14, 0},
     {"the same, which is told alone", 1, 1, 0x1200, 0, 0, 100000, 1, 0, 1, 1200000, 1, 0, 0, 0, 1, 24, 1},
-    {"a rail that is off", 1, 1, 0x2000, 1, 0, 100000, 1, 0, 0, 1200000, 14, 4, 0x79, 0, 0, 26, 1},
+    {"a rail that is off", 1, 1, 0x2000, 1, 0, 100000, 1, 0, 0, 1200000, 14, 4, 0x79, 0, 0, 30, 1},
     {"a rail that trips", 1, 1, 0x2000, 0, 1, 100000, 1, 0, 0, 1200000, 14, 4, 0x79, 0, 0, 0, 1},
     {"the bus is gone once the word is confirmed", 1, 1, 0x2000, 0, 0, 22, 1, 0, 0, 1200000, 14, 10, 0x79, 1, 0, 30, 1},
     {"the bus is gone though nothing is ordered", 1, 1, 0x2000, 0, 0, 6, 1, 0, 0, 1000000, 14, 10, 0x79, 1, 0, 22, 0},

@@ -119,6 +119,10 @@ class StepRun:
             self.want({**self.step.wishes, **self.held})._go(after, ask)
         return self.end
 
+    def _is_known_on(self) -> bool:
+        """Whether the host knows the output to be commanded on."""
+        return all(byte >= ON for byte in self.part.host.possible_words(self.step.output, turn_on.OPERATION) or [0])
+
     def _near(self, register: str, accept: Optional[int]) -> Optional[int]:
         """The word that a register holds, if it is taken in the place of the one that is wanted, of which that is once."""
         if accept is None or register in self.held or register not in self.step.wishes:
@@ -133,6 +137,10 @@ class StepRun:
             return
         self.list = self.lists.at(self.place)
         self.end = self.list.run(self.lists.buses, self._told, after_order, self.part.transfers, ask)
+        if self.end.kind == "restarted" and self._is_known_on():
+            # A look saw it: the host hears of it by a job of its own.
+            turn_on.begin(self.part.host, self.step.output, turn_on.OPERATION)
+            self.part.host.run(self.part.bus)
         if self.turned_on == 2:
             turn_on.refuse_third(self.step, self.end)
         if self.end.kind in ("does", "fails"):

@@ -97,7 +97,7 @@ class Look:
         is_known_on = self.heard["STATUS_WORD"].is_good and not self.heard["STATUS_WORD"].bit(OFF)
         is_sound = not status or is_known_on and (not self.fault() or further)
         names = status + [name for name, (summary, _) in FAULTS.items() if self.is_new(summary)]
-        question = self.first(part.passes, names + ["READ_VOUT"] * (self.has("READ_VOUT") and is_sound))
+        question = self.first(part.passes, names + ["READ_VOUT"] * (bool(self.has("READ_VOUT") and is_sound)))
         if question or self.fails_at_once(part) or self.on(part)[0].startswith("delivers"):
             return question
         is_alone = self.on(part)[0] == "power good alone"
