@@ -243,13 +243,15 @@ fn each_call_reads_the_limits_and_none_asks_a_register_that_is_missing() {
 }
 
 #[test]
-fn a_new_fault_alone_ends_a_look_before_the_time_of_its_rail_has_passed() {
+fn a_voltage_above_its_limit_fails_at_once_unless_it_was_lowered() {
     let raised = Act::Sets(Wishes::microvolts(1_100_000));
+    let lowered = Act::Sets(Wishes::microvolts(900_000));
     for (wrong, act, said, milliseconds) in [
-        ("h", Act::Turns(0x80), "READ_VOUT 3V is OUTSIDE 0.5V to 2V", 630),
-        ("h", raised, "READ_VOUT 3.300292V is OUTSIDE 0.5V to 2V", 630),
+        ("h", Act::Turns(0x80), "READ_VOUT 3V is OUTSIDE 0.5V to 2V", 0),
+        ("h", raised, "READ_VOUT 3.300292V is OUTSIDE 0.5V to 2V", 0),
+        ("h", lowered, "READ_VOUT 2.699707V is OUTSIDE 0.5V to 2V", 630),
         ("r", Act::Turns(0x80), "STATUS_WORD 0840 POWER_GOOD#, OFF: the rail is off", 630),
-        ("u", Act::Turns(0x80), "STATUS_WORD 8000 VOUT and STATUS_VOUT 10 VOUT_UV_FAULT: VOUT_UV_FAULT came with this call", 0),
+        ("u", Act::Turns(0x80), "STATUS_WORD 8000 VOUT and STATUS_VOUT 10 VOUT_UV_FAULT: VOUT_UV_FAULT came with this call", 630),
         ("", Act::Turns(0x80), "delivers 1V", 0),
     ] {
         let mut rail = Rail::of(wrong, if act == Act::Turns(0x80) { 0x00 } else { 0x80 });
