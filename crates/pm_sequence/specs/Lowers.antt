@@ -1,5 +1,5 @@
 -- Whether a step lowers an output that is on: this project's own choice.
-use Rattle.std.specs.Prelude.{ℕ, Bool, true, false, ◌&&◌, nat_lt, if◌then◌else◌, Option, Some, None, option_and_then}
+use Rattle.std.specs.Prelude.{ℕ, Bool, false, nat_lt, if◌then◌else◌, Option, Some, None, option_and_then}
 use Rattle.pm_num.specs.AnyFormat.{Shape, shape_value}
 use Rattle.pm_num.specs.Ratio.{is_above}
 use Rattle.pm_table.specs.declared.cell.Cell.TheVariants.{Out}
@@ -51,11 +51,10 @@ is_lowered part s output power.On None = false
 is_lowered part s output power.Off word = false
 is_lowered part s output power.NotKnown word = false
 
-abbrev pub lowers_at : Guarded → ℕ → WordAct → Bool
-lowers_at g output act = nat_lt output 8
-    && is_lowered g.registers g.host output (power_of (possible_at g.host (Out output Operation))) (word_after g.host output act)
+abbrev pub lowers_at : PartRegisters → Summary → ℕ → WordAct → Bool
+lowers_at part s output act = is_lowered part s output (power_of (possible_at s (Out output Operation))) (word_after s output act)
 
 -- the step that begins lowers its output, by what its host knows then
 abbrev pub lowers : Guarded → Option Under → Bool
 lowers g None = false
-lowers g (Some under) = lowers_at g under.step.output under.step.act
+lowers g (Some under) = if nat_lt under.step.output 8 then lowers_at g.registers g.host under.step.output under.step.act else false

@@ -2,17 +2,16 @@
 
 ghost use Rattle.std.specs.Prelude.{◌≡◌, ◌<◌, None};
 ghost use Rattle.pm_host.specs.Image.{held};
-ghost use Rattle.pm_host.specs.Summary.{format_at, possible_at};
+ghost use Rattle.pm_host.specs.Summary.{format_at};
 ghost use Rattle.pm_limits.specs.Band.{band_at};
-ghost use Rattle.pm_rail.specs.Rail.{power_of};
-ghost use Rattle.pm_sequence.specs.Lowers.{is_lower as spec_is_lower, is_lowered, lowers as spec_lowers, register_after as spec_register_after, word_after as spec_word_after};
+ghost use Rattle.pm_sequence.specs.Lowers.{is_lower as spec_is_lower, lowers as spec_lowers, lowers_at, register_after as spec_register_after, word_after as spec_word_after};
 
 use pm_host::State;
 use pm_limits::{PartRegisters, band_in};
 use pm_num::NumFormat;
 use pm_rail::{Power, Selected, power_in, selected_in};
 use pm_stairs::{Sight, Under, WordAct, WordStep, goal};
-use pm_table::{Cell, Operation, Reg};
+use pm_table::{Operation, Reg};
 use std::cmp::Ordering;
 
 /// Whether the step that begins lowers its output, by what its host knows then.
@@ -33,9 +32,7 @@ pub(crate) fn lowers<S: Sight>(guard: &S, under: &Option<Under>) -> bool
 // Whether a step lowers its output, by what is known.
 fn lowers_known(host: &State, registers: PartRegisters, step: &WordStep) -> bool
     requires { step.now.output < 8 }
-    ensures { result ≡ is_lowered registers (held None host.now) step.now.output
-        (power_of (possible_at (held None host.now) (Cell.Out step.now.output Reg.Operation)))
-        (spec_word_after (held None host.now) step.now.output step.now.act) }
+    ensures { result ≡ lowers_at registers (held None host.now) step.now.output step.now.act }
 {
     match (power_in(host, step.output), word_after(host, step)) {
         (Power::On, Some(word)) => is_lower(host, registers, step.output, word),
