@@ -66,13 +66,13 @@ static const char *befall(device *u1, device *u2) {
     case 600: pm_part_restart(&u2->chip); return "  (u2 restarts)\n";
     case 900: pm_part_restart(&u2->chip); return "  (u2 restarts)\n";
     case 917: u1->is_away = 1; return "  (u1 is away)\n";
-    case 955: u1->is_away = 0; return "  (u1 is back)\n";
+    case 947: u1->is_away = 0; return "  (u1 is back)\n";
     case 1350: u1->config[0] = BY_PIN; pm_part_restart(&u2->chip); return "  (u2 restarts; the first output of u1 is on by its pin)\n";
     case 1388: u1->config[0] = BY_OPERATION; return "  (it is on by OPERATION)\n";
     case 1800: pm_part_restart(&u2->chip); return "  (u2 restarts)\n";
-    case 1814: u1->model = "EX17"; u1->lacks_page_plus = 1; return "  (u1 is another model, without PAGE_PLUS)\n";
-    case 1819: u1->lacks_page_plus = 0; return "  (u1 is another model, with PAGE_PLUS)\n";
-    case 1832: u1->model = "EX42"; return "  (u1 is exchanged)\n";
+    case 1806: u1->model = "EX17"; u1->lacks_page_plus = 1; return "  (u1 is another model, without PAGE_PLUS)\n";
+    case 1815: u1->lacks_page_plus = 0; return "  (u1 is another model, with PAGE_PLUS)\n";
+    case 1824: u1->model = "EX42"; return "  (u1 is exchanged)\n";
     default: return NULL;
     }
 }
