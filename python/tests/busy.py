@@ -71,14 +71,6 @@ class GoneBehindRestore(Busy):
         return 10**9 if frame[1] == RESTORE_USER_ALL else 0
 
 
-class LateAtFirst(Busy):
-    """It doesn't acknowledge for its first 100 ms."""
-
-    def __init__(self, **named):
-        super().__init__(**named)
-        self.ready = runs.CLOCK.until() + 0.1
-
-
 class LowBehindStore(kernel.Part):
     """The data line is held low from the store on."""
 
