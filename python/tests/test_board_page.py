@@ -19,10 +19,10 @@ from pmhost.survey import Commanded
 from pmhost.values import CODES
 
 from . import kernel, odd_parts
+from .drawn_rails import Watched
 from .kernel import BoardKernel
 from .running import DATA, ROOT, stored
 from .runs import called
-from .test_boards import Watched
 
 BUS = ["-b", "7", "-a", "58", "--outputs", "2", "--limit", "0:3.135V:3.465V"]
 RAILS = '[rails.io]\noutput = 0\nvolts = "3.3V"\nlimits = ["3.135V", "3.465V"]\n'
