@@ -1,5 +1,4 @@
 """Parts that fall silent, and parts whose lines are held low."""
-import errno
 
 from . import kernel, odd_parts
 

@@ -146,10 +146,6 @@ class Run:
         """Whether it probes a part, which is asked for all that it has then."""
         return "probe" in self.words.split()
 
-    def made_part(self):
-        """The one part of a run without several."""
-        return self.made_parts()[7, 0x58]
-
     @property
     def wanted(self):
         """What the parts hold behind the run, and how many writes they heard: one word is that of each part."""

@@ -4,7 +4,7 @@ from decimal import Decimal
 from unittest import mock
 
 import pmhost
-from pmhost import Band, Course, CourseEnd, Differs, Host, Job, PlanRefused, RailState, SequenceStep, Spent, Step, Unknown, Voltage
+from pmhost import Band, Course, CourseEnd, Differs, Host, Job, RailState, SequenceStep, Spent, Step, Unknown, Voltage
 
 from pmhost.cuts import cuts
 
