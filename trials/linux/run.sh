@@ -20,7 +20,6 @@
 #   faults    eight orders under nine kinds of fault at each transfer, and 60 lists of two to four faults (SEED and LISTS in the environment)
 #   commands  commands of the pages over i2c-tools and beside a driver, and i2cdetect over all addresses
 #   captures  one run, told by pmhost's trace, the kernel's tracepoints and the waveform of the wires
-#   lines     lines that are held low, at rest and from each clock of each byte on
 #   several   two parts at two addresses and one behind a multiplexer, a pmhost for each at once, under each fault (SEED)
 #   together  both hosts at once, a part that is unplugged, a pmhost that is killed
 #
@@ -35,7 +34,7 @@ has_sigrok=$(command -v sigrok-cli)
 command -v i2ctransfer > /dev/null || [ -x /usr/sbin/i2ctransfer ] || refuse "no i2ctransfer: install i2c-tools"
 start "$@"
 began=$(date +%s)
-kinds="several faults rows commands captures together lines"
+kinds="several faults rows commands captures together"
 names=()
 for kind in $kinds; do
     # The bit by bit one takes longest: it begins first.
