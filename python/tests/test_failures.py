@@ -186,6 +186,16 @@ class WordsOnTheWire(unittest.TestCase):
         pmbus.order_voltage(0, "4.1V")
         self.assertEqual(part.word(0, "VOUT_COMMAND"), 4100)
 
+    def test_microvolts_reach_the_host_exactly(self):
+        """The limits stand one microvolt beside an order, so an order that a float rounded is refused."""
+        for micro in (1_001_000, 1_000_999, 4_100_000, 5_999_999):
+            host = Host(ADDRESS)
+            learned = Device(ModelPartBus(ModelPart(ADDRESS, [Output(mode=0x40)], coefficients=(1000, 0, 0))), ADDRESS)
+            learned.host = host
+            learned.learn(0)
+            learned.set_limits(0, f"{micro}uV", f"{micro}uV")
+            self.assertEqual((host.limits(0).least.microvolts, host.limits(0).most.microvolts), (micro, micro))
+
     def test_limits_of_an_output_that_is_not_there(self):
         pmbus = rails()
         for call in (lambda: pmbus.limits(9), lambda: pmbus.limits_state(9), lambda: pmbus.host.limits(2), lambda: pmbus.host.limits(9)):
