@@ -20,7 +20,6 @@ PROGRAMS = {
     "patient_rows.c": (["trials/c/rows/patient_rows.c"], []),
     "target_rows.c": (["trials/c/rows/target_rows.c"], []),
     "course rows": (["trials/course/rows.c"], ["trials/course/rows.txt"]),
-    "delivery rows": (["trials/delivery/rows.c"], []),
     "sequence rows": (["trials/sequences_c/rows.c"], []),
     "field rows": ([f"trials/field/{each}.c" for each in ("rows", "field", "frames")], ["trials/field/rows.txt"]),
 }

@@ -117,9 +117,9 @@ else
     # (the processes that the tests start share what is compiled, in a folder that goes with this one)
     pmb=${PMB-$PWD/crates/pmb/out/pmb}
     # Each fifth transfer of margin tests and of probes is tried, each fifth start of a plan, and half of the random boards, lives and
-    # events: all where these are set to 1, 1, 100, 150, 300 and 10000.
+    # events: all where these are set to 1, 1, 100, 150 and 10000.
     export PMHOST_EVERY=${PMHOST_EVERY-5} PMHOST_STARTS=${PMHOST_STARTS-5} PMHOST_BOARDS=${PMHOST_BOARDS-50}
-    export PMHOST_BEGINNINGS=${PMHOST_BEGINNINGS-75} PMHOST_PLAN_LIVES=${PMHOST_PLAN_LIVES-150} PMHOST_EVENTS=${PMHOST_EVENTS-5000}
+    export PMHOST_BEGINNINGS=${PMHOST_BEGINNINGS-75} PMHOST_EVENTS=${PMHOST_EVENTS-5000}
     PMB=$pmb PMHOST_LIBRARY=$folder/libpmhost.so PYTHONPATH=python/src PYTHONPYCACHEPREFIX=$folder/compiled PYTHONDONTWRITEBYTECODE='' \
         python3 tools/python_tests.py $([ "${PACKAGES_REQUIRED-}" = 1 ] || echo --may-skip) > "$folder/log" 2>&1 < /dev/null
     status=$?

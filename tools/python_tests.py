@@ -25,8 +25,8 @@ OF_TREE = ("test_gate.py", "test_planted.py", "test_release.py", "test_sources.p
 NOT_QUICK = (*OF_TREE, "test_capture_streams.py", "test_processes.py")
 # How many random boards, lives, events and late answers the package's tests draw, how few of the starts of a plan and of the transfers of margin tests and
 # probes they try: less than by themselves.
-FEWER = {"PMHOST_BOARDS": "12", "PMHOST_LIVES": "60", "PMHOST_PLAN_LIVES": "40", "PMHOST_EVENTS": "1000",
-         "PMHOST_NEIGHBOURS": "15", "PMHOST_LATE": "100", "PMHOST_BEGINNINGS": "30", "PMHOST_DRAWS": "40", "PMHOST_LATE_TAKES": "20",
+FEWER = {"PMHOST_BOARDS": "12", "PMHOST_LIVES": "60", "PMHOST_EVENTS": "1000",
+         "PMHOST_NEIGHBOURS": "15", "PMHOST_LATE": "100", "PMHOST_BEGINNINGS": "30", "PMHOST_DRAWS": "40",
          "PMHOST_EVERY": "5", "PMHOST_STARTS": "5"}
 
 

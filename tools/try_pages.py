@@ -250,7 +250,7 @@ def manual_faults(page):
 
 def script_faults(shell):
     """Each script answers --help, and those that run the program say in one line what to build where there is none."""
-    paths = [it for form in ("tools/*", "trials/programs/*.py", "trials/driver/*.py", "bench/**/*.*") for it in glob.glob(form, root_dir=program.ROOT, recursive=True)]
+    paths = [it for form in ("tools/*", "trials/programs/*.py", "bench/**/*.*") for it in glob.glob(form, root_dir=program.ROOT, recursive=True)]
     for path in sorted(paths):
         if os.path.isdir(os.path.join(program.ROOT, path)) or not os.access(os.path.join(program.ROOT, path), os.X_OK):
             continue

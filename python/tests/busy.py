@@ -1,82 +1,9 @@
-"""Parts that are busy or away for a while of the clock of runs.py, that fall silent, or whose lines are held low."""
-import errno
+"""Parts that fall silent, and parts whose lines are held low."""
 
-from . import kernel, odd_parts, runs
+from . import kernel, odd_parts
 
-STORE_USER_ALL, RESTORE_USER_ALL = 0x15, 0x16
+STORE_USER_ALL = 0x15
 ONES = [0xFF] * 300
-
-
-class Busy(kernel.Part):
-    """It is busy for some milliseconds behind each write that it heard."""
-
-    for_ms, is_ones = 0, False
-    refusal = errno.ENXIO
-
-    def __init__(self, **named):
-        super().__init__(**named)
-        self.ready = 0.0
-
-    def now(self):
-        """The time in seconds."""
-        return runs.CLOCK.until()
-
-    def lasts(self, frame):
-        """The milliseconds for which it is busy behind a write."""
-        return self.for_ms
-
-    def is_busy(self):
-        return self.now() < self.ready
-
-    def hear(self, frame, ending):
-        if self.is_busy() and (ending == "restart" or not self.is_ones):
-            return ONES if self.is_ones else None
-        answer = super().hear(frame, ending)
-        if ending == "stop":
-            self.ready = self.now() + self.lasts(frame) / 1000
-        return answer
-
-
-class Deaf10(Busy):
-    for_ms = 10
-
-
-class Deaf30(Busy):
-    for_ms = 30
-
-
-class Deaf150(Busy):
-    for_ms = 150
-
-
-class Ones30(Busy):
-    for_ms, is_ones = 30, True
-
-
-class Ones150(Busy):
-    for_ms, is_ones = 150, True
-
-
-class AwayBehindStore(Busy):
-    """It doesn't acknowledge for 400 ms behind a store."""
-
-    def lasts(self, frame):
-        return 400 if frame[1] == STORE_USER_ALL else 0
-
-
-class GoneBehindRestore(Busy):
-    """It never acknowledges again behind a restore."""
-
-    def lasts(self, frame):
-        return 10**9 if frame[1] == RESTORE_USER_ALL else 0
-
-
-class LateAtFirst(Busy):
-    """It doesn't acknowledge for its first 100 ms."""
-
-    def __init__(self, **named):
-        super().__init__(**named)
-        self.ready = runs.CLOCK.until() + 0.1
 
 
 class LowBehindStore(kernel.Part):
@@ -88,28 +15,6 @@ class LowBehindStore(kernel.Part):
         if self.is_low:
             return [0] * 300
         self.is_low = frame[1] == STORE_USER_ALL
-        return super().hear(frame, ending)
-
-
-class Timed(Busy):
-    """Each transfer takes half a millisecond. It is busy for so long behind each write, and 400 ms behind a store; where it
-    acknowledges meanwhile, its reads are ones, and it may drop what is written."""
-
-    def __init__(self, for_ms, is_ones, drops, **named):
-        super().__init__(**named)
-        self.for_ms, self.is_ones, self.drops = for_ms, is_ones, drops
-
-    def lasts(self, frame):
-        return 400 if frame[1] == STORE_USER_ALL else self.for_ms
-
-    def pass_time(self):
-        """The time that a transfer takes."""
-        runs.CLOCK.now += 0.0005
-
-    def hear(self, frame, ending):
-        self.pass_time()
-        if self.drops and self.is_busy() and ending == "stop":
-            return []
         return super().hear(frame, ending)
 
 

@@ -1,7 +1,6 @@
 """A picture, read back: its words, its lines and boxes, labels that overlap or leave their place, and colours that can't be read."""
 import re
 import xml.etree.ElementTree as tree
-from bisect import bisect_right
 
 from pmhost.picture import drawing, lane
 
@@ -28,9 +27,6 @@ class Drawn:
         self.width, self.height = (float(self.root.get(name)) for name in ("width", "height"))
         self.texts = [Text(it) for it in self.root.iter(SVG + "text")]
         self.tops = [round(it.y - 18, 1) for it in self.texts if it.is_mono]
-
-    def row_at(self, y):
-        return bisect_right(self.tops, y) - 1
 
     def boxes(self, fill, radius):
         """The rows that each rounded box of this fill stands over: those whose middle lies between two heights."""

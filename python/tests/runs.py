@@ -1,6 +1,6 @@
 """The runs of data/*.txt: what is asked, what goes wrong, and the exact words and the status that come of it.
 
-A file has a block for each run, a blank line between them. The lines of a block, of which `words` and `status` must stand there:
+A file has a block for each run, a blank line between them. The lines of a block:
 
     name: TEXT           what the run shows
     words: WORDS         the command line; `FILE` is the file of rails of the block
@@ -20,10 +20,11 @@ A file has a block for each run, a blank line between them. The lines of a block
     volts: V V ..        at how many volts the rails of such a part are behind the run
     transfers: N         how many transfers such a part heard
     operation: BYTE ..   what OPERATION of its outputs was written to hold
-    status: N            the status
+    status: N            the status, 0 if left out
     out: TEXT, err: TEXT     a line of standard output, of standard error
 
-A block that begins with `setup: NAME` is no run: its lines stand in each later block that has `like: NAME`, in the place of that line.
+A block that begins with `setup: NAME` is no run: its lines stand in each later block that has `like: NAME`, in the place of that line. Nor is one
+that begins with `each:`, whose lines stand at the head of each block behind it, until another such block.
 """
 import contextlib
 import errno
@@ -145,10 +146,6 @@ class Run:
         """Whether it probes a part, which is asked for all that it has then."""
         return "probe" in self.words.split()
 
-    def made_part(self):
-        """The one part of a run without several."""
-        return self.made_parts()[7, 0x58]
-
     @property
     def wanted(self):
         """What the parts hold behind the run, and how many writes they heard: one word is that of each part."""
@@ -170,7 +167,7 @@ def made(words, **more):
 
 def blocks(name):
     """The runs of a file."""
-    found, setups = [], {}
+    found, setups, each = [], {}, []
     with open(os.path.join(DATA, name), encoding="utf-8") as text:
         for number, block in enumerate(text.read().split("\n\n")):
             pairs = [(key, rest[1:]) for key, _, rest in (line.partition(":") for line in block.splitlines() if line and not line.startswith("#"))]
@@ -180,8 +177,11 @@ def blocks(name):
             if lines[0][0] == "setup":
                 setups[lines[0][1]] = lines[1:]
                 continue
+            if lines[0][0] == "each":
+                each = lines[1:]
+                continue
             run = Run(f"{name} {number}")
-            for key, rest in lines:
+            for key, rest in each + lines:
                 run.take(key, rest)
             found.append(run)
     return found

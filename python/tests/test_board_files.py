@@ -1,7 +1,9 @@
 """Board files: `apply` of several parts, and random boards of three parts with eight rails. No rail ever commands anything but its old
-and its new voltage, unless its part restarted; and what is told is so. PMHOST_BOARDS says how many boards there are."""
+and its new voltage, unless its part restarted; and what is told is so. PMHOST_BOARDS says how many boards there are, three times over."""
 import errno
 import json
+import math
+import os
 import re
 import tempfile
 import unittest
@@ -13,17 +15,19 @@ from pmhost.rails import SETTINGS
 from pmhost.values import CODES
 
 from . import kernel, odd_parts
+from .drawn_rails import Rail, Watched
 from .kernel import BoardKernel
 from .runs import called
 from .seeded import seeded
-from .test_boards import FATES, PART_BOARDS, Rail, Watched
 from .test_runs import Blocks
 
 # Three parts with eight outputs: two on one bus at addresses beside one another, and one behind a multiplexer that the kernel drives.
 PLACES = {"u1": (7, 0x58, (0x14, 0x40, 0x14)), "u2": (7, 0x59, (0x40, 0x14, 0x14)), "u3": (8, 0x58, (0x14, 0x40))}
-BOARD_FATES = (*FATES, "astray")
+PART_BOARDS = max(int(os.environ.get("PMHOST_BOARDS", "100")) // 3, 1)
+BOARD_FATES = ("ok",) * 60 + ("lost", "deaf", "false", "damaged", "empty", "short0", "short0h", "twice", "hung", "astray")
 ROW = re.compile(r"(u\d)\s+(u\dr\d)\s+(\w+)\s+[0-9A-F]{4} \S+\s+(?:([0-9A-F]{4}) \S+|-)\s+(\w+)")
 LINE = re.compile(r"(u\d)r(\d): (?:.*: )?(?:the output commands|.*would command) ([0-9.]+)V[,;]")
+CUT = re.compile(r"(u\dr\d): (VOUT_MARGIN_\w+) ([0-9.]+)V (will be|is) cut to ([0-9.]+)V")
 # The last surveys of a part have fewer frames for each rail than these: a restart among them may pass unseen.
 LAST = 10
 
@@ -92,7 +96,7 @@ class RandomBoards(unittest.TestCase):
         if not board.may_have_restarted_unseen():
             self.assertTrue(status != 0 or board.is_as_wanted(), out)
         self.compare(board, out)
-        return board, status, err
+        return board, status, out, err
 
     def compare(self, board, out):
         """Each word that is told is held, and each voltage is commanded, unless the part restarted."""
@@ -104,12 +108,26 @@ class RandomBoards(unittest.TestCase):
             if not board.parts[name].has_restarted:
                 self.assertLess(abs(Fraction(volts) - board.parts[name].commands(int(output))), Fraction(1, 1000000), out)
 
+    def compare_cuts(self, board, out):
+        """The margins that a bound cuts are told, each with its voltage, and no others: by what is wanted, or where nothing was
+        ordered by what was held before."""
+        is_possible = board.is_possible()
+        told = {(rail, register): (value, to, words) for rail, register, value, words, to in CUT.findall(out)}
+        wanted = {(rail.name, register): pair for _, rail in board.rails
+                  for register, pair in rail.cuts(rail.goal() if is_possible else rail.old).items()}
+        self.assertEqual(told.keys(), wanted.keys(), out)
+        for place, (*pair, words) in told.items():
+            self.assertEqual([math.floor(each * 1000000) for each in wanted[place]], [int(Fraction(each) * 1000000) for each in pair])
+            self.assertIn(words, ("will be", "is") if is_possible else ("is",))
+        return len(told)
+
     @seeded(11)
     def test_each_rail_goes_from_its_old_voltage_to_its_new_one(self, draw):
-        ends = set()
+        ends, cuts = set(), 0
         for number in range(PART_BOARDS):
             with self.subTest(number=number):
-                board, status, err = self.run_board(draw, [])
+                board, status, out, err = self.run_board(draw, [])
+                cuts += self.compare_cuts(board, out)
                 wanted = board.is_possible() and all(rail.is_on() for _, rail in board.rails)
                 self.assertEqual(status == 0, wanted, err)
                 written = [line for part in board.parts.values() for line in part.lines if re.match(".. 05 ", line)]
@@ -118,6 +136,19 @@ class RandomBoards(unittest.TestCase):
                 for name, rail in board.rails if board.is_possible() else ():
                     self.assertEqual(board.parts[name].commands(rail.output), rail.commands(rail.goal()))
         self.assertEqual(ends, {(True, True), (True, False), (False, False)} if PART_BOARDS > 20 else ends, "all boards ended alike")
+        self.assertGreaterEqual(cuts, PART_BOARDS // 10)
+
+    @seeded(14)
+    def test_a_board_that_is_as_wanted_is_not_written_to(self, draw):
+        for number in range(max(PART_BOARDS // 10, 1)):
+            board = self.run_board(draw, [])[0]
+            with self.subTest(number=number):
+                for part in board.parts.values():
+                    del part.lines[:]
+                again = applied(board.text, board.kernel())[0]
+                if board.is_possible():
+                    self.assertEqual([line for part in board.parts.values() for line in part.lines if re.match(".. 05 ", line)], [])
+                    self.assertEqual(again == 0, board.is_as_wanted())
 
     @seeded(12)
     def test_whatever_befalls_a_transfer(self, draw):
@@ -135,7 +166,7 @@ class RandomBoards(unittest.TestCase):
             for _ in range(draw.randint(1, 3)):
                 mishaps[draw.randint(0, 250)] = "restart"
             with self.subTest(number=number):
-                board, status, _ = self.run_board(draw, mishaps)
+                board, status, *_ = self.run_board(draw, mishaps)
                 ends.add(status)
                 seen.add(sum(part.has_restarted for part in board.parts.values()))
         self.assertIn(1, ends)

@@ -7,7 +7,6 @@ import shlex
 import sys
 import tempfile
 import unittest
-from fractions import Fraction
 from unittest import mock
 
 from pmhost import cli
@@ -22,7 +21,6 @@ from . import kernel, odd_parts
 from .kernel import BoardKernel
 from .running import DATA, ROOT, stored
 from .runs import called
-from .test_boards import Watched
 
 BUS = ["-b", "7", "-a", "58", "--outputs", "2", "--limit", "0:3.135V:3.465V"]
 RAILS = '[rails.io]\noutput = 0\nvolts = "3.3V"\nlimits = ["3.135V", "3.465V"]\n'
@@ -195,21 +193,6 @@ class Cases(unittest.TestCase):
         self.assertEqual(commanded_words(found, "VOUT_COMMAND", 3300000),
                          "the output commands 3.3V to 3.4V, and isn't known to command 3.3V, within 3.135V to 3.465V")
         self.assertFalse(is_well(found, "VOUT_COMMAND", 3300000))
-
-    def test_apply_does_not_step_over_its_goal(self):
-        """From 3.55 V that VOUT_MAX cuts to 3.3 V the way to 3.35 V has no third voltage."""
-        part, text = Watched((0x14, 0x14)), RAILS.replace('"3.3V"', '"3.35V"') + 'max = "3.4V"\n'
-        for register, word in (("VOUT_COMMAND", 0x38CD), ("VOUT_MAX", 0x34CD)):
-            part.converter.set((0, CODES[register]), word)
-        part.may[0] = {Fraction(0x34CD, 4096), Fraction(0x359A, 4096)}
-        self.assertEqual(part.commands(0), Fraction(0x34CD, 4096))
-        with tempfile.NamedTemporaryFile("w", suffix=".toml") as file:
-            file.write(text)
-            file.flush()
-            status, out, err = called([*BUS[:4], "apply", file.name], kernel.FakeKernel(part))
-        self.assertEqual((status, err, part.wrong, part.commands(0)), (0, "", [], Fraction(0x359A, 4096)))
-        written = [line.split()[4] for line in part.lines if line.startswith("B0 05")]
-        self.assertEqual(written, ["21", "24"], "the word comes before the bound that cuts")
 
 
 if __name__ == "__main__":

@@ -63,7 +63,7 @@ class Waveforms(unittest.TestCase):
     @needs_tool("sigrok-cli")
     def test_sigrok_reads_them_as_stored(self):
         bus = waveform(stored(EXAMPLES, "bus.trace"))
-        for drawn, options, wanted in ((bus, [], "bus.sigrok"), (capture("kernel.vcd"), [], "kernel.sigrok"),
+        for drawn, options, wanted in ((capture("kernel.vcd"), [], "kernel.sigrok"),
                                        (waveform(capture("faults.bus")), [], "faults.sigrok"),
                                        (bus, ["--protocol-decoder-samplenum"], "bus.samples")):
             with self.subTest(wanted), tempfile.NamedTemporaryFile("w", suffix=".vcd") as file:
@@ -85,8 +85,8 @@ class Traces(unittest.TestCase):
 
     def test_captures_give_their_traces(self):
         for name, form, wanted in CAPTURES:
-            with self.subTest(f"{name}.{form}"):
-                self.assertEqual("\n".join(traced(form, capture(f"{name}.{form}"), 0x58)) + "\n", capture(wanted))
+            with self.subTest(name):
+                self.assertEqual("\n".join(traced(form, capture(name), 0x58)) + "\n", capture(wanted))
 
     def test_short_captures_give_their_traces(self):
         for form, text, wanted in SHORT:
@@ -134,14 +134,13 @@ class Traces(unittest.TestCase):
 
     @needs("pmb")
     def test_the_driver_s_word_for_the_other_page_is_marked(self):
-        told = decoded(capture("sharpest.trace"), "--all", "--values", "--pages", "--vout=ulinear16:-12")
+        packets_of_it = "".join(stored(EXAMPLES, "captures", "ltc2972.trace").splitlines(keepends=True)[2:])
+        told = decoded(packets_of_it, "--all", "--values", "--pages", "--vout=ulinear16:-12")
         self.assertIn("20 58 page 0? VOUT_COMMAND write 1CCD 1.800048 V", told)
         self.assertEqual([line for line in told if "VOUT_COMMAND write 3000" in line],
                          ["46 58 page 1? VOUT_COMMAND write 3000 3 V WRONG PAGE? lines 39 and 46"])
         marked = [line for line in told if "WRONG PAGE?" in line]
         self.assertEqual([line.split()[0] for line in marked], ["43", "44", "45", "46"])
-        example = stored(EXAMPLES, "captures", "ltc2972.trace").splitlines(keepends=True)
-        self.assertEqual("".join(example[2:]), capture("sharpest.trace"))
 
     @needs("pmb")
     def test_the_kernel_s_capture_of_that_run_has_the_mark_too(self):

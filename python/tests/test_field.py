@@ -58,15 +58,6 @@ class Api(unittest.TestCase):
         part.lines.clear()
         return part, Device(FieldBus(part), ADDRESS, 2, limits={0: ("0.8V", "1.3V")}, **named)
 
-    def test_a_good_end_says_what_the_rail_delivers(self):
-        part, device = self.device()
-        device.set_voltage(0, "1.05V")
-        self.assertEqual((device.delivered.verdict.kind, device.delivered.verdict.microvolts, device.delivered.words),
-                         ("delivers", 1050048, ", delivers 1.050048V"))
-        self.assertEqual(part.volts(), 1050048)
-        self.assertIs(device.turn_off(0).is_on, False)
-        self.assertEqual((device.delivered.verdict.kind, part.volts()), ("went off", 0))
-
     def test_a_voltage_beyond_a_fault_limit_is_refused(self):
         for call, said in ((lambda it: it.set_voltage(0, "1.05V"), "VOUT_COMMAND 1.050048V"), (lambda it: it.apply(0, {"VOUT_COMMAND": 0x10CD}), "VOUT_COMMAND"),
                            (lambda it: it.margin(0, "high"), "VOUT_MARGIN_HIGH 1.0625V")):

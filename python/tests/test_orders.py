@@ -102,12 +102,6 @@ class Orders(unittest.TestCase):
         for place in ("00 20", "01 20", "00 21", "00 24", "00 2B", "01 21", "01 24"):
             self.assertIn(f"B0 06 02 {place} /", reads)
 
-    def test_a_part_that_is_as_wanted_is_not_written_to(self):
-        part = self.apply(TWO)[0]
-        del part.lines[:]
-        _, status, _, _ = self.apply(TWO, part=part)
-        self.assertEqual((status, self.places(part.lines)), (0, []))
-
     def test_nothing_is_written_behind_a_restart_that_was_seen(self):
         """A restart at the read-back of an order whose register held neither the ordered word nor the part's start word: the
         order itself is tried again, and nothing else is written."""

@@ -11,7 +11,6 @@ from pmhost import Host, LinuxBus, PatientBus, Transfers, clock, pec
 from pmhost.bus import patient
 
 from . import runs
-from .busy import Deaf30, Timed
 from .field import Field
 from .kernel import BoardKernel, FakeKernel, Part
 from .odd_parts import Proved
@@ -51,8 +50,16 @@ ASK = bytes.fromhex("B019")
 OUTPUTS = (0, 1, 1, 0, 0, 1, 0, 1)
 WORDS = tuple(0x1200 + 0x200 * place for place in range(len(OUTPUTS)))
 JOBS = " + ".join([*(f"word {output} VOUT_COMMAND {word:04X}" for output, word in zip(OUTPUTS, WORDS)), "store", "read 0", "read 1", "known"])
-# Busy by missing acknowledgements; by ones; by ones, and what is written meanwhile is dropped.
-WAYS = ((False, False), (True, False), (True, True))
+# Busy by missing acknowledgements; by refused bytes; by ones, and what is written meanwhile is dropped.
+WAYS = (0, 1, 2)
+
+
+def busy(milliseconds, **fields):
+    """A part that is busy for so long behind each write."""
+    part = Field()
+    for name, value in {"busy_ms": milliseconds, **fields}.items():
+        part.set(name, value)
+    return part
 
 
 def as_shipped():
@@ -65,13 +72,12 @@ class EightOrders(unittest.TestCase):
 
     def carry_out(self, milliseconds, way, patience):
         """The status, and whether what `known` says is held."""
-        part = Timed(milliseconds, *way)
+        part = busy(milliseconds, busy_kind=way, store_ms=400)
         given = ["--busy-timeout", f"{patience}ms"] if patience is not None else []
         status, out, _ = runs.called(["-b", "7", "-a", "58", "--outputs", "2", "--no-limit", *given, *JOBS.split()], FakeKernel(part))
         for output, word, possible in re.findall("^([01]) VOUT_COMMAND (?:([0-9A-F]{4}) .*confirmed|possible (.*))$", out, re.M):
-            held = f"{part.converter.cells[int(output), 0x21]:04X}"
-            self.assertIn(held, possible.split() if possible else [word])
-        return status, [part.converter.cells[output, 0x21] for output in (0, 1)]
+            self.assertIn(f"{part.get('VOUT_COMMAND', int(output)):04X}", possible.split() if possible else [word])
+        return status, [part.get("VOUT_COMMAND", output) for output in (0, 1)]
 
     def test_they_end_well(self):
         with as_shipped():
@@ -185,7 +191,7 @@ class Patience(unittest.TestCase):
         self.assertEqual(below.frames, [FRAME])
 
     def test_over_the_bus_of_linux(self):
-        for part, went in ((Deaf30(), True), (Part(), True)):
+        for part, went in ((busy(30), True), (Part(), True)):
             with LinuxBus(7, 0x58, kernel=FakeKernel(part)) as bus:
                 over = PatientBus(bus, 0, 200)
                 self.assertIs(over.write(FRAME), went)
@@ -211,9 +217,7 @@ class Patience(unittest.TestCase):
         """Behind a store of 440 ms and of 4.1 s; by CAPABILITY, and by the part's own byte, which it answers while it is busy."""
         for milliseconds, most in ((440, 8), (4100, 12)):
             for more, noted in (([], True), (["--ready", "EF:60"], False)):
-                part = Field()
-                part.set("store_ms", milliseconds)
-                part.set("busy_kind", 1)
+                part = busy(0, store_ms=milliseconds, busy_kind=1)
                 with as_shipped(), self.subTest(milliseconds=milliseconds, more=more):
                     status, out, _ = runs.called(["-b", "7", "-a", "58", "--outputs", "2", *more, "store"], FakeKernel(part))
                     self.assertEqual((status, out, part.get("stores")), (0, "store: acknowledged\n", 1))
@@ -225,9 +229,7 @@ class Patience(unittest.TestCase):
     def test_the_ready_of_a_board_file_is_what_the_part_is_asked(self):
         """The byte EF of a part of the file is asked behind a write, as often as by --ready; without it CAPABILITY is."""
         for ready, asked in ('ready = "EF:60"', "B0 EF /"), ("", "B0 19 /"):
-            part = Field()
-            part.set("busy_ms", 60)
-            part.set("busy_kind", 1)
+            part = busy(60, busy_kind=1)
             with as_shipped(), tempfile.NamedTemporaryFile("w", suffix=".toml") as file, self.subTest(ready):
                 file.write(f'[parts.u1]\nbus = 7\naddress = "58"\noutputs = 2\n{ready}\n'
                            '[rails.core]\npart = "u1"\noutput = 0\nvolts = "1.05V"\nlimits = ["0.8V", "1.3V"]\n')

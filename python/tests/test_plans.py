@@ -4,7 +4,7 @@ from decimal import Decimal
 from unittest import mock
 
 import pmhost
-from pmhost import Band, Course, CourseEnd, Differs, Host, Job, PlanRefused, RailState, SequenceStep, Spent, Step, Unknown, Voltage
+from pmhost import Band, Course, CourseEnd, Differs, Host, Job, RailState, SequenceStep, Spent, Step, Unknown, Voltage
 
 from pmhost.cuts import cuts
 
@@ -49,14 +49,6 @@ class Rails(unittest.TestCase):
         self.assertEqual(pmbus.turn_off(0), RailState(False, AT_3V3.band, "within"))
         self.assertEqual(Host(0x58).rail(0), RailState(None, None, "no limits"))
         self.assertEqual(free(Host(0x58)).rail(0), RailState(None, None, "no limits"))
-
-    def test_a_survey_reads_what_decides_and_no_more(self):
-        pmbus = recorded()
-        pmbus.survey(0)
-        self.assertEqual([frame[4] for frame in pmbus.bus.frames], [0x20, 0x01, 0x21, 0x24, 0x2B])
-        pmbus.bus.frames.clear()
-        pmbus.apply(0, {"VOUT_MARGIN_LOW": 0x3400})
-        self.assertEqual([frame[-1] for frame in pmbus.bus.frames], [0x20, 0x01, 0x21, 0x24, 0x26, 0x2B, 0x10])
 
     def test_a_survey_is_spent_and_says_so(self):
         pmbus = rails(Faulty)
@@ -123,16 +115,6 @@ class Rails(unittest.TestCase):
         pmbus.host.read_ended(answer[5:] + bytes([pmhost.pec(answer)]))
         self.assertEqual((pmbus.band(0), pmbus.rail(0).band, pmbus.rail(0).selected), (None, None, "AVSBus"))
 
-    def test_a_survey_is_stuck_at_a_missing_margin(self):
-        pmbus = recorded(limits=None)
-        pmbus.order(0, "OPERATION", 0xA8)
-        lacking = free(pmhost.Device(pmbus.bus, 0x58, 2, lacks=("VOUT_MARGIN_HIGH",)))
-        for call in (lambda: lacking.survey(0), lambda: lacking.apply(0, VOLTS)):
-            pmbus.bus.frames.clear()
-            with self.assertRaises(PlanRefused) as it:
-                call()
-            self.assertEqual((it.exception.letter, it.exception.register, codes(pmbus.bus.frames)), ("P4", "VOUT_MARGIN_HIGH", []))
-
 
 class Power(unittest.TestCase):
     def test_off_is_the_first_frame(self):
@@ -166,15 +148,6 @@ class Power(unittest.TestCase):
         with self.assertRaises(pmhost.LimitRefused) as it:
             narrow.margin(0, "high")
         self.assertEqual((it.exception.letter, it.exception.register, narrow.bus.part.word(0, "OPERATION")), ("L5", "OPERATION", 0x80))
-
-    def test_a_protected_operation_is_not_ordered_on(self):
-        pmbus = recorded(limits=None)
-        pmbus.turn_off(0)
-        pmbus.order(0, "WRITE_PROTECT", 0x80)
-        pmbus.bus.frames.clear()
-        with self.assertRaises(PlanRefused) as it:
-            pmbus.turn_on(0)
-        self.assertEqual((it.exception.letter, it.exception.register, codes(pmbus.bus.frames)), ("P7", "OPERATION", []))
 
 
 class Plans(unittest.TestCase):
@@ -252,17 +225,6 @@ class Applies(unittest.TestCase):
             recorded().apply(0, VOLTS, **{name: lambda *words: seen.append(words)})
             self.assertEqual([words[0] for words in seen], [Job("order", "VOUT_COMMAND", 0x3500)], name)
 
-    def test_nothing_is_written_where_nothing_is_due(self):
-        pmbus = recorded()
-        self.assertEqual(pmbus.apply(0, {"VOUT_COMMAND": 0x34CD, "VOUT_MIN": 0x3334}), AT_3V3)
-        self.assertEqual(codes(pmbus.bus.frames), [])
-        self.assertEqual(len(pmbus.bus.frames), 6)
-
-    def test_what_is_refused_has_written_nothing(self):
-        pmbus = recorded()
-        self.assertEqual(refused(pmbus, {"VOUT_MAX": 0x3700, "VOUT_COMMAND": 0x3768}), ("P6", "AboveMax", "VOUT_COMMAND"))
-        self.assertEqual(codes(pmbus.bus.frames), [])
-
     def test_an_order_that_differs_is_given_once_again(self):
         pmbus = rails(Faulty, passes=1)
         begun = []
@@ -276,13 +238,6 @@ class Applies(unittest.TestCase):
         self.assertEqual((it.exception.register, it.exception.word, it.exception.possible, len(begun)), ("VOUT_COMMAND", 0x3500, (0x3500,), 2))
         self.assertEqual(str(it.exception), "apply 0: VOUT_COMMAND: the part holds 3500h, and not what was ordered twice: it lost, refused, "
                                             "limited or rounded it: look at STATUS_CML, VOUT_MAX and VOUT_MIN")
-
-    def test_an_order_that_ended_unknown_is_checked_first(self):
-        pmbus = rails(Faulty, passes=1)
-        begun = []
-        pmbus.bus.fates = ["ok"] * 7 + ["lost"]
-        pmbus.apply(0, VOLTS, before_order=begun.append)
-        self.assertEqual(len(begun), 1)
 
     def test_an_order_that_the_caller_stops_is_not_sent(self):
         for fault in (EOFError, KeyboardInterrupt, ValueError):
@@ -328,14 +283,6 @@ class Applies(unittest.TestCase):
             with self.assertRaises((pmhost.HostRefused, TypeError)):
                 job()
         self.assertIsNotNone(pmbus.host.frame())
-
-    def test_tries_bound_all_jobs(self):
-        for tries, register in ((5, "WRITE_PROTECT"), (6, "VOUT_COMMAND")):
-            pmbus = recorded()
-            with self.assertRaises(Spent) as it:
-                pmbus.apply(0, VOLTS, tries=tries)
-            self.assertEqual((it.exception.register, codes(pmbus.bus.frames)), (register, []))
-        self.assertEqual(pmbus.apply(0, VOLTS, tries=13).is_on, True)
 
     def test_tries_are_a_number_of_16_bits(self):
         for wrong in (-1, 65536):

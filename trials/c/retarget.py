@@ -14,7 +14,7 @@ Sizes and places in memory were settled when the module was made: a pointer has 
 
 With either width the processor's name goes out of the attributes, and each export of 8 or 16 bits widens its result
 with zeros. Any line, type, attribute, global or call that isn't listed here is refused: then one line says which, and
-nothing is written. No proof covers what this does: trials/c/targets.sh tests it, trials/c/try_retarget.py the refusals.
+nothing is written. No proof covers what this does: trials/c/targets.sh tests it.
 """
 import argparse
 import re

@@ -110,7 +110,7 @@ static int set_up(chain *it, const row *from) {
     like->fault_limits = kind;
     like->lacks = missing;
     like->tells_power_good = !strcmp(said(from, "power-good", "judge"), "tell");
-    like->within = (uint16_t)atoi(said(from, "within", "50"));
+    if (said(from, "within", NULL)) like->within = (uint16_t)atoi(said(from, "within", NULL));
     like->rounds = (uint16_t)atoi(said(from, "rounds", "7"));
     if (sscanf(said(from, "band", "800000 1300000"), "%" SCNd64 " %" SCNd64, &least, &most) != 2) return 0;
     return set_up_part(it, from) && !pm_host_new_with(&it->host, ADDRESS, 2, PASSES, &has) && !pm_host_set_limits(&it->host, 0, least, most)

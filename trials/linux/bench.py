@@ -10,11 +10,10 @@ the guest has gone.
 At address 0A of the first bus, text is taken: `part WORDS` puts a part there (parts.py), as made, and takes all others away;
 `beside WORDS` another one, at an address of its own, and `behind K WORDS` one behind channel K of the multiplexer at 70, which
 `mux` puts there and which stays; `struck XX` says whose transfers meet mishaps, where it isn't the first part; `adapter errno` or
-`adapter count` says who asks; `plan WORD ..` has a mishap for each coming transfer; `restart` restarts the part; `low sda` and
-`low scl` have a line of the wire held low until `low none`. A read there tells as JSON what the parts hold, each word that a register of them held since it was put there
-(`ever`), how many transfers met the mishaps (`count`), and how many mishaps struck: one that holds a line of the wire low at a
-clock does where that clock comes. A read of a byte at 0B tells the error of the last
-failed transfer, by its number, for an adapter that answers errors. The mishaps are those of python/tests/kernel.py, and
+`adapter count` says who asks; `plan WORD ..` has a mishap for each coming transfer; `restart` restarts the part. A read there tells as
+JSON what the parts hold, each word that a register of them held since it was put there (`ever`), how many transfers met the mishaps
+(`count`), and how many mishaps struck: one that holds a line of the wire low at a clock does where that clock comes. A read of a byte at
+0B tells the error of the last failed transfer, by its number, for an adapter that answers errors. The mishaps are those of python/tests/kernel.py, and
 
     lostall   as `lost`, and of a read no message goes, where `lost` lets the first one go
     cut       the last byte that comes back is FF
@@ -71,7 +70,7 @@ class Bench:
     def put(self, words):
         part, self.address = parts.made(words)
         self.part = parts.Watched(part)
-        self.standing, self.plan, self.count, self.error, self.low = {self.address: self.part}, [], 0, 0, None
+        self.standing, self.plan, self.count, self.error = {self.address: self.part}, [], 0, 0
         self.struck = 0
         self.let_go()
         self.settle()
@@ -133,9 +132,6 @@ class Bench:
             self.mux.channels.setdefault(int(words[0]), {})[address] = parts.Watched(part)
         elif kind == "struck":
             self.address = int(words[0], 16)
-        elif kind == "low":
-            self.low = None if words == ["none"] else words[0]
-            self.settle()
         elif kind == "adapter":
             self.has_errors = words == ["errno"]
         elif kind == "plan":

@@ -1,7 +1,6 @@
 #!/usr/bin/env bash
-# Plants bugs into copies of the package and of the C example, each of which a trial over a whole Linux must find: a short
-# count that is taken for success, once in each of the three programs that make transfers; and an address that is another
-# part's. Each trial has to pass without the bug first. Prints what found them.
+# Plants bugs into copies of the package, each of which a trial over a whole Linux must find: a short count that is taken for
+# success, once by `pmhost` itself and once by i2ctransfer below it; and an address that is another part's. Each trial has to pass without the bug first. Prints what found them.
 #
 #   trials/linux/must_fail.sh [OPTIONS]
 #
@@ -12,7 +11,6 @@ here=$(cd "$(dirname "$0")" && pwd)
 root=$(cd "$here/../.." && pwd)
 . "$here/start.sh"
 start "$@"
-built=$CACHE
 # plant NAME FILE OLD NEW: a copy of what the trials read, with one text changed, which stands there once.
 plant() {
     mkdir -p "$work/$1/tree"
@@ -32,20 +30,12 @@ begun() {
     "$tree/trials/linux/boot.sh" "$guest" "$@" > "$guest.boot" 2>&1 &
     guests+=($!)
 }
-# tried NAME TRIAL BUS [WORD ..]: the trial without the bug, over the programs that $sound names, and on the copy.
+# tried NAME TRIAL BUS [WORD ..]: the trial without the bug, and on the copy.
 tried() {
     local name=$1; shift
-    CACHE=$sound begun "$root" "$work/$name/sound" "$@"
+    begun "$root" "$work/$name/sound" "$@"
     begun "$work/$name/tree" "$work/$name/guest" "$@"
 }
-# cache NAME TREE: a folder of kernel, modules and library with the C example of a tree
-cache() {
-    mkdir "$work/$1"
-    ln -s "$built/kernel" "$built/modules" "$built/libpmhost.so" "$work/$1"
-    gcc -I"$root/crates/pm_host_c/include" "$2/examples/c/i2c_dev.c" "$archive" -o "$work/$1/i2c_dev" || refuse "examples/c/i2c_dev.c doesn't build"
-}
-cache sound "$root"
-sound=$work/sound
 plant package python/src/pmhost/bus/linux.py "if went != len(messages):" "if went < 0:"
 tried package rows 0
 plant frames python/src/pmhost/capture/i2ctransfer.py "if ran.returncode or ran.stderr or len(back) != wanted or BYTES.sub(\"\", ran.stdout).strip():" \
@@ -54,10 +44,6 @@ tried frames commands 0
 plant address python/src/pmhost/bus/linux.py "return self._send(self.address, " "return self._send(min(self.address, 0x59), "
 tried address several 0 7 short
 names="package frames address"
-plant program examples/c/linux_bus.h "return went == count;" "return went >= 0;"
-cache planted "$work/program/tree"
-CACHE=$work/planted tried program programs 0
-names="$names program"
 wait
 . "$root/tools/tally.sh"
 for name in $names; do

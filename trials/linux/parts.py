@@ -4,22 +4,17 @@ the bytes of an answer, [] where a write is acknowledged, None where the part do
     proved      the plain model with the proved converter beside it, which has to answer the same
     modes A B   the same with these VOUT_MODEs, as 14 40
     at XX       the same at another address
-    busy WAY MS AWAY [XX]
-                the same, busy for MS milliseconds behind each write and AWAY behind a store: WAY is `deaf`, where it doesn't
-                acknowledge its address, or `ones`, where reads are ones and writes are acknowledged and dropped
     row FILE N  the part of block N of python/tests/data/FILE, which also stands for formats that no converter takes
     plain       the plain model (python/tests/plain) alone
     ltc2972     the plain model with the registers that the kernel's driver of this name asks for
 
 PLAIN_PART=1 in the environment has the plain model alone in the place of both.
 """
-import errno
 import os
-import time
 
 from plain.converter import COMMAND
 from plain.packets import TABLE, pec
-from tests import busy, kernel
+from tests import kernel
 from tests.runs import blocks
 
 MOST_PAST = 200
@@ -64,28 +59,6 @@ class Ltc2972(kernel.Part):
     def maxima(self):
         """VOUT_OV_WARN_LIMIT of each output, which the driver shows as in*_max."""
         return [self.limits[output, self.MAX_LIMIT] for output in self.converter.outputs]
-
-
-class Busy(busy.Timed):
-    """It is busy by the machine's clock."""
-
-    def __init__(self, way, for_ms, away_ms, **named):
-        super().__init__(for_ms, way == "ones", True, **named)
-        self.away_ms = away_ms
-
-    @property
-    def refusal(self):
-        """While it is away it doesn't acknowledge its address, where it refuses a byte otherwise."""
-        return errno.ENXIO if self.is_busy() and not self.is_ones else kernel.Part.refusal
-
-    def now(self):
-        return time.monotonic()
-
-    def pass_time(self):
-        """A transfer takes its own time."""
-
-    def lasts(self, frame):
-        return self.away_ms if frame[1] == busy.STORE_USER_ALL else self.for_ms
 
 
 class Mux:
@@ -134,9 +107,6 @@ def made(words):
 
 def made_by_name(kind, *words):
     """A model part by its kind."""
-    if kind == "busy":
-        way, for_ms, away_ms, *address = words
-        return Busy(way, int(for_ms), int(away_ms), **({"address": int(address[0], 16)} if address else {}))
     if kind == "at":
         return kernel.Part(address=int(words[0], 16))
     return kernel.Part(tuple(int(word, 16) for word in words)) if kind == "modes" else kernel.Part()

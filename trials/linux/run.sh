@@ -1,5 +1,5 @@
 #!/usr/bin/env bash
-# Tries the package and the C example over a whole Linux: a kernel of Debian as an ordinary process (User Mode Linux), its
+# Tries the package over a whole Linux: a kernel of Debian as an ordinary process (User Mode Linux), its
 # I2C core, i2c-dev, i2c-tools and PMBus drivers unchanged, and the model converter behind three kinds of adapter. It
 # needs no hardware, no root and no KVM.
 #
@@ -19,12 +19,7 @@
 #   rows      every run of python/tests/data that is about a bus, on bus 0 by pmhost as a process
 #   faults    eight orders under nine kinds of fault at each transfer, and 60 lists of two to four faults (SEED and LISTS in the environment)
 #   commands  commands of the pages over i2c-tools and beside a driver, and i2cdetect over all addresses
-#   programs  examples/c/i2c_dev.c under each fault
 #   captures  one run, told by pmhost's trace, the kernel's tracepoints and the waveform of the wires
-#   drawn     jobs of every kind under drawn faults, all registers asked behind (SEED, LISTS)
-#   lines     lines that are held low, at rest and from each clock of each byte on
-#   patience  parts that are busy behind each write or away behind a store, by missing acknowledgements and by ones
-#   signals   a signal while a transfer is under way, at each transfer of a call with a job of every kind
 #   several   two parts at two addresses and one behind a multiplexer, a pmhost for each at once, under each fault (SEED)
 #   together  both hosts at once, a part that is unplugged, a pmhost that is killed
 #
@@ -34,22 +29,12 @@ case " $* " in *" --help "* | *" -h "*) sed -n '2,/^[^#]/s/^# \{0,1\}//p' "$0"; 
 here=$(cd "$(dirname "$0")" && pwd)
 root=$(cd "$here/../.." && pwd)
 . "$here/start.sh"
-has_cargo=$(command -v cargo) has_sigrok=$(command -v sigrok-cli)
-[ -n "$has_cargo" ] || echo "no cargo: the example in Rust isn't tried"
+has_sigrok=$(command -v sigrok-cli)
 [ -n "$has_sigrok" ] || echo "no sigrok-cli: the waveform isn't compared; install sigrok-cli"
 command -v i2ctransfer > /dev/null || [ -x /usr/sbin/i2ctransfer ] || refuse "no i2ctransfer: install i2c-tools"
 start "$@"
 began=$(date +%s)
-kinds="several faults rows signals commands captures together programs patience drawn lines"
-gcc -O2 -Wall -Wextra -Werror -I"$root/crates/pm_host_c/include" "$root/examples/c/i2c_dev.c" "$archive" -o "$CACHE/i2c_dev" ||
-    refuse "examples/c/i2c_dev.c doesn't build"
-rm -f "$CACHE/i2c_dev_rust"
-if [ -n "$has_cargo" ]; then
-    mkdir -p "$CACHE/archives" && cp "$archive" "$CACHE/archives/libpm_host_c.a" && cp "$part" "$CACHE/archives/libpm_device_c.a"
-    PM_ARCHIVES=$CACHE/archives CARGO_TARGET_DIR=$CACHE/cargo cargo build --quiet --offline --release --features linux \
-        --example i2c_dev --manifest-path "$root/rust/Cargo.toml" || refuse "rust/examples/i2c_dev.rs doesn't build"
-    cp "$CACHE/cargo/release/examples/i2c_dev" "$CACHE/i2c_dev_rust"
-fi
+kinds="several faults rows commands captures together"
 names=()
 for kind in $kinds; do
     # The bit by bit one takes longest: it begins first.
@@ -57,7 +42,7 @@ for kind in $kinds; do
         names+=("$kind$bus") more=()
         [ $kind$bus != rows0 ] || more=(processes)
         case $kind in
-            faults | drawn) more=("${SEED-7}" "${LISTS-60}") ;;
+            faults) more=("${SEED-7}" "${LISTS-60}") ;;
             several) more=("${SEED-7}") ;;
         esac
         VCD=$([ $kind$bus = captures5 ] && echo 1) trial $kind$bus $kind $bus "${more[@]}"

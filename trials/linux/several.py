@@ -17,7 +17,6 @@ import os
 import re
 import signal
 
-from drawn import KNOWN, WORD
 from faults import KINDS, MORE, ON_WIRE, RESTARTS, SEED
 from guest_bus import WIRE, Bench, places
 from pmhost import cli
@@ -25,6 +24,8 @@ from pmhost.values import CODES
 from rows import ADAPTERS, write
 from tally import Tally
 
+KNOWN = re.compile(r"([-01]) (\w+) (?:([0-9A-F]{2}|[0-9A-F]{4}) (?:[-\d.]+V )?confirmed|possible (.*)|any)")
+WORD = re.compile(r"\b([0-9A-F]{4}|[0-9A-F]{2})\b")
 MUX, CHANNEL, OTHER = "70", 3, 5
 # How many transfers stand for all of them over the slow bus.
 FEW = 3

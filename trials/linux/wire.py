@@ -87,7 +87,7 @@ class Wire:
     def settle(self):
         """Each change of a line is seen by the part, which may change SDA in turn."""
         while True:
-            low = SDA if self.bench.is_low() else LINES.get(self.bench.low, self.held_low)
+            low = SDA if self.bench.is_low() else self.held_low
             sda, scl = (self.host[line] & self.part[line] & (line != low) for line in (SDA, SCL))
             if (sda, scl) == (self.sda, self.scl):
                 return

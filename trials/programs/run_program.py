@@ -1,8 +1,8 @@
 #!/usr/bin/env python3
 """Runs the built program `pmb` on all of examples/ and on a table of command lines and inputs, and
 compares its status and what it wrote on both streams: each status, a full output and closed streams, texts at the far end of each limit;
-the examples also byte by byte. (The rows of each refusal and of each code are those of crates/pm_tool_tests.) What differs is printed;
-the last line says how many runs passed and failed.
+the examples also byte by byte. (The rows of each refusal and of each code are those of crates/pm_tool_tests.) Last a trace of 5 MiB goes
+through in memory that doesn't grow. What differs is printed; the last line says how many runs passed and failed.
 
 It runs the built program, or the one that the environment variable PMB names: trials/programs/run_program.py
 """
@@ -125,6 +125,9 @@ STREAMS = [
     ("< /", ["decode"], 1, b"pmb: X4 Read\n"),
     ("<&-", ["decode"], 1, b"pmb: X4 Read\n"),
     ("2>&-", ["decode"], 0, b""),
+    (">&-", ["decode", "--times"], 1, b"pmb: X5 Write\n"),
+    ("< /", ["decode", "--all"], 1, b"pmb: X4 Read\n"),
+    ("2>&-", ["decode", "--vout=linear11"], 2, b""),
     (ONE_ORDER + " > /dev/full", ["replay"], 1, b"pmb: X5 Write\n"),
     (ONE_ORDER + " >&-", ["replay"], 1, b"pmb: X5 Write\n"),
     ("< /", ["replay"], 1, b"pmb: X4 Read\n"),
@@ -164,6 +167,36 @@ def ran_by_bytes(arguments, text):
         return run.communicate()[0], run.returncode
 
 
+# Options with which a long trace is read, how long it is, and by how many KiB more memory may be in use behind it than behind its first MiB.
+LONG = (["--long"], ["--long", "--values"], ["--long", "--values", "--all", "--times", "--pages", "--json"])
+MIB, LENGTH, MOST_GROWTH = 1_048_576, 5_242_880, 128
+# Four lines of it: two are accepted, one has another code, one is faulty.
+SOME = [FRAME, b"B0 06 02 00 20 / B1 01 14 4E\n", b"B0 96 / B1 34 12\n", b"B0 05 04 01 21 CD 34 5A\n"]
+
+
+def most_memory(number):
+    """The most memory that a process had, in KiB."""
+    with open(f"/proc/{number}/status", encoding="ascii") as file:
+        return next(int(line.split()[1]) for line in file if line.startswith("VmHWM"))
+
+
+def long_faults(words):
+    """What is wrong with a long trace, of which with times no two lines are alike."""
+    piece = b"".join(b"%d " % number * ("--times" in words) + SOME[number % 4] for number in range(4096))
+    with subprocess.Popen([PROGRAM, "decode", *words], stdin=subprocess.PIPE, stdout=subprocess.DEVNULL) as run:
+        sent, after = 0, []
+        while sent < LENGTH:
+            run.stdin.write(piece)
+            run.stdin.flush()
+            sent += len(piece)
+            if sent >= (LENGTH if after else MIB):
+                after.append(most_memory(run.pid))
+        run.stdin.close()
+        status = run.wait()
+    if status or after[-1] - after[0] > MOST_GROWTH:
+        yield f"status {status}, {after} KiB"
+
+
 def is_as_wanted(found, wanted):
     return len(found) > 0 if wanted is None else found == wanted
 
@@ -185,6 +218,8 @@ def main():
         ran = subprocess.run(["sh", "-c", command, PROGRAM, *arguments], input=FRAME, capture_output=True)
         good = (ran.returncode, ran.stderr) == (status, errors)
         tally.tell(f"{arguments} {streams}", [] if good else [f"{ran.returncode}, {ran.stderr!r}"])
+    for words in LONG:
+        tally.tell(f"5 MiB by {' '.join(words)}", long_faults(words))
     return tally.end()
 
 

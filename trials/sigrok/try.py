@@ -1,8 +1,7 @@
 #!/usr/bin/env python3
 """Tries the decoder for sigrok. Its tables must be those that make_tables.py makes; what it tells of random packets must be
-what `pmb decode --all --values` tells; and where sigrok-cli is installed, it must tell the captures' waveforms as decode
-tells their traces, and waveforms that are drawn of the rows of trials/programs/told_rows.py as those have it by hand. What is wrong
-is printed, and the status is then 1.
+what `pmb decode --all --values` tells; and where sigrok-cli is installed, it must tell the captures' waveforms, and those that are drawn
+of random packets, as decode tells their traces. What is wrong is printed, and the status is then 1.
 
     trials/sigrok/try.py [--plain] [SEED [TEXTS]]
 
@@ -24,14 +23,12 @@ sys.path[:0] = [FOLDER, os.path.dirname(FOLDER)]
 import make_tables  # noqa: E402
 import paths  # noqa: E402, F401
 import program  # noqa: E402
-import told_rows  # noqa: E402
-from plain import draw_captures  # noqa: E402
+from plain import capture, draw_captures  # noqa: E402
 from plain.packets import pec  # noqa: E402
 from plain.trace import parts_of  # noqa: E402
 from pmhost.capture import trace  # noqa: E402
 from pmhost.capture.vcd import waveform  # noqa: E402
 from tally import Tally  # noqa: E402
-from try_told_captures import Plain, Program, traces, wanted_of  # noqa: E402
 
 CAPTURES = os.path.join(program.ROOT, "python/tests/data/captures")
 NAMES = ["bus", "faults", "kernel"]
@@ -56,6 +53,12 @@ def reader(*options):
         package.__path__ = [os.path.join(FOLDER, name)]
         sys.modules[name] = package
     return importlib.import_module(f"{name}.packets").Reader(*options)
+
+
+def decoded(text, words):
+    """What the built program says of a trace: its status, standard output and standard error."""
+    ran = subprocess.run([program.PROGRAM, "decode", *words], input=text, capture_output=True)
+    return ran.returncode, ran.stdout.decode(errors="replace"), ran.stderr.decode(errors="replace")
 
 
 def parts_in(line):
@@ -150,44 +153,11 @@ def waveform_faults(decode, name):
         yield f"it tells {found} {errors!r}, and not {wanted}"
 
 
-def drawn_faults():
-    """Waveforms that are drawn of rows, which were written by hand."""
-    for options, text in told_rows.GROUPS:
-        # The decoder tells values always, follows no page, and takes one format of voltages.
-        if {*options.split()} & {"--json", "--times", "--pages"} or "--values" not in options or re.search("--vout=([0-7]|[^ ]*,)", options):
-            continue
-        for rows in traces(text):
-            # What a comment says isn't drawn.
-            if not any(row.startswith(("# byte ", "# failed", "# the kernel")) for row in rows):
-                yield from drawn_fault(options, rows)
-
-
 def is_on_bus(said, parts):
     """Whether a row is a packet that a bus can have."""
     if said.startswith("X") or not all(parts) or int(parts[0][0], 16) & 1:
         return False
     return len(parts) == 1 or int(parts[1][0], 16) == int(parts[0][0], 16) + 1
-
-
-def drawn_fault(options, rows):
-    trace_text, told, *_ = wanted_of(rows, options.split())
-    lines, wanted = trace_text.splitlines(), []
-    for line in told:
-        number, said = line.split(" ", 1)
-        parts = [part.split() for part in lines[int(number) - 1].split("/")]
-        if is_on_bus(said, parts):
-            # The decoder tells a fault as decode does with --all.
-            is_told = "--all" in options or " F" not in said
-            read = parts[1] if len(parts) > 1 else None
-            wanted.append(wanted_words(said + " ", parts[0], read).rstrip(" ") if is_told else None)
-        else:
-            lines[int(number) - 1] = "# not drawn"
-    given = re.findall(r"--(vout|readings)[= ](\S+)", options)
-    # Colons part options of sigrok-cli, and commas decoders.
-    formats = "".join(f":{name}={it.replace(':', '/').replace(',', '+')}" for name, it in given)
-    found, errors = sigrok(waveform("\n".join(lines)), formats)
-    if len(found) != len(wanted) or any(other not in (None, one) for one, other in zip(found, wanted)):
-        yield f"{options} {rows[0]}: it tells {found} {errors!r}, and not {wanted}"
 
 
 def random_wave_faults(decode, seed):
@@ -276,19 +246,15 @@ def byte_faults():
             yield f"{options} gives {found[:3]}, {errors!r}"
 
 
-def checks(engine, seed, texts):
-    has_json = "--json" in engine.every
-    if not has_json:
-        print("this decode has no --json: the tables are compared with those of the plain model")
-    yield "tables", table_faults(engine.decode if has_json else Plain().decode)
-    yield "random packets", random_faults(engine.decode, seed, texts)
+def checks(decode, seed, texts):
+    yield "tables", table_faults(decode)
+    yield "random packets", random_faults(decode, seed, texts)
     if shutil.which("sigrok-cli"):
         for name in NAMES:
-            yield f"{name}.vcd", waveform_faults(engine.decode, name)
-        yield "drawn rows", drawn_faults()
-        yield "drawn random packets", random_wave_faults(engine.decode, seed)
+            yield f"{name}.vcd", waveform_faults(decode, name)
+        yield "drawn random packets", random_wave_faults(decode, seed)
         yield "bytes", byte_faults()
-        yield "warnings of a wrong page", page_faults(engine.decode, seed)
+        yield "warnings of a wrong page", page_faults(decode, seed)
 
 
 def main():
@@ -297,8 +263,10 @@ def main():
     words.add_argument("seed", type=program.number, nargs="?", default=1)
     words.add_argument("texts", type=program.count, nargs="?", default=60)
     given = words.read()
-    engine, tally = Plain() if given.plain else Program(), Tally()
-    for name, found in checks(engine, given.seed, given.texts):
+    if not given.plain:
+        program.needed()
+    tally = Tally()
+    for name, found in checks(capture.decode if given.plain else decoded, given.seed, given.texts):
         tally.tell(name, found)
     if not shutil.which("sigrok-cli"):
         print("no sigrok-cli here: the waveforms weren't decoded")

@@ -5,17 +5,16 @@
 HEADS = {"sigrok": 0, "linux": 0, "saleae": 1}
 LONG, MOST_GROWTH = 3_000_000, 500
 # How each format is read: the options behind its address, and its capture.
-READINGS = [(form, words, name) for form in HEADS for words, name in (
-    ([], f"bus.{form}"), (["--times", "--samplerate=1MHz"] if form == "sigrok" else ["--times"],
-                          "bus.samples" if form == "sigrok" else f"bus.{form}"))]
+READINGS = [(form, words, "bus.samples" if form == "sigrok" else f"bus.{form}") for form in HEADS for words in (
+    [], ["--times", "--samplerate=1MHz"] if form == "sigrok" else ["--times"])]
 # When the packets of bus.trace begin, in microseconds: as bus.linux and bus.saleae have them written, and as the waveform
 # is drawn, where a write of n bytes takes 58 + 90 n and a read 68 + 90 n.
 TIMES = {"linux": [0, 42, 126, 168, 210, 252, 336, 420], "saleae": [0, 990, 2277, 3267, 4257, 4851, 5643, 7227],
          "sigrok": [0, 778, 1746, 2524, 3302, 3720, 4238, 5476]}
-CAPTURES = [("sharpest", "sigrok", "sharpest.trace"), ("bus", "sigrok", "bus.trace"), ("bus", "linux", "bus.trace"), ("bus", "saleae", "bus.trace"),
-            ("faults", "sigrok", "faults.trace"), ("faults", "saleae", "faults.trace"),
-            ("faults", "linux", "faults_of_linux.trace"),
-            ("kernel", "sigrok", "kernel.trace"), ("kernel", "linux", "kernel_of_linux.trace")]
+CAPTURES = [("bus.samples", "sigrok", "bus.trace"), ("bus.linux", "linux", "bus.trace"), ("bus.saleae", "saleae", "bus.trace"),
+            ("faults.sigrok", "sigrok", "faults.trace"), ("faults.saleae", "saleae", "faults.trace"),
+            ("faults.linux", "linux", "faults_of_linux.trace"),
+            ("kernel.sigrok", "sigrok", "kernel.trace"), ("kernel.linux", "linux", "kernel_of_linux.trace")]
 SALEAE = "type,ack,address,read,data\nstart,,,,\n"
 WRITE = "i2c_write: i2c-1 #0 a=058 f=0000 l=1 [03]\n"
 # Short captures that are written here, and the whole trace of each.
@@ -107,7 +106,7 @@ UNTIMED = [
     ("saleae", f"{TIMED}start,0,,,,\nstop,0,,,,\nstart,1e12,,,,", "line 4: its time has more than 18 digits"),
     ("saleae", f"{TIMED}start\n", "line 2: no seconds in the column start_time"),
 ]
-# The SHA-256 of the waveforms of examples/bus.trace and of faults.bus, of which sigrok-cli 0.7.2 made bus.sigrok and faults.sigrok.
+# The SHA-256 of the waveforms of examples/bus.trace and of faults.bus, of which sigrok-cli 0.7.2 made bus.samples and faults.sigrok.
 WAVEFORM = "39c36b8f0da584a9c8dc76affc846fe3ce5f6ea3b0cd9c998835e36b970b9274"
 FAULTY_WAVEFORM = "631e87c54fd23184fb75c8da6f2863a45a5da367d0038ae7390d8d497863e9c3"
 # What `decode` counts of the traces of faults: an address that nobody acknowledged is no packet, and no fault of one.

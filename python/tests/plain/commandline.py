@@ -29,14 +29,11 @@ def number_of(words):
     return number(form, word, micro)
 
 
-def is_command(words):
-    """Whether the words name a command of `pmb`."""
-    return bool(words) and words[0] in (*TEXTS, "decode", "number")
-
-
 def main(words):
     """Runs a command, and answers its status."""
-    command, *rest = words
+    command, *rest = words or [""]
+    if command not in (*TEXTS, "decode", "number"):
+        sys.exit("plain: give replay, hear, decode or number")
     if command == "number":
         status, said, wrong = number_of(rest)
     elif command == "decode":

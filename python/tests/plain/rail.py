@@ -1,6 +1,5 @@
 """What an output commands by what is known, a survey of what decides that, and the way from what an output holds to what is wanted
 of it, one order after another. All of the plain host and its limits; `missing` has the registers that the part doesn't have."""
-from fractions import Fraction
 
 from .converter import ALLOWED, COMMAND, HIGH, LOW, MAX, MIN, OPERATION, PROTECT, accepts
 from .host import ANY
@@ -179,9 +178,3 @@ class Survey:
         if self.asked and self.asked[0] == "check" and end == "done":
             self.read.add(self.asked[1])
         self.asked = None
-
-
-def in_microvolts(found):
-    """Both ends of a band in whole microvolts, the least rounded down and the greatest up."""
-    least, greatest = (Fraction(end) * 10**6 for end in found)
-    return least.numerator // least.denominator, -(-greatest.numerator // greatest.denominator)

@@ -14,15 +14,13 @@ struct Rail {
     wrong: &'static str,
     has_ordered: bool,
     writes: u32,
-    /// The codes that were asked for by PAGE_PLUS, and 0 for each write.
-    asked: Vec<u8>,
     rounds: u32,
 }
 
 impl Rail {
     fn of(wrong: &'static str, operation: u8) -> Rail {
         let part = Part::new(0x58, &[Output { operation, max: 0x2000, ..Output::default() }], (1, 0, 3)).unwrap();
-        Rail { part, wrong, has_ordered: false, writes: 0, asked: Vec::new(), rounds: 0 }
+        Rail { part, wrong, has_ordered: false, writes: 0, rounds: 0 }
     }
 
     fn is(&self, what: char) -> bool {
@@ -77,7 +75,6 @@ impl Bus for Rail {
         }
         if let [Operation::Write(request), Operation::Read(answer)] = operations {
             if let [0x06, 0x02, page, code] = **request {
-                self.asked.push(code);
                 self.rounds += u32::from(code == 0x79 && self.has_ordered);
                 if code == 0x8B && self.is('x') {
                     answer.fill(0xFF);
@@ -93,7 +90,6 @@ impl Bus for Rail {
                 }
             }
         } else {
-            self.asked.push(0);
             if self.is('k') {
                 return Err(NoAnswer);
             }
@@ -210,39 +206,6 @@ fn rounds(rounds: u16) -> Looks {
 }
 
 #[test]
-fn a_register_is_missing_after_two_rounds_and_no_sooner() {
-    for (wrong, count, said) in [
-        ("v", 1, "delivery not known: READ_VOUT gave no good answer: no answer"),
-        ("v", 2, "delivers by STATUS_WORD"),
-        // The look before an order is a round of STATUS_WORD.
-        ("s", 1, "delivers 1.100097V by READ_VOUT"),
-        ("q", 1, "delivery not known: STATUS_WORD gave no good answer: no answer"),
-    ] {
-        let mut record = SequenceRecord::default();
-        let found = match set(&mut host(), &mut record, &mut Rail::of(wrong, 0x80), 1_100_000, rounds(count)) {
-            Ok(verdict) => verdict.to_string(),
-            Err(why) => why.to_string(),
-        };
-        assert_eq!(found, said, "{wrong} {count}");
-    }
-}
-
-#[test]
-fn each_call_reads_the_limits_and_none_asks_a_register_that_is_missing() {
-    let asked = |rail: &Rail, code| rail.asked.iter().filter(|it| **it == code).count();
-    let (mut host, mut record, mut rail) = (host(), SequenceRecord::default(), Rail::of("", 0x80));
-    for microvolts in [1_100_000, 1_050_000] {
-        assert!(set(&mut host, &mut record, &mut rail, microvolts, rounds(3)).is_ok());
-    }
-    // STATUS_WORD once before both and once after each, the limits before each.
-    assert_eq!((asked(&rail, 0x79), asked(&rail, 0x40), asked(&rail, 0x44), asked(&rail, 0x8B)), (3, 2, 2, 2));
-    let mut rail = Rail::of("", 0x80);
-    let looks = Looks { has_read_vout: false, ..rounds(3) };
-    let found = set(&mut host, &mut SequenceRecord::default(), &mut rail, 1_100_000, looks).unwrap();
-    assert_eq!((found.to_string().as_str(), asked(&rail, 0x8B)), ("delivers by STATUS_WORD", 0));
-}
-
-#[test]
 fn a_voltage_above_its_limit_fails_at_once_unless_it_was_lowered() {
     let raised = Act::Sets(Wishes::microvolts(1_100_000));
     let lowered = Act::Sets(Wishes::microvolts(900_000));
@@ -265,13 +228,6 @@ fn a_voltage_above_its_limit_fails_at_once_unless_it_was_lowered() {
 }
 
 #[test]
-fn nothing_is_asked_before_an_order_that_turns_the_output_off() {
-    let mut rail = Rail::of("", 0x80);
-    let found = host().deliver(&SequenceStep::turns(0, 0, 0x00), &mut SequenceRecord::default(), &mut rail, |_| ()).unwrap();
-    assert_eq!((found.to_string().as_str(), &rail.asked[..]), ("the part says that it is off", &[0, 0x01, 0x79][..]));
-}
-
-#[test]
 fn a_fault_that_came_with_a_chain_stays_new_in_it() {
     let (mut host, mut record, mut rail) = (host(), SequenceRecord::default(), Rail::of("u", 0x80));
     let new = "STATUS_WORD 8000 VOUT and STATUS_VOUT 10 VOUT_UV_FAULT: VOUT_UV_FAULT came with this call";
@@ -284,14 +240,6 @@ fn a_fault_that_came_with_a_chain_stays_new_in_it() {
     // A record of another output says nothing of this one.
     let [own, other] = [0, 1].map(|output| SequenceStep::turns(0, output, 0x80));
     assert_eq!((own.after(&record) == own, other.after(&record) == other), (false, true));
-}
-
-#[test]
-fn limits_without_an_answer_are_told_once_in_a_chain() {
-    let (mut host, mut record, mut rail) = (host(), SequenceRecord::default(), Rail::of("f", 0x80));
-    let first = set(&mut host, &mut record, &mut rail, 1_100_000, rounds(3)).unwrap();
-    assert!(first.to_string().ends_with("gave no good answer, and aren't judged"), "{first}");
-    assert_eq!(set(&mut host, &mut record, &mut rail, 1_050_000, rounds(3)).unwrap().to_string(), "delivers 1.050048V");
 }
 
 #[test]
