@@ -200,7 +200,7 @@ module _ (betrayed : BetrayalIsRefused) (damaged : DamageIsRefused) (reads : Rea
 
   answered : (d : Delivery) (later : List Happening) → d.output < held.config.count → IsLook held passes before d later →
       IsAnswered held passes d later before
-  answered d later here (begins d' is_off) = record { status = λ good. cc; voltage = λ good. cc }
+  answered d later here (begins d' off lowers) = record { status = λ good. cc; voltage = λ good. cc }
   answered d later here (hears d' StatusWord heard ending bytes later' look came) =
       let was = answered d' later' here look in
       record {
