@@ -5,7 +5,7 @@ the same frames, waits, orders that come next, verdicts and ends, to hear the sa
     trials/sequences/try_lists.py [--lists N] [--seed N] [--first N] [--plant N]
 
 Transfers are lost, damaged and falsely acknowledged; parts restart, are exchanged, silent, lack registers, and answer what nobody expects. Some lists
-are broken off or followed by their way back. The first difference is printed with its list and last 30 frames. `--plant` plants one of seventeen bugs.
+are broken off or followed by their way back. The first difference is printed with its list and last 30 frames. `--plant` plants one of 21 bugs.
 """
 import collections
 import random
@@ -35,8 +35,8 @@ BYTES = (0x80,) * 8 + (0x00, 0x00, 0x40, 0xA8, 0xA4, 0x98, 0x94, 0x88, 0x90, 0xB
 SETTLE = {1: 0, 2: 10, 3: 30, 5: 150, 11: 10230}
 FAR = [("word", 0x4000), ("word", 0), ("microvolts", 3300000), ("microvolts", -100000)]
 
-# Seventeen bugs of the plain side: what is wrong, whose it is, its name, and what stands in its place.
-MINE, BEGINS, HEARS = plain_side.Sequence, plain_side.Sequence.begins, plain_side.Sequence.hears_word
+# Bugs of the plain side: what is wrong, whose it is, its name, and what stands in its place.
+MINE, BEGINS, HEARS, Look = plain_side.Sequence, plain_side.Sequence.begins, plain_side.Sequence.hears_word, plain_lists.look.Look
 PLANTS = [
     ("a look at the end of a step is left out", MINE, "looks_after", lambda self, step: setattr(self, "is_looked", True) or []),
     ("the wait before a step counts for the next one too", MINE, "begins", lambda self, *it: BEGINS(self, *it) or setattr(self, "is_waited", True)),
@@ -55,7 +55,12 @@ PLANTS = [
     ("a reserved bit of OPERATION counts", plain_side, "same_command", lambda byte, other: byte == other),
     ("bit 3 of OPERATION doesn't count", plain_side, "same_command", lambda byte, other: byte | 8 == other | 8),
     ("no restart is seen once an order of OPERATION differed", MINE, "hears_word",
-     lambda self, course, *it: HEARS(self, course, *it[:-1], None))]
+     lambda self, course, *it: HEARS(self, course, *it[:-1], None)),
+    ("a voltage above its limit may be a ramp", Look, "is_above", lambda self, part: False),
+    ("no step lowers its output", MINE, "is_lower", lambda self, step, wanted: False),
+    ("a new fault of a rail that is on fails at once", Look, "fails_at_once",
+     lambda self, part: self.fault() or not self.is_lowered and self.is_above(part)),
+    ("OPERATION isn't read of a rail that is off", Look, "is_unexplained", lambda self: False)]
 
 
 class World:
