@@ -7,7 +7,7 @@ returns c = rw (
   c.flag-self-2.ensures,
   c.write.ensures,
   c.write-2.ensures,
-  c.phase_number-self.ensures,
+  c.phase_written-self.ensures,
   c.flag-self-3.ensures,
   c.flag-self-4.ensures,
   c.flag-self-5.ensures,
