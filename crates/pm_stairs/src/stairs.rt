@@ -2,7 +2,7 @@
 
 ghost use Rattle.std.specs.Prelude.{◌≡◌, ◌<◌, true};
 ghost use Rattle.pm_limits.specs.Guard.{limits_at};
-ghost use Rattle.pm_stairs.specs.Due.{due_now as spec_due_now};
+ghost use Rattle.pm_stairs.specs.Due.{due_now, said_of as spec_said_of};
 ghost use Rattle.pm_stairs.specs.Sequence.{GoesApart};
 ghost use Rattle.pm_stairs.specs.Steps.{noted as spec_noted};
 ghost use Rattle.pm_stairs.specs.Stairs.{ahead_move as spec_ahead_move, are_there as spec_are_there, begins_now as spec_begins_now, begun_with, coming_course, course_after, looked as spec_looked, no_output as spec_no_output, reading_for, stairs_new, trying as spec_trying, under_move as spec_under_move, AsksAhead, Goes, GoesAhead, GoesUnder, HasWords, SaysStep};
@@ -11,9 +11,9 @@ use crate::due::Due;
 use crate::said::{Said, StepEnd, said_of};
 use crate::sight::Sight;
 use crate::step::{Step, WordStep};
-use pm_course::{CourseEnd, FrameCourse, Refusal};
+use pm_course::{CourseEnd, CourseNext, FrameCourse, Refusal};
 use pm_host::{HostFault, Job};
-use pm_rail::Wanted;
+use pm_rail::{Course, Wanted};
 use pm_table::Cell;
 
 /// The step that is under way.
@@ -248,18 +248,34 @@ fn ask<S: Sight>(guard: &S, begun: bool, step: &WordStep, course: &mut FrameCour
     let was = *course;
     let limits = guard.limits(course.course.survey.output);
     let next = course.next_in(guard.state(), guard.stage(), guard.registers(), &limits);
-    let said = trying(
-        &was,
-        said_of(begun, step.output, &was.course, &due_by(guard, step), next),
-    );
+    let said = trying(&was, said_by(guard, begun, step, &was.course, next));
     put_said(course, &was, said);
     said
+}
+
+// What a step makes of what its course says. What is due is asked where that counts: what the course reads is read.
+fn said_by<S: Sight>(
+    guard: &S,
+    begun: bool,
+    step: &WordStep,
+    course: &Course,
+    next: CourseNext,
+) -> Said
+    requires { step.now.output < (S.guarded guard.now).host.setup.outputs }
+    ensures { let g = S.guarded guard.now in
+        result ≡ spec_said_of begun step.now.output course.now (due_now g.registers (limits_at g step.now.output) g.host step.now) next }
+{
+    match next {
+        CourseNext::Job(Job::Check(cell)) => Said::Reads(Job::Check(cell)),
+        CourseNext::Job(Job::Learn(output)) => Said::Reads(Job::Learn(output)),
+        _ => said_of(begun, step.output, course, &due_by(guard, step), next),
+    }
 }
 
 // What is due in a step by a guard.
 fn due_by<S: Sight>(guard: &S, step: &WordStep) -> Due
     requires { step.now.output < (S.guarded guard.now).host.setup.outputs }
-    ensures { result ≡ spec_due_now (S.guarded guard.now).registers (limits_at (S.guarded guard.now) step.now.output) (S.guarded guard.now).host step.now }
+    ensures { result ≡ due_now (S.guarded guard.now).registers (limits_at (S.guarded guard.now) step.now.output) (S.guarded guard.now).host step.now }
 {
     let limits = guard.limits(step.output);
     step.due(guard.state(), guard.stage(), guard.registers(), &limits)
