@@ -11,6 +11,7 @@ from unittest import mock
 
 from pmhost import cli
 from pmhost.cli.about import COMMANDS
+from pmhost.cli.again import RESTARTED
 from pmhost.cli.messages import GROUPS
 from pmhost.cli.outcome import commanded_words, is_well
 from pmhost.cli.parser import OPTIONS
@@ -33,6 +34,14 @@ def section(page, name):
 
 def blocks(text, kind):
     return re.findall(rf"```{kind}\n(.*?)```", text, re.S)
+
+
+class AtBoot(unittest.TestCase):
+    def test_the_unit_runs_again_at_the_status_of_a_restart_alone(self):
+        """systemd starts a oneshot unit with Restart=no again for no other status than those that RestartForceExitStatus names."""
+        settings = dict(re.findall(r"`(\w+)=([^`]*)`", section("board-file", "At boot")))
+        self.assertEqual((settings["Type"], settings["Restart"], settings["RestartForceExitStatus"]), ("oneshot", "no", str(RESTARTED)))
+        self.assertEqual(shlex.split(settings["ExecStart"])[1:], ["apply", "/etc/board.toml"])
 
 
 def words_of(name):

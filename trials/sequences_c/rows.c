@@ -488,6 +488,23 @@ static void one_timed(const timed *is) {
     row(is->name, "pauses", pauses, is->pauses);
 }
 
+/* Of which verdicts a rail is delivered, and of which it has nothing to deliver: one that is commanded off has, and isn't. */
+static void verdicts(void) {
+    static const uint8_t delivered[16] = {0, 1, 0, 0, 0, 0, 0, 0, 0, 0, 0, 1, 0, 0, 1, 0}, nothing[16] = {0, 0, 1};
+    for (uint8_t verdict = 0; verdict < 16; verdict++) {
+        row("a verdict", "is delivered", pm_is_delivered(verdict), delivered[verdict]);
+        row("a verdict", "has nothing to deliver", pm_has_nothing_to_deliver(verdict), nothing[verdict]);
+    }
+    begin(&good, &good, 2);
+    parts[0].words[0][0] = 0;
+    steps[0] = sets(0, 0, 1200000, 2);
+    row("set of a rail that is off", "answer", run(steps, 1), 0x95);
+    row("set of a rail that is off", "end", sequence.said.kind, 14);
+    row("set of a rail that is off", "verdict", sequence.said.verdict, 2);
+    row("set of a rail that is off", "is delivered", pm_is_delivered(sequence.said.verdict), 0);
+    row("set of a rail that is off", "has nothing to deliver", pm_has_nothing_to_deliver(sequence.said.verdict), 1);
+}
+
 /* Each refusal, which changes nothing but the frame. */
 static void refuses(const char *name, uint64_t count, uint64_t room, uint8_t wanted) {
     pm_sequence was = sequence;
@@ -700,6 +717,7 @@ int main(void) {
     ways_back();
     comes_up_anew(3, 32);
     comes_up_anew(0, 32);
+    verdicts();
     refusals();
     any_bytes();
     reserved_bits();
