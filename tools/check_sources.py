@@ -66,8 +66,8 @@ FROM = re.compile(r"^impl(?:<T: Drop>)? From<(AllocError|AllocFailed<T>)> for (\
 # The files of the program's helps, which tell refusals by their letters and names.
 HELPS = ("crates/pm_tool/src/commandline/helps.rt",)
 # A file of numbers that are no codes.
-NUMBERS = ("crates/pm_frame/src/packet_error_code.rt", "crates/pm_lines/src/hex_digit.rt", "crates/pm_calls/src/numbers.rt",
-           "crates/pm_calls/src/names.rt", "crates/pm_calls/specs/Numbers.antt")
+NUMBERS = ("crates/pm_frame/src/packet_error_code.rt", "crates/pm_lines/src/hex_digit.rt", "crates/pm_memory/src/numbers.rt",
+           "crates/pm_memory/src/names.rt", "crates/pm_memory/specs/Numbers.antt")
 # Where each register stands for itself, as a field of its own.
 EACH_REGISTER = ("crates/pm_limits/src/ends.rt", "crates/pm_limits/src/part_registers.rt", "crates/pm_limits/specs/Part.antt",
                  "crates/pm_rail/", "crates/pm_course/", "crates/pm_world/proofs/Limits.antt", "crates/pm_world/proofs/Plans.antt",

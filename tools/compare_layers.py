@@ -20,17 +20,17 @@ WIDTHS = {"uint8_t": "u8", "int8_t": "i8", "uint16_t": "u16", "int16_t": "i16", 
           "c_uint8": "u8", "c_int8": "i8", "c_uint16": "u16", "c_int16": "i16", "c_int64": "i64", "c_uint64": "u64", "c_char": "u8"}
 # The structs, by their names in C; with Rattle's, and the file. Python's and Rust's are called as Rattle's images are.
 STRUCTS = {
-    "sending": ("SendingImage", "pm_memory/src/sending_image.rt"), "step": ("HostStep", "pm_calls/src/host_step.rt"),
+    "sending": ("SendingImage", "pm_memory/src/sending_image.rt"), "step": ("HostStep", "pm_memory/src/host_step.rt"),
     "words": ("WordsImage", "pm_host/src/words_image.rt"), "standing": ("StandingImage", "pm_host/src/standing_image.rt"),
-    "cell": ("KnownCell", "pm_calls/src/known_cells.rt"), "known": ("KnownCells", "pm_calls/src/known_cells.rt"),
+    "cell": ("KnownCell", "pm_memory/src/known_cells.rt"), "known": ("KnownCells", "pm_memory/src/known_cells.rt"),
     "registers": ("RegistersImage", "pm_memory/src/guard_image.rt"),
-    "limits": ("LimitsImage", "pm_memory/src/guard_image.rt"), "band": ("BandImage", "pm_calls/src/limits.rt"),
-    "rail": ("RailImage", "pm_calls/src/rail.rt"), "course_end": ("CourseEndImage", "pm_memory/src/course_end_image.rt"),
-    "course_job": ("CourseJobImage", "pm_calls/src/course.rt"),
+    "limits": ("LimitsImage", "pm_memory/src/guard_image.rt"), "band": ("BandImage", "pm_memory/src/limits.rt"),
+    "rail": ("RailImage", "pm_memory/src/rail.rt"), "course_end": ("CourseEndImage", "pm_memory/src/course_end_image.rt"),
+    "course_job": ("CourseJobImage", "pm_memory/src/course.rt"),
     "wish": ("WishImage", "pm_memory/src/wanted_image.rt"), "wanted": ("WantedImage", "pm_memory/src/wanted_image.rt"),
-    "format": ("FormatNumbers", "pm_memory/src/format_numbers.rt"), "name": ("NameImage", "pm_calls/src/names.rt"),
-    "packet": ("PacketImage", "pm_calls/src/packet.rt"), "payload": ("PayloadImage", "pm_calls/src/answer.rt"),
-    "block": ("BlockImage", "pm_calls/src/other_read.rt"),
+    "format": ("FormatNumbers", "pm_memory/src/format_numbers.rt"), "name": ("NameImage", "pm_memory/src/names.rt"),
+    "packet": ("PacketImage", "pm_memory/src/packet.rt"), "payload": ("PayloadImage", "pm_memory/src/answer.rt"),
+    "block": ("BlockImage", "pm_memory/src/other_read.rt"),
     "part_output": ("OutputImage", "pm_device/src/image.rt"), "part_config": ("ConfigImage", "pm_device/src/image.rt"),
     "part_reply": ("ReplyImage", "pm_device_c/src/reply_image.rt"),
 }
@@ -62,7 +62,7 @@ def header(*path):
 
 
 CRATES = {"pm_host_c": sources("pm_host_c"), "pm_device_c": sources("pm_device_c")}
-WORK = sources("pm_calls")  # what pm_host_c exports the calls of
+WORK = sources("pm_memory")  # what pm_host_c exports the calls of
 HEADERS = {"pm_host_c": header("crates/pm_host_c/include/pmhost.h"), "pm_device_c": header("crates/pm_device_c/include/pmpart.h")}
 PYTHON = read("python/src/pmhost/_library.py")
 RUST = without_comments(read("rust/src/ffi.rs"))

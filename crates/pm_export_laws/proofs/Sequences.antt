@@ -20,14 +20,14 @@ use Rattle.pm_memory.specs.declared.sending_image.SendingImage.{SendingImage}
 use Rattle.pm_memory.specs.declared.sequence_image.SaidImage.{SaidImage}
 use Rattle.pm_memory.specs.declared.sequence_image.SequenceImage.{SequenceImage}
 use Rattle.pm_memory.specs.SequenceImage.{SequencesAreKept, sequence_image, sequence_in}
-use Rattle.pm_calls.specs.declared.host_step.HostStep.{HostStep}
-use Rattle.pm_calls.specs.declared.sequence_step.SequenceRecordImage.{SequenceRecordImage}
-use Rattle.pm_calls.specs.declared.sequence_step.SequenceStepImage.{SequenceStepImage}
-use Rattle.pm_calls.specs.Numbers.{no_step}
-use Rattle.pm_calls.specs.Sequence.{HearsIn, NextIn, ReadIn, one_step, rules_said, sequence_begun, step_at, step_read, step_under}
-use Rattle.pm_calls.specs.Sequence.{refused_next, hands_next, refused_told, unasked, hears_it, of_a_look, of_a_job, refused_read}
-use Rattle.pm_calls.specs.SequenceSaid.{nothing_said}
-use Rattle.pm_calls.specs.SequenceStep.{step_in}
+use Rattle.pm_memory.specs.declared.host_step.HostStep.{HostStep}
+use Rattle.pm_memory.specs.declared.sequence_step.SequenceRecordImage.{SequenceRecordImage}
+use Rattle.pm_memory.specs.declared.sequence_step.SequenceStepImage.{SequenceStepImage}
+use Rattle.pm_memory.specs.Numbers.{no_step}
+use Rattle.pm_memory.specs.Sequence.{HearsIn, NextIn, ReadIn, one_step, rules_said, sequence_begun, step_at, step_read, step_under}
+use Rattle.pm_memory.specs.Sequence.{refused_next, hands_next, refused_told, unasked, hears_it, of_a_look, of_a_job, refused_read}
+use Rattle.pm_memory.specs.SequenceSaid.{nothing_said}
+use Rattle.pm_memory.specs.SequenceStep.{step_in}
 use Rattle.pm_export_laws.specs.Sequences.{IsReadBack, IsReadHeard, IsReadNext, RunsInMemory, SequenceCallsAreRuns}
 use Rattle.pm_export_laws.specs.Sequences.{marks_next, places_of, right_step}
 use Rattle.pm_export_laws.specs.Sequences as memory

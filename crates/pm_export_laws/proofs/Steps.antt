@@ -20,9 +20,9 @@ use Rattle.pm_memory.specs.declared.guard_image.GuardImage.{GuardImage}
 use Rattle.pm_memory.specs.declared.sending_image.SendingImage.{SendingImage}
 use Rattle.pm_memory.specs.CourseImage.{course_in}
 use Rattle.pm_memory.specs.Guard.{guard_of}
-use Rattle.pm_calls.specs.declared.host_step.HostStep.{HostStep}
-use Rattle.pm_calls.specs.Course.{AreBoth, HandsOutIn, HearsIn, HearsOnIn, memory_fault}
-use Rattle.pm_calls.specs.Course.{hands_out, hears_it, hears_on, refused_both, refused_frame, refused_told, unasked, unasked_both}
+use Rattle.pm_memory.specs.declared.host_step.HostStep.{HostStep}
+use Rattle.pm_memory.specs.Course.{AreBoth, HandsOutIn, HearsIn, HearsOnIn, memory_fault}
+use Rattle.pm_memory.specs.Course.{hands_out, hears_it, hears_on, refused_both, refused_frame, refused_told, unasked, unasked_both}
 use Rattle.pm_export_laws.specs.Steps.{AreOf, ExportsAreStepsBeside, StepsOn, StepsTold, StepsToldOn, is_answered}
 
 same-guard : (x y : Guarded) → Some x ≡ Some y → x ≡ y

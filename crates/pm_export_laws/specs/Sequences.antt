@@ -11,11 +11,11 @@ use Rattle.pm_memory.specs.declared.guard_image.GuardImage.{GuardImage}
 use Rattle.pm_memory.specs.declared.sending_image.SendingImage.{SendingImage}
 use Rattle.pm_memory.specs.declared.sequence_image.SequenceImage.{SequenceImage}
 use Rattle.pm_memory.specs.SequenceImage.{sequence_image, sequence_in}
-use Rattle.pm_calls.specs.declared.host_step.HostStep.{HostStep}
-use Rattle.pm_calls.specs.declared.sequence_step.SequenceRecordImage.{SequenceRecordImage}
-use Rattle.pm_calls.specs.declared.sequence_step.SequenceStepImage.{SequenceStepImage}
-use Rattle.pm_calls.specs.Sequence.{HearsIn, NextIn, ReadIn, rules_said, sequence_begun, step_at}
-use Rattle.pm_calls.specs.Sequence.{refused_next, hands_next, refused_told, unasked, hears_it, of_a_look, of_a_job, refused_read}
+use Rattle.pm_memory.specs.declared.host_step.HostStep.{HostStep}
+use Rattle.pm_memory.specs.declared.sequence_step.SequenceRecordImage.{SequenceRecordImage}
+use Rattle.pm_memory.specs.declared.sequence_step.SequenceStepImage.{SequenceStepImage}
+use Rattle.pm_memory.specs.Sequence.{HearsIn, NextIn, ReadIn, rules_said, sequence_begun, step_at}
+use Rattle.pm_memory.specs.Sequence.{refused_next, hands_next, refused_told, unasked, hears_it, of_a_look, of_a_job, refused_read}
 
 -- the step at a place of a list, none after its end, or where it is a wrong one
 abbrev pub right_step : Result (Option Step) ℕ → Option Step

@@ -18,8 +18,8 @@ use Rattle.pm_memory.specs.declared.guard_image.GuardImage.{GuardImage}
 use Rattle.pm_memory.specs.declared.sending_image.SendingImage.{SendingImage}
 use Rattle.pm_memory.specs.CourseImage.{course_image}
 use Rattle.pm_memory.specs.Guard.{guard_of}
-use Rattle.pm_calls.specs.declared.host_step.HostStep.{HostStep}
-use Rattle.pm_calls.specs.Course.{AreBoth, HandsOutIn, HearsIn, HearsOnIn}
+use Rattle.pm_memory.specs.declared.host_step.HostStep.{HostStep}
+use Rattle.pm_memory.specs.Course.{AreBoth, HandsOutIn, HearsIn, HearsOnIn}
 
 -- the memories mean the host beside a part and a course of one of its outputs
 pub record AreOf (held : Held) (passes : ℕ) (part : PartRegisters) (happened : List Happening) (host : GuardImage) (course : CourseImage)

@@ -10,8 +10,8 @@ use Rattle.pm_limits.specs.FaultWords.{limit_fault_number}
 use Rattle.pm_limits.specs.Guard.{narrower_fault, open_fault}
 use Rattle.pm_memory.specs.declared.guard_image.GuardImage.{GuardImage}
 use Rattle.pm_memory.specs.Guard.{guard_of, limits_kept, registers_held}
-use Rattle.pm_calls.specs.Limits.{narrow_number}
-use Rattle.pm_calls.specs.Numbers.{limit_outcome}
+use Rattle.pm_memory.specs.Limits.{narrow_number}
+use Rattle.pm_memory.specs.Numbers.{limit_outcome}
 
 -- what refuses them where the output is there
 pub refused : (image : GuardImage) (s : Summary) (output : ℕ) (least most : ℤ) (fault : LimitFault)

@@ -2,11 +2,11 @@
 
 ghost use Rattle.std.specs.Prelude.{◌≡◌, ◌≢◌, IsSomeAnd};
 ghost use Rattle.pm_frame.specs.Layout.{IsAnswer};
-ghost use Rattle.pm_calls.specs.Packets.{answer_number, payload_of, packet_message, HasPayload};
+ghost use Rattle.pm_memory.specs.Packets.{answer_number, payload_of, packet_message, HasPayload};
 
-use pm_calls::answer::PayloadImage;
-use pm_calls::numbers::{ACCEPTED, NO_ADDRESS, NO_PACKET};
-use pm_calls::packet::PacketImage;
+use pm_memory::answer::PayloadImage;
+use pm_memory::numbers::{ACCEPTED, NO_ADDRESS, NO_PACKET};
+use pm_memory::packet::PacketImage;
 use pm_frame::{fits, read_answer};
 use pm_table::address_ok;
 

@@ -3,17 +3,17 @@
 ghost use Rattle.std.specs.Prelude.{◌≡◌, ◌≢◌, not, ◌==◌};
 ghost use Rattle.pm_host.specs.Transcript.{Finished, Got};
 ghost use Rattle.pm_course.specs.FrameCourse.{to_byte, to_survey};
-ghost use Rattle.pm_calls.specs.Course.{begun_number, job_answer, kept_number, voltage_begun, voltage_number, want_number, wanted_more, words_course, AcceptsIn, HandsOutIn, HearsIn, HearsOnIn, WouldBegin};
+ghost use Rattle.pm_memory.specs.Course.{begun_number, job_answer, kept_number, voltage_begun, voltage_number, want_number, wanted_more, words_course, AcceptsIn, HandsOutIn, HearsIn, HearsOnIn, WouldBegin};
 ghost use Rattle.pm_memory.specs.CourseEnd.{end_answer};
 ghost use Rattle.pm_memory.specs.Guard.{guard_of};
 ghost use Rattle.pm_memory.specs.CourseImage.{course_image, course_in, course_version};
-ghost use Rattle.pm_calls.specs.Sizes.{course_size};
+ghost use Rattle.pm_memory.specs.Sizes.{course_size};
 
-use pm_calls::course::{
+use pm_memory::course::{
     CourseJobImage, accept, hand_out, tell, tell_and_send, voltage_of, would_begin,
 };
-use pm_calls::host_step::HostStep;
-use pm_calls::numbers::{ACCEPTED, NO_COURSE};
+use pm_memory::host_step::HostStep;
+use pm_memory::numbers::{ACCEPTED, NO_COURSE};
 use pm_course::{FrameCourse, Wishes};
 use pm_host::{HostFault, Told};
 use pm_memory::{CourseEndImage, CourseImage, GuardImage, SendingImage, WantedImage};

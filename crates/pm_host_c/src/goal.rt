@@ -3,11 +3,11 @@
 ghost use Rattle.std.specs.Prelude.{◌≡◌, ◌≢◌, Some, IsSomeAnd};
 ghost use Rattle.pm_table.specs.Cell.{register_of};
 ghost use Rattle.pm_memory.specs.CourseImage.{course_in};
-ghost use Rattle.pm_calls.specs.Delivery.{idle};
-ghost use Rattle.pm_calls.specs.Goal.{goal_number, IsGoalBy};
+ghost use Rattle.pm_memory.specs.Delivery.{idle};
+ghost use Rattle.pm_memory.specs.Goal.{goal_number, IsGoalBy};
 
-use pm_calls::goal::{course_goal, register_in};
-use pm_calls::numbers::{NO_COURSE, NO_HOST};
+use pm_memory::goal::{course_goal, register_in};
+use pm_memory::numbers::{NO_COURSE, NO_HOST};
 use pm_memory::{CourseImage, GuardImage};
 
 /// The word that a course wants of VOUT_COMMAND or of a margin; of a course to a byte that leaves the output on the word that the

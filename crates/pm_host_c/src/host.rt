@@ -8,11 +8,11 @@ ghost use Rattle.pm_host.specs.Transcript.{Setup, Restarted};
 ghost use Rattle.pm_limits.specs.Part.{all_registers};
 ghost use Rattle.pm_memory.specs.Guard.{guard_of, registers_held, unknown_limits};
 ghost use Rattle.pm_memory.specs.Memory.{IsMemory};
-ghost use Rattle.pm_calls.specs.Sizes.{host_size, library_version};
-ghost use Rattle.pm_calls.specs.Host.{new_number, memory_number, after, BeginsJob};
+ghost use Rattle.pm_memory.specs.Sizes.{host_size, library_version};
+ghost use Rattle.pm_memory.specs.Host.{new_number, memory_number, after, BeginsJob};
 
-use pm_calls::host::{begin, start_with};
-use pm_calls::numbers::{ACCEPTED, NO_HOST};
+use pm_memory::host::{begin, start_with};
+use pm_memory::numbers::{ACCEPTED, NO_HOST};
 use pm_host::{Command, HostImage, Job};
 use pm_limits::PartRegisters;
 use pm_memory::{GuardImage, RegistersImage};

@@ -2,11 +2,11 @@
 
 ghost use Rattle.std.specs.Prelude.{◌≡◌, ◌≢◌, drop, IsSomeAnd};
 ghost use Rattle.pm_host.specs.Image.{host_of};
-ghost use Rattle.pm_calls.specs.Host.{memory_number};
-ghost use Rattle.pm_calls.specs.Known.{IsKnownOf};
+ghost use Rattle.pm_memory.specs.Host.{memory_number};
+ghost use Rattle.pm_memory.specs.Known.{IsKnownOf};
 
-use pm_calls::known_cells::{KnownCells, fill};
-use pm_calls::numbers::{ACCEPTED, NO_HOST};
+use pm_memory::known_cells::{KnownCells, fill};
+use pm_memory::numbers::{ACCEPTED, NO_HOST};
 use pm_memory::GuardImage;
 
 /// What is known of every cell. E0h.

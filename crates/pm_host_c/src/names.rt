@@ -1,10 +1,10 @@
 //! The names of the numbers that calls answer, each from the type whose number it is.
 
 ghost use Rattle.std.specs.Prelude.{◌≡◌, ◌≢◌, IsSomeAnd};
-ghost use Rattle.pm_calls.specs.Names.{end_words, refusal_words as spec_refusal_words, named_number, HasText};
+ghost use Rattle.pm_memory.specs.Names.{end_words, refusal_words as spec_refusal_words, named_number, HasText};
 
-use pm_calls::names::{NameImage, refusal_words, words_of_end};
-use pm_calls::numbers::{ACCEPTED, NO_NAME};
+use pm_memory::names::{NameImage, refusal_words, words_of_end};
+use pm_memory::numbers::{ACCEPTED, NO_NAME};
 
 /// The letter and the name of a refusal: `H6 TooUncertain`. E7h if the number is no refusal's.
 #[unsafe(no_mangle)]

@@ -5,11 +5,11 @@ ghost use Rattle.std.specs.Prelude.{◌≡◌, ◌≢◌};
 ghost use Rattle.pm_frame.specs.BlockRead.{block_fault, IsBlockAnswer};
 ghost use Rattle.pm_frame.specs.PagedRead.{IsPagedAnswer};
 ghost use Rattle.pm_frame.specs.PlainRead.{IsPlainAnswer};
-ghost use Rattle.pm_calls.specs.Paged.{paged_answer, paged_number, read_paged_number, size_asked, IsPagedSending};
-ghost use Rattle.pm_calls.specs.Packets.{HasBlock, block_of, plain_read_number, read_number};
+ghost use Rattle.pm_memory.specs.Paged.{paged_answer, paged_number, read_paged_number, size_asked, IsPagedSending};
+ghost use Rattle.pm_memory.specs.Packets.{HasBlock, block_of, plain_read_number, read_number};
 
-use pm_calls::numbers::{ACCEPTED, NO_ADDRESS, NO_PACKET};
-use pm_calls::other_read::{BlockImage, asked_size, whole_answer};
+use pm_memory::numbers::{ACCEPTED, NO_ADDRESS, NO_PACKET};
+use pm_memory::other_read::{BlockImage, asked_size, whole_answer};
 use pm_frame::{MOST_READ, is_carried, paged_request, read_block, read_paged, read_plain};
 use pm_memory::SendingImage;
 use pm_table::address_ok;

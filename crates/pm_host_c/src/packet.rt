@@ -5,10 +5,10 @@ ghost use Rattle.pm_frame.specs.Fault.{write_fault, request_fault};
 ghost use Rattle.pm_frame.specs.Layout.{IsWrite, IsRequest};
 ghost use Rattle.pm_frame.specs.Pec.{pec_of};
 ghost use Rattle.pm_memory.specs.Sending.{IsSending};
-ghost use Rattle.pm_calls.specs.Packets.{packet_message, read_number, written_number};
+ghost use Rattle.pm_memory.specs.Packets.{packet_message, read_number, written_number};
 
-use pm_calls::numbers::{ACCEPTED, NO_ADDRESS, NO_PACKET};
-use pm_calls::packet::{PacketImage, packet_of};
+use pm_memory::numbers::{ACCEPTED, NO_ADDRESS, NO_PACKET};
+use pm_memory::packet::{PacketImage, packet_of};
 use pm_frame::{fits, pec, read_request, read_write};
 use pm_memory::SendingImage;
 use pm_table::address_ok;

@@ -3,11 +3,11 @@
 ghost use Rattle.std.specs.Prelude.{◌≡◌, ◌≢◌, IsSomeAnd};
 ghost use Rattle.pm_host.specs.Image.{host_of};
 ghost use Rattle.pm_memory.specs.Guard.{guard_of};
-ghost use Rattle.pm_calls.specs.Rail.{IsRail};
-ghost use Rattle.pm_calls.specs.Voltages.{output_number};
+ghost use Rattle.pm_memory.specs.Rail.{IsRail};
+ghost use Rattle.pm_memory.specs.Voltages.{output_number};
 
-use pm_calls::numbers::{ACCEPTED, NO_HOST};
-use pm_calls::rail::{RailImage, rail_in};
+use pm_memory::numbers::{ACCEPTED, NO_HOST};
+use pm_memory::rail::{RailImage, rail_in};
 use pm_host::HostFault;
 use pm_memory::GuardImage;
 

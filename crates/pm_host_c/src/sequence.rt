@@ -3,16 +3,16 @@
 ghost use Rattle.std.specs.Prelude.{◌≡◌, not, ◌==◌};
 ghost use Rattle.pm_host.specs.Summary.{format_at};
 ghost use Rattle.pm_host.specs.Transcript.{Finished};
-ghost use Rattle.pm_calls.specs.Delivery.{asked_number, idle, judge_number, judgement_after};
-ghost use Rattle.pm_calls.specs.Sequence.{sequence_begun, HearsIn, NextIn, ReadIn};
-ghost use Rattle.pm_calls.specs.Sizes.{sequence_size};
+ghost use Rattle.pm_memory.specs.Delivery.{asked_number, idle, judge_number, judgement_after};
+ghost use Rattle.pm_memory.specs.Sequence.{sequence_begun, HearsIn, NextIn, ReadIn};
+ghost use Rattle.pm_memory.specs.Sizes.{sequence_size};
 ghost use Rattle.pm_memory.specs.SequenceImage.{sequence_version};
 
-use pm_calls::host_step::HostStep;
-use pm_calls::judgement::{JudgementImage, judge_in, refusal};
-use pm_calls::numbers::ACCEPTED;
-use pm_calls::sequence::{begun, next, read_ended, tell};
-use pm_calls::sequence_step::{SequenceRecordImage, SequenceStepImage};
+use pm_memory::host_step::HostStep;
+use pm_memory::judgement::{JudgementImage, judge_in, refusal};
+use pm_memory::numbers::ACCEPTED;
+use pm_memory::sequence::{begun, next, read_ended, tell};
+use pm_memory::sequence_step::{SequenceRecordImage, SequenceStepImage};
 use pm_host::Told;
 use pm_memory::{GuardImage, SendingImage, SequenceImage};
 use std::mem::size_of;

@@ -2,11 +2,11 @@
 
 ghost use Rattle.std.specs.Prelude.{◌≡◌, not, ◌==◌};
 ghost use Rattle.pm_host.specs.Transcript.{Finished, Got};
-ghost use Rattle.pm_calls.specs.Host.{TellsHost, IsSent, memory_number};
+ghost use Rattle.pm_memory.specs.Host.{TellsHost, IsSent, memory_number};
 ghost use Rattle.pm_host.specs.Image.{host_of};
 
-use pm_calls::host_step::HostStep;
-use pm_calls::told::{put_frame, tell};
+use pm_memory::host_step::HostStep;
+use pm_memory::told::{put_frame, tell};
 use pm_host::Told;
 use pm_memory::{GuardImage, SendingImage};
 

@@ -9,8 +9,8 @@ ghost use Rattle.pm_part_laws.specs.Happenings.{beside};
 ghost use Rattle.pm_export_laws.specs.Steps.{StepsOn, StepsTold, StepsToldOn, is_answered};
 ghost use Rattle.pm_law_tests.specs.Exports.{CourseLife, IsOf};
 
-use pm_calls::course::{hand_out, tell, tell_and_send};
-use pm_calls::host_step::HostStep;
+use pm_memory::course::{hand_out, tell, tell_and_send};
+use pm_memory::host_step::HostStep;
 use pm_export_laws::exports_are_steps_beside;
 use pm_host::Told;
 use pm_memory::{CourseImage, GuardImage, SendingImage};

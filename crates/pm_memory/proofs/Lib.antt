@@ -3,3 +3,9 @@ mod Hosts
 mod Kept
 pub mod Courses
 pub mod Sequences
+mod Tells
+mod Sent
+mod Heard
+mod Named
+mod Ceils
+mod SequenceCalls

@@ -1,7 +1,8 @@
-//! What is said of memory: the contract of a function that does nothing.
+//! What is said of memory, and of the numbers of refusals: contracts of functions that do nothing.
 
 ghost use Rattle.pm_memory.specs.CourseImage.{CoursesAreKept};
 ghost use Rattle.pm_memory.specs.Memory.{MemoriesAreMeanings};
+ghost use Rattle.pm_memory.specs.Names.{RefusalsAreNamed};
 ghost use Rattle.pm_memory.specs.SequenceImage.{SequencesAreKept};
 
 use pm_host::images_are_meanings;
@@ -23,4 +24,9 @@ pub fn courses_are_kept()
 /// What a call leaves in the memory of a sequence reads as the sequence that it speaks of, but for courses and ends that no memory keeps.
 pub fn sequences_are_kept()
     ensures { SequencesAreKept }
+{}
+
+/// No fault is without its name: each type's own words stand under its number.
+pub fn refusals_are_named()
+    ensures { RefusalsAreNamed }
 {}

@@ -5,7 +5,7 @@ use super::checks::equal;
 use crate::host::{pm_host_new, pm_host_order};
 use crate::limits::pm_host_no_limits;
 use crate::told::{pm_host_frame, pm_host_read_ended, pm_host_write_ended};
-use pm_calls::host_step::HostStep;
+use pm_memory::host_step::HostStep;
 use pm_memory::{GuardImage, SendingImage};
 
 // 3.3 V for VOUT_COMMAND of output 0, by a host of a part at address 58h with two outputs.

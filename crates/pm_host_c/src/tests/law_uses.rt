@@ -4,13 +4,13 @@ ghost use Rattle.std.specs.Prelude.{◌≡◌, Some, true};
 ghost use Rattle.pm_course.specs.FrameCourse.{to_survey};
 ghost use Rattle.pm_limits.specs.FaultWords.{limit_fault_words};
 ghost use Rattle.pm_memory.specs.CourseImage.{course_in};
-ghost use Rattle.pm_calls.specs.Names.{HasText};
+ghost use Rattle.pm_memory.specs.Names.{HasText};
 
 use crate::course::pm_course_survey;
 use crate::host::pm_host_new;
 use crate::names::pm_refusal_name;
-use pm_calls::laws::refusals_are_named;
-use pm_calls::names::NameImage;
+use pm_memory::refusals_are_named;
+use pm_memory::names::NameImage;
 use pm_limits::LimitFault;
 use pm_memory::{CourseImage, GuardImage, courses_are_kept, memories_are_meanings};
 

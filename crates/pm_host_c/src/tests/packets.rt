@@ -3,7 +3,7 @@
 use super::calls::{PACKET, answer, other_read, read_request, read_write, written};
 use super::checks::{equal, is_true};
 use crate::packet::pm_pec;
-use pm_calls::packet::PacketImage;
+use pm_memory::packet::PacketImage;
 
 // The numbers of a packet (kind, page or side, code, count, word), and its bytes: a packet of each kind that is
 // written and PAGE_PLUS_WRITE with each count, then each kind of request.

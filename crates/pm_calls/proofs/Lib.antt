@@ -1,6 +1,0 @@
-mod Tells
-mod Sent
-mod Heard
-mod Named
-mod Ceils
-mod Sequences
