@@ -34,9 +34,9 @@ use Rattle.pm_limits.specs.Band.{operation_end, operations, within_of, word_end,
 use Rattle.pm_limits.specs.Bounds.{Bounds, IsWithin, bounds_fault}
 use Rattle.pm_limits.specs.declared.ends.Side.TheVariants.{Lowest, Highest}
 use Rattle.pm_limits.specs.declared.guard.Within.TheVariants as within
-use Rattle.pm_check.specs.{declared.act.Act.Act, declared.claim.Claim.Claim}
-use Rattle.pm_check.specs.Log.{Accepts, AreClaimed, LogsAreTranscripts, MightCome, is_claimed, is_only, is_word_only, replayed, transcript}
-use Rattle.pm_check.specs.declared.claim.Claim.TheVariants.{Holds, Commands}
+use Rattle.pm_log.specs.{declared.act.Act.Act, declared.claim.Claim.Claim}
+use Rattle.pm_log.specs.Checks.{Accepts, AreClaimed, LogsAreTranscripts, MightCome, is_claimed, is_only, is_word_only, replayed, transcript}
+use Rattle.pm_log.specs.declared.claim.Claim.TheVariants.{Holds, Commands}
 use Rattle.pm_world.specs.{Honest.IsSpelled, Lemmas.Formats.sound-dens, Lemmas.Limits.yes-parts, Lemmas.SinceRestart.since-same}
 use Rattle.pm_world.specs.{Lemmas.entries-more, Limited.commands, Retelling.open_pending, Setup.setup_of, State.share_of, Surveys.was_read}
 use Rattle.pm_world.specs.{declared.event.Event.Event}

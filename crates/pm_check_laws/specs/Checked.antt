@@ -14,13 +14,13 @@ use Rattle.pm_world.specs.Retelling.{open_pending}
 use Rattle.pm_model.specs.Commanded.{selected_register}
 use Rattle.pm_model.specs.Settings.{word_at}
 use Rattle.pm_device.specs.declared.config.Config.{Config}
-use Rattle.pm_check.specs.declared.act.Act.{Act}
-use Rattle.pm_check.specs.declared.claim.Claim.{Claim}
-use Rattle.pm_check.specs.declared.claim.Claim.TheVariants.{Holds, Commands}
+use Rattle.pm_log.specs.declared.act.Act.{Act}
+use Rattle.pm_log.specs.declared.claim.Claim.{Claim}
+use Rattle.pm_log.specs.declared.claim.Claim.TheVariants.{Holds, Commands}
 use Rattle.pm_limits.specs.declared.part_registers.PartRegisters.{PartRegisters}
 use Rattle.pm_limits.specs.Bounds.{Bounds, IsWithin, bounds_fault}
 use Rattle.pm_limits.specs.Band.{band_at}
-use Rattle.pm_check.specs.Log.{Accepts, MightCome, is_claimed, replayed, transcript}
+use Rattle.pm_log.specs.Checks.{Accepts, MightCome, is_claimed, replayed, transcript}
 use Rattle.pm_world.specs.declared.event.Event.{Event}
 use Rattle.pm_world.specs.Bands.{AreShort, BandStands, HoldsMissing, MissingUntold}
 use Rattle.pm_world.specs.Honest.{IsSpelled}

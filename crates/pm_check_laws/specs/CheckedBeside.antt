@@ -7,10 +7,10 @@ use Rattle.pm_table.specs.declared.reg.Reg.TheVariants.{Operation, VoutMax, Vout
 use Rattle.pm_model.specs.Commanded.{selected_register}
 use Rattle.pm_model.specs.Settings.{word_at}
 use Rattle.pm_device.specs.Held.{Held}
-use Rattle.pm_check.specs.declared.act.Act.{Act}
-use Rattle.pm_check.specs.declared.claim.Claim.{Claim}
-use Rattle.pm_check.specs.declared.claim.Claim.TheVariants.{Holds, Commands}
-use Rattle.pm_check.specs.Log.{Accepts, transcript}
+use Rattle.pm_log.specs.declared.act.Act.{Act}
+use Rattle.pm_log.specs.declared.claim.Claim.{Claim}
+use Rattle.pm_log.specs.declared.claim.Claim.TheVariants.{Holds, Commands}
+use Rattle.pm_log.specs.Checks.{Accepts, transcript}
 use Rattle.pm_limits.specs.declared.part_registers.PartRegisters.{PartRegisters}
 use Rattle.pm_limits.specs.Bounds.{IsWithin}
 use Rattle.pm_world.specs.Bands.{AreShort, HoldsMissing}

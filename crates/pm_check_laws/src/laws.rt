@@ -3,7 +3,7 @@
 ghost use Rattle.pm_check_laws.specs.Checked.{AcceptedClaimsAreHeld, AcceptedClaimsStay, AcceptedVoltagesStay, UnknownClaimsAreOpen, UnknownVoltagesAreOpen};
 ghost use Rattle.pm_check_laws.specs.CheckedBeside.{AcceptedClaimsHoldBeside};
 
-use pm_check::logs_are_transcripts;
+use pm_log::logs_are_transcripts;
 use pm_host::{possible_words_are_followed, transcripts_are_followed};
 use pm_part_laws::same_settings_live_alike;
 use pm_table::cells_are_told_apart;

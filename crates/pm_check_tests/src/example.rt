@@ -1,7 +1,7 @@
 //! The example of the root of `pm_check`.
 
 use crate::checks::equal;
-use pm_check::{Act, CheckFault, Claim, check};
+use pm_log::{Act, CheckFault, Claim, check};
 use pm_host::{Job, Told};
 use pm_table::{Cell, Reg};
 

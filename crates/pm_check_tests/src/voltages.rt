@@ -1,7 +1,7 @@
 //! Claims of what an output commands, by a log of all that its band rests on.
 
 use crate::checks::equal;
-use pm_check::{Act, ActFault, CheckFault, Claim, check};
+use pm_log::{Act, ActFault, CheckFault, Claim, check};
 use pm_host::{HostFault, Job, Told};
 use pm_limits::PartRegisters;
 use pm_table::{Cell, Reg};

@@ -9,10 +9,10 @@ use Rattle.pm_table.specs.declared.reg.Reg.TheVariants.{Operation, VoutCommand, 
 use Rattle.pm_host.specs.Refusals.{is_within, setup_fault}
 use Rattle.pm_host.specs.Transcript.{Setup}
 use Rattle.pm_host.specs.Summary.{Summary, start}
-use Rattle.pm_check.specs.declared.claim.Claim.{Claim}
-use Rattle.pm_check.specs.declared.claim.Claim.TheVariants.{Holds, Commands}
-use Rattle.pm_check.specs.declared.fault.CheckFault.TheVariants as check
-use Rattle.pm_check.specs.Log.{Accepts, Checks, is_claimed}
+use Rattle.pm_log.specs.declared.claim.Claim.{Claim}
+use Rattle.pm_log.specs.declared.claim.Claim.TheVariants.{Holds, Commands}
+use Rattle.pm_log.specs.declared.check_fault.CheckFault.TheVariants as check
+use Rattle.pm_log.specs.Checks.{Accepts, Checks, is_claimed}
 use Rattle.pm_limits.specs.declared.part_registers.PartRegisters.{PartRegisters}
 use Rattle.pm_limits.specs.Part.{has_register}
 use Rattle.pm_log.specs.Answered.{belied, belied_at}

@@ -15,12 +15,12 @@ use Rattle.pm_host.specs.Refusals.{is_busy, may_come, setup_fault}
 use Rattle.pm_host.specs.Summary.{Summary, next, start}
 use Rattle.pm_host.specs.Told.{entry_told}
 use Rattle.pm_host.specs.Transcript as host
-use Rattle.pm_check.specs.declared.act.Act.{Act}
-use Rattle.pm_check.specs.declared.act.Act.TheVariants as act
-use Rattle.pm_check.specs.declared.claim.Claim.{Claim}
-use Rattle.pm_check.specs.declared.fault.ActFault.TheVariants as act_fault
-use Rattle.pm_check.specs.declared.fault.CheckFault.TheVariants as check
-use Rattle.pm_check.specs.Log.{Accepts, Checks, MightComeFrom, act_next, all_after, is_claimed, is_own, told_fault}
+use Rattle.pm_log.specs.declared.act.Act.{Act}
+use Rattle.pm_log.specs.declared.act.Act.TheVariants as act
+use Rattle.pm_log.specs.declared.claim.Claim.{Claim}
+use Rattle.pm_log.specs.declared.check_fault.ActFault.TheVariants as act_fault
+use Rattle.pm_log.specs.declared.check_fault.CheckFault.TheVariants as check
+use Rattle.pm_log.specs.Checks.{Accepts, Checks, MightComeFrom, act_next, all_after, is_claimed, is_own, told_fault}
 use Rattle.pm_log.specs.Jobs.{job_in}
 use Rattle.pm_limits.specs.declared.part_registers.PartRegisters.{PartRegisters}
 use Rattle.pm_log.specs.Answered.{answer_in, with_answer}

@@ -1,7 +1,9 @@
 mod Claims
+mod Checks
 mod EmptyLog
 mod EndLemmas
 mod Follow
+mod Frames
 mod Pieces
 mod Pushes
 mod TextLemmas

@@ -18,10 +18,10 @@ use Rattle.pm_host.specs.declared.host.Told.TheVariants as told
 use Rattle.pm_host.specs.Refusals.{setup_fault}
 use Rattle.pm_host.specs.Summary.{Summary, next, start}
 use Rattle.pm_host.specs.Transcript as host
-use Rattle.pm_check.specs.declared.act.Act.{Act}
-use Rattle.pm_check.specs.declared.claim.Claim.{Claim}
-use Rattle.pm_check.specs.declared.claim.Claim.TheVariants.{Holds, Commands}
-use Rattle.pm_check.specs.Log.{act_next, all_after, entry_of}
+use Rattle.pm_log.specs.declared.act.Act.{Act}
+use Rattle.pm_log.specs.declared.claim.Claim.{Claim}
+use Rattle.pm_log.specs.declared.claim.Claim.TheVariants.{Holds, Commands}
+use Rattle.pm_log.specs.Checks.{act_next, all_after, entry_of}
 use Rattle.pm_limits.specs.declared.part_registers.PartRegisters.{PartRegisters}
 use Rattle.pm_limits.specs.Part.{all_registers, has_register}
 use Rattle.pm_log.specs.Answered.{answer_in, answer_line, belied, belied_at, no_answers, with_answer}

@@ -1,4 +1,4 @@
--- A log and the acts that it says: what its lines come to is what `pm_check` says of its acts and claims. Lists of lines and of
+-- A log and the acts that it says: what its lines come to is what a check says of its acts and claims. Lists of lines and of
 -- acts are newest first. This project's own choice.
 use Rattle.std.specs.Prelude.{◌≡◌, ℕ, ◌+◌, Bool, true, false, not, ◌&&◌, ◌||◌, ◌==◌, if◌then◌else◌, List, [], ◌∷◌, ◌++◌, length, reverse, Option, Some, None, IsSomeAnd, option_map, Result, Ok, Err}
 use Rattle.std.specs.Option.{option_map_or}
@@ -10,12 +10,12 @@ use Rattle.pm_host.specs.Refusals.{is_busy}
 use Rattle.pm_host.specs.Summary.{Summary, start}
 use Rattle.pm_host.specs.Told.{entry_told}
 use Rattle.pm_host.specs.Transcript.{Setup}
-use Rattle.pm_check.specs.declared.act.Act.{Act}
-use Rattle.pm_check.specs.declared.act.Act.TheVariants as act
-use Rattle.pm_check.specs.declared.claim.Claim.{Claim}
-use Rattle.pm_check.specs.declared.claim.Claim.TheVariants.{Holds, Commands}
-use Rattle.pm_check.specs.declared.fault.CheckFault.TheVariants as check
-use Rattle.pm_check.specs.Log.{Accepts, Checks, all_after}
+use Rattle.pm_log.specs.declared.act.Act.{Act}
+use Rattle.pm_log.specs.declared.act.Act.TheVariants as act
+use Rattle.pm_log.specs.declared.claim.Claim.{Claim}
+use Rattle.pm_log.specs.declared.claim.Claim.TheVariants.{Holds, Commands}
+use Rattle.pm_log.specs.declared.check_fault.CheckFault.TheVariants as check
+use Rattle.pm_log.specs.Checks.{Accepts, Checks, all_after}
 use Rattle.pm_limits.specs.declared.part_registers.PartRegisters.{PartRegisters}
 use Rattle.pm_limits.specs.Part.{has_register}
 use Rattle.pm_table.specs.Cell.{same_cell}

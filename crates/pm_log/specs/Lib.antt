@@ -1,5 +1,6 @@
 -- What the crate promises.
 pub mod Answered
+pub mod Checks
 pub mod Holdings
 pub mod Jobs
 pub mod Lacks

@@ -3,7 +3,7 @@ use Rattle.std.specs.Prelude.{ℕ, Bool, true, false, not, ◌||◌, nat_eq, if�
 use Rattle.std.specs.List.{starts_with, list_all}
 use Rattle.pm_limits.specs.declared.part_registers.PartRegisters.{PartRegisters}
 use Rattle.pm_limits.specs.Part.{all_registers}
-use Rattle.pm_check.specs.declared.claim.Claim.TheVariants.{Holds, Commands}
+use Rattle.pm_log.specs.declared.claim.Claim.TheVariants.{Holds, Commands}
 use Rattle.pm_lines.specs.Digits.{hex_of, signed_of, small_of}
 use Rattle.pm_lines.specs.Lines.{Numbered, is_next, is_space}
 use Rattle.pm_trace.specs.Trace.{line_read}

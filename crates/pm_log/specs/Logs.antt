@@ -8,9 +8,9 @@ use Rattle.pm_host.specs.declared.knowledge.Possible.TheVariants.{Any}
 use Rattle.pm_host.specs.Refusals.{setup_fault}
 use Rattle.pm_host.specs.Summary.{Summary, possible_at, start}
 use Rattle.pm_host.specs.Transcript.{Setup, Entry, Finished, Got}
-use Rattle.pm_check.specs.declared.claim.Claim.{Claim}
-use Rattle.pm_check.specs.declared.claim.Claim.TheVariants.{Holds, Commands}
-use Rattle.pm_check.specs.Log.{is_claimed}
+use Rattle.pm_log.specs.declared.claim.Claim.{Claim}
+use Rattle.pm_log.specs.declared.claim.Claim.TheVariants.{Holds, Commands}
+use Rattle.pm_log.specs.Checks.{is_claimed}
 use Rattle.pm_limits.specs.declared.part_registers.PartRegisters.{PartRegisters}
 use Rattle.pm_lines.specs.Lines.{Numbered, without_return}
 use Rattle.pm_text.specs.declared.scenario.fault.ScenarioFault.{ScenarioFault}

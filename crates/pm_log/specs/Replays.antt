@@ -6,8 +6,8 @@ use Rattle.pm_host.specs.Jobs.{begin_fault}
 use Rattle.pm_host.specs.Refusals.{is_busy, may_come}
 use Rattle.pm_host.specs.Summary.{Summary, next}
 use Rattle.pm_host.specs.Transcript.{Entry, Got, Restarted}
-use Rattle.pm_check.specs.declared.act.Act.TheVariants.{Begun}
-use Rattle.pm_check.specs.Log.{act_next, is_own}
+use Rattle.pm_log.specs.declared.act.Act.TheVariants.{Begun}
+use Rattle.pm_log.specs.Checks.{act_next, is_own}
 use Rattle.pm_log.specs.Jobs.{job_in}
 use Rattle.pm_log.specs.declared.fault.LogFault.{LogFault}
 use Rattle.pm_log.specs.declared.fault.LogFault.TheVariants.{NoJob, Refused}

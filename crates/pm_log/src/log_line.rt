@@ -7,7 +7,7 @@ ghost use Rattle.pm_text.specs.Kinds as kinds;
 ghost use Rattle.pm_text.specs.Readers.{Reads, field, line_as};
 ghost use Rattle.pm_text.specs.declared.scenario.fault.ScenarioFault.TheVariants.{BadHex};
 
-use pm_check::Claim;
+use crate::Claim;
 use pm_limits::PartRegisters;
 use pm_lines::{Line, TextFault, is_blank};
 use pm_table::Cell;

@@ -9,7 +9,7 @@ use crate::fault::LogFault;
 use crate::lacks::{Lacks, has_all, not_allowed};
 use crate::log_line::LogLine;
 use crate::transfer::take_transfer;
-use pm_check::{Claim, is_claimed};
+use crate::{Claim, is_claimed};
 use pm_host::{Host, Possible, Told};
 use pm_table::{Cell, address_ok};
 use std::marker::Model;

@@ -11,7 +11,7 @@ ghost use Rattle.pm_host.specs.Jobs.{begin_fault};
 
 use crate::fault::LogFault;
 use crate::jobs::job_named;
-use pm_check::{Act, replay_act};
+use crate::{Act, replay_act};
 use pm_frame::{FrameFault, read_request, read_write};
 use pm_host::{Host, Job, Told};
 

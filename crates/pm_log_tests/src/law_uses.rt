@@ -1,8 +1,8 @@
 //! A caller for the law of logs as texts: a function that has what the law says.
 
 ghost use Rattle.std.specs.Prelude.{◌≡◌, ℕ, not, List, [], ◌∷◌, ◌++◌, reverse, IsSomeAnd, Ok};
-ghost use Rattle.pm_check.specs.declared.claim.Claim.{Claim};
-ghost use Rattle.pm_check.specs.Log.{Accepts};
+ghost use Rattle.pm_log.specs.declared.claim.Claim.{Claim};
+ghost use Rattle.pm_log.specs.Checks.{Accepts};
 ghost use Rattle.pm_log.specs.declared.log_line.LogLine.{LogLine};
 ghost use Rattle.pm_log.specs.declared.log_line.LogLine.TheVariants.{Claimed};
 ghost use Rattle.pm_limits.specs.declared.part_registers.PartRegisters.{PartRegisters};

@@ -18,18 +18,18 @@ use Rattle.pm_host.specs.Refusals.{IsSetup, is_busy, may_come, sends_read, sends
 use Rattle.pm_host.specs.Summary.{Summary, next, possible_at, sending_in, start}
 use Rattle.pm_host.specs.Told.{entry_told}
 use Rattle.pm_host.specs.Transcript.{Setup, Entry, Accepted, Restarted}
-use Rattle.pm_check.specs.declared.act.Act.{Act}
-use Rattle.pm_check.specs.declared.act.Act.TheVariants as act
-use Rattle.pm_check.specs.declared.claim.Claim.{Claim}
-use Rattle.pm_check.specs.declared.claim.Claim.TheVariants.{Holds, Commands}
+use Rattle.pm_log.specs.declared.act.Act.{Act}
+use Rattle.pm_log.specs.declared.act.Act.TheVariants as act
+use Rattle.pm_log.specs.declared.claim.Claim.{Claim}
+use Rattle.pm_log.specs.declared.claim.Claim.TheVariants.{Holds, Commands}
 use Rattle.pm_limits.specs.declared.output_limits.OutputLimits.TheVariants.{Between}
 use Rattle.pm_limits.specs.declared.part_registers.PartRegisters.{PartRegisters}
 use Rattle.pm_limits.specs.Band.{band_at, is_yes, within_of}
 use Rattle.pm_limits.specs.Bounds.{bounds_fault}
-use Rattle.pm_check.specs.declared.fault.ActFault.{ActFault}
-use Rattle.pm_check.specs.declared.fault.ActFault.TheVariants.{Refused, NothingSent, OtherFrame, WrongKind}
-use Rattle.pm_check.specs.declared.fault.CheckFault.{CheckFault}
-use Rattle.pm_check.specs.declared.fault.CheckFault.TheVariants as check
+use Rattle.pm_log.specs.declared.check_fault.ActFault.{ActFault}
+use Rattle.pm_log.specs.declared.check_fault.ActFault.TheVariants.{Refused, NothingSent, OtherFrame, WrongKind}
+use Rattle.pm_log.specs.declared.check_fault.CheckFault.{CheckFault}
+use Rattle.pm_log.specs.declared.check_fault.CheckFault.TheVariants as check
 
 -- The entry of a host's transcript that an act is, for a host that holds this. An order in microvolts is that of its word;
 -- None where it has none.

@@ -11,11 +11,11 @@ use Rattle.pm_host.specs.Now.{now, AreTold}
 use Rattle.pm_host.specs.Refusals.{IsSetup, may_come}
 use Rattle.pm_host.specs.Summary.{Summary, next, start}
 use Rattle.pm_host.specs.Transcript as host
-use Rattle.pm_check.specs.declared.act.Act.{Act}
-use Rattle.pm_check.specs.declared.act.Act.TheVariants as act
-use Rattle.pm_check.specs.declared.claim.Claim.{Claim}
-use Rattle.pm_check.specs.declared.fault.ActFault.TheVariants.{Refused}
-use Rattle.pm_check.specs.Log.{Acts, AreClaimed, IsEntry, MightComeFrom, all_after, entries_from, entry_of, is_claimed}
+use Rattle.pm_log.specs.declared.act.Act.{Act}
+use Rattle.pm_log.specs.declared.act.Act.TheVariants as act
+use Rattle.pm_log.specs.declared.claim.Claim.{Claim}
+use Rattle.pm_log.specs.declared.check_fault.ActFault.TheVariants.{Refused}
+use Rattle.pm_log.specs.Checks.{Acts, AreClaimed, IsEntry, MightComeFrom, all_after, entries_from, entry_of, is_claimed}
 
 -- a job that begins is an act
 pub begun : (s new : Summary) (asked : Job) → Begins {X = Unit {0}} s asked (Ok tt) new → Acts s (act.Begun asked) (Ok tt) new
