@@ -14,7 +14,7 @@ PICTURES = os.path.join(ROOT, "docs", "pictures")
 
 class Tables(unittest.TestCase):
     def test_bits_are_those_of_decode(self):
-        text = stored(ROOT, "crates", "pm_values", "src", "status.rt")
+        text = stored(ROOT, "crates", "pm_trace", "src", "status.rt")
         sets = dict(re.findall(r"^static (\w+): \[Row; \d+\] = \[\n(.*?)^\];", text, re.DOTALL | re.MULTILINE))
         found = {f"STATUS_{name}": tuple((int(bit, 16), word) for bit, word in re.findall(r'\(0x([0-9A-F]+), "([^"]+)"\)', body)
                                          if not word.startswith("bit ")) for name, body in sets.items() if name != "CAPABILITY"}

@@ -4,7 +4,7 @@ use Rattle.std.specs.Prelude.{is_some}
 use Rattle.pm_frame.specs.View.{message_code, message_page}
 use Rattle.pm_frame.specs.declared.message.Message.{Message}
 use Rattle.pm_frame.specs.declared.message.Message.TheVariants.{SendByte, WriteByte, WriteWord, PagePlusWrite, ReadCommand, PagePlusRead, ReadCoefficients}
-use Rattle.pm_packets.specs.declared.answers.Ones.{Ones}
+use Rattle.pm_trace.specs.declared.answers.Ones.{Ones}
 use Rattle.pm_trace.specs.Pages.{is_restore}
 use Rattle.pm_trace.specs.Trace.{Accepted}
 use Rattle.pm_trace.specs.declared.pages.PageUse.TheVariants.{Beside}

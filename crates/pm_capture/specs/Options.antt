@@ -1,6 +1,6 @@
 -- The options by which a capture is shown. They are this project's own choice.
 use Rattle.std.specs.Prelude.{ℕ, Bool, true, false, not, ◌||◌, List, None, replicate, slice_index_or, slice_set}
-use Rattle.pm_values.specs.declared.formats.GivenFormats.{GivenFormats}
+use Rattle.pm_trace.specs.declared.formats.GivenFormats.{GivenFormats}
 use Rattle.pm_capture.specs.declared.addresses.Addresses.{Addresses}
 use Rattle.pm_capture.specs.declared.options.TellOptions.{TellOptions}
 

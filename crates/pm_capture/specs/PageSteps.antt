@@ -9,12 +9,12 @@ use Rattle.pm_trace.specs.declared.pages.PageUse.{PageUse}
 use Rattle.pm_trace.specs.declared.pages.PageUse.TheVariants.{Written, ReadBack, Failed, Restored, Protects, SetsPhase, Lost, OfOutput, Beside}
 use Rattle.pm_trace.specs.declared.pages.Place.{Place}
 use Rattle.pm_trace.specs.declared.trace_line.TraceLine.{TraceLine}
-use Rattle.pm_packets.specs.Answers.{Answers, has_answered}
-use Rattle.pm_packets.specs.Otherwise.{has_pec, is_answer, is_nobody, is_refused}
-use Rattle.pm_packets.specs.declared.answers.Ones.{Ones}
-use Rattle.pm_values.specs.Modes.{change_of}
-use Rattle.pm_values.specs.declared.mode_changes.ModeChange.{ModeChange}
-use Rattle.pm_values.specs.declared.mode_changes.ModeChange.TheVariants.{OfNone, OfRestart}
+use Rattle.pm_trace.specs.Answers.{Answers, has_answered}
+use Rattle.pm_trace.specs.Otherwise.{has_pec, is_answer, is_nobody, is_refused}
+use Rattle.pm_trace.specs.declared.answers.Ones.{Ones}
+use Rattle.pm_trace.specs.Modes.{change_of}
+use Rattle.pm_trace.specs.declared.mode_changes.ModeChange.{ModeChange}
+use Rattle.pm_trace.specs.declared.mode_changes.ModeChange.TheVariants.{OfNone, OfRestart}
 use Rattle.pm_capture.specs.Readings.{is_told, is_without_pec, judged_by, other_address}
 use Rattle.pm_capture.specs.declared.comment.ShownPacket.{ShownPacket}
 use Rattle.pm_capture.specs.declared.options.TellOptions.{TellOptions}

@@ -11,8 +11,8 @@ use Rattle.pm_trace.specs.Trace.{Judged, line_read, parts_judged, reading_judged
 use Rattle.pm_trace.specs.declared.line_fault.LineFault.{LineFault}
 use Rattle.pm_trace.specs.declared.line_fault.LineFault.TheVariants as fault
 use Rattle.pm_trace.specs.declared.trace_line.TraceLine.{TraceLine}
-use Rattle.pm_packets.specs.Otherwise.{address_otherwise, is_accepted, judged_anyway, lacks_pec}
-use Rattle.pm_packets.specs.declared.answers.Ones.{Ones}
+use Rattle.pm_trace.specs.Otherwise.{address_otherwise, is_accepted, judged_anyway, lacks_pec}
+use Rattle.pm_trace.specs.declared.answers.Ones.{Ones}
 use Rattle.pm_capture.specs.declared.comment.Remark.{Remark}
 use Rattle.pm_capture.specs.declared.comment.Remark.TheVariants.{Elsewhere, Refuses, Shows, Loss}
 use Rattle.pm_capture.specs.declared.comment.Failure.{Failure}

@@ -3,7 +3,7 @@ use Rattle.std.specs.Prelude.{option_map, Result}
 use Rattle.std.specs.Result.{result_map_both}
 use Rattle.pm_trace.specs.declared.line_fault.LineFault.{LineFault}
 use Rattle.pm_trace.specs.declared.trace_line.TraceLine.{TraceLine}
-use Rattle.pm_packets.specs.declared.packet.Packet.{Packet}
+use Rattle.pm_trace.specs.declared.packet.Packet.{Packet}
 use Rattle.pm_capture.specs.Readings.{Reading}
 use Rattle.pm_capture.specs.declared.timed_line.LineReading.{LineReading}
 

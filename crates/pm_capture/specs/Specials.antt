@@ -6,7 +6,7 @@ use Rattle.pm_table.specs.Codes as command
 use Rattle.pm_trace.specs.Pages.{touch_of}
 use Rattle.pm_trace.specs.Trace.{Judged, Accepted, Faulty, BadSyntax, BadHex}
 use Rattle.pm_trace.specs.declared.trace_line.TraceLine.{TraceLine}
-use Rattle.pm_packets.specs.declared.answers.Ones.{Ones}
+use Rattle.pm_trace.specs.declared.answers.Ones.{Ones}
 use Rattle.pm_capture.specs.PageSteps.{is_received}
 use Rattle.pm_capture.specs.Readings.{judged_by}
 use Rattle.pm_capture.specs.declared.comment.ShownPacket.{ShownPacket}

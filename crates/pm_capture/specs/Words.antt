@@ -7,8 +7,8 @@ use Rattle.pm_frame.specs.View.{message_code, message_page}
 use Rattle.pm_table.specs.Codes as command
 use Rattle.pm_trace.specs.Trace.{Judged, Accepted, Faulty, BadSyntax, BadHex}
 use Rattle.pm_trace.specs.declared.trace_line.TraceLine.{TraceLine}
-use Rattle.pm_packets.specs.Otherwise.{ContentBytes, content, content_of}
-use Rattle.pm_values.specs.Modes.{key_of}
+use Rattle.pm_trace.specs.Otherwise.{ContentBytes, content, content_of}
+use Rattle.pm_trace.specs.Modes.{key_of}
 use Rattle.pm_capture.specs.PageSteps.{is_clear, is_received, shows_pages}
 use Rattle.pm_capture.specs.Readings.{is_told}
 use Rattle.pm_capture.specs.WordChanges.{end_by, is_change, is_watched, reaches_all, word_change}

@@ -6,7 +6,7 @@ ghost use Rattle.pm_capture.specs.Readings.{behind_colon as spec_behind_colon, b
 use crate::word_change::{WordChange, word_change};
 use arrayvec::ArrayVec;
 use pm_lines::{pair_of, without_carriage_return};
-use pm_packets::Refusal;
+use pm_trace::Refusal;
 use pm_trace::{Touch, is_paging, touch_of};
 use std::marker::Model;
 

@@ -1,7 +1,7 @@
 ghost use Rattle.std.specs.Prelude.{◌≡◌};
 
 use crate::addresses::Addresses;
-use pm_values::GivenFormats;
+use pm_trace::GivenFormats;
 
 /// How a capture is shown.
 #[derive(Clone, Copy, Debug)]

@@ -8,9 +8,9 @@ ghost use Rattle.pm_capture.specs.ShownReadings.{packet_in};
 
 use crate::comment::ShownPacket;
 use crate::told_as::{PacketLine, or_restart};
-use pm_packets::{Answers, Ones, Packet};
+use pm_trace::{Answers, Ones, Packet};
 use pm_trace::{PageUse, Pages, Place, Shown, Standing, is_restore, page_use, unclear_use};
-use pm_values::{ModeChange, mode_change};
+use pm_trace::{ModeChange, mode_change};
 
 /// A packet as it comes: its address, what is known of that, and what the packet says of its page.
 #[derive(Clone, Copy, Debug)]

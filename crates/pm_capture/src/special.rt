@@ -6,7 +6,7 @@ ghost use Rattle.pm_capture.specs.Specials.{aside_ends_all as spec_aside_ends_al
 
 use crate::comment::ShownPacket;
 use crate::options::TellOptions;
-use pm_packets::Packet;
+use pm_trace::Packet;
 use pm_table::Code;
 use pm_trace::{Shown, Touch, touch_of};
 

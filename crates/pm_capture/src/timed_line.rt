@@ -4,7 +4,7 @@ ghost use Rattle.pm_capture.specs.Readings.{time_in as spec_time_in};
 
 use crate::comment::{CommentHead, Note};
 use pm_lines::{read_i64, without_carriage_return};
-use pm_packets::Packet;
+use pm_trace::Packet;
 use pm_trace::{LineFault, LinePart, OpenLine};
 
 /// What is kept of a line while its bytes come one after another: the word that is the packet's time, if lines

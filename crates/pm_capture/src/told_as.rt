@@ -2,7 +2,7 @@
 ghost use Rattle.std.specs.Prelude.{◌≡◌, ◌||◌, Err, IfSome, is_some, not, option_map};
 ghost use Rattle.pm_trace.specs.ShownLines.{judged_in};
 ghost use Rattle.pm_trace.specs.Trace.{parts_judged, reading_judged};
-ghost use Rattle.pm_packets.specs.Otherwise.{IsCompleted, content_of, is_accepted};
+ghost use Rattle.pm_trace.specs.Otherwise.{IsCompleted, content_of, is_accepted};
 ghost use Rattle.pm_capture.specs.Readings.{is_checked as spec_is_checked, is_told as spec_is_told};
 ghost use Rattle.pm_capture.specs.PageSteps.{change_by, is_clear as spec_is_clear, or_restart as spec_or_restart, shows_pages as spec_shows_pages};
 ghost use Rattle.pm_capture.specs.Readings.{is_without_pec};
@@ -10,9 +10,9 @@ ghost use Rattle.pm_capture.specs.ShownReadings.{packet_in};
 
 use crate::page_steps::{Marks, is_received};
 use arrayvec::ArrayVec;
-use pm_packets::{Ones, Packet, completed_part};
+use pm_trace::{Ones, Packet, completed_part};
 use pm_trace::{LineFault, Shown, Touch, is_paging, touch_of};
-use pm_values::{ModeChange, mode_change};
+use pm_trace::{ModeChange, mode_change};
 
 /// A packet of a line.
 #[derive(Clone, Copy)]

@@ -1,8 +1,8 @@
 //! The words of registers that a capture shows being read.
 ghost use Rattle.std.specs.Prelude.{◌≡◌, option_map};
 ghost use Rattle.pm_trace.specs.ShownLines.{judged_in};
-ghost use Rattle.pm_packets.specs.Contents.{content_in};
-ghost use Rattle.pm_values.specs.Modes.{key_of as spec_key_of};
+ghost use Rattle.pm_trace.specs.Contents.{content_in};
+ghost use Rattle.pm_trace.specs.Modes.{key_of as spec_key_of};
 ghost use Rattle.pm_capture.specs.ShownReadings.{packet_in};
 ghost use Rattle.pm_capture.specs.Words.{content_read as spec_content_read, content_shown as spec_content_shown, differs_from as spec_differs_from, is_other as spec_is_other, is_other_high as spec_is_other_high, last_of, output_read as spec_output_read, read_at as spec_read_at, single as spec_single, word_end as spec_word_end, word_in as spec_word_in, word_key as spec_word_key, word_read as spec_word_read};
 
@@ -11,10 +11,10 @@ use crate::page_steps::{Marks, is_received};
 use crate::told_as::{PacketLine, is_clear, is_told, shows_pages};
 use crate::word_change::{WordEnd, end_by, is_change, is_watched, reaches_all, word_change};
 use indexmap::IndexMap;
-use pm_packets::Content;
+use pm_trace::Content;
 use pm_table::Code;
 use pm_trace::Shown;
-use pm_values::key_of;
+use pm_trace::key_of;
 use std::alloc::{AllocError, Global};
 use std::marker::Model;
 

@@ -27,7 +27,7 @@ use Rattle.pm_trace.specs.Lemmas.Said.{counts_of-snoc, enumerate_from-snoc, leng
 use Rattle.pm_trace.specs.Marks.{ended, since}
 use Rattle.pm_trace.specs.Pages.{Pages, nowhere, pages_by}
 use Rattle.pm_trace.specs.Trace.{Judged, ToldLine, Accepted, Faulty, BadSyntax, BadHex}
-use Rattle.pm_packets.specs.{Otherwise.is_refused, declared.answers.Ones.Ones}
+use Rattle.pm_trace.specs.{Otherwise.is_refused, declared.answers.Ones.Ones}
 use Rattle.pm_capture.specs.{Options.notes_comments, declared.comment.Note.Note, declared.options.TellOptions.TellOptions}
 use Rattle.pm_capture.specs.{declared.page_steps.Marks.Marks, declared.page_steps.PageStep.PageStep}
 use Rattle.pm_capture.specs.{declared.special.Special.Special, declared.timed_line.TimedLine.TimedLine}

@@ -29,11 +29,11 @@ use Rattle.pm_trace.specs.Trace.{judged_at, read_judged, write_judged, Faulty, B
 use Rattle.pm_trace.specs.TraceText.{end_of, count_line, counts_text as trace_counts, judged_text, told_line as trace_line, told_lines}
 use Rattle.pm_trace.specs.TraceText.{told_text, totals_line as trace_totals, trace_text, page_text, payload_text}
 use Rattle.pm_trace.specs.TraceText.{plain_text as trace_text_plain_text}
-use Rattle.pm_values.specs.declared.formats.GivenFormats.{GivenFormats}
-use Rattle.pm_values.specs.Taught.{Taught, taught_by}
-use Rattle.pm_packets.specs.{declared.answers.Ones.Ones, declared.answers.Ones.TheVariants.Answer, declared.packet.Packet.Packet}
-use Rattle.pm_packets.specs.Otherwise.{is_refused, is_accepted, lacks_pec, IsCompleted, address_otherwise, completed_judged, is_nobody}
-use Rattle.pm_packets.specs.Otherwise.{is_short, judged_with, last_part}
+use Rattle.pm_trace.specs.declared.formats.GivenFormats.{GivenFormats}
+use Rattle.pm_trace.specs.Taught.{Taught, taught_by}
+use Rattle.pm_trace.specs.{declared.answers.Ones.Ones, declared.answers.Ones.TheVariants.Answer, declared.packet.Packet.Packet}
+use Rattle.pm_trace.specs.Otherwise.{is_refused, is_accepted, lacks_pec, IsCompleted, address_otherwise, completed_judged, is_nobody}
+use Rattle.pm_trace.specs.Otherwise.{is_short, judged_with, last_part}
 use Rattle.pm_capture.specs.{declared.options.TellOptions.TellOptions, declared.timed_line.LineReading.LineReading}
 use Rattle.pm_capture.specs.Options.{plain_options, is_plain}
 use Rattle.pm_capture.specs.Readings.{Told, entries_of, entry_of, is_without_pec, judged_by, other_address}

@@ -9,16 +9,16 @@ use Rattle.pm_trace.specs.Trace.{Judged, Accepted, Faulty, BadSyntax, BadHex, re
 use Rattle.pm_trace.specs.TraceText.{count_line, judged_text, message_text}
 use Rattle.pm_trace.specs.declared.line_fault.LineFault.{LineFault}
 use Rattle.pm_trace.specs.declared.trace_line.TraceLine.{TraceLine}
-use Rattle.pm_packets.specs.Otherwise.{carried_by, is_heeded, ones_text, other_text, spaced}
-use Rattle.pm_packets.specs.declared.answers.Ones.{Ones}
-use Rattle.pm_packets.specs.declared.answers.Ones.TheVariants.{Answer, Doubtful, Nobody, Refused}
-use Rattle.pm_packets.specs.declared.answers.Refusal.{Refusal}
-use Rattle.pm_packets.specs.declared.otherwise.Otherwise.{Otherwise}
+use Rattle.pm_trace.specs.Otherwise.{carried_by, is_heeded, ones_text, other_text, spaced}
+use Rattle.pm_trace.specs.declared.answers.Ones.{Ones}
+use Rattle.pm_trace.specs.declared.answers.Ones.TheVariants.{Answer, Doubtful, Nobody, Refused}
+use Rattle.pm_trace.specs.declared.answers.Refusal.{Refusal}
+use Rattle.pm_trace.specs.declared.otherwise.Otherwise.{Otherwise}
 use Rattle.pm_frame.specs.View.{message_code}
 use Rattle.pm_frame.specs.declared.message.Message.{Message}
-use Rattle.pm_values.specs.Taught.{Taught, is_assumed}
-use Rattle.pm_values.specs.ValueText.{known_text}
-use Rattle.pm_values.specs.Values.{packet_value}
+use Rattle.pm_trace.specs.Taught.{Taught, is_assumed}
+use Rattle.pm_trace.specs.ValueText.{known_text}
+use Rattle.pm_trace.specs.Values.{packet_value}
 use Rattle.pm_decode.specs.Hearing.{HeardLines, Known, heard_lines, heard_of, known_by, marks_shown, ones_in, seen_as, since, told_end, unknown}
 use Rattle.pm_json.specs.JsonText.{address_field, judged_fields, lack_field, marks_fields, other_fields, other_payload_by, received_field, signed_field_if, text_field}
 use Rattle.pm_decode.specs.JsonCounts.{count_json, other_jsons, totals_json}

@@ -9,12 +9,12 @@ use Rattle.pm_trace.specs.Trace.{Judged, ToldLine, parts_judged}
 use Rattle.pm_trace.specs.TraceText.{end_of}
 use Rattle.pm_trace.specs.declared.line_fault.LineFault.{LineFault}
 use Rattle.pm_trace.specs.declared.trace_line.TraceLine.{TraceLine}
-use Rattle.pm_packets.specs.Answers.{Answers, answered_by, answers_by, none_heard, ones_of}
-use Rattle.pm_packets.specs.Otherwise.{content_of, is_accepted, is_answer, is_refused}
-use Rattle.pm_packets.specs.declared.answers.Ones.{Ones}
-use Rattle.pm_packets.specs.declared.answers.Ones.TheVariants.{Answer, Refused}
-use Rattle.pm_packets.specs.declared.answers.Refusal.{Refusal}
-use Rattle.pm_values.specs.Taught.{Taught, changed_by, paged_if, taught_by, taught_lost, untaught}
+use Rattle.pm_trace.specs.Answers.{Answers, answered_by, answers_by, none_heard, ones_of}
+use Rattle.pm_trace.specs.Otherwise.{content_of, is_accepted, is_answer, is_refused}
+use Rattle.pm_trace.specs.declared.answers.Ones.{Ones}
+use Rattle.pm_trace.specs.declared.answers.Ones.TheVariants.{Answer, Refused}
+use Rattle.pm_trace.specs.declared.answers.Refusal.{Refusal}
+use Rattle.pm_trace.specs.Taught.{Taught, changed_by, paged_if, taught_by, taught_lost, untaught}
 use Rattle.pm_decode.specs.Hints.{beyond_by, lacking_by, paging_by, timed_by}
 use Rattle.pm_capture.specs.Options.{is_named, no_addresses, notes_comments, with_address}
 use Rattle.pm_capture.specs.PageSteps.{change_by, is_lost_shown, is_received, judged_address, marks_in, pages_read, shown_change, shown_use, shows_pages}

@@ -6,17 +6,17 @@ use Rattle.std.specs.List.{list_all}
 use Rattle.pm_frame.specs.declared.message.Message.{Message}
 use Rattle.pm_frame.specs.declared.message.Message.TheVariants.{WriteByte}
 use Rattle.pm_table.specs.Codes as command
-use Rattle.pm_packets.specs.Otherwise.{is_accepted, lacks_pec}
-use Rattle.pm_packets.specs.declared.answers.Ones.TheVariants.{Answer}
+use Rattle.pm_trace.specs.Otherwise.{is_accepted, lacks_pec}
+use Rattle.pm_trace.specs.declared.answers.Ones.TheVariants.{Answer}
 use Rattle.pm_trace.specs.Trace.{Judged, Accepted, Faulty, BadSyntax, BadHex, parts_judged}
 use Rattle.pm_trace.specs.declared.trace_line.TraceLine.{TraceLine}
-use Rattle.pm_values.specs.Taught.{Taught}
-use Rattle.pm_values.specs.Values.{millionths, packet_value}
-use Rattle.pm_values.specs.declared.formats.GivenFormat.{GivenFormat}
-use Rattle.pm_values.specs.declared.formats.GivenFormats.{GivenFormats}
-use Rattle.pm_values.specs.declared.value.Unit.TheVariants.{Volt, Ampere, Celsius}
-use Rattle.pm_values.specs.declared.value.Value.{Value}
-use Rattle.pm_values.specs.declared.value.Value.TheVariants.{Measured, Operates, Protects, Scales, Relative, Vid, Half, Flags, Capable, Controls, Revises}
+use Rattle.pm_trace.specs.Taught.{Taught}
+use Rattle.pm_trace.specs.Values.{millionths, packet_value}
+use Rattle.pm_trace.specs.declared.formats.GivenFormat.{GivenFormat}
+use Rattle.pm_trace.specs.declared.formats.GivenFormats.{GivenFormats}
+use Rattle.pm_trace.specs.declared.value.Unit.TheVariants.{Volt, Ampere, Celsius}
+use Rattle.pm_trace.specs.declared.value.Value.{Value}
+use Rattle.pm_trace.specs.declared.value.Value.TheVariants.{Measured, Operates, Protects, Scales, Relative, Vid, Half, Flags, Capable, Controls, Revises}
 use Rattle.pm_capture.specs.declared.options.TellOptions.{TellOptions}
 
 -- ---- a voltage

@@ -1,7 +1,7 @@
 -- The law of captures, of texts of any length.
 use Rattle.std.specs.Prelude.{◌≡◌, ℕ, Bool, false, List, None, replicate}
 use Rattle.pm_trace.specs.TraceText.{trace_text}
-use Rattle.pm_values.specs.declared.formats.GivenFormats.{GivenFormats}
+use Rattle.pm_trace.specs.declared.formats.GivenFormats.{GivenFormats}
 use Rattle.pm_capture.specs.Options.{plain_options}
 use Rattle.pm_decode.specs.CaptureText.{capture_text}
 

@@ -3,12 +3,12 @@
 use Rattle.std.specs.Prelude.{◌≡◌, ℕ, ◌+◌, Bool, true, false, not, ◌||◌, List, [], ◌++◌, codes, Some, None}
 use Rattle.pm_frame.specs.Layout.{payload_bytes}
 use Rattle.pm_lines.specs.Numbers.{hex_byte}
-use Rattle.pm_packets.specs.Otherwise.{is_accepted}
+use Rattle.pm_trace.specs.Otherwise.{is_accepted}
 use Rattle.pm_table.specs.Commands.{name_of}
 use Rattle.pm_trace.specs.Counts.{Counts, one_counted, one_more}
 use Rattle.pm_trace.specs.Trace.{Judged}
 use Rattle.pm_trace.specs.TraceText.{judged_text, page_text, payload_text}
-use Rattle.pm_values.specs.Taught.{Taught, taught_by}
+use Rattle.pm_trace.specs.Taught.{Taught, taught_by}
 use Rattle.pm_capture.specs.declared.options.TellOptions.{TellOptions}
 use Rattle.pm_decode.specs.declared.usual_line.Usual.{Usual}
 

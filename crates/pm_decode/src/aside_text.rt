@@ -2,7 +2,7 @@
 ghost use Rattle.std.specs.Prelude.{◌≡◌, ◌++◌, ◌/◌, Ok, OnOk, codes, drop, option_map, slice_index, string_bytes};
 ghost use Rattle.pm_capture.specs.ShownReadings.{packet_in};
 ghost use Rattle.pm_json.specs.JsonText.{other_payload_by};
-ghost use Rattle.pm_packets.specs.Otherwise.{carried_by};
+ghost use Rattle.pm_trace.specs.Otherwise.{carried_by};
 ghost use Rattle.pm_decode.specs.CaptureText.{aside_fields, aside_json, aside_line, aside_plain, aside_words, behind_first as spec_behind_first};
 
 use crate::line_text::{push_received, push_time};
@@ -12,7 +12,7 @@ use pm_json::{
     push_text_field,
 };
 use pm_lines::{push_decimal, push_hex};
-use pm_packets::{Packet, push_carried};
+use pm_trace::{Packet, push_carried};
 use std::alloc::AllocError;
 
 /// Appends the line of a packet to a special address, without a line feed.

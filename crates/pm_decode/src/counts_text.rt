@@ -8,7 +8,7 @@ use crate::heard_lines::HeardLines;
 use crate::json_counts::push_json_counts;
 use pm_capture::TellOptions;
 use pm_lines::{push_decimal, push_hex};
-use pm_packets::Others;
+use pm_trace::Others;
 use pm_trace::push_count;
 use std::alloc::AllocError;
 

@@ -2,7 +2,7 @@
 ghost use Rattle.std.specs.Prelude.{◌≡◌, None, not, option_map, true};
 ghost use Rattle.pm_trace.specs.ShownLines.{judged_in};
 ghost use Rattle.pm_trace.specs.Trace.{parts_judged};
-ghost use Rattle.pm_packets.specs.Otherwise.{is_accepted};
+ghost use Rattle.pm_trace.specs.Otherwise.{is_accepted};
 ghost use Rattle.pm_capture.specs.Readings.{is_without_pec, judged_by, other_address};
 ghost use Rattle.pm_capture.specs.ShownReadings.{packet_in};
 
@@ -13,7 +13,7 @@ use pm_capture::{
     LineReading, Marks, Note, PacketLine, Special, TellOptions, bad_shown, completed_if, is_plain,
     is_to_all, told_code,
 };
-use pm_packets::{Others, address_otherwise, shown_with};
+use pm_trace::{Others, address_otherwise, shown_with};
 use pm_trace::{Tally, packet_shown};
 use std::alloc::{AllocError, Global};
 use std::marker::Model;
@@ -44,10 +44,10 @@ impl HeardLines {
     ghost use Rattle.std.specs.Prelude.{◌&&◌, if◌then◌else◌};
     ghost use Rattle.pm_decode.specs.CaptureText.{aside_line, line_text, read_line};
     ghost use Rattle.pm_decode.specs.CaptureText.{told_line};
-    ghost use Rattle.pm_packets.specs.Answers.{ones_of};
-    ghost use Rattle.pm_packets.specs.declared.answers.Ones.TheVariants.{Answer};
+    ghost use Rattle.pm_trace.specs.Answers.{ones_of};
+    ghost use Rattle.pm_trace.specs.declared.answers.Ones.TheVariants.{Answer};
     ghost use Rattle.pm_decode.specs.Hearing.{answers_read, counted_with, heard_aside, heard_lines, heard_told, heard_with, known_read, ones_in, since, taught_read, unheard};
-    ghost use Rattle.pm_packets.specs.Otherwise.{content_of};
+    ghost use Rattle.pm_trace.specs.Otherwise.{content_of};
     ghost use Rattle.pm_decode.specs.Hints.{beyond_by, lacking_by};
     ghost use Rattle.pm_decode.specs.UsualLines.{code_counted};
     ghost use Rattle.pm_capture.specs.PageSteps.{used_by};

@@ -8,7 +8,7 @@ ghost use Rattle.pm_decode.specs.JsonCounts.{count_json, faults_json, other_json
 use crate::heard_lines::HeardLines;
 use pm_json::push_number_field;
 use pm_lines::{push_decimal, push_hex};
-use pm_packets::Others;
+use pm_trace::Others;
 use pm_table::Code;
 use std::alloc::AllocError;
 

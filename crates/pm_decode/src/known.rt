@@ -17,9 +17,9 @@ use pm_capture::{
     is_lost, is_lost_shown, is_part_answer, is_received, is_told, kept_for, page_step,
     shown_change, shown_ends_all, shown_use, shows_pages, special_of, written_to,
 };
-use pm_packets::{Answers, Ones, Packet, Refusal, shown_with};
+use pm_trace::{Answers, Ones, Packet, Refusal, shown_with};
 use pm_trace::{PageUse, Pages, Shown};
-use pm_values::Lessons;
+use pm_trace::Lessons;
 use std::alloc::{AllocError, Global};
 use std::marker::Model;
 

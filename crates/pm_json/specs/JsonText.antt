@@ -13,22 +13,22 @@ use Rattle.pm_table.specs.Commands.{name_of}
 use Rattle.pm_table.specs.Coefficients.{coefficients_of}
 use Rattle.pm_table.specs.declared.coefficients.Coefficients.{Coefficients}
 use Rattle.pm_trace.specs.Trace.{Judged, Accepted, Faulty, BadSyntax, BadHex}
-use Rattle.pm_packets.specs.CodeNames.{standard_name}
-use Rattle.pm_packets.specs.Otherwise.{ContentBytes, content_letters, content_of, has_pec, said_bytes, spaced}
-use Rattle.pm_packets.specs.declared.answers.Ones.{Ones}
-use Rattle.pm_packets.specs.declared.answers.Ones.TheVariants.{Answer, Doubtful, Nobody, Refused}
-use Rattle.pm_packets.specs.declared.answers.Refusal.{Refusal}
+use Rattle.pm_trace.specs.CodeNames.{standard_name}
+use Rattle.pm_trace.specs.Otherwise.{ContentBytes, content_letters, content_of, has_pec, said_bytes, spaced}
+use Rattle.pm_trace.specs.declared.answers.Ones.{Ones}
+use Rattle.pm_trace.specs.declared.answers.Ones.TheVariants.{Answer, Doubtful, Nobody, Refused}
+use Rattle.pm_trace.specs.declared.answers.Refusal.{Refusal}
 use Rattle.pm_capture.specs.declared.page_steps.Marks.{Marks}
-use Rattle.pm_packets.specs.declared.otherwise.Otherwise.{Otherwise}
-use Rattle.pm_values.specs.Statuses.{names_from, rows_of}
-use Rattle.pm_values.specs.Taught.{Taught, is_assumed}
-use Rattle.pm_values.specs.ValueText.{capability_text, decimal_of, mode_text, on_off_text, operation_text, protection_text, relative_text, revision_text}
-use Rattle.pm_values.specs.Values.{carried, millionths, other_value, packet_value}
-use Rattle.pm_values.specs.declared.formats.GivenFormats.{GivenFormats}
-use Rattle.pm_values.specs.declared.value.Unit.{Unit as MeasureUnit}
-use Rattle.pm_values.specs.declared.value.Unit.TheVariants.{Volt, Ampere, Celsius}
-use Rattle.pm_values.specs.declared.value.Value.{Value}
-use Rattle.pm_values.specs.declared.value.Value.TheVariants.{Measured, Operates, Protects, Scales, Relative, Vid, Half, Flags, Capable, Controls, Revises}
+use Rattle.pm_trace.specs.declared.otherwise.Otherwise.{Otherwise}
+use Rattle.pm_trace.specs.Statuses.{names_from, rows_of}
+use Rattle.pm_trace.specs.Taught.{Taught, is_assumed}
+use Rattle.pm_trace.specs.ValueText.{capability_text, decimal_of, mode_text, on_off_text, operation_text, protection_text, relative_text, revision_text}
+use Rattle.pm_trace.specs.Values.{carried, millionths, other_value, packet_value}
+use Rattle.pm_trace.specs.declared.formats.GivenFormats.{GivenFormats}
+use Rattle.pm_trace.specs.declared.value.Unit.{Unit as MeasureUnit}
+use Rattle.pm_trace.specs.declared.value.Unit.TheVariants.{Volt, Ampere, Celsius}
+use Rattle.pm_trace.specs.declared.value.Value.{Value}
+use Rattle.pm_trace.specs.declared.value.Value.TheVariants.{Measured, Operates, Protects, Scales, Relative, Vid, Half, Flags, Capable, Controls, Revises}
 
 -- ---- fields
 

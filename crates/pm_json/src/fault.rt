@@ -6,7 +6,7 @@ ghost use Rattle.pm_json.specs.JsonText.{fault_fields, kind_fields, whole_field,
 use crate::fields::{push_number_field_if, push_text_field, push_text_key};
 use pm_frame::FrameFault;
 use pm_lines::push_hex;
-use pm_packets::{Packet, push_spaced};
+use pm_trace::{Packet, push_spaced};
 use std::alloc::AllocError;
 
 /// Appends the fields of a packet with a fault, but for its address.

@@ -4,7 +4,7 @@ ghost use Rattle.pm_lines.specs.Numbers.{hex_byte};
 ghost use Rattle.pm_json.specs.JsonText.{address_field, bytes_field, fault_code, hex_words, key, number_field, number_field_if, signed_field, signed_field_if, text_field};
 
 use pm_lines::{push_decimal, push_hex, push_signed};
-use pm_packets::push_spaced;
+use pm_trace::push_spaced;
 use std::alloc::AllocError;
 
 /// Appends a key after other fields to a text.

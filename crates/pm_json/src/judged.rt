@@ -1,6 +1,6 @@
 //! The fields of a packet as the command table has it.
 ghost use Rattle.std.specs.Prelude.{◌≡◌, ◌++◌, option_map, if◌then◌else◌, OnOk, string_bytes};
-ghost use Rattle.pm_packets.specs.Otherwise.{is_heeded};
+ghost use Rattle.pm_trace.specs.Otherwise.{is_heeded};
 ghost use Rattle.pm_table.specs.Coefficients.{coefficients_of};
 ghost use Rattle.pm_trace.specs.ShownLines.{judged_in};
 ghost use Rattle.pm_json.specs.JsonText.{assumed_field, code_fields, coefficients_fields, judged_fields, message_fields, numbers_fields, page_fields, payload_fields, plain_fields, told_fields, sent_direction as spec_sent_direction, sent_fields};
@@ -15,7 +15,7 @@ use pm_capture::{Marks, PacketLine, TellOptions};
 use pm_frame::Message;
 use pm_table::{Code, Coefficients};
 use pm_trace::{Shown, answered, coefficients_in};
-use pm_values::{GivenFormats, GoodPacket, Lessons, packet_value};
+use pm_trace::{GivenFormats, GoodPacket, Lessons, packet_value};
 use std::alloc::AllocError;
 
 /// Appends the fields of a packet as the command table has it.

@@ -5,7 +5,7 @@ ghost use Rattle.pm_json.specs.JsonText.{forbidden_field, lack_field, lines_fiel
 use crate::fields::{push_key, push_number_field, push_number_field_if};
 use pm_capture::Marks;
 use pm_lines::push_decimal;
-use pm_packets::Ones;
+use pm_trace::Ones;
 use std::alloc::AllocError;
 
 /// Appends the fields of a packet's phase, of how it was received, and of what it contradicts, in the line of this number; `write` is its write

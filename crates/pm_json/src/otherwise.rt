@@ -1,14 +1,14 @@
 //! The fields of a packet that is shown by its code and bytes.
 ghost use Rattle.std.specs.Prelude.{◌≡◌, ◌++◌, option_map, OnOk, string_bytes};
-ghost use Rattle.pm_packets.specs.Contents.{content_in};
+ghost use Rattle.pm_trace.specs.Contents.{content_in};
 ghost use Rattle.pm_json.specs.JsonText.{content_fields, meaning_fields, name_field, other_fields, other_payload_by};
 
 use crate::fields::{push_address_field, push_bytes_field, push_hex_field, push_text_field};
 use crate::judged::{push_page_fields, push_sent_fields};
 use crate::marks::pec_fields;
 use crate::value::push_value_fields;
-use pm_packets::{Content, Otherwise, Packet, standard_name};
-use pm_values::other_value;
+use pm_trace::{Content, Otherwise, Packet, standard_name};
+use pm_trace::other_value;
 use std::alloc::AllocError;
 
 /// Appends the fields of a packet that is shown by its code and bytes.

@@ -1,12 +1,12 @@
 //! Values as fields of objects of JSON.
 ghost use Rattle.std.specs.Prelude.{◌≡◌, ◌++◌, codes, OnOk, string_bytes};
-ghost use Rattle.pm_values.specs.ValueText.{capability_text, mode_text, on_off_text, relative_text, revision_text};
+ghost use Rattle.pm_trace.specs.ValueText.{capability_text, mode_text, on_off_text, relative_text, revision_text};
 ghost use Rattle.pm_json.specs.JsonText.{fraction_by, rounded_field, text_field, unit_key as spec_unit_key, value_fields, value_fields_if};
 
 use crate::fields::{push_key, push_signed_field, push_text_field, push_text_key};
 use pm_num::Frac;
 use pm_table::VoutMode;
-use pm_values::{
+use pm_trace::{
     NameMarks, Status, Unit, Value, operation_words, protection_words, push_capability,
     push_millionths, push_mode, push_names, push_on_off, push_relative, push_revision,
 };

@@ -28,7 +28,7 @@ use Rattle.pm_lines.specs.{Pairs.pair_of, Streams.max_text, declared.fault.TextF
 use Rattle.pm_lines.specs.Bytes.{byte_before, word_bytes}
 use Rattle.pm_lines.specs.Lines.{Numbered, WordsLeft, lines_of, unskipped_from, words_of}
 use Rattle.pm_lines.specs.declared.fault.TextFault.TheVariants.{Syntax as TextFaultSyntax, TooLong, Setup}
-use Rattle.pm_values.specs.Lemmas.Floor.{passed, reached}
+use Rattle.pm_trace.specs.Lemmas.Floor.{passed, reached}
 use Rattle.pm_text.specs.{declared.form.Form.Form, declared.replays.ReplayEnd.ReplayEnd, declared.runs.Ran.Ran}
 use Rattle.pm_text.specs.{declared.scenario.Scenario.Scenario, declared.scenario.fault.ScenarioFault.ScenarioFault}
 use Rattle.pm_text.specs.{declared.scenario.fault.ScenarioFault.TheVariants.Syntax, declared.scenario.header.Header.Header}

@@ -6,8 +6,8 @@ use Rattle.pm_lines.specs.Digits.{hex_of}
 use Rattle.pm_num.specs.AnyFormat.{Shape, InLinear11, InUlinear16, shape_of}
 use Rattle.pm_table.specs.Format.{shape_in}
 use Rattle.pm_table.specs.declared.vout_mode.VoutMode.TheVariants as mode
-use Rattle.pm_values.specs.Taught.{is_reading}
-use Rattle.pm_values.specs.declared.formats.GivenFormat.{GivenFormat}
+use Rattle.pm_trace.specs.Taught.{is_reading}
+use Rattle.pm_trace.specs.declared.formats.GivenFormat.{GivenFormat}
 use Rattle.pm_tool.specs.Question.{Text, format_by, items, parts}
 use Rattle.pm_tool.specs.declared.commandline.readings.Listed.{Listed}
 use Rattle.pm_tool.specs.declared.commandline.readings.Listed.TheVariants.{Voltages, Readings}

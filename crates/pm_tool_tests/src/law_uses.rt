@@ -2,7 +2,7 @@
 
 ghost use Rattle.std.specs.Prelude.{◌≡◌, ◌<◌, ℕ, Bool, List, Ok};
 ghost use Rattle.pm_num.specs.Ratio.{IsMicroFloor};
-ghost use Rattle.pm_values.specs.declared.formats.GivenFormats.{GivenFormats};
+ghost use Rattle.pm_trace.specs.declared.formats.GivenFormats.{GivenFormats};
 ghost use Rattle.pm_decode.specs.CaptureText.{capture_text};
 ghost use Rattle.pm_capture.specs.Options.{plain_options};
 ghost use Rattle.pm_trace.specs.TraceText.{trace_text};
@@ -11,7 +11,7 @@ ghost use Rattle.pm_tool.specs.NumberText.{IsFormat, IsNumberText};
 use pm_decode::plain_captures_are_traces;
 use pm_num::Frac;
 use pm_tool::number_has_one_text;
-use pm_values::{microvolts_are_the_floor, millionths};
+use pm_trace::{microvolts_are_the_floor, millionths};
 
 /// The microvolts that are shown of a voltage are the most whole ones that aren't above it.
 pub fn microvolts_of(voltage: Frac) -> i128

@@ -1,10 +1,12 @@
--- The laws of the decoder, of lists of any length.
-use Rattle.std.specs.Prelude.{◌≡◌, ℕ, List, ◌++◌, length, flat_map}
+-- The laws of the decoder, of lists of any length, and of values of any size.
+use Rattle.std.specs.Prelude.{◌≡◌, ◌<◌, ℕ, List, ◌++◌, length, flat_map}
 use Rattle.std.specs.List.{concat}
+use Rattle.pm_num.specs.Ratio.{IsMicroFloor, Ratio}
 use Rattle.pm_trace.specs.Counts.{counts_of, lines_in}
 use Rattle.pm_trace.specs.Decoding.{Holding, IsFresh, now, next, said}
 use Rattle.pm_trace.specs.Pieces.{Call, Calls, Decodes, Stops, taken_in}
 use Rattle.pm_trace.specs.Trace.{ToldLine, trace_of}
+use Rattle.pm_trace.specs.Values.{millionths}
 
 -- How a trace is cut into pieces doesn't matter: the lines that a decoder shows are those of the
 -- pieces joined, where nothing is refused, and otherwise the first of them; and it counts what these
@@ -27,3 +29,7 @@ pub record PiecesDoNotMatter : Type 0 where
       Calls old calls lines new → new.kept ≡ now (flat_map taken_in calls)
   pub front : (bytes more : List ℕ) → (rest : List ToldLine)
       × (trace_of (bytes ++ more) ≡ said bytes ++ rest)
+
+-- the microvolts that are shown of a voltage are the most that aren't above it
+abbrev pub MicrovoltsAreTheFloor : Type 0
+MicrovoltsAreTheFloor = (value : Ratio) → 0 < value.den → IsMicroFloor value (millionths value)

@@ -9,7 +9,7 @@ use crate::numbers::{FormatText, first_item, first_part, read_format};
 use pm_lines::read_byte;
 use pm_num::{AnyFormat, Ulinear16};
 use pm_table::{Code, Coefficients, VoutMode, address_ok, format_of};
-use pm_values::GivenFormat;
+use pm_trace::GivenFormat;
 
 /// Whose formats a text lists.
 #[derive(Clone, Copy, Debug)]

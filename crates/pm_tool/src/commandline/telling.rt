@@ -13,7 +13,7 @@ use super::tell_fault::TellFault;
 use clap::ArgMatches;
 use pm_decode::{Addresses, TellOptions};
 use pm_lines::read_i64;
-use pm_values::{GivenFormat, GivenFormats};
+use pm_trace::{GivenFormat, GivenFormats};
 
 /// The options of `decode`, as they were written.
 #[derive(Clone, Copy, Debug, PartialEq, Eq)]

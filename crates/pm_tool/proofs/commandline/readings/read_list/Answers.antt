@@ -1,6 +1,6 @@
 use Rattle.std.proofs.Common.{◌≡◌, ◌∙◌, ◌++◌, List, Option, Some, None, ap, flat_map, option_map, sym}
 use Rattle.std.specs.Borrow.{Bor}
-use Rattle.pm_values.specs.declared.formats.GivenFormat.{GivenFormat}
+use Rattle.pm_trace.specs.declared.formats.GivenFormat.{GivenFormat}
 use Rattle.pm_tool.specs.Question.{Text, is_comma, items, text_at}
 use Rattle.pm_tool.specs.ReadingList.{Entry, entries_in, entries_left, if_any}
 use Rattle.pm_tool.specs.declared.commandline.readings.Listed.{Listed}

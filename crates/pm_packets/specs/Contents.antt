@@ -1,7 +1,0 @@
--- What a packet carries, seen as its bytes.
-use Rattle.std.specs.Prelude.{option_map}
-use Rattle.pm_packets.specs.Otherwise.{ContentBytes}
-use Rattle.pm_packets.specs.declared.content.Content.{Content}
-
-abbrev pub content_in : Content → ContentBytes
-content_in c = record { page = c.page; code = c.code; written = c.written.now; answer = option_map (λ bytes. bytes.now) c.answer }

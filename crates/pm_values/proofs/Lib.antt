@@ -1,2 +1,0 @@
-pub mod ModeLemmas
-pub mod ValueLemmas

@@ -1,4 +1,0 @@
-use Rattle.pm_values.proofs.decimals.+push_places.Given as goal
-
-abbrev pub decreases-push_places : goal.decreases-push_places
-decreases-push_places l = l.most

@@ -1,5 +1,0 @@
-use Rattle.pm_values.proofs.ValueLemmas.{floor_of}
-use Rattle.pm_values.proofs.laws.microvolts_are_the_floor.Goals as goal
-
-pub returns : goal.returns
-returns c = floor_of
