@@ -28,15 +28,15 @@ use Rattle.pm_trace.specs.Marks.{ended, since}
 use Rattle.pm_trace.specs.Pages.{Pages, nowhere, pages_by}
 use Rattle.pm_trace.specs.Trace.{Judged, ToldLine, Accepted, Faulty, BadSyntax, BadHex}
 use Rattle.pm_trace.specs.{Otherwise.is_refused, declared.answers.Ones.Ones}
-use Rattle.pm_capture.specs.{Options.notes_comments, declared.comment.Note.Note, declared.options.TellOptions.TellOptions}
-use Rattle.pm_capture.specs.{declared.page_steps.Marks.Marks, declared.page_steps.PageStep.PageStep}
-use Rattle.pm_capture.specs.{declared.special.Special.Special, declared.timed_line.TimedLine.TimedLine}
-use Rattle.pm_capture.specs.Lemmas.TimedLines.{timed_of-snoc, timed_passes, timed_says}
-use Rattle.pm_capture.specs.PageSteps.{is_lost, is_received, judged_address, marks_by, marks_in, step_by, step_for, used_by}
-use Rattle.pm_capture.specs.Readings.{Entry, Reading, Told, Noted, is_without_pec, judged_as, judged_by, other_address, entries_of}
-use Rattle.pm_capture.specs.Readings.{entry_of, is_heard, is_passed, said_of}
-use Rattle.pm_capture.specs.TimedLines.{timed_of, head_note, passes_timed, timed_said, PassesTimed, timed_takes}
-use Rattle.pm_json.specs.JsonText.{key, number_field}
+use Rattle.pm_decode.specs.{Options.notes_comments, declared.comment.Note.Note, declared.options.TellOptions.TellOptions}
+use Rattle.pm_decode.specs.{declared.page_steps.Marks.Marks, declared.page_steps.PageStep.PageStep}
+use Rattle.pm_decode.specs.{declared.special.Special.Special, declared.timed_line.TimedLine.TimedLine}
+use Rattle.pm_decode.specs.Lemmas.TimedLines.{timed_of-snoc, timed_passes, timed_says}
+use Rattle.pm_decode.specs.PageSteps.{is_lost, is_received, judged_address, marks_by, marks_in, step_by, step_for, used_by}
+use Rattle.pm_decode.specs.Readings.{Entry, Reading, Told, Noted, is_without_pec, judged_as, judged_by, other_address, entries_of}
+use Rattle.pm_decode.specs.Readings.{entry_of, is_heard, is_passed, said_of}
+use Rattle.pm_decode.specs.TimedLines.{timed_of, head_note, passes_timed, timed_said, PassesTimed, timed_takes}
+use Rattle.pm_decode.specs.JsonText.{key, number_field}
 use Rattle.pm_decode.specs.{Outcome.telling, declared.telling.TellEnd.TellEnd}
 use Rattle.pm_decode.specs.CaptureText.{aside_line, line_text, lines_text, read_line, told_line, capture_text, counts_text, empty_by, json_counts, other_lines}
 use Rattle.pm_decode.specs.CaptureText.{plain_counts, totals_line, capture_end}

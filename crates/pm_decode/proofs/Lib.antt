@@ -1,2 +1,3 @@
+pub mod BesideLemmas
 pub mod Captures
 pub mod Shown

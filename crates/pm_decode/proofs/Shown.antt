@@ -34,10 +34,10 @@ use Rattle.pm_trace.specs.Taught.{Taught, taught_by}
 use Rattle.pm_trace.specs.{declared.answers.Ones.Ones, declared.answers.Ones.TheVariants.Answer, declared.packet.Packet.Packet}
 use Rattle.pm_trace.specs.Otherwise.{is_refused, is_accepted, lacks_pec, IsCompleted, address_otherwise, completed_judged, is_nobody}
 use Rattle.pm_trace.specs.Otherwise.{is_short, judged_with, last_part}
-use Rattle.pm_capture.specs.{declared.options.TellOptions.TellOptions, declared.timed_line.LineReading.LineReading}
-use Rattle.pm_capture.specs.Options.{plain_options, is_plain}
-use Rattle.pm_capture.specs.Readings.{Told, entries_of, entry_of, is_without_pec, judged_by, other_address}
-use Rattle.pm_capture.specs.ShownReadings.{packet_in, parts_in, reading_in}
+use Rattle.pm_decode.specs.{declared.options.TellOptions.TellOptions, declared.timed_line.LineReading.LineReading}
+use Rattle.pm_decode.specs.Options.{plain_options, is_plain}
+use Rattle.pm_decode.specs.Readings.{Told, entries_of, entry_of, is_without_pec, judged_by, other_address}
+use Rattle.pm_decode.specs.ShownReadings.{packet_in, parts_in, reading_in}
 use Rattle.pm_decode.specs.{Outcome.telling, declared.telling.TellEnd.TellEnd, declared.usual_line.Usual.Usual}
 use Rattle.pm_decode.specs.CaptureText.{capture_end, capture_text, counts_text, line_text, lines_text, plain_counts, plain_line, told_line}
 use Rattle.pm_decode.specs.CaptureText.{totals_line, other_line, other_lines}

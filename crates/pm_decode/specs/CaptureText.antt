@@ -20,16 +20,16 @@ use Rattle.pm_trace.specs.Taught.{Taught, is_assumed}
 use Rattle.pm_trace.specs.ValueText.{known_text}
 use Rattle.pm_trace.specs.Values.{packet_value}
 use Rattle.pm_decode.specs.Hearing.{HeardLines, Known, heard_lines, heard_of, known_by, marks_shown, ones_in, seen_as, since, told_end, unknown}
-use Rattle.pm_json.specs.JsonText.{address_field, judged_fields, lack_field, marks_fields, other_fields, other_payload_by, received_field, signed_field_if, text_field}
+use Rattle.pm_decode.specs.JsonText.{address_field, judged_fields, lack_field, marks_fields, other_fields, other_payload_by, received_field, signed_field_if, text_field}
 use Rattle.pm_decode.specs.JsonCounts.{count_json, other_jsons, totals_json}
-use Rattle.pm_capture.specs.PageSteps.{marks_in}
-use Rattle.pm_capture.specs.Readings.{Entry, Said, Told, Aside, Noted, entries_of, judged_by, other_address, why_words}
-use Rattle.pm_capture.specs.Specials.{special_words}
-use Rattle.pm_capture.specs.declared.comment.Failure.{Failure}
-use Rattle.pm_capture.specs.declared.comment.Why.{Why}
-use Rattle.pm_capture.specs.declared.special.Special.{Special}
-use Rattle.pm_capture.specs.declared.options.TellOptions.{TellOptions}
-use Rattle.pm_capture.specs.declared.page_steps.Marks.{Marks}
+use Rattle.pm_decode.specs.PageSteps.{marks_in}
+use Rattle.pm_decode.specs.Readings.{Entry, Said, Told, Aside, Noted, entries_of, judged_by, other_address, why_words}
+use Rattle.pm_decode.specs.Specials.{special_words}
+use Rattle.pm_decode.specs.declared.comment.Failure.{Failure}
+use Rattle.pm_decode.specs.declared.comment.Why.{Why}
+use Rattle.pm_decode.specs.declared.special.Special.{Special}
+use Rattle.pm_decode.specs.declared.options.TellOptions.{TellOptions}
+use Rattle.pm_decode.specs.declared.page_steps.Marks.{Marks}
 use Rattle.pm_decode.specs.declared.telling.TellEnd.{TellEnd}
 
 -- ---- what follows a packet's text

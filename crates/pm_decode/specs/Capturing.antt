@@ -8,11 +8,11 @@ use Rattle.pm_lines.specs.Streams.{max_text}
 use Rattle.pm_trace.specs.Marks.{ended, since, told_at_marks}
 use Rattle.pm_decode.specs.CaptureText.{line_text, lines_text}
 use Rattle.pm_decode.specs.Hearing.{HeardLines, heard_lines, heard_of, heard_with, unknown}
-use Rattle.pm_capture.specs.Options.{notes_comments}
-use Rattle.pm_capture.specs.Readings.{Entry, entry_of, is_heard}
-use Rattle.pm_capture.specs.TimedLines.{passes_timed, timed_of, timed_said, timed_takes}
-use Rattle.pm_capture.specs.declared.options.TellOptions.{TellOptions}
-use Rattle.pm_capture.specs.declared.timed_line.TimedLine.{TimedLine}
+use Rattle.pm_decode.specs.Options.{notes_comments}
+use Rattle.pm_decode.specs.Readings.{Entry, entry_of, is_heard}
+use Rattle.pm_decode.specs.TimedLines.{passes_timed, timed_of, timed_said, timed_takes}
+use Rattle.pm_decode.specs.declared.options.TellOptions.{TellOptions}
+use Rattle.pm_decode.specs.declared.timed_line.TimedLine.{TimedLine}
 
 -- ---- the bytes taken
 

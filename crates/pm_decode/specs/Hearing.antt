@@ -16,23 +16,23 @@ use Rattle.pm_trace.specs.declared.answers.Ones.TheVariants.{Answer, Refused}
 use Rattle.pm_trace.specs.declared.answers.Refusal.{Refusal}
 use Rattle.pm_trace.specs.Taught.{Taught, changed_by, paged_if, taught_by, taught_lost, untaught}
 use Rattle.pm_decode.specs.Hints.{beyond_by, lacking_by, paging_by, timed_by}
-use Rattle.pm_capture.specs.Options.{is_named, no_addresses, notes_comments, with_address}
-use Rattle.pm_capture.specs.PageSteps.{change_by, is_lost_shown, is_received, judged_address, marks_in, pages_read, shown_change, shown_use, shows_pages}
-use Rattle.pm_capture.specs.Readings.{Entry, Reading, Said, Told, Aside, Noted, is_without_pec, judged_as, judged_by, other_address, is_checked, is_told}
-use Rattle.pm_capture.specs.Specials.{aside_ends_all, is_to_all, kept_for, shown_ends_all, shows_part, special_of, written_to}
-use Rattle.pm_capture.specs.declared.addresses.Addresses.{Addresses}
-use Rattle.pm_capture.specs.declared.special.Special.{Special}
-use Rattle.pm_capture.specs.declared.comment.Remark.{Remark}
-use Rattle.pm_capture.specs.declared.comment.Remark.TheVariants.{Elsewhere, Refuses, Shows, Loss}
-use Rattle.pm_capture.specs.declared.comment.Failure.{Failure}
-use Rattle.pm_capture.specs.declared.comment.Note.{Note}
-use Rattle.pm_capture.specs.declared.comment.ShownPacket.{ShownPacket}
-use Rattle.pm_capture.specs.Words.{Words, changed_since, no_words, word_read, words_aside, words_heard, words_lost, words_shown}
+use Rattle.pm_decode.specs.Options.{is_named, no_addresses, notes_comments, with_address}
+use Rattle.pm_decode.specs.PageSteps.{change_by, is_lost_shown, is_received, judged_address, marks_in, pages_read, shown_change, shown_use, shows_pages}
+use Rattle.pm_decode.specs.Readings.{Entry, Reading, Said, Told, Aside, Noted, is_without_pec, judged_as, judged_by, other_address, is_checked, is_told}
+use Rattle.pm_decode.specs.Specials.{aside_ends_all, is_to_all, kept_for, shown_ends_all, shows_part, special_of, written_to}
+use Rattle.pm_decode.specs.declared.addresses.Addresses.{Addresses}
+use Rattle.pm_decode.specs.declared.special.Special.{Special}
+use Rattle.pm_decode.specs.declared.comment.Remark.{Remark}
+use Rattle.pm_decode.specs.declared.comment.Remark.TheVariants.{Elsewhere, Refuses, Shows, Loss}
+use Rattle.pm_decode.specs.declared.comment.Failure.{Failure}
+use Rattle.pm_decode.specs.declared.comment.Note.{Note}
+use Rattle.pm_decode.specs.declared.comment.ShownPacket.{ShownPacket}
+use Rattle.pm_decode.specs.Words.{Words, changed_since, no_words, word_read, words_aside, words_heard, words_lost, words_shown}
 use Rattle.pm_decode.specs.declared.hints.Hint.{Hint}
 use Rattle.pm_decode.specs.declared.hints.Hint.TheVariants.{Beyond, Timed, NoTimes, NoGoodPacket, NoPec, Paging}
-use Rattle.pm_capture.specs.declared.page_steps.Marks.{Marks}
+use Rattle.pm_decode.specs.declared.page_steps.Marks.{Marks}
 use Rattle.pm_decode.specs.declared.telling.TellEnd.{TellEnd}
-use Rattle.pm_capture.specs.declared.options.TellOptions.{TellOptions}
+use Rattle.pm_decode.specs.declared.options.TellOptions.{TellOptions}
 
 -- ---- what is known
 

@@ -17,7 +17,7 @@ use Rattle.pm_trace.specs.declared.formats.GivenFormats.{GivenFormats}
 use Rattle.pm_trace.specs.declared.value.Unit.TheVariants.{Volt, Ampere, Celsius}
 use Rattle.pm_trace.specs.declared.value.Value.{Value}
 use Rattle.pm_trace.specs.declared.value.Value.TheVariants.{Measured, Operates, Protects, Scales, Relative, Vid, Half, Flags, Capable, Controls, Revises}
-use Rattle.pm_capture.specs.declared.options.TellOptions.{TellOptions}
+use Rattle.pm_decode.specs.declared.options.TellOptions.{TellOptions}
 
 -- ---- a voltage
 

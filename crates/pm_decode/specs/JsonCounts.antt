@@ -1,7 +1,7 @@
 -- The counts as objects of JSON. This project's own choice.
 use Rattle.std.specs.Prelude.{ℕ, Bool, ◌==◌, if◌then◌else◌, zero, suc, nat_eq, List, [], ◌++◌, decimal, codes, Option, Some, None}
 use Rattle.std.specs.Map.{lookup}
-use Rattle.pm_json.specs.JsonText.{number_field}
+use Rattle.pm_decode.specs.JsonText.{number_field}
 use Rattle.pm_lines.specs.Numbers.{hex_byte}
 use Rattle.pm_table.specs.Commands.{name_of}
 use Rattle.pm_trace.specs.Counts.{total_of}

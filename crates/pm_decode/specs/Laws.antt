@@ -2,7 +2,7 @@
 use Rattle.std.specs.Prelude.{◌≡◌, ℕ, Bool, false, List, None, replicate}
 use Rattle.pm_trace.specs.TraceText.{trace_text}
 use Rattle.pm_trace.specs.declared.formats.GivenFormats.{GivenFormats}
-use Rattle.pm_capture.specs.Options.{plain_options}
+use Rattle.pm_decode.specs.Options.{plain_options}
 use Rattle.pm_decode.specs.CaptureText.{capture_text}
 
 -- what is shown without an option that changes it is what `pm_trace` shows of the same text

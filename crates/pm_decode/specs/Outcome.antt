@@ -4,7 +4,7 @@ use Rattle.pm_lines.specs.Engine.{Engine}
 use Rattle.pm_decode.specs.Capturing.{said_text}
 use Rattle.pm_decode.specs.CaptureText.{capture_end, capture_text}
 use Rattle.pm_decode.specs.declared.telling.TellEnd.{TellEnd}
-use Rattle.pm_capture.specs.declared.options.TellOptions.{TellOptions}
+use Rattle.pm_decode.specs.declared.options.TellOptions.{TellOptions}
 
 -- a telling as an engine: no capture is refused for what it says, and the lines that ended are written before the next
 -- ones are read

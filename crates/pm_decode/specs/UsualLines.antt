@@ -9,7 +9,7 @@ use Rattle.pm_trace.specs.Counts.{Counts, one_counted, one_more}
 use Rattle.pm_trace.specs.Trace.{Judged}
 use Rattle.pm_trace.specs.TraceText.{judged_text, page_text, payload_text}
 use Rattle.pm_trace.specs.Taught.{Taught, taught_by}
-use Rattle.pm_capture.specs.declared.options.TellOptions.{TellOptions}
+use Rattle.pm_decode.specs.declared.options.TellOptions.{TellOptions}
 use Rattle.pm_decode.specs.declared.usual_line.Usual.{Usual}
 
 -- what is carried: by an answer, or by a write

@@ -4,7 +4,7 @@ use Rattle.std.specs.Io.KnownBytes.{Appends, Consumes, IsAtEnd}
 use Rattle.pm_lines.specs.declared.fault.TextFault.{TextFault}
 use Rattle.pm_lines.specs.declared.fault.TextFault.TheVariants.{TooLong, Read, Memory}
 use Rattle.pm_decode.specs.Capturing.{Kept, kept_of, most_bytes, next, said_text, told}
-use Rattle.pm_capture.specs.declared.options.TellOptions.{TellOptions}
+use Rattle.pm_decode.specs.declared.options.TellOptions.{TellOptions}
 
 -- the reader gave these bytes, they were taken, and of what their lines say this text is gathered; what stands before
 -- it was written

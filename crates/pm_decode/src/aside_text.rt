@@ -1,15 +1,14 @@
 //! The line of a packet whose address is no part's.
 ghost use Rattle.std.specs.Prelude.{◌≡◌, ◌++◌, ◌/◌, Ok, OnOk, codes, drop, option_map, slice_index, string_bytes};
-ghost use Rattle.pm_capture.specs.ShownReadings.{packet_in};
-ghost use Rattle.pm_json.specs.JsonText.{other_payload_by};
+ghost use Rattle.pm_decode.specs.ShownReadings.{packet_in};
+ghost use Rattle.pm_decode.specs.JsonText.{other_payload_by};
 ghost use Rattle.pm_trace.specs.Otherwise.{carried_by};
 ghost use Rattle.pm_decode.specs.CaptureText.{aside_fields, aside_json, aside_line, aside_plain, aside_words, behind_first as spec_behind_first};
 
 use crate::line_text::{push_received, push_time};
-use pm_capture::{PacketLine, Special};
-use pm_json::{
-    push_address_field, push_other_payload, push_received_field, push_signed_field_if,
-    push_text_field,
+use crate::{
+    PacketLine, Special, push_address_field, push_other_payload, push_received_field,
+    push_signed_field_if, push_text_field,
 };
 use pm_lines::{push_decimal, push_hex};
 use pm_trace::{Packet, push_carried};

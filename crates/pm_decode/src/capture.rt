@@ -2,15 +2,15 @@
 ghost use Rattle.std.specs.Prelude.{[], ◌≡◌, ◌+◌, ◌≤◌, ◌<◌, ◌^◌, ◌++◌, ◌&&◌, if◌then◌else◌, OnOk, OnErr};
 ghost use Rattle.pm_decode.specs.CaptureText.{line_text};
 ghost use Rattle.pm_decode.specs.Hearing.{heard_lines, heard_with};
-ghost use Rattle.pm_capture.specs.Options.{notes_comments};
-ghost use Rattle.pm_capture.specs.TimedLines.{passes_timed, timed_said};
+ghost use Rattle.pm_decode.specs.Options.{notes_comments};
+ghost use Rattle.pm_decode.specs.TimedLines.{passes_timed, timed_said};
 
 use crate::counts_text::push_counts;
 use crate::heard_lines::HeardLines;
 use crate::hints::hint_of;
 use crate::telling::TellEnd;
 use crate::told_text::ToldText;
-use pm_capture::{TellOptions, TimedLine};
+use crate::{TellOptions, TimedLine};
 use pm_lines::MAX_TEXT;
 use pm_trace::DecodeEnd;
 use std::alloc::{AllocError, Global};

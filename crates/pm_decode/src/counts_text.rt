@@ -4,12 +4,11 @@ ghost use Rattle.pm_trace.specs.Counts.{total_of};
 ghost use Rattle.pm_decode.specs.CaptureText.{counts_text, faults_text, json_counts, other_line, other_lines, others_total, plain_counts, refused_total, special_total, totals_line};
 ghost use Rattle.pm_decode.specs.Hearing.{heard_lines};
 
+use crate::TellOptions;
 use crate::heard_lines::HeardLines;
 use crate::json_counts::push_json_counts;
-use pm_capture::TellOptions;
 use pm_lines::{push_decimal, push_hex};
-use pm_trace::Others;
-use pm_trace::push_count;
+use pm_trace::{Others, push_count};
 use std::alloc::AllocError;
 
 /// Appends a line for each code that was carried, and the line of the counts, to a text.

@@ -4,8 +4,8 @@ ghost use Rattle.pm_lines.specs.Engine.{EngineEnds, over};
 ghost use Rattle.pm_trace.specs.Outcome.{decoding};
 ghost use Rattle.pm_trace.specs.TraceText.{IsOfDecode};
 
+use crate::TellOptions;
 use crate::telling::tell;
-use pm_capture::TellOptions;
 use pm_lines::{Sink, Source, TextFault};
 use pm_trace::DecodeEnd;
 use std::alloc::Global;

@@ -3,18 +3,17 @@ ghost use Rattle.std.specs.Prelude.{◌≡◌, None, not, option_map, true};
 ghost use Rattle.pm_trace.specs.ShownLines.{judged_in};
 ghost use Rattle.pm_trace.specs.Trace.{parts_judged};
 ghost use Rattle.pm_trace.specs.Otherwise.{is_accepted};
-ghost use Rattle.pm_capture.specs.Readings.{is_without_pec, judged_by, other_address};
-ghost use Rattle.pm_capture.specs.ShownReadings.{packet_in};
+ghost use Rattle.pm_decode.specs.Readings.{is_without_pec, judged_by, other_address};
+ghost use Rattle.pm_decode.specs.ShownReadings.{packet_in};
 
 use crate::aside_text::push_aside;
 use crate::known::Known;
 use crate::line_text::push_bad_line;
-use pm_capture::{
+use crate::{
     LineReading, Marks, Note, PacketLine, Special, TellOptions, bad_shown, completed_if, is_plain,
     is_to_all, told_code,
 };
-use pm_trace::{Others, address_otherwise, shown_with};
-use pm_trace::{Tally, packet_shown};
+use pm_trace::{Others, Tally, address_otherwise, packet_shown, shown_with};
 use std::alloc::{AllocError, Global};
 use std::marker::Model;
 
@@ -50,12 +49,12 @@ impl HeardLines {
     ghost use Rattle.pm_trace.specs.Otherwise.{content_of};
     ghost use Rattle.pm_decode.specs.Hints.{beyond_by, lacking_by};
     ghost use Rattle.pm_decode.specs.UsualLines.{code_counted};
-    ghost use Rattle.pm_capture.specs.PageSteps.{used_by};
+    ghost use Rattle.pm_decode.specs.PageSteps.{used_by};
     ghost use Rattle.pm_trace.specs.declared.pages.PageUse.TheVariants.{Beside};
-    ghost use Rattle.pm_capture.specs.declared.page_steps.Marks.{Marks};
-    ghost use Rattle.pm_capture.specs.Readings.{Noted, Told};
-    ghost use Rattle.pm_capture.specs.ShownReadings.{reading_in};
-    ghost use Rattle.pm_capture.specs.declared.options.TellOptions.{TellOptions};
+    ghost use Rattle.pm_decode.specs.declared.page_steps.Marks.{Marks};
+    ghost use Rattle.pm_decode.specs.Readings.{Noted, Told};
+    ghost use Rattle.pm_decode.specs.ShownReadings.{reading_in};
+    ghost use Rattle.pm_decode.specs.declared.options.TellOptions.{TellOptions};
 
     /// No line yet. Takes no memory.
     pub(crate) fn new(alloc: Global) -> HeardLines

@@ -6,10 +6,10 @@ ghost use Rattle.pm_decode.specs.Hearing.{heard_lines};
 ghost use Rattle.pm_decode.specs.JsonCounts.{count_json, faults_json, other_json, other_jsons, others_json, refused_json, special_json, totals_json};
 
 use crate::heard_lines::HeardLines;
-use pm_json::push_number_field;
+use crate::push_number_field;
 use pm_lines::{push_decimal, push_hex};
-use pm_trace::Others;
 use pm_table::Code;
+use pm_trace::Others;
 use std::alloc::AllocError;
 
 /// Appends an object for each code that was carried, and the one of the counts, to a text.

@@ -1,25 +1,23 @@
 //! What is known after the lines of a capture.
 ghost use Rattle.std.specs.Option.{option_or};
 ghost use Rattle.std.specs.Prelude.{◌≡◌, ◌<◌, Bool, None, option_map};
-ghost use Rattle.pm_capture.specs.Specials.{shows_part as spec_shows_part};
+ghost use Rattle.pm_decode.specs.Specials.{shows_part as spec_shows_part};
 ghost use Rattle.pm_trace.specs.ShownLines.{judged_in};
 ghost use Rattle.pm_trace.specs.Trace.{parts_judged};
-ghost use Rattle.pm_capture.specs.Options.{notes_comments};
+ghost use Rattle.pm_decode.specs.Options.{notes_comments};
 ghost use Rattle.pm_decode.specs.Hearing.{first_refusal as spec_first_refusal};
-ghost use Rattle.pm_capture.specs.Readings.{is_without_pec};
-ghost use Rattle.pm_capture.specs.ShownReadings.{packet_in};
+ghost use Rattle.pm_decode.specs.Readings.{is_without_pec};
+ghost use Rattle.pm_decode.specs.ShownReadings.{packet_in};
 
 use crate::hints::{first_beyond, first_paging, first_timed, still_lacking};
 use crate::line_text::{push_failed, push_packet_line};
-use pm_capture::{
+use crate::{
     Addresses, Marks, NOWHERE, Note, PacketLine, Remark, ShownPacket, Special, TellOptions,
     WordRead, Words, address_in, aside_ends_all, change_in, completed_if, is_beside, is_checked,
     is_lost, is_lost_shown, is_part_answer, is_received, is_told, kept_for, page_step,
     shown_change, shown_ends_all, shown_use, shows_pages, special_of, written_to,
 };
-use pm_trace::{Answers, Ones, Packet, Refusal, shown_with};
-use pm_trace::{PageUse, Pages, Shown};
-use pm_trace::Lessons;
+use pm_trace::{Answers, Lessons, Ones, Packet, PageUse, Pages, Refusal, Shown, shown_with};
 use std::alloc::{AllocError, Global};
 use std::marker::Model;
 
@@ -60,9 +58,9 @@ impl Known {
     ghost use Rattle.std.specs.Prelude.{if◌then◌else◌, is_some};
     ghost use Rattle.pm_decode.specs.CaptureText.{noted_line, read_line, told_line};
     ghost use Rattle.pm_trace.specs.declared.pages.PageUse.TheVariants.{Beside};
-    ghost use Rattle.pm_capture.specs.PageSteps.{used_by};
-    ghost use Rattle.pm_capture.specs.Readings.{judged_by, other_address};
-    ghost use Rattle.pm_capture.specs.Words.{word_read as spec_word_read, words_heard};
+    ghost use Rattle.pm_decode.specs.PageSteps.{used_by};
+    ghost use Rattle.pm_decode.specs.Readings.{judged_by, other_address};
+    ghost use Rattle.pm_decode.specs.Words.{word_read as spec_word_read, words_heard};
     ghost use Rattle.pm_decode.specs.Hearing.{answered_as, answers_read, known_aside, known_lost, known_noted, known_remarked, known_shown, known_told, marks_with, ones_in, part_seen, since, special_in, taught_read, unknown, words_told};
     ghost use Rattle.pm_decode.specs.Hints.{beyond_by, lacking_by, paging_by, timed_by};
 

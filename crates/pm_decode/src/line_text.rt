@@ -5,19 +5,19 @@ ghost use Rattle.pm_trace.specs.Trace.{reading_judged};
 ghost use Rattle.pm_trace.specs.TraceText.{judged_text};
 ghost use Rattle.pm_trace.specs.Taught.{Taught};
 ghost use Rattle.pm_decode.specs.CaptureText.{assumed_text, bytes_text, changed_text, extra_text, failed_line, forbidden_text, json_failed, plain_failed, json_line, lack_text, marks_text, phase_text, plain_line, meaning_text, otherwise_by as spec_otherwise_by, packet_fields_by, packet_text_by, reached_text, read_bytes_text, received_text, refused_words as spec_refused_words, time_text, told_line, two_lines, wrong_text};
-ghost use Rattle.pm_capture.specs.Readings.{judged_by, other_address};
-ghost use Rattle.pm_capture.specs.ShownReadings.{packet_in};
-ghost use Rattle.pm_capture.specs.declared.page_steps.Marks.{Marks};
+ghost use Rattle.pm_decode.specs.Readings.{judged_by, other_address};
+ghost use Rattle.pm_decode.specs.ShownReadings.{packet_in};
+ghost use Rattle.pm_decode.specs.declared.page_steps.Marks.{Marks};
 
-use pm_capture::{Marks, PacketLine, TellOptions, Why};
-use pm_json::{
-    push_judged_fields, push_lack_field, push_marks_fields, push_other_fields,
-    push_signed_field_if, push_text_field,
+use crate::{
+    Marks, PacketLine, TellOptions, Why, push_judged_fields, push_lack_field, push_marks_fields,
+    push_other_fields, push_signed_field_if, push_text_field,
 };
 use pm_lines::{TextFault, push_decimal, push_hex, push_signed};
-use pm_trace::{Ones, Otherwise, Packet, ones_words, push_otherwise, push_spaced};
-use pm_trace::{LineFault, Shown, push_packet, push_shown};
-use pm_trace::{GoodPacket, Lessons, packet_value, push_known};
+use pm_trace::{
+    GoodPacket, Lessons, LineFault, Ones, Otherwise, Packet, Shown, ones_words, packet_value,
+    push_known, push_otherwise, push_packet, push_shown, push_spaced,
+};
 use std::alloc::AllocError;
 
 /// Appends a line that can't be read to a text, with its number and without a line feed.

@@ -12,10 +12,10 @@ ghost use Rattle.pm_decode.specs.LongEngine.{LongEnds};
 ghost use Rattle.pm_decode.specs.Outcome.{telling};
 ghost use Rattle.pm_decode.specs.WrittenCaptures.{Hears, StopsBytes, StopsHearing, WrittenCapture};
 
+use crate::TellOptions;
 use crate::capture::Capture;
 use crate::hints::Hint;
 use crate::told_text::ToldText;
-use pm_capture::TellOptions;
 use pm_lines::{Sink, Source, TextFault};
 use pm_trace::DecodeEnd;
 use std::alloc::{AllocError, Global};

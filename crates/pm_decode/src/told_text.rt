@@ -4,7 +4,7 @@ use crate::capture::Capture;
 use crate::heard_lines::HeardLines;
 use crate::line_number::LineNumber;
 use crate::usual_line::{Usual, push_usual, usual_of};
-use pm_capture::{LineReading, Note, TellOptions};
+use crate::{LineReading, Note, TellOptions};
 use std::alloc::{AllocError, Global};
 use std::marker::Model;
 
@@ -31,8 +31,8 @@ impl ToldText {
     ghost use Rattle.pm_decode.specs.UsualLines.{code_counted, usual_text};
     ghost use Rattle.pm_decode.specs.CaptureText.{counts_text, line_text};
     ghost use Rattle.pm_decode.specs.Hearing.{heard_lines, heard_with};
-    ghost use Rattle.pm_capture.specs.Readings.{Noted, Told};
-    ghost use Rattle.pm_capture.specs.ShownReadings.{reading_in};
+    ghost use Rattle.pm_decode.specs.Readings.{Noted, Told};
+    ghost use Rattle.pm_decode.specs.ShownReadings.{reading_in};
 
     /// No line. Takes no memory.
     pub(crate) fn new(alloc: Global) -> ToldText

@@ -12,9 +12,8 @@ use crate::usual_packet::{carried_read, carried_write};
 use itoa::Buffer;
 use pm_frame::{FrameView, Payload};
 use pm_lines::hex_digits;
-use pm_trace::Packet;
 use pm_table::Code;
-use pm_trace::{Shown, packet_shown};
+use pm_trace::{Packet, Shown, packet_shown};
 use std::alloc::AllocError;
 
 /// A good packet that carries at most two bytes and teaches nothing.

@@ -11,7 +11,7 @@ use Rattle.pm_trace.specs.Outcome.{decoding}
 use Rattle.pm_trace.specs.declared.decode_end.DecodeEnd.{DecodeEnd}
 use Rattle.pm_trace.specs.declared.decode_end.DecodeEnd.TheVariants.{Clean, BadLines}
 use Rattle.pm_decode.specs.declared.hints.Hint.{Hint}
-use Rattle.pm_capture.specs.declared.options.TellOptions.{TellOptions}
+use Rattle.pm_decode.specs.declared.options.TellOptions.{TellOptions}
 use Rattle.pm_log.specs.declared.checking.LogEnd.{LogEnd}
 use Rattle.pm_log.specs.declared.checking.LogEnd.TheVariants.{Accepted as LogAccepted, Refused as LogRefused}
 use Rattle.pm_text.specs.Replay.{replaying}

@@ -14,7 +14,7 @@ use Rattle.pm_decode.specs.LongEngine.{Breaks, LongEnds}
 use Rattle.pm_decode.specs.declared.hints.Hint.{Hint}
 use Rattle.pm_decode.specs.declared.hints.Hint.TheVariants.{Beyond}
 use Rattle.pm_decode.specs.declared.telling.TellEnd.{TellEnd}
-use Rattle.pm_capture.specs.declared.options.TellOptions.{TellOptions}
+use Rattle.pm_decode.specs.declared.options.TellOptions.{TellOptions}
 use Rattle.pm_tool.specs.Refusals.{Says, text_refusal}
 use Rattle.pm_tool.specs.Execution.{End, CutShort, Broken, IsToldDone, Runs, SaysAny, TellRuns, TellsWhole, decode_status, hint_words, reading, refusal_line, told_as, untold, unwritten_words}
 use Rattle.pm_tool.specs.declared.text_commands.Unwritten.{Unwritten}

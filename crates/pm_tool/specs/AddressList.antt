@@ -1,7 +1,7 @@
 -- The addresses that the texts of `--part` and `--mux` name. This project's own choice.
 use Rattle.std.specs.Prelude.{ℕ, not, ◌&&◌, ◌==◌, if◌then◌else◌, List, [], ◌∷◌, Option, Some, None, option_and_then}
-use Rattle.pm_capture.specs.Options.{no_addresses, with_address}
-use Rattle.pm_capture.specs.declared.addresses.Addresses.{Addresses}
+use Rattle.pm_decode.specs.Options.{no_addresses, with_address}
+use Rattle.pm_decode.specs.declared.addresses.Addresses.{Addresses}
 use Rattle.pm_lines.specs.Digits.{hex_of}
 use Rattle.pm_tool.specs.Question.{Text, items}
 use Rattle.pm_tool.specs.ReadingList.{is_place}

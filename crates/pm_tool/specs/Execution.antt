@@ -20,7 +20,7 @@ use Rattle.pm_decode.specs.Capturing.{most_bytes, said_text}
 use Rattle.pm_decode.specs.LongEngine.{Breaks, GaveAll, IsCut}
 use Rattle.pm_decode.specs.declared.hints.Hint.{Hint}
 use Rattle.pm_decode.specs.declared.hints.Hint.TheVariants.{Beyond, Timed, NoTimes, NoGoodPacket, NoPec, Paging}
-use Rattle.pm_capture.specs.declared.options.TellOptions.{TellOptions}
+use Rattle.pm_decode.specs.declared.options.TellOptions.{TellOptions}
 use Rattle.pm_limits.specs.declared.part_registers.PartRegisters.{PartRegisters}
 use Rattle.pm_log.specs.Texts.{IsAll, log_end, log_text}
 use Rattle.pm_log.specs.declared.lacks.Lacks.{Lacks}

@@ -4,8 +4,8 @@ use Rattle.std.specs.Prelude.{Option, Some, None, option_and_then, unwrap_or, Re
 use Rattle.std.specs.Option.{option_or}
 use Rattle.clap.specs.Words.{App, Row, Rule, Text, all_of, first_of, new_app, new_rule, one_of, with_rule}
 use Rattle.clap.specs.declared.builder.action.ArgAction.TheVariants.{SetTrue}
-use Rattle.pm_capture.specs.declared.addresses.Addresses.{Addresses}
-use Rattle.pm_capture.specs.declared.options.TellOptions.{TellOptions}
+use Rattle.pm_decode.specs.declared.addresses.Addresses.{Addresses}
+use Rattle.pm_decode.specs.declared.options.TellOptions.{TellOptions}
 use Rattle.pm_tool.specs.AddressList.{addresses_asked}
 use Rattle.pm_tool.specs.Options.{list_rule, option_rule}
 use Rattle.pm_lines.specs.Digits.{natural_of}

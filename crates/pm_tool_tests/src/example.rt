@@ -1,9 +1,9 @@
 //! The examples of the roots of `pm_values`, `pm_packets`, `pm_capture`, `pm_json`, `pm_decode` and `pm_tool`, word for word.
 
 use crate::checks::equal;
-use pm_capture::TimedLine;
+use pm_decode::TimedLine;
 use pm_decode::{TellOptions, tell};
-use pm_json::push_number_field;
+use pm_decode::push_number_field;
 use pm_trace::{Ones, Otherwise, Packet, push_otherwise};
 use pm_test_streams::{blank_paper, in_pieces};
 use pm_tool::{Sink, Source, TextFault, run};

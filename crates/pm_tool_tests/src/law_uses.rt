@@ -4,7 +4,7 @@ ghost use Rattle.std.specs.Prelude.{◌≡◌, ◌<◌, ℕ, Bool, List, Ok};
 ghost use Rattle.pm_num.specs.Ratio.{IsMicroFloor};
 ghost use Rattle.pm_trace.specs.declared.formats.GivenFormats.{GivenFormats};
 ghost use Rattle.pm_decode.specs.CaptureText.{capture_text};
-ghost use Rattle.pm_capture.specs.Options.{plain_options};
+ghost use Rattle.pm_decode.specs.Options.{plain_options};
 ghost use Rattle.pm_trace.specs.TraceText.{trace_text};
 ghost use Rattle.pm_tool.specs.NumberText.{IsFormat, IsNumberText};
 

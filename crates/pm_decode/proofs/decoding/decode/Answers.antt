@@ -1,8 +1,8 @@
 use Rattle.std.proofs.Common.{Ok, Err, false, ap, subst}
 use Rattle.pm_lines.specs.Engine.{EngineEnds, over}
-use Rattle.pm_capture.specs.Options.{no_formats, unnamed}
+use Rattle.pm_decode.specs.Options.{no_formats, unnamed}
 use Rattle.pm_decode.specs.Outcome.{telling}
-use Rattle.pm_capture.specs.declared.options.TellOptions.{TellOptions}
+use Rattle.pm_decode.specs.declared.options.TellOptions.{TellOptions}
 use Rattle.pm_decode.proofs.Shown.{plain_ends}
 use Rattle.pm_decode.proofs.decoding.decode.Goals as goal
 

@@ -1,6 +1,6 @@
 use Rattle.std.proofs.Common.{◌≡◌, ◌∙◌, ◌++◌, Ok, ap, codes, string_bytes}
-use Rattle.pm_capture.specs.Readings.{Told}
-use Rattle.pm_capture.specs.ShownReadings.{packet_in}
+use Rattle.pm_decode.specs.Readings.{Told}
+use Rattle.pm_decode.specs.ShownReadings.{packet_in}
 use Rattle.pm_decode.specs.CaptureText.{line_text, read_line}
 use Rattle.pm_decode.specs.Hearing.{HeardLines, Known, heard_told, heard_with}
 use Rattle.pm_decode.proofs.Captures.{line_told, on_good, seen_told}

@@ -1,7 +1,7 @@
 use Rattle.std.proofs.Common.{◌∙◌, refl}
 use Rattle.pm_trace.specs.ShownLines.{judged_in}
-use Rattle.pm_capture.specs.PageSteps.{is_lost}
-use Rattle.pm_capture.specs.ShownReadings.{packet_in}
+use Rattle.pm_decode.specs.PageSteps.{is_lost}
+use Rattle.pm_decode.specs.ShownReadings.{packet_in}
 use Rattle.pm_decode.proofs.Captures.{beside_is, beside_learned, beside_step, page_learned, page_told}
 use Rattle.pm_decode.proofs.known.Known.tell_beside.Goals as goal
 

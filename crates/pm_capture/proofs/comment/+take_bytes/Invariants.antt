@@ -1,4 +1,0 @@
-use Rattle.pm_capture.proofs.comment.+take_bytes.Given as goal
-
-abbrev pub decreases-take_bytes : goal.decreases-take_bytes
-decreases-take_bytes l = l.left
