@@ -28,7 +28,7 @@ use Rattle.pm_world.specs.Mixed.{LiesAmong, start_let_go}
 use Rattle.pm_part_laws.specs.Alike.{LivesAlike, SameSettingsLiveAlike}
 use Rattle.pm_part_laws.specs.Happenings.{EachAsks, Happening, Happens, Hears, MayAllHappen, beside}
 use Rattle.pm_part_laws.specs.Lemmas.Narrow.{at, config, earlier-may, later-restarts, missing-at, read-at, shape-at, since, since-append}
-use Rattle.pm_restart_laws.specs.Restarts.{AsksNoStore, CoursesKeepBetween, GoesOn, IsNoStore}
+use Rattle.pm_course_laws.specs.Restarts.{AsksNoStore, CoursesKeepBetween, GoesOn, IsNoStore}
 use Rattle.pm_course_laws.specs.Between.{FrameCoursesKeepBetween, GoesOnBeside}
 use Rattle.pm_course_laws.specs.FrameWays.{FrameCoursesGoTheirWay}
 use Rattle.pm_course_laws.proofs.FramesBeside.{asked-is, commands-is, goal-is, like, newer-events, registers-in, rest-events, split-so, step-so, steps}

@@ -25,7 +25,7 @@ use Rattle.pm_world.specs.Mixed.{LiesAmong, start_let_go}
 use Rattle.pm_part_laws.specs.Happenings.{EachAsks, Happening, IsLifeBeside, beside, restarts}
 use Rattle.pm_part_laws.specs.OwnWords.{commands}
 use Rattle.pm_part_laws.specs.Surveys.{MissingUnread, held_at}
-use Rattle.pm_restart_laws.specs.Restarts.{IsNoStore}
+use Rattle.pm_course_laws.specs.Restarts.{IsNoStore}
 use Rattle.pm_course_laws.specs.FrameLives.{Means}
 use Rattle.pm_course_laws.specs.FramesBeside.{IsFrameCourseBeside, goal_at}
 

@@ -1,10 +1,11 @@
 -- What the crate promises.
+pub mod Between
+pub mod Chains
 pub mod FrameLives
 pub mod FrameWays
-pub mod Reached
-pub mod Chains
-pub mod Progress
 pub mod FramesBeside
-pub mod Between
+pub mod Progress
 pub mod ProgressBeside
+pub mod Reached
 pub mod ReachedBeside
+pub mod Restarts

@@ -1,25 +1,26 @@
 //! The laws, over nothing but definitions.
 
 ghost use Rattle.pm_course_laws.specs.Between.{FrameCoursesKeepBetween};
-ghost use Rattle.pm_course_laws.specs.FrameLives.{FrameCoursesHoldInLives};
-ghost use Rattle.pm_course_laws.specs.FramesBeside.{FrameCoursesHoldBeside};
-ghost use Rattle.pm_course_laws.specs.FrameWays.{FrameCoursesGoTheirWay};
 ghost use Rattle.pm_course_laws.specs.Chains.{ChainsEnd};
+ghost use Rattle.pm_course_laws.specs.FrameLives.{FrameCoursesHoldInLives};
+ghost use Rattle.pm_course_laws.specs.FrameWays.{FrameCoursesGoTheirWay};
+ghost use Rattle.pm_course_laws.specs.FramesBeside.{FrameCoursesHoldBeside};
 ghost use Rattle.pm_course_laws.specs.Progress.{FrameCoursesGetThere};
 ghost use Rattle.pm_course_laws.specs.ProgressBeside.{FrameCoursesGetThereBeside};
 ghost use Rattle.pm_course_laws.specs.Reached.{ReachedSinceItRead};
 ghost use Rattle.pm_course_laws.specs.ReachedBeside.{ReachedSinceItReadBeside};
+ghost use Rattle.pm_course_laws.specs.Restarts.{CoursesKeepBetween};
 
 use pm_device::{requests_latch_at_most, words_have_an_origin};
 use pm_host::{open_orders_are_uncertain, transcripts_are_followed};
 use pm_part_laws::same_settings_live_alike;
-use pm_rail::{courses_end, surveys_end_known};
-use pm_restart_laws::courses_keep_between;
+use pm_rail::{courses_end, plans_end, surveys_end_known};
 use pm_table::{cells_are_told_apart, cells_have_places};
 use pm_world::{
     courses_hold_in_lives, events_are_lived, good_frames_end_jobs, learned_formats_are_true,
     lists_say_enough, lives_are_followed, open_jobs_end, possible_words_are_held,
-    settings_move_by_the_open_job, surveys_hold_in_lives, whole_frames_are_undisturbed,
+    restarts_keep_between, settings_move_by_the_open_job, surveys_hold_in_lives,
+    whole_frames_are_undisturbed,
 };
 
 /// A course that hands out frames, over every life whose caller sends its frames and reports their ends to it, and gives no other
@@ -165,4 +166,20 @@ pub fn frame_courses_keep_between_beside()
     same_settings_live_alike();
     frame_courses_go_their_way();
     courses_keep_between();
+}
+
+/// A course to wanted words, over every life, however frames are lost, cut, damaged or repeated and however its jobs end.
+///
+/// Nothing is written to its output but wanted words, if nothing else is ordered or stored and nothing is restored (`writes`). At
+/// each moment before the part first restarts the output commands what it did at an earlier one, or what is wanted (`earlier`), also
+/// if it restarts later. From then on, if neither the stored words nor those that are to be held at the end are cut, and OPERATION
+/// selects the same register as it did, the output commands a value between its start value and what is wanted (`between`). A
+/// start value that the stored VOUT_MAX or VOUT_MIN cuts may be let go as far as the wanted limits (`let_go`).
+pub fn courses_keep_between()
+    ensures { CoursesKeepBetween }
+{
+    plans_end();
+    courses_hold_in_lives();
+    events_are_lived();
+    restarts_keep_between();
 }

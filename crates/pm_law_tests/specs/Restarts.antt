@@ -26,7 +26,7 @@ use Rattle.pm_world.specs.Plans.{held_at}
 use Rattle.pm_part_laws.specs.Happenings.{EachAsks, Happening, beside, restarts}
 use Rattle.pm_part_laws.specs.OwnWords.{commands as part_commands}
 use Rattle.pm_part_laws.specs.Surveys.{held_at as part_held}
-use Rattle.pm_restart_laws.specs.Restarts.{AsksNoStore, IsNoStore}
+use Rattle.pm_course_laws.specs.Restarts.{AsksNoStore, IsNoStore}
 use Rattle.pm_course_laws.specs.Between.{stored_at as part_stored}
 use Rattle.pm_course_laws.specs.FrameLives.{IsFrameCourse, Means}
 use Rattle.pm_course_laws.specs.FramesBeside.{IsFrameCourseBeside, goal_at as part_goal}

@@ -4,7 +4,7 @@ use Rattle.pm_device.specs.declared.config.Config.{Config}
 use Rattle.pm_world.specs.declared.event.Event.{Event}
 use Rattle.pm_world.specs.Honest.{IsSpelled}
 use Rattle.pm_world.specs.Lived.{IsLived}
-use Rattle.pm_restart_laws.specs.Restarts.{CoursesKeepBetween}
+use Rattle.pm_course_laws.specs.Restarts.{CoursesKeepBetween}
 use Rattle.pm_law_tests.specs.Restarts.{LiesBetween}
 use Rattle.pm_law_tests.proofs.Uses.{found-lived}
 use Rattle.pm_law_tests.proofs.restarts.a_course_through_restarts.Goals as goal

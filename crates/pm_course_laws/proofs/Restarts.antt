@@ -27,7 +27,7 @@ use Rattle.pm_world.specs.Courses.{IsBeside, IsCourse, asks, asks_else, begins, 
 use Rattle.pm_world.specs.Courses.{CoursesHoldInLives}
 use Rattle.pm_world.specs.Lived.{EventsAreLived, IsLived}
 use Rattle.pm_world.specs.State.{State, asked}
-use Rattle.pm_restart_laws.specs.Restarts.{AsksNoStore, IsNoStore, CoursesKeepBetween, GoesOn}
+use Rattle.pm_course_laws.specs.Restarts.{AsksNoStore, IsNoStore, CoursesKeepBetween, GoesOn}
 
 -- A course was one at each of its earlier moments.
 

@@ -1,2 +1,0 @@
--- What the crate promises.
-pub mod Restarts
