@@ -6,7 +6,7 @@ use Rattle.pm_model.specs.Settings.{Words}
 use Rattle.pm_host.specs.Now.{now}
 use Rattle.pm_host.specs.Summary.{Summary}
 use Rattle.pm_host.specs.Transcript.{Setup}
-use Rattle.pm_late_laws.specs.Late.{Both, Event, IsLate, both_after}
+use Rattle.pm_part_laws.specs.Late.{Both, Event, IsLate, both_after}
 
 -- how many frames a write may wait, what the host is made with, what the part held and had stored as it began, and what happened since
 pub record LateLife : Type 0 where

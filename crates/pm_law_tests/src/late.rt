@@ -2,12 +2,12 @@
 
 ghost use Rattle.std.specs.Prelude.{◌≡◌, false, IfSome};
 ghost use Rattle.pm_model.specs.Settings.{word_at};
-ghost use Rattle.pm_late_laws.specs.Late.{IsOwn, restarted_since};
-ghost use Rattle.pm_late_laws.specs.Laws.{IsQuiet, WasPossible};
+ghost use Rattle.pm_part_laws.specs.Late.{IsOwn, restarted_since};
+ghost use Rattle.pm_part_laws.specs.LateWords.{IsQuiet, WasPossible};
 ghost use Rattle.pm_law_tests.specs.Late.{LateLife, Lived, both_in};
 
 use pm_host::{Host, Standing};
-use pm_late_laws::{late_confirmations_are_held, late_words_are_own, late_words_were_possible};
+use pm_part_laws::{late_confirmations_are_held, late_words_are_own, late_words_were_possible};
 use pm_table::Cell as Place;
 
 /// The word that a host calls confirmed, after so many frames without a write of the register before its last good answer and no

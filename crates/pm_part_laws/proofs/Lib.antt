@@ -1,12 +1,13 @@
 -- Lemmas of this crate.
 mod Alike
-mod Knowledge
-mod OwnWords
-mod Moves
-mod Formats
-mod Limits
-mod Surveys
 mod Exact
+mod Formats
 mod HonestOrders
+mod Knowledge
+mod LateWords
+mod Limits
+mod Moves
 mod OpenJobs
+mod OwnWords
 mod Parts
+mod Surveys

@@ -5,6 +5,8 @@ ghost use Rattle.pm_part_laws.specs.Exact.{PossibleIsExact};
 ghost use Rattle.pm_part_laws.specs.Formats.{FormatsAreTrue};
 ghost use Rattle.pm_part_laws.specs.HonestOrders.{HonestOrdersGoThrough};
 ghost use Rattle.pm_part_laws.specs.Knowledge.{ConfirmedIsHeld, PossibleIsHeld, SeenIsTrue};
+ghost use Rattle.pm_part_laws.specs.LateBelow.{Below};
+ghost use Rattle.pm_part_laws.specs.LateWords.{LateConfirmationsAreHeld, LateWordsAreOwn, LateWordsWerePossible};
 ghost use Rattle.pm_part_laws.specs.Limits.{BandsAreHeld, PartsStayLimited};
 ghost use Rattle.pm_part_laws.specs.Moves.{DiffersNeverTook, PartsMoveByTheOpenJob};
 ghost use Rattle.pm_part_laws.specs.OpenJobs.{OpenJobsEndBeside};
@@ -15,8 +17,13 @@ ghost use Rattle.pm_part_laws.specs.Surveys.{SurveysHoldBeside};
 
 use pm_device::writes_reach_one_cell;
 use pm_frame::{betrayal_is_refused, damage_is_refused, requests_are_exact, writes_are_exact};
-use pm_host::{frames_are_named, transcripts_are_followed};
+use pm_host::{
+    frames_are_named, open_orders_are_uncertain, open_restores_are_uncertain,
+    possible_words_are_followed, transcripts_are_followed,
+};
 use pm_limits::guarded_orders_are_within;
+use pm_model::settings_are_a_map;
+use pm_table::cells_are_told_apart;
 use pm_world::{
     bands_are_held, confirmed_settings_are_held, differing_orders_never_took,
     honest_orders_go_through, learned_formats_are_true, lists_say_enough, lives_are_followed,
@@ -185,4 +192,40 @@ pub fn parts_stay_parts()
 {
     same_settings_live_alike();
     lives_leave_parts();
+}
+
+// What the laws rest on.
+fn lower_laws()
+    ensures { Below }
+{
+    cells_are_told_apart();
+    settings_are_a_map();
+    open_orders_are_uncertain();
+    open_restores_are_uncertain();
+    possible_words_are_followed();
+    transcripts_are_followed();
+}
+
+/// A part that takes late still has no word of another register: each cell holds, and has stored, what it held or had stored as the
+/// host began, or a word an order of which was sent for this very cell.
+pub fn late_words_are_own()
+    ensures { LateWordsAreOwn }
+{
+    lower_laws();
+}
+
+/// The word that a cell of such a part holds is one that the host called possible, after its last good answer for the cell or at most
+/// so many frames before it, unless the part restarted since that answer.
+pub fn late_words_were_possible()
+    ensures { LateWordsWerePossible }
+{
+    lower_laws();
+}
+
+/// A confirmed word is held by such a part too, if no write of its cell was being sent in so many frames before the answer, and none
+/// since, unless the part restarted since that answer.
+pub fn late_confirmations_are_held()
+    ensures { LateConfirmationsAreHeld }
+{
+    lower_laws();
 }

@@ -19,11 +19,11 @@ use Rattle.pm_host.specs.Transcript.{Setup, Entry, Job, Order, Check, Learn, Sen
 use Rattle.pm_host.specs.Transcript.{Got, Restarted}
 use Rattle.pm_host.specs.declared.command.Command.TheVariants.{StoreUserAll, RestoreUserAll}
 use Rattle.pm_host.specs.declared.knowledge.Standing.TheVariants.{Confirmed, Unknown}
-use Rattle.pm_late_laws.specs.Below.{Below}
-use Rattle.pm_late_laws.specs.Late.{Waiting, MayWait, all_longer, frames_in, sent_in, waiting_at, waiting_without, sent_by, Both, Event}
-use Rattle.pm_late_laws.specs.Late.{Hears, Takes, Restarts, Tells, MayComeEach, both_after, IsOwn, was_held, was_stored, was_sent, IsRecent}
-use Rattle.pm_late_laws.specs.Late.{IsTrueAnswer, answers, frames_to_answer, is_good_for, restarted_since, writes}
-use Rattle.pm_late_laws.specs.Laws.{LateWordsAreOwn, LateWordsWerePossible, LateConfirmationsAreHeld}
+use Rattle.pm_part_laws.specs.LateBelow.{Below}
+use Rattle.pm_part_laws.specs.Late.{Waiting, MayWait, all_longer, frames_in, sent_in, waiting_at, waiting_without, sent_by, Both, Event}
+use Rattle.pm_part_laws.specs.Late.{Hears, Takes, Restarts, Tells, MayComeEach, both_after, IsOwn, was_held, was_stored, was_sent, IsRecent}
+use Rattle.pm_part_laws.specs.Late.{IsTrueAnswer, answers, frames_to_answer, is_good_for, restarted_since, writes}
+use Rattle.pm_part_laws.specs.LateWords.{LateWordsAreOwn, LateWordsWerePossible, LateConfirmationsAreHeld}
 
 -- What waits in the queue was sent, as many frames ago as it counts.
 

@@ -9,7 +9,7 @@ use Rattle.pm_host.specs.Now.{now}
 use Rattle.pm_host.specs.Possible.{is_possible}
 use Rattle.pm_host.specs.Summary.{possible_at, standing_at}
 use Rattle.pm_host.specs.Transcript.{Setup, Entry}
-use Rattle.pm_late_laws.specs.Late.{Event, IsLate, IsOwn, IsRecent, both_after, restarted_since, sent_in, writes}
+use Rattle.pm_part_laws.specs.Late.{Event, IsLate, IsOwn, IsRecent, both_after, restarted_since, sent_in, writes}
 
 -- Whatever is lost, repeated, falsely acknowledged or taken late, in whatever order, and however often either end restarts: each
 -- cell holds, and has stored, a word of its own.

@@ -1,5 +1,0 @@
-use Rattle.pm_late_laws.proofs.LateWords.{late-confirmed}
-use Rattle.pm_late_laws.proofs.laws.late_confirmations_are_held.Goals as goal
-
-pub returns : goal.returns
-returns c = late-confirmed c.lower_laws.ensures

@@ -1,5 +1,0 @@
-use Rattle.pm_late_laws.proofs.LateWords.{late-own}
-use Rattle.pm_late_laws.proofs.laws.late_words_are_own.Goals as goal
-
-pub returns : goal.returns
-returns c = late-own c.lower_laws.ensures

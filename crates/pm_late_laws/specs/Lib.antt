@@ -1,4 +1,0 @@
--- What the crate promises.
-pub mod Below
-pub mod Late
-pub mod Laws
