@@ -72,9 +72,9 @@ NUMBERS = ("crates/pm_frame/src/packet_error_code.rt", "crates/pm_lines/src/hex_
 EACH_REGISTER = ("crates/pm_limits/src/ends.rt", "crates/pm_limits/src/part_registers.rt", "crates/pm_limits/specs/Part.antt",
                  "crates/pm_rail/", "crates/pm_course/", "crates/pm_world/proofs/Limits.antt", "crates/pm_world/proofs/Plans.antt",
                  "crates/pm_world/proofs/Board.antt", "crates/pm_law_tests/proofs/limits/",
-                 "crates/pm_course_laws/proofs/", "crates/pm_stairs_laws/proofs/Steps.antt",
-                 "crates/pm_stairs_laws/proofs/Commands.antt",
-                 "crates/pm_stairs_laws/proofs/Callers.antt",
+                 "crates/pm_course_laws/proofs/", "crates/pm_sequence_laws/proofs/Steps.antt",
+                 "crates/pm_sequence_laws/proofs/Commands.antt",
+                 "crates/pm_sequence_laws/proofs/Callers.antt",
                  "crates/pm_stairs/src/step.rt", "crates/pm_stairs/specs/Steps.antt",
                  "crates/pm_log/src/answers.rt", "crates/pm_log/src/verdict_text.rt", "crates/pm_log/specs/Answered.antt",
                  "crates/pm_log/proofs/Claims.antt", "crates/pm_log/proofs/Trust.antt")

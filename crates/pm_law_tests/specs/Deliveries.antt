@@ -3,7 +3,7 @@ use Rattle.std.specs.Prelude.{◌≡◌, ◌<◌, ℕ, List, ◌++◌}
 use Rattle.pm_device.specs.Held.{Held}
 use Rattle.pm_delivery.specs.declared.delivery.Delivery.{Delivery}
 use Rattle.pm_part_laws.specs.Happenings.{Happening, beside}
-use Rattle.pm_delivery_laws.specs.Looks.{IsLook}
+use Rattle.pm_sequence_laws.specs.Looks.{IsLook}
 
 -- the part as it was when the host began, what happened since the look began, and before
 pub record LookLife : Type 0 where

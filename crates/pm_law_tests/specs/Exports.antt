@@ -8,7 +8,7 @@ use Rattle.pm_part_laws.specs.Happenings.{Happening}
 use Rattle.pm_course_laws.specs.FramesBeside.{IsFrameCourseBeside}
 use Rattle.pm_memory.specs.declared.course_image.CourseImage.{CourseImage}
 use Rattle.pm_memory.specs.declared.guard_image.GuardImage.{GuardImage}
-use Rattle.pm_export_laws.specs.Steps.{AreOf}
+use Rattle.pm_sequence_laws.specs.CourseCalls.{AreOf}
 
 -- a part, the registers that it has, the course that began beside it, what happened before and since, and what the memories mean now
 pub record CourseLife : Type 0 where

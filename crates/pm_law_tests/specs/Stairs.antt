@@ -18,10 +18,10 @@ use Rattle.pm_world.specs.declared.event.Event.{Event}
 use Rattle.pm_world.specs.Life.{now}
 use Rattle.pm_world.specs.Lived.{IsLived}
 use Rattle.pm_world.specs.Moves.{words_at}
-use Rattle.pm_stairs_laws.specs.Back.{GoesBack, counted_step, downs_of}
-use Rattle.pm_stairs_laws.specs.Climb.{IsClimb, IsGuardAt, first, rail_steps}
-use Rattle.pm_stairs_laws.specs.Ordered.{OrdersOnly}
-use Rattle.pm_stairs_laws.specs.Stairs.{AreOver, AreSound, IsStairs, RailStep, counts_at, start_of}
+use Rattle.pm_sequence_laws.specs.Back.{GoesBack, counted_step, downs_of}
+use Rattle.pm_sequence_laws.specs.Climb.{IsClimb, IsGuardAt, first, rail_steps}
+use Rattle.pm_sequence_laws.specs.Ordered.{OrdersOnly}
+use Rattle.pm_sequence_laws.specs.Stairs.{AreOver, AreSound, IsStairs, RailStep, counts_at, start_of}
 
 -- a cell takes what is ordered for it, and nothing else
 abbrev pub CellsTake : Config → ℕ → List Event → Type 0

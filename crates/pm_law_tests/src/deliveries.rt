@@ -5,13 +5,13 @@ ghost use Rattle.pm_frame.specs.PagedRead.{paged_request};
 ghost use Rattle.pm_table.specs.Address.{IsAddress};
 ghost use Rattle.pm_device.specs.declared.converter.Ending.TheVariants.{Restart};
 ghost use Rattle.pm_delivery.specs.Questions.{question_code};
-ghost use Rattle.pm_delivery_laws.specs.Delivers.{WasOn};
+ghost use Rattle.pm_sequence_laws.specs.Delivers.{WasOn};
 ghost use Rattle.pm_part_laws.specs.Happenings.{Happening, Hears};
 ghost use Rattle.pm_law_tests.specs.Beside.{PartLife, both_in};
 ghost use Rattle.pm_law_tests.specs.Deliveries.{LookLife, LooksAt};
 
 use pm_delivery::{Delivery, Question, Reading, Verdict, answer_of, request};
-use pm_delivery_laws::delivers_beside;
+use pm_sequence_laws::delivers_beside;
 use pm_device::{Converter, Ending};
 use pm_rail::Power;
 use pm_world::answer_in;

@@ -6,12 +6,12 @@ ghost use Rattle.pm_world.specs.declared.event.Event.{Event};
 ghost use Rattle.pm_world.specs.Ended.{begins_other};
 ghost use Rattle.pm_world.specs.State.{share_of};
 ghost use Rattle.pm_part_laws.specs.Happenings.{beside};
-ghost use Rattle.pm_export_laws.specs.Steps.{StepsOn, StepsTold, StepsToldOn, is_answered};
+ghost use Rattle.pm_sequence_laws.specs.CourseCalls.{StepsOn, StepsTold, StepsToldOn, is_answered};
 ghost use Rattle.pm_law_tests.specs.Exports.{CourseLife, IsOf};
 
 use pm_memory::course::{hand_out, tell, tell_and_send};
 use pm_memory::host_step::HostStep;
-use pm_export_laws::exports_are_steps_beside;
+use pm_sequence_laws::exports_are_steps_beside;
 use pm_host::Told;
 use pm_memory::{CourseImage, GuardImage, SendingImage};
 

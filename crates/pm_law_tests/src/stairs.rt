@@ -1,15 +1,15 @@
 //! What steps of several outputs are worth after a run, whatever the events of the run and those of the steps.
 
 ghost use Rattle.std.specs.Prelude.{IfOk, OnSome, reverse};
-ghost use Rattle.pm_stairs_laws.specs.Climb.{ClimbsAreStairs};
-ghost use Rattle.pm_stairs_laws.specs.Due.{MovesAreDue};
-ghost use Rattle.pm_stairs_laws.specs.Followed.{StairsAreFollowed};
-ghost use Rattle.pm_stairs_laws.specs.Stairs.{KeepsStairs};
+ghost use Rattle.pm_sequence_laws.specs.Climb.{ClimbsAreStairs};
+ghost use Rattle.pm_sequence_laws.specs.Due.{MovesAreDue};
+ghost use Rattle.pm_sequence_laws.specs.Followed.{StairsAreFollowed};
+ghost use Rattle.pm_sequence_laws.specs.Stairs.{KeepsStairs};
 ghost use Rattle.pm_law_tests.specs.Stairs.{CellsTake, ClimbsReturn, ComesBack, StopsHaveAWayBack};
 
 use crate::further::run_all;
 use pm_device::Config;
-use pm_stairs_laws::{
+use pm_sequence_laws::{
     cells_take_what_is_ordered, climbs_are_stairs, climbs_come_back, moves_are_due,
     stairs_are_followed, stairs_go_back, stairs_hold_in_lives,
 };

@@ -7,7 +7,7 @@
 //! stairs of their own, they are the way back. Each step goes by a [`pm_course::FrameCourse`]; an order that isn't due by the step's
 //! words is never given.
 //!
-//! It sends nothing, waits for nothing and takes no memory. What it is worth over lives: crates/pm_stairs_laws.
+//! It sends nothing, waits for nothing and takes no memory. What it is worth over lives: crates/pm_sequence_laws.
 #![tactic(auto)]
 
 mod command;

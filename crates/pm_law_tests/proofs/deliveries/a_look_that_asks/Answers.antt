@@ -19,7 +19,7 @@ use Rattle.pm_delivery.specs.Questions.{answer_in, question_code, question_size}
 use Rattle.pm_world.specs.Legal.{is_legal_return}
 use Rattle.pm_world.specs.Legal as legal
 use Rattle.pm_part_laws.specs.Happenings.{Hears, beside}
-use Rattle.pm_delivery_laws.specs.Looks.{CameBack, IsLook, hears}
+use Rattle.pm_sequence_laws.specs.Looks.{CameBack, IsLook, hears}
 use Rattle.pm_law_tests.specs.Deliveries.{LookLife, LooksAt}
 use Rattle.pm_law_tests.proofs.deliveries.a_look_that_asks.Goals as goal
 

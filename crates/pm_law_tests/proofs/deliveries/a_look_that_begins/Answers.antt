@@ -1,6 +1,6 @@
 use Rattle.std.proofs.Common.{[], sym, subst}
 use Rattle.pm_delivery.specs.declared.delivery.Delivery.{Delivery}
-use Rattle.pm_delivery_laws.specs.Looks.{begins}
+use Rattle.pm_sequence_laws.specs.Looks.{begins}
 use Rattle.pm_law_tests.specs.Deliveries.{LookLife, LooksAt}
 use Rattle.pm_law_tests.proofs.deliveries.a_look_that_begins.Goals as goal
 

@@ -1,3 +1,0 @@
--- What the crate promises.
-pub mod Looks
-pub mod Delivers

@@ -1,5 +1,0 @@
-use Rattle.pm_export_laws.proofs.Steps.{steps}
-use Rattle.pm_export_laws.proofs.laws.exports_are_steps_beside.Goals as goal
-
-pub returns : goal.returns
-returns c = steps c.frame_courses_hold_beside.ensures

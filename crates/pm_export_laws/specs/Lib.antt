@@ -1,3 +1,0 @@
--- What the crate promises.
-pub mod Steps
-pub mod Sequences

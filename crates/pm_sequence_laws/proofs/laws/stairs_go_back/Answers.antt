@@ -1,0 +1,10 @@
+use Rattle.pm_sequence_laws.proofs.Steps.{stairs-go-back}
+use Rattle.pm_sequence_laws.proofs.laws.stairs_go_back.Goals as goal
+
+pub returns : goal.returns
+returns c = stairs-go-back (record {
+  lives = c.events_are_lived.ensures;
+  plans = c.plans_hold_in_lives.ensures;
+  cells = c.cells_take_what_is_ordered.ensures;
+  possible = c.possible_words_are_held.ensures;
+}) c.stairs_hold_in_lives.ensures

@@ -1,4 +1,0 @@
--- Lemmas of this crate.
-mod Commands
-mod Steps
-mod Callers
