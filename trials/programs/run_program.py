@@ -1,7 +1,7 @@
 #!/usr/bin/env python3
 """Runs the built program `pmb` on all of examples/ and on a table of command lines and inputs, and
 compares its status and what it wrote on both streams: each status, a full output and closed streams, texts at the far end of each limit;
-the examples also byte by byte. (The rows of each refusal and of each code are those of crates/pm_tool_tests.) Last a trace of 5 MiB goes
+the examples also byte by byte. (The rows of each refusal and of each code are those of crates/pm_text_tests.) Last a trace of 5 MiB goes
 through in memory that doesn't grow. What differs is printed; the last line says how many runs passed and failed.
 
 It runs the built program, or the one that the environment variable PMB names: trials/programs/run_program.py

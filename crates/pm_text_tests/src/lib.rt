@@ -1,25 +1,64 @@
-//! Tests over the public calls of `pm_lines`, `pm_trace` and `pm_text`: streams, lines and words, the lines of a trace
-//! and a decoder that is fed in pieces, scenarios and their faults, replays, stored settings, both versions of a
-//! scenario, and the engines as a whole. Its functions hand on laws, and
-//! do nothing that another crate could use.
+//! Tests over the public calls of the crates of texts and of the program: streams, lines and words, the lines of a trace and a decoder
+//! that is fed in pieces, scenarios and their faults, replays, stored settings, both versions of a scenario, and the engines as a
+//! whole; captures with options, the texts of `hear` and `number`, the command line, and whole runs; logs of real frames that are
+//! accepted, each wrong bit of an answer, acts that can't have come, claims of voltages, and the line that is written of each. Its
+//! functions hand on laws, and do nothing that another crate could use.
 #![tactic(auto)]
 
 #[cfg(test)]
+mod captures;
+#[cfg(test)]
 mod checks;
 #[cfg(test)]
+mod commandline;
+#[cfg(test)]
 mod engines;
+#[cfg(test)]
+mod example;
+#[cfg(test)]
+mod facts;
+#[cfg(test)]
+mod hear;
+#[cfg(test)]
+mod hints;
+#[cfg(test)]
+mod lacking;
 pub mod law_uses;
+#[cfg(test)]
+mod log_example;
+#[cfg(test)]
+mod log_texts;
+#[cfg(test)]
+mod log_voltages;
+#[cfg(test)]
+mod logs;
+#[cfg(test)]
+mod long_words;
 #[cfg(test)]
 mod many_events;
 #[cfg(test)]
+mod memory;
+#[cfg(test)]
+mod numbers;
+#[cfg(test)]
+mod program;
+#[cfg(test)]
 mod replays;
 #[cfg(test)]
+mod run;
+#[cfg(test)]
 mod scenarios;
+#[cfg(test)]
+mod setups;
 #[cfg(test)]
 mod stores;
 #[cfg(test)]
 mod streams;
 #[cfg(test)]
+mod telling;
+#[cfg(test)]
 mod traces;
+#[cfg(test)]
+mod usage;
 #[cfg(test)]
 mod versions;

@@ -17,7 +17,7 @@
 //! }
 //! ```
 //!
-//! Tests: crates/pm_tool_tests
+//! Tests: crates/pm_text_tests
 #![tactic(auto)]
 
 mod arguments;

@@ -1,13 +1,10 @@
-//! The examples of the roots of `pm_values`, `pm_packets`, `pm_capture`, `pm_json`, `pm_decode` and `pm_tool`, word for word.
+//! The examples of the roots of `pm_trace`, `pm_decode` and `pm_tool`, word for word.
 
 use crate::checks::equal;
-use pm_decode::TimedLine;
-use pm_decode::{TellOptions, tell};
-use pm_decode::push_number_field;
-use pm_trace::{Ones, Otherwise, Packet, push_otherwise};
+use pm_decode::{TellOptions, TimedLine, push_number_field, tell};
 use pm_test_streams::{blank_paper, in_pieces};
 use pm_tool::{Sink, Source, TextFault, run};
-use pm_trace::{other_value, push_known};
+use pm_trace::{Ones, Otherwise, Packet, other_value, push_known, push_otherwise};
 use std::alloc::{AllocError, Global};
 use std::io::{Read, Write};
 use std::test::Fail;

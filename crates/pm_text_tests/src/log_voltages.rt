@@ -1,9 +1,9 @@
 //! Claims of what an output commands, by a log of all that its band rests on.
 
 use crate::checks::equal;
-use pm_log::{Act, ActFault, CheckFault, Claim, check};
 use pm_host::{HostFault, Job, Told};
 use pm_limits::PartRegisters;
+use pm_log::{Act, ActFault, CheckFault, Claim, check};
 use pm_table::{Cell, Reg};
 use std::process::Abort;
 

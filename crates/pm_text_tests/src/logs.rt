@@ -1,8 +1,8 @@
 //! A log of an order whose write isn't acknowledged, and of a check.
 
 use crate::checks::equal;
-use pm_log::{Act, ActFault, CheckFault, Claim, check};
 use pm_host::{HostFault, Job, Told};
+use pm_log::{Act, ActFault, CheckFault, Claim, check};
 use pm_table::{Cell, Reg};
 use std::process::Abort;
 
