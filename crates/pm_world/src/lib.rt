@@ -26,7 +26,7 @@
 //! }
 //! ```
 //!
-//! Tests: crates/pm_world_tests, crates/pm_world_knowledge_tests, crates/pm_law_tests
+//! Tests: crates/pm_world_tests, crates/pm_law_tests
 #![tactic(auto)]
 
 mod board_laws;

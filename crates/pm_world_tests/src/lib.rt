@@ -1,5 +1,6 @@
-//! Tests over the public calls of the world, a module for each thing that is tested; and what tests ask of a
-//! world (`Look`), with the events that they tell most: of an order and a check of the first cell.
+//! Tests over the public calls of the world, a module for each thing that is tested; of settings and of what a host knows of them: the
+//! settings as a map and what they command, confirmed and possible words, stored settings and restarts of either end, beside the order
+//! machine; and what tests ask of a world (`Look`), with the events that they tell most: of an order and a check of the first cell.
 #![tactic(auto)]
 
 ghost use Rattle.std.specs.Prelude.{IsTrue};
@@ -9,6 +10,8 @@ mod bursts;
 #[cfg(test)]
 mod causes;
 #[cfg(test)]
+mod confirmed;
+#[cfg(test)]
 mod example;
 #[cfg(test)]
 mod faults;
@@ -17,13 +20,25 @@ mod fixtures;
 pub mod full;
 mod look;
 #[cfg(test)]
+mod orders;
+#[cfg(test)]
 mod plans;
 #[cfg(test)]
 mod refusals;
 #[cfg(test)]
+mod restarts;
+#[cfg(test)]
 mod runs;
 #[cfg(test)]
+mod settings;
+#[cfg(test)]
+mod stores;
+#[cfg(test)]
 mod turns;
+#[cfg(test)]
+mod uncertain;
+#[cfg(test)]
+mod watch;
 
 pub use look::Look;
 use pm_device_tests::FIRST;

@@ -4,10 +4,10 @@ ghost use Rattle.std.specs.Prelude.{◌≡◌, ◌<◌};
 
 use crate::checks::{equal, is_true};
 use crate::watch::takes;
+use crate::{CHECK, LOST, Look, NOT_ACKED, ORDER, READ, READ_LOST, WHOLE};
 use pm_device_tests::{FIRST, SECOND};
 use pm_host::{JobEnd, Standing};
 use pm_world::{Event, SetupFault, World};
-use pm_world_tests::{CHECK, LOST, Look, NOT_ACKED, ORDER, READ, READ_LOST, WHOLE};
 use std::process::Abort;
 
 // A check, and an order whose first write is heard or not and whose second isn't; no acknowledgement and

@@ -5,6 +5,7 @@ ghost use Rattle.std.specs.Prelude.{◌≡◌, ◌<◌};
 
 use crate::checks::{equal, is_true};
 use crate::watch::{Watch, are_ordered, happens, may_be};
+use crate::{ACKED, CHECK, LOST, Look, NOT_ACKED, ORDER, READ, READ_LOST, WHOLE};
 use pm_device::Ending;
 use pm_device_tests::{CELLS, FIRST, SECOND, START};
 use pm_frame::Frame;
@@ -12,7 +13,6 @@ use pm_host::Standing;
 use pm_model::{OrderMachine, Plain};
 use pm_table::Cell;
 use pm_world::{Arrival, Event, SetupFault, World};
-use pm_world_tests::{ACKED, CHECK, LOST, Look, NOT_ACKED, ORDER, READ, READ_LOST, WHOLE};
 use std::process::Abort;
 
 // The settings are those of the machine. A confirmed word is held, and the word that is held is possible, if

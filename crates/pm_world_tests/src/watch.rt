@@ -3,13 +3,13 @@
 
 ghost use Rattle.std.specs.Prelude.{◌≡◌, ◌<◌};
 
+use crate::Look;
 use crate::checks::equal;
 use pm_device::{Ending, Heard};
 use pm_device_tests::{CELLS, FIRST, SECOND};
 use pm_model::{OrderMachine, PendingJob};
 use pm_table::Cell;
 use pm_world::{Arrival, Back, Event, World};
-use pm_world_tests::Look;
 use std::process::Abort;
 
 /// What is seen from outside: the settings and the store under nothing but jobs, whether the converter restarted

@@ -4,11 +4,11 @@ ghost use Rattle.std.specs.Prelude.{◌≡◌};
 
 use crate::checks::{equal, is_true};
 use crate::watch::ordered;
+use crate::{ACKED, Look, NOT_ACKED, READ, WHOLE};
 use pm_device_tests::{CELLS, FIRST, SECOND, START};
 use pm_model::{OrderMachine, PendingJob, Plain};
 use pm_table::Cell;
 use pm_world::{Arrival, Back, Event, SetupFault, World};
-use pm_world_tests::{ACKED, Look, NOT_ACKED, READ, WHOLE};
 use std::process::Abort;
 
 const CUT: Event = Event::Deliver(Arrival::Cut(5));
