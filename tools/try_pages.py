@@ -232,9 +232,9 @@ def toolchain_faults(shell, found):
 def listing_fault(found):
     """The second listing of docs/rattle-driver.md is that of the driver's own example, which a test runs."""
     listings = re.findall(r"^```rust\n(.*?)^```", found, re.M | re.S)
-    with open(os.path.join(program.ROOT, "crates/pm_host_tests/src/driver/example.rt"), encoding="utf-8") as file:
+    with open(os.path.join(program.ROOT, "crates/pm_core_tests/src/driver/example.rt"), encoding="utf-8") as file:
         body = re.search(r"^fn applied.*?^}\n", file.read(), re.M | re.S)[0]
-    return [] if listings[1:] == [body] else ["its second listing isn't that of crates/pm_host_tests/src/driver/example.rt"]
+    return [] if listings[1:] == [body] else ["its second listing isn't that of crates/pm_core_tests/src/driver/example.rt"]
 
 
 def manual_faults(page):

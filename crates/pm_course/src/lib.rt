@@ -10,7 +10,7 @@
 //!
 //! It drives any host with its limits that is [`Hosted`]. It sends nothing, waits for nothing and takes no memory.
 //!
-//! Tests: crates/pm_host_tests
+//! Tests: crates/pm_core_tests
 #![tactic(auto)]
 
 mod accept;

@@ -6,7 +6,7 @@
 //! word is at or beyond. It asks for STATUS_WORD and READ_VOUT after a good end, and [`Delivery::verdict`] says what the rail does. A part
 //! without STATUS_WORD is judged by READ_VOUT.
 //!
-//! Tests: crates/pm_host_tests
+//! Tests: crates/pm_core_tests
 #![tactic(auto)]
 
 mod answers;

@@ -40,7 +40,7 @@
 //! }
 //! ```
 //!
-//! Tests: crates/pm_device_tests
+//! Tests: crates/pm_core_tests
 #![tactic(auto)]
 
 mod act;

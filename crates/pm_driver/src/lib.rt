@@ -48,7 +48,7 @@
 //! }
 //! ```
 //!
-//! Tests: crates/pm_host_tests, crates/pm_law_tests
+//! Tests: crates/pm_core_tests, crates/pm_law_tests
 #![tactic(auto)]
 
 mod adapter;

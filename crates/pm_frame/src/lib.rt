@@ -30,7 +30,7 @@
 //! }
 //! ```
 //!
-//! Tests: crates/pm_frame_tests
+//! Tests: crates/pm_core_tests
 #![tactic(auto)]
 
 mod block_read;

@@ -38,7 +38,7 @@
 //! A loop of `turn` and `told` carries any job out. It ends by proof: with each call of `told` the job
 //! has fewer frames left to send.
 //!
-//! Tests: crates/pm_host_tests
+//! Tests: crates/pm_core_tests
 #![tactic(auto)]
 
 mod answers;

@@ -25,7 +25,7 @@ ghost use Rattle.pm_limits.specs.Part.{all_registers};
 ghost use Rattle.pm_limits.specs.declared.band.Band.{Band as Interval};
 ghost use Rattle.pm_limits.specs.declared.output_limits.OutputLimits.TheVariants.{Between, Unlimited};
 ghost use Rattle.pm_log.specs.declared.claim.Claim.TheVariants.{Holds};
-ghost use Rattle.pm_check_laws.specs.CheckedBeside.{TellsLog};
+ghost use Rattle.pm_log_laws.specs.CheckedBeside.{TellsLog};
 ghost use Rattle.pm_rail.specs.Survey.{is_surveyed};
 ghost use Rattle.pm_rail.specs.declared.survey.Survey.{Survey};
 ghost use Rattle.pm_world.specs.Bands.{AreShort};
@@ -50,7 +50,7 @@ ghost use Rattle.pm_part_laws.specs.Surveys.{AreRead, IsOneValue};
 ghost use Rattle.pm_law_tests.specs.Beside.{GuardedLife, IsLeft, LedTo, PartLife, ReachedIsHeld, both_in};
 
 use pm_log::{Act, Claim, check};
-use pm_check_laws::accepted_claims_hold_beside;
+use pm_log_laws::accepted_claims_hold_beside;
 use pm_course_laws::frame_courses_hold_beside;
 use pm_device::{Config, Converter, Ending, Heard};
 use pm_host::{Host, HostFault, Job, Possible, Standing};

@@ -12,7 +12,7 @@ ghost use Rattle.pm_limits.specs.Band.{band_at};
 ghost use Rattle.pm_limits.specs.Bounds.{IsWithin, bounds_fault};
 ghost use Rattle.pm_log.specs.declared.claim.Claim.TheVariants.{Commands, Holds};
 ghost use Rattle.pm_log.specs.Checks.{MightCome, is_claimed, replayed, transcript};
-ghost use Rattle.pm_check_laws.specs.Checked.{CommandsOther, HeldWhenRead, LeavesCell, LeavesCommand, LeavesOther, TellsLog};
+ghost use Rattle.pm_log_laws.specs.Checked.{CommandsOther, HeldWhenRead, LeavesCell, LeavesCommand, LeavesOther, TellsLog};
 ghost use Rattle.pm_world.specs.declared.event.Event.{Event as Happening};
 ghost use Rattle.pm_world.specs.Bands.{AreShort, BandStands, HoldsMissing, MissingUntold};
 ghost use Rattle.pm_world.specs.Confirmed.{restarted_since};
@@ -26,7 +26,7 @@ ghost use Rattle.pm_world.specs.Uncertainty.{AreOpen, since_restart};
 
 use crate::further::run_all;
 use pm_log::{Act, Claim, check};
-use pm_check_laws::{
+use pm_log_laws::{
     accepted_claims_are_held, accepted_claims_stay, accepted_voltages_stay,
     unknown_claims_are_open, unknown_voltages_are_open,
 };

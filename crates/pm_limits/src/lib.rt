@@ -24,7 +24,7 @@
 //! }
 //! ```
 //!
-//! Tests: crates/pm_host_tests
+//! Tests: crates/pm_core_tests
 #![tactic(auto)]
 
 mod band;

@@ -30,7 +30,7 @@
 //! }
 //! ```
 //!
-//! Tests: crates/pm_host_tests
+//! Tests: crates/pm_core_tests
 #![tactic(auto)]
 
 mod apply_end;

@@ -16,7 +16,7 @@
 //! }
 //! ```
 //!
-//! Tests: crates/pm_frame_tests
+//! Tests: crates/pm_core_tests
 #![tactic(auto)]
 
 mod address;

@@ -5,7 +5,7 @@ use crate::fixtures::{after, takes};
 use crate::look::Look;
 use crate::{ORDER, WHOLE};
 use pm_device::{Ending, Heard};
-use pm_device_tests::{CELLS, FIRST};
+use pm_core_tests::{CELLS, FIRST};
 use pm_frame::Frame;
 use pm_world::{Arrival, Event, SetupFault, World};
 use std::process::Abort;

@@ -5,7 +5,7 @@ use crate::fixtures::{after, arrival, back, sends};
 use crate::look::Look;
 use crate::{CHECK, ORDER};
 use pm_device::{Config, ConfigFault, OutputStart};
-use pm_device_tests::{CELLS, FIRST, OUTPUT};
+use pm_core_tests::{CELLS, FIRST, OUTPUT};
 use pm_host::{HostFault, JobEnd, Standing};
 use pm_num::NumFault;
 use pm_table::{Cell, Coefficients, Reg, TableFault};

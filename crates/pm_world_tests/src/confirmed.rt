@@ -3,7 +3,7 @@
 use crate::checks::{equal, is_true};
 use crate::watch::takes;
 use crate::{ACKED, CHECK, LOST, Look, NOT_ACKED, ORDER, READ, READ_LOST, WHOLE};
-use pm_device_tests::{CELLS, FIRST, SECOND};
+use pm_core_tests::{CELLS, FIRST, SECOND};
 use pm_host::{JobEnd, Standing};
 use pm_table::Cell;
 use pm_world::{Event, SetupFault, World};

@@ -41,7 +41,7 @@ mod uncertain;
 mod watch;
 
 pub use look::Look;
-use pm_device_tests::FIRST;
+use pm_core_tests::FIRST;
 use pm_world::{Arrival, Back, Event};
 
 /// A check of the first cell.

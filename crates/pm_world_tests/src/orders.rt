@@ -5,7 +5,7 @@ ghost use Rattle.std.specs.Prelude.{◌≡◌};
 use crate::checks::{equal, is_true};
 use crate::watch::ordered;
 use crate::{ACKED, Look, NOT_ACKED, READ, WHOLE};
-use pm_device_tests::{CELLS, FIRST, SECOND, START};
+use pm_core_tests::{CELLS, FIRST, SECOND, START};
 use pm_model::{OrderMachine, PendingJob, Plain};
 use pm_table::Cell;
 use pm_world::{Arrival, Back, Event, SetupFault, World};

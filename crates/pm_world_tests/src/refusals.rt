@@ -4,7 +4,7 @@ use crate::checks::equal;
 use crate::fixtures::{after, takes};
 use crate::look::Look;
 use crate::{ACKED, CHECK, NOT_ACKED, READ, READ_LOST};
-use pm_device_tests::{FIRST, SECOND};
+use pm_core_tests::{FIRST, SECOND};
 use pm_host::HostFault;
 use pm_num::NumFault;
 use pm_table::{Cell, Reg};

@@ -7,7 +7,7 @@ use crate::checks::{equal, is_true};
 use crate::watch::{Watch, are_ordered, happens, may_be};
 use crate::{ACKED, CHECK, LOST, Look, NOT_ACKED, ORDER, READ, READ_LOST, WHOLE};
 use pm_device::Ending;
-use pm_device_tests::{CELLS, FIRST, SECOND, START};
+use pm_core_tests::{CELLS, FIRST, SECOND, START};
 use pm_frame::Frame;
 use pm_host::Standing;
 use pm_model::{OrderMachine, Plain};

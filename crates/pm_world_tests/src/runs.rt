@@ -6,7 +6,7 @@ use crate::fixtures::{after, arrival, frame, takes};
 use crate::look::Look;
 use crate::{ACKED, CHECK, LOST, NOT_ACKED, ORDER, READ, READ_LOST, WHOLE};
 use pm_device::{Config, Ending, Heard};
-use pm_device_tests::{FIRST, SECOND};
+use pm_core_tests::{FIRST, SECOND};
 use pm_host::{JobEnd, Standing};
 use pm_table::Code;
 use pm_world::{Arrival, Cause, Event, SetupFault, Stop, World};

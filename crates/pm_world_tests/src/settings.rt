@@ -3,7 +3,7 @@
 ghost use Rattle.std.specs.Prelude.{◌≡◌, ◌<◌};
 
 use crate::checks::{equal, is_true};
-use pm_device_tests::START;
+use pm_core_tests::START;
 use pm_model::{Formats, Plain};
 use pm_num::{AnyFormat, Direct, NumFormat, Ulinear16};
 use pm_table::{Cell, Reg};

@@ -7,7 +7,7 @@ use crate::checks::{equal, is_true};
 use crate::watch::{Watch, are_ordered, happens, takes};
 use crate::{ACKED, CHECK, LOST, Look, NOT_ACKED, ORDER, READ, READ_LOST, WHOLE};
 use pm_device::Config;
-use pm_device_tests::{CELLS, FIRST, SECOND, START};
+use pm_core_tests::{CELLS, FIRST, SECOND, START};
 use pm_host::{JobEnd, Standing};
 use pm_model::{OrderMachine, Plain};
 use pm_table::{Cell, Reg};

@@ -8,7 +8,7 @@ use crate::fixtures::{after, sends, takes};
 use crate::look::Look;
 use crate::{ACKED, CHECK, LOST, NOT_ACKED, ORDER, READ, READ_LOST, WHOLE};
 use pm_device::{Config, OutputStart};
-use pm_device_tests::{FIRST, OUTPUT, SECOND};
+use pm_core_tests::{FIRST, OUTPUT, SECOND};
 use pm_host::{JobEnd, Standing, Turn};
 use pm_table::{Cell, Coefficients, Reg};
 use pm_world::{Event, SetupFault, World};

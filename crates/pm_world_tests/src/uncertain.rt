@@ -5,7 +5,7 @@ ghost use Rattle.std.specs.Prelude.{◌≡◌, ◌<◌};
 use crate::checks::{equal, is_true};
 use crate::watch::takes;
 use crate::{CHECK, LOST, Look, NOT_ACKED, ORDER, READ, READ_LOST, WHOLE};
-use pm_device_tests::{FIRST, SECOND};
+use pm_core_tests::{FIRST, SECOND};
 use pm_host::{JobEnd, Standing};
 use pm_world::{Event, SetupFault, World};
 use std::process::Abort;

@@ -6,7 +6,7 @@ use crate::fixtures::takes;
 use crate::look::Look;
 use crate::{NOT_ACKED, READ, READ_LOST};
 use pm_device::{Config, OutputStart};
-use pm_device_tests::OUTPUT;
+use pm_core_tests::OUTPUT;
 use pm_host::{HostFault, JobEnd};
 use pm_table::{Cell, Coefficients, Reg};
 use pm_world::{Cause, Event, SetupFault, World};

@@ -1,0 +1,265 @@
+//! Jobs over buses with faults: how they end, what the host says, and what the converter holds.
+
+mod beginnings;
+mod example;
+mod rails;
+mod tries;
+
+use crate::checks::equal;
+use crate::{BASE, FIRST};
+use pm_device::Converter;
+use pm_driver::{Bus, DeadBus, Fault, Retrying, SimulatedBus, carry_out, driver_over};
+use pm_host::{Host, HostFault, JobEnd, Standing};
+use pm_limits::{Guard, LimitFault, OutputLimits};
+use pm_table::{Cell, Reg};
+use pm_world::{Arrival, Back};
+
+// OPERATION of the first output.
+static SWITCH: Cell = Cell::Out(0, Reg::Operation);
+
+// No fault.
+fn whole() -> Fault {
+    Fault {
+        restarts: false,
+        unheard: false,
+        heard: Some(Arrival::Whole),
+        repeated: None,
+        acked: true,
+        request: Arrival::Whole,
+        back: Back::Whole,
+    }
+}
+
+// A write that is lost, and falsely acknowledged.
+fn lost() -> Fault {
+    Fault {
+        heard: None,
+        ..whole()
+    }
+}
+
+// A write that is heard twice, and not acknowledged.
+fn repeated() -> Fault {
+    Fault {
+        repeated: Some(Arrival::Whole),
+        acked: false,
+        ..whole()
+    }
+}
+
+// A request whose answer is cut.
+fn cut() -> Fault {
+    Fault {
+        back: Back::Cut(3),
+        ..whole()
+    }
+}
+
+// What the host says of VOUT_COMMAND of the first output.
+fn said(host: &Host) -> Standing {
+    if host.outputs() == 0 {
+        return Standing::Unknown;
+    }
+    host.standing(FIRST)
+}
+
+// The word of it that the converter holds.
+fn held(device: &Converter) -> u16 {
+    if device.count() == 0 {
+        return 0;
+    }
+    device.word(FIRST)
+}
+
+// How an order of 34CDh ends, with two passes, what the host says of the cell, and the word that the converter holds.
+fn ordered(plan: &[Fault]) -> Option<(Result<JobEnd, LimitFault>, Standing, u16)> {
+    let mut driver = driver_over(BASE, 2, plan)?;
+    let end = driver.order(FIRST, 0x34CD);
+    Some((end, said(driver.host()), held(&driver.bus().device)))
+}
+
+// How an order of 34CDh ends over a bus, with this many passes; none if it is refused.
+fn carried_out<B: Bus>(bus: &mut B, passes: u8) -> Option<(Option<JobEnd>, Standing)> {
+    let mut guard = match Host::new(BASE.addr, BASE.count, passes) {
+        Ok(host) => Guard::over(host),
+        Err(_) => return None,
+    };
+    if guard.order(FIRST, 0x34CD).is_err() {
+        return None;
+    }
+    let end = carry_out(&mut guard, bus);
+    Some((end, said(guard.host())))
+}
+
+#[test]
+fn an_order_ends_with_what_the_converter_holds(rt: HostRuntime) {
+    let done = Some((Ok(JobEnd::Done), Standing::Confirmed(0x34CD), 0x34CD));
+    equal(&rt, &ordered(&[]), &done, &1);
+    equal(&rt, &ordered(&[lost()]), &done, &2);
+    equal(&rt, &ordered(&[repeated(), cut()]), &done, &3);
+    equal(
+        &rt,
+        &ordered(&[lost(), whole(), lost()]),
+        &Some((
+            Ok(JobEnd::Differs(0x1000)),
+            Standing::Confirmed(0x1000),
+            0x1000,
+        )),
+        &4,
+    );
+    equal(
+        &rt,
+        &ordered(&[whole(), cut(), whole(), cut()]),
+        &Some((Ok(JobEnd::Unknown), Standing::Unknown, 0x34CD)),
+        &5,
+    );
+}
+
+#[test]
+fn each_job_has_its_end(rt: HostRuntime) {
+    match driver_over(BASE, 2, &[]) {
+        Some(mut driver) => {
+            equal(&rt, &driver.check(FIRST), &Ok(JobEnd::Done), &1);
+            equal(&rt, &said(driver.host()), &Standing::Confirmed(0x1000), &1);
+            equal(
+                &rt,
+                &driver.order_micro(FIRST, 3_300_000),
+                &Err(LimitFault::Host(HostFault::FormatUnknown)),
+                &2,
+            );
+            equal(&rt, &driver.learn(0), &Ok(JobEnd::Learned), &3);
+            equal(
+                &rt,
+                &driver.order_micro(FIRST, 3_300_000),
+                &Ok(JobEnd::Done),
+                &4,
+            );
+            equal(&rt, &held(&driver.bus().device), &0x34CD, &4);
+            equal(&rt, &driver.store(), &Ok(JobEnd::Done), &5);
+            equal(&rt, &driver.restore(), &Ok(JobEnd::Done), &6);
+            equal(&rt, &said(driver.host()), &Standing::Unknown, &6);
+            equal(
+                &rt,
+                &driver.clear(2),
+                &Err(LimitFault::Host(HostFault::UnknownOutput)),
+                &7,
+            );
+            equal(&rt, &driver.clear(1), &Ok(JobEnd::Done), &8);
+            driver.restart();
+            equal(
+                &rt,
+                &driver.order_micro(FIRST, 3_300_000),
+                &Err(LimitFault::Host(HostFault::FormatUnknown)),
+                &9,
+            );
+        }
+        None => panic!(rt; "refused"),
+    }
+}
+
+// Limits refuse before a frame is sent, and narrower ones more; turning off is let through.
+#[test]
+fn limits_refuse_before_a_frame_is_sent(rt: HostRuntime) {
+    match driver_over(BASE, 2, &[whole(), whole(), whole(), whole(), whole()]) {
+        Some(mut driver) => {
+            equal(&rt, &driver.narrow(0, 900_000, 3_465_000), &Ok(()), &1);
+            equal(
+                &rt,
+                &driver.order(FIRST, 0x34CD),
+                &Err(LimitFault::FormatUnknown),
+                &2,
+            );
+            equal(&rt, &driver.learn(0), &Ok(JobEnd::Learned), &3);
+            equal(
+                &rt,
+                &driver.order_micro(FIRST, 12_000_000),
+                &Err(LimitFault::AboveLimit),
+                &4,
+            );
+            equal(
+                &rt,
+                &driver.order(FIRST, 0x0800),
+                &Err(LimitFault::BelowLimit),
+                &5,
+            );
+            equal(
+                &rt,
+                &driver.order(SWITCH, 0x80),
+                &Err(LimitFault::NotKnownWithin),
+                &6,
+            );
+            equal(&rt, &driver.bus().next, &1, &7);
+            equal(&rt, &driver.order(FIRST, 0x34CD), &Ok(JobEnd::Done), &8);
+            equal(&rt, &held(&driver.bus().device), &0x34CD, &8);
+            equal(
+                &rt,
+                &driver.narrow(0, 900_000, 3_500_000),
+                &Err(LimitFault::LimitsWidened),
+                &9,
+            );
+            equal(&rt, &driver.narrow(0, 900_000, 3_000_000), &Ok(()), &10);
+            equal(
+                &rt,
+                &driver.order(FIRST, 0x34CD),
+                &Err(LimitFault::AboveLimit),
+                &11,
+            );
+            equal(&rt, &driver.order(SWITCH, 0x00), &Ok(JobEnd::Done), &12);
+            equal(&rt, &driver.guard().limits(1).is_limited(), &false, &13);
+        }
+        None => panic!(rt; "refused"),
+    }
+}
+
+#[test]
+fn buses_of_other_kinds_carry_a_job_out(rt: HostRuntime) {
+    match Converter::new(BASE) {
+        Ok(device) => {
+            let mut bus = DeadBus { device };
+            let end = Some((Some(JobEnd::Unknown), Standing::Unknown));
+            equal(&rt, &carried_out(&mut bus, 2), &end, &1);
+            equal(&rt, &held(&bus.device), &0x1000, &1);
+        }
+        Err(fault) => panic!(rt; "{fault}"),
+    }
+    match Converter::new(BASE) {
+        Ok(device) => {
+            // The first write is lost, and not acknowledged; one pass is enough.
+            let plan = [Fault {
+                acked: false,
+                ..lost()
+            }];
+            let mut bus = Retrying {
+                bus: SimulatedBus {
+                    device,
+                    plan: &plan,
+                    next: 0,
+                },
+            };
+            let end = Some((Some(JobEnd::Done), Standing::Confirmed(0x34CD)));
+            equal(&rt, &carried_out(&mut bus, 1), &end, &2);
+            equal(&rt, &held(&bus.bus.device), &0x34CD, &2);
+        }
+        Err(fault) => panic!(rt; "{fault}"),
+    }
+}
+
+#[test]
+fn an_idle_host_sends_nothing(rt: HostRuntime) {
+    match (
+        Converter::new(BASE),
+        Guard::new(BASE.addr, BASE.count, 2, [OutputLimits::Unknown; 8]),
+    ) {
+        (Ok(device), Ok(mut guard)) => {
+            let plan = [whole()];
+            let mut bus = SimulatedBus {
+                device,
+                plan: &plan,
+                next: 0,
+            };
+            equal(&rt, &carry_out(&mut guard, &mut bus), &None, &1);
+            equal(&rt, &bus.next, &0, &2);
+        }
+        _ => panic!(rt; "refused"),
+    }
+}
