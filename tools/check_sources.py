@@ -392,7 +392,7 @@ def main():
     unknown = [name for name in given.crates if not os.path.isdir(os.path.join("crates", name))]
     if unknown:
         words.error(f"no crate has the name {', '.join(unknown)}")
-    crates = given.crates or [name for name in crates_below() if not name.endswith("_tests") and name != "pm_test_streams"]
+    crates = given.crates or [name for name in crates_below() if not name.endswith("_tests")]
     if given.places:
         for line in places(crates):
             print(line)

@@ -266,7 +266,7 @@ def main():
         show_pages()
         return
     libraries = [name for name in crates if os.path.exists("crates/%s/src/lib.rt" % name)]
-    shipped = [name for name in libraries if not name.endswith("_tests") and name != "pm_test_streams"]
+    shipped = [name for name in libraries if not name.endswith("_tests")]
     code, definitions, proofs = (lines_of(f"crates/*/{kind}") for kind in ("src/**/*.rt", "specs/**/*.antt", "proofs/**/*.antt"))
     lemmas = lines_of("crates/*/specs/Lemmas/**/*.antt")
     rows = [

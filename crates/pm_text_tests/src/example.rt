@@ -1,8 +1,8 @@
 //! The examples of the roots of `pm_trace`, `pm_decode` and `pm_tool`, word for word.
 
 use crate::checks::equal;
+use crate::{blank_paper, in_pieces};
 use pm_decode::{TellOptions, TimedLine, push_number_field, tell};
-use pm_test_streams::{blank_paper, in_pieces};
 use pm_tool::{Sink, Source, TextFault, run};
 use pm_trace::{Ones, Otherwise, Packet, other_value, push_known, push_otherwise};
 use std::alloc::{AllocError, Global};

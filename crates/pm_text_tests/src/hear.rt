@@ -1,5 +1,5 @@
 use crate::checks::{equal, is_true};
-use pm_test_streams::{TAKEN, blank_paper, in_pieces};
+use crate::{TAKEN, blank_paper, in_pieces};
 use pm_tool::{Sink, Source, TextFault, hear};
 use std::alloc::Global;
 use std::process::Abort;

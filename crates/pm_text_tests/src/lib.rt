@@ -2,7 +2,8 @@
 //! that is fed in pieces, scenarios and their faults, replays, stored settings, both versions of a scenario, and the engines as a
 //! whole; captures with options, the texts of `hear` and `number`, the command line, and whole runs; logs of real frames that are
 //! accepted, each wrong bit of an answer, acts that can't have come, claims of voltages, and the line that is written of each. Its
-//! functions hand on laws, and do nothing that another crate could use.
+//! functions hand on laws. What these tests share is public: readers and writers that tell their bytes, count their calls, fail once,
+//! never end or take no memory; the three engines from a reader to a writer as one call (`Engines`); and the worked texts.
 #![tactic(auto)]
 
 #[cfg(test)]
@@ -11,12 +12,14 @@ mod captures;
 mod checks;
 #[cfg(test)]
 mod commandline;
+mod engine;
 #[cfg(test)]
 mod engines;
 #[cfg(test)]
 mod example;
 #[cfg(test)]
 mod facts;
+mod fakes;
 #[cfg(test)]
 mod hear;
 #[cfg(test)]
@@ -32,6 +35,7 @@ mod log_texts;
 mod log_voltages;
 #[cfg(test)]
 mod logs;
+mod long_text;
 #[cfg(test)]
 mod long_words;
 #[cfg(test)]
@@ -62,3 +66,9 @@ mod traces;
 mod usage;
 #[cfg(test)]
 mod versions;
+mod worked;
+
+pub use engine::{Ended, Engine, Engines};
+pub use fakes::{Endless, Failure, Halves, KINDS, Paper, Pieces, Sheet, blank_paper, in_pieces};
+pub use long_text::{Long, text_of};
+pub use worked::{CODES, CODES_SAID, FRAME, LINES, REPORT, SCENARIO, TAKEN, TRACE};

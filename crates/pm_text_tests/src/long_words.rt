@@ -2,8 +2,8 @@
 //! the digits of a word, and words.
 
 use crate::checks::{equal, is_true};
+use crate::{Engine, Engines, Long, in_pieces, text_of};
 use clap::error::ErrorKind;
-use pm_test_streams::{Engine, Engines, Long, in_pieces, text_of};
 use pm_tool::{Chosen, TextFault, chosen};
 use std::process::Abort;
 use std::test::Fail;

@@ -1,9 +1,9 @@
 //! The calls of a command that take memory, which is refused: want of memory or the right answer, and nothing else.
 //! Each test holds with ample memory too, and whichever allocation is refused: `rt try --test --fail-alloc N`.
 
+use crate::Sheet;
 use crate::checks::{equal, is_true};
 use clap::error::ErrorKind;
-use pm_test_streams::Sheet;
 use pm_tool::{Chosen, NumberFault, Sink, TextFault, chosen, number};
 use std::process::Abort;
 

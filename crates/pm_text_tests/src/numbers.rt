@@ -1,7 +1,7 @@
 //! Lines and refusals of `number`, over a writer with little room.
+use crate::Sheet;
 use crate::checks::{equal, is_true, printed};
 use pm_num::NumFault;
-use pm_test_streams::Sheet;
 use pm_tool::{NumberFault, Sink, TextFault, number};
 use std::alloc::Global;
 use std::process::Abort;

@@ -1,7 +1,7 @@
 //! The whole program as `main` calls it, over arguments and streams of a test's own.
 
 use crate::checks::is_true;
-use pm_test_streams::{FRAME, Paper, blank_paper, in_pieces};
+use crate::{FRAME, Paper, blank_paper, in_pieces};
 use pm_tool::{Sink, Source, program};
 use std::alloc::{Alloc, Global};
 use std::env::{self, Env, FillError};

@@ -2,7 +2,7 @@
 //! reported as, and what is no scenario.
 
 use crate::checks::{equal, is_true, joined};
-use pm_test_streams::{Engine, Engines, REPORT, SCENARIO, in_pieces};
+use crate::{Engine, Engines, REPORT, SCENARIO, in_pieces};
 use pm_text::{Ran, TextFault, read_scenario, render_report};
 use pm_world::{Cause, Stop, World};
 use std::alloc::Global;

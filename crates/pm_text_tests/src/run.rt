@@ -1,7 +1,7 @@
 ghost use Rattle.std.specs.Prelude.{IsFalse};
 
 use crate::checks::{equal, is_true};
-use pm_test_streams::{
+use crate::{
     FRAME, Failure, KINDS, LINES, Paper, Pieces, REPORT, SCENARIO, TAKEN, TRACE, blank_paper,
     in_pieces,
 };

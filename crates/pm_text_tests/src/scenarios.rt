@@ -2,10 +2,10 @@
 
 mod faults;
 
+use crate::SCENARIO;
 use crate::checks::{equal, joined, shown};
 use pm_device::{Config, OutputStart};
 use pm_table::Coefficients;
-use pm_test_streams::SCENARIO;
 use pm_text::{Scenario, TextFault, read_scenario};
 use std::alloc::{AllocError, Global};
 use std::process::Abort;

@@ -1,9 +1,9 @@
 //! Tests of `pm_lines`: its readers and writers, whole texts, lines, words and bytes.
 use crate::checks::{equal, is_true};
+use crate::{Failure, KINDS, Paper, Pieces, blank_paper, in_pieces};
 use pm_lines::{
     Line, Lines, Sink, Source, TextFault, Words, cut_at, push_bytes, read_text, read_word,
 };
-use pm_test_streams::{Failure, KINDS, Paper, Pieces, blank_paper, in_pieces};
 use std::alloc::Global;
 use std::io::{self, ErrorKind, Write};
 use std::process::Abort;

@@ -2,8 +2,8 @@
 
 use crate::checks::{equal, is_true};
 use crate::run::{run_on, run_with};
+use crate::{blank_paper, in_pieces};
 use pm_decode::Addresses;
-use pm_test_streams::{blank_paper, in_pieces};
 use pm_tool::{Chosen, Source, TellTexts, chosen};
 use std::test::Fail;
 

@@ -4,7 +4,7 @@ mod bad_lines;
 mod packets;
 
 use crate::checks::{equal, is_true, joined};
-use pm_test_streams::{Engine, Engines, TRACE, in_pieces};
+use crate::{Engine, Engines, TRACE, in_pieces};
 use pm_text::{Decoder, Shown, TextFault, read_trace_line, render_line};
 use std::alloc::{AllocError, Global};
 use std::process::Abort;

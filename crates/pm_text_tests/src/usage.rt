@@ -2,7 +2,7 @@
 
 use crate::checks::is_true;
 use crate::run::{run_on, run_with};
-use pm_test_streams::{blank_paper, in_pieces};
+use crate::{blank_paper, in_pieces};
 use pm_tool::Source;
 use std::process::Abort;
 use std::test::Fail;

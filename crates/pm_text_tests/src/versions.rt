@@ -2,7 +2,7 @@
 
 use crate::checks::{equal, is_true, joined, shown};
 use crate::scenarios::{is_refused, scenario_of};
-use pm_test_streams::{Engine, Engines, REPORT, SCENARIO, in_pieces};
+use crate::{Engine, Engines, REPORT, SCENARIO, in_pieces};
 use pm_text::TextFault;
 use std::alloc::Global;
 use std::process::Abort;

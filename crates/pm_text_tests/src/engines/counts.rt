@@ -1,7 +1,7 @@
 //! What a decoder that is fed counts of the longest traces, and of one with every code.
 
 use crate::checks::equal;
-use pm_test_streams::{CODES, Long, text_of};
+use crate::{CODES, Long, text_of};
 use pm_text::{Decoder, TextFault};
 use std::alloc::{AllocError, Global};
 use std::process::Abort;

@@ -1,7 +1,7 @@
 //! A report of as many possible words as there can be: 16 of each register of eight outputs.
 
+use crate::Engine;
 use crate::engines::long_text::is_written;
-use pm_test_streams::Engine;
 use std::alloc::{AllocError, Global};
 use std::test::Fail;
 

@@ -3,7 +3,7 @@
 
 use crate::checks::{equal, is_true, printed};
 use crate::engines::worked::worked;
-use pm_test_streams::{
+use crate::{
     Engine, Engines, FRAME, Failure, Halves, KINDS, Paper, Pieces, SCENARIO, TRACE, blank_paper,
     in_pieces,
 };

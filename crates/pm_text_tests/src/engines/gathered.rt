@@ -1,6 +1,6 @@
 //! What `decode` gathers before it writes, if a read brings as many bytes as it asks for.
 use crate::checks::{equal, printed};
-use pm_test_streams::{Engine, Engines, blank_paper, in_pieces};
+use crate::{Engine, Engines, blank_paper, in_pieces};
 use std::alloc::Global;
 use std::process::Abort;
 use std::test::Fail;

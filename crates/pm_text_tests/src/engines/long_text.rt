@@ -1,7 +1,7 @@
 //! How many lines an engine writes for a long text.
 
 use crate::checks::{equal, is_true};
-use pm_test_streams::{Engine, Engines, Long, in_pieces, text_of};
+use crate::{Engine, Engines, Long, in_pieces, text_of};
 use std::alloc::AllocError;
 use std::process::Abort;
 

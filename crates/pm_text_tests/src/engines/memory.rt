@@ -4,7 +4,7 @@
 use crate::checks::{equal, is_true};
 use crate::engines::reports::REPORTS;
 use crate::engines::worked::worked;
-use pm_test_streams::{CODES, CODES_SAID, Engine, Engines, in_pieces};
+use crate::{CODES, CODES_SAID, Engine, Engines, in_pieces};
 use pm_text::{
     Decoder, Ran, TextFault, read_scenario, read_trace_line, render_line, render_report,
 };

@@ -4,7 +4,7 @@
 mod eight;
 
 use crate::checks::equal;
-use pm_test_streams::{Engine, Engines, in_pieces};
+use crate::{Engine, Engines, in_pieces};
 use std::process::Abort;
 
 /// Each scenario and its report.

@@ -3,7 +3,7 @@
 
 use crate::checks::{equal, is_true};
 use crate::engines::long_text::{Written, expect_lines, is_written};
-use pm_test_streams::{
+use crate::{
     CODES, CODES_SAID, Engine, Engines, FRAME, Long, REPORT, SCENARIO, TAKEN, in_pieces, text_of,
 };
 use pm_text::{TextFault, TraceLine, read_scenario, read_trace_line, render_line};

@@ -1,6 +1,6 @@
 //! What each engine writes of its worked text.
 
-use pm_test_streams::{Engine, FRAME, LINES, REPORT, SCENARIO, TAKEN, TRACE};
+use crate::{Engine, FRAME, LINES, REPORT, SCENARIO, TAKEN, TRACE};
 
 /// Each engine, its worked text, what it writes of that, and whether it ends well.
 pub(crate) fn worked() -> [(Engine, &'static str, &'static str, bool); 3] {

@@ -1,7 +1,7 @@
 //! The faults of scenarios, and the numbers of their lines.
 
 use super::{head_with, is_refused, with_event};
-use pm_test_streams::SCENARIO;
+use crate::SCENARIO;
 use pm_text::TextFault;
 use std::alloc::{AllocError, Global};
 use std::process::Abort;
