@@ -44,9 +44,8 @@ use Rattle.pm_course_laws.proofs.ChainedSurveys.{sole-taken}
 use Rattle.pm_course_laws.proofs.CourseFrames as frames
 use Rattle.pm_course_laws.proofs.CourseFrames.{Closed, Opened, as-frames, plain-so}
 use Rattle.pm_course_laws.proofs.Jobs as jobs
-use Rattle.pm_course_laws.proofs.Names.{Given}
-use Rattle.pm_course_laws.proofs.Said.{is_learn, told-forgets, told-plan}
-use Rattle.pm_course_laws.proofs.Ties as ties
+use Rattle.pm_course_laws.proofs.Said as ties
+use Rattle.pm_course_laws.proofs.Said.{Given, is_learn, told-forgets, told-plan}
 
 asked-named : (part : PartRegisters) (limits : OutputLimits) (s : Summary) (was : Course) (j : Asked) → next_of part limits s was ≡ said.Job j →
     (after_next part limits s was).survey.asked ≡ Some j

@@ -21,7 +21,7 @@ use Rattle.pm_rail.specs.Plan.{commands_by, goal_of, is_due, next_register, put}
 use Rattle.pm_rail.specs.Registers.{Held, Wants, wants_of}
 use Rattle.pm_rail.specs.Lemmas.Places.{below, cell_of, each-place, has_at, is-known, none-read, same_place, total}
 use Rattle.pm_course_laws.proofs.ChainedBytes.{byte-ends}
-use Rattle.pm_course_laws.proofs.ChainedReads.{chain-few, survey-ends}
+use Rattle.pm_course_laws.proofs.ByteReads.{chain-few, survey-ends}
 use Rattle.pm_course_laws.proofs.ChainedSurveys.{LawsOfSurveys, asks_in, life-places, surveyed_by, true-format, Allows, At, Calm, Kind, Knows, accepts, asked-output, asked-plan, begins-at, checks, due-before, due-wanted, dues, fewer, first-none-of, five-dues, goal-stays, in-range, is_learned, kind, learns, need, next-is-due, none-due, none-next, none-some, none-three, nothing-needed, only-possible, order-only, order-others, order-whole, other-place, plan-is, plan_in, same-fits, settled, seven, survey-step, three-none, todo, two-cells, words-stay}
 use Rattle.std.proofs.Math.Path.{fun_ext}
 use Rattle.std.proofs.lemmas.Bool.{not-false}

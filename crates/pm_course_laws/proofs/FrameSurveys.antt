@@ -42,11 +42,10 @@ use Rattle.pm_course_laws.proofs.ChainFrames as way
 use Rattle.pm_course_laws.proofs.CourseFrames as frames
 use Rattle.pm_course_laws.proofs.CourseFrames.{lives-at}
 use Rattle.pm_course_laws.proofs.Jobs as jobs
-use Rattle.pm_course_laws.proofs.Names.{Given}
-use Rattle.pm_course_laws.proofs.OrdersNothing.{survey-names}
 use Rattle.pm_course_laws.proofs.Said as says
+use Rattle.pm_course_laws.proofs.Said.{Given}
+use Rattle.pm_course_laws.proofs.Worth.{survey-names}
 use Rattle.pm_course_laws.proofs.Switches.{formed-so}
-use Rattle.pm_course_laws.proofs.Ties as ties
 
 module _ (laws : Given) (jobs-laws : jobs.Given) (apart : CellsAreToldApart) (origin : WordsHaveAnOrigin) (config : Config) (passes : ℕ)
     (part : PartRegisters) (limits : List OutputLimits) (output tries most : ℕ) (before : List Event) (spelled : IsSpelled config)
@@ -70,7 +69,7 @@ module _ (laws : Given) (jobs-laws : jobs.Given) (apart : CellsAreToldApart) (or
   Went y es n = Chain (survey_course_of output tries) (d []) (with_plan y None) (d es) n
 
   abbrev Same : FrameCourse → Type 0
-  Same c = ties.Same laws.followed laws.lives config passes part (to_survey output tries) before None c
+  Same c = says.Same laws.followed laws.lives config passes part (to_survey output tries) before None c
 
   once-now : (x : Course) (es : List Event) (n : ℕ) → Chain (survey_course_of output tries) (d []) x (d es) n → x.twice ≡ None
   once-now x es n chain = (engine-says x es n chain).once

@@ -57,11 +57,8 @@ use Rattle.pm_course_laws.specs.Chains.{Chain, FitsPart, Pair, tries_for, words_
 use Rattle.pm_course_laws.proofs.FrameSurveys.{surveys-there}
 use Rattle.pm_course_laws.proofs.Jobs as jobs
 use Rattle.pm_course_laws.proofs.Said as says
-use Rattle.pm_course_laws.proofs.Names.{Given}
-use Rattle.pm_course_laws.proofs.Ties as ties
-use Rattle.pm_course_laws.proofs.Said.{ended-course, is_learn, learn-calm, told-forgets, told-plan}
-use Rattle.pm_course_laws.proofs.ToWishes as to
-use Rattle.pm_course_laws.proofs.Words.{find-none, none-missing}
+use Rattle.pm_course_laws.proofs.Said.{Given, ended-course, is_learn, learn-calm, told-forgets, told-plan, find-none, none-missing}
+use Rattle.pm_course_laws.proofs.Worth as to
 use Rattle.pm_course_laws.proofs.ChainFrames as way
 use Rattle.pm_course_laws.proofs.CourseFrames as frames
 use Rattle.pm_course_laws.proofs.Switches.{switches-there}
@@ -96,7 +93,7 @@ module _ (laws : Given) (jobs-laws : jobs.Given) (apart : CellsAreToldApart) (re
     (limits : List OutputLimits) (output : ℕ) (words wanted : Wanted) (voltages : Voltages) (tries : ℕ) (before : List Event)
     (spelled : IsSpelled config) (here : output < config.count) (means : Means config output words voltages wanted)
     (there : missing_in part words voltages ≡ None) (begun : FrameCourse)
-    (begun-same : ties.Same laws.followed laws.lives config passes part
+    (begun-same : says.Same laws.followed laws.lives config passes part
     (going_on (course_of output words tries) voltages) before (Some wanted) begun)
     (begun-fresh : last_end begun.end ≡ None) (most : ℕ)
     (engine-says : (x : Course) (es : List Event) (n : ℕ) →
@@ -116,11 +113,11 @@ module _ (laws : Given) (jobs-laws : jobs.Given) (apart : CellsAreToldApart) (re
   way_of c = with_plan c.course (Some wanted)
 
   abbrev Same : FrameCourse → Type 0
-  Same c = ties.Same laws.followed laws.lives config passes part (going_on (course_of output words tries) voltages) before (Some wanted) c
+  Same c = says.Same laws.followed laws.lives config passes part (going_on (course_of output words tries) voltages) before (Some wanted) c
 
   -- What stays of the course that is under way stays of one that began.
   abbrev SameSince : FrameCourse → Type 0
-  SameSince c = ties.Same laws.followed laws.lives config passes part begun before (Some wanted) c
+  SameSince c = says.Same laws.followed laws.lives config passes part begun before (Some wanted) c
 
   from-begun : (c : FrameCourse) → SameSince c → Same c
   from-begun c same = record {
@@ -140,14 +137,14 @@ module _ (laws : Given) (jobs-laws : jobs.Given) (apart : CellsAreToldApart) (re
 
   names-now : (l : OutputLimits) (c is : FrameCourse) (later : List Event) (j : Asked) → Same c → IsLived config passes (later ++ before) →
       SaysNext part l (at later).host c (Job j) is →
-      ties.Names laws.followed laws.lives config passes part (going_on (course_of output words tries) voltages)
+      says.Names laws.followed laws.lives config passes part (going_on (course_of output words tries) voltages)
       before (Some wanted) l c is later j
   names-now l c is later j same lived says' =
-      to.names laws config passes part output words wanted voltages tries before spelled here means l c is later j same lived says'
+      to.wishes_names laws config passes part output words wanted voltages tries before spelled here means l c is later j same lived says'
 
   names-since : (l : OutputLimits) (c is : FrameCourse) (later : List Event) (j : Asked) → SameSince c →
       IsLived config passes (later ++ before) →
-      SaysNext part l (at later).host c (Job j) is → ties.Names laws.followed laws.lives config passes part begun
+      SaysNext part l (at later).host c (Job j) is → says.Names laws.followed laws.lives config passes part begun
       before (Some wanted) l c is later j
   names-since l c is later j same lived says' =
       let n = names-now l c is later j (from-begun c same) lived says' in
@@ -332,9 +329,9 @@ module _ (laws : Given) (jobs-laws : jobs.Given) (apart : CellsAreToldApart) (en
       spelled lived here means course idle on once many stand there fits is =
       let moment = earlier ++ before in
       let first = laws.lives.earlier config passes later moment lived in
-      let same = (ties.stands-all laws.followed laws.lives config passes part
+      let same = (says.stands-all laws.followed laws.lives config passes part
       (going_on (course_of output words tries) voltages) before (Some wanted)
-      (to.names laws config passes part output words wanted voltages tries before spelled here means) begun
+      (to.wishes_names laws config passes part output words wanted voltages tries before spelled here means) begun
       mine earlier first course).same in
       let held = (read.possible.held config passes moment first) in
       got laws jobs-laws apart read config passes part limits output words wanted voltages tries moment spelled here means there

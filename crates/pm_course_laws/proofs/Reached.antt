@@ -67,9 +67,9 @@ use Rattle.pm_world.specs.Surveys.{AreKnownSince, IsOneValue, KeepsSurveys, cell
 use Rattle.pm_rail.specs.Course.{course_of}
 use Rattle.pm_course_laws.specs.FrameLives.{IsFrameCourse, Means}
 use Rattle.pm_course_laws.specs.Reached.{HoldsWanted, ReachedSinceItRead, ReadsStand}
-use Rattle.pm_course_laws.proofs.Names.{Given}
-use Rattle.pm_course_laws.proofs.Ties as ties
-use Rattle.pm_course_laws.proofs.ToWishes as to
+use Rattle.pm_course_laws.proofs.Said as ties
+use Rattle.pm_course_laws.proofs.Said.{Given}
+use Rattle.pm_course_laws.proofs.Worth as to
 
 -- a cell that was read since, without a restart
 pub was-since : (config : Config) (passes : ℕ) (cell : Cell) (later before : List Event) → was_read config passes cell later before ≡ true →
@@ -253,7 +253,7 @@ module _ (laws : Given) (surveys : SurveysHoldInLives) (ended-known : SurveysEnd
   same : ties.Same laws.followed laws.lives config passes part (going_on (course_of output words tries) voltages) before (Some wanted) c
   same = (ties.stands-all laws.followed laws.lives config passes part
       (going_on (course_of output words tries) voltages) before (Some wanted)
-      (to.names laws config passes part output words wanted voltages tries before spelled here means) c own later lived course).same
+      (to.wishes_names laws config passes part output words wanted voltages tries before spelled here means) c own later lived course).same
 
   -- what its survey counts as read was read since the course began
   reads-since : AreRead config passes c.course.survey later before
@@ -305,7 +305,7 @@ module _ (laws : Given) (surveys : SurveysHoldInLives) (ended-known : SurveysEnd
         plan_of part s limits (renewed part limits s x).survey.output
         (wants_of (wanted_in (renewed part limits s x).survey.plan)) ≡ Ok None)
     over = says-reached part limits s (renewed part limits s x) asked.byte'
-        (to.reached laws config passes part output words wanted voltages tries before spelled here means limits
+        (to.wishes_reached laws config passes part output words wanted voltages tries before spelled here means limits
         c is later same lived on says')
 
     planned : IsPlanned part s limits output wants None

@@ -54,9 +54,8 @@ use Rattle.pm_course_laws.specs.Progress.{GetsSwitched, IsUndisturbed, SwitchesT
 use Rattle.pm_course_laws.proofs.CourseFrames as frames
 use Rattle.pm_course_laws.proofs.CourseFrames.{Closed, IsPlain, Opened, check, learn, lives-at, order, plain-so}
 use Rattle.pm_course_laws.proofs.Jobs as jobs
-use Rattle.pm_course_laws.proofs.Names.{own-plan}
 use Rattle.pm_course_laws.proofs.Said as says
-use Rattle.pm_course_laws.proofs.Said.{ended-voltages, is_learn, told-forgets}
+use Rattle.pm_course_laws.proofs.Said.{own-plan, ended-voltages, is_learn, told-forgets}
 
 -- what is asked for in the place of a job is a read or an order too
 asked-plain : (s : Summary) (course : Course) (byte : ℕ) (j k : Asked) → IsPlain j → asked_for s course (Some byte) j ≡ Ok k → IsPlain k

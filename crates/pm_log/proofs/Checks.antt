@@ -1,21 +1,22 @@
--- The acts of a log: why one may come, and the transcript that they are.
-use Rattle.std.proofs.Common.{arith, ◌≡◌, ◌<◌, ◌+◌, ℕ, zero, suc, true, List, [], ◌∷◌, ◌++◌, length, take, Option, Some, None, Ok, refl, sym, ◌∙◌, ap, subst}
-use Rattle.std.specs.Prelude.{get_or, is_none, option_map, option_to_list, IsSomeAnd}
+-- A replay of acts, frame by frame.
 use Rattle.std.specs.Option.{option_map_or}
-use Rattle.pm_host.specs.declared.fault.HostFault.{HostFault}
-use Rattle.pm_host.specs.declared.job.Job.{Job}
+use Rattle.std.specs.Prelude.{get_or, is_none, option_map, option_to_list, IsSomeAnd, bytes_eq}
+use Rattle.std.proofs.Common.{arith, ◌≡◌, ◌<◌, ◌+◌, ℕ, zero, suc, true, List, [], ◌∷◌, ◌++◌, length, take, Option, Some, None, Ok, refl}
+use Rattle.std.proofs.Common.{sym, ◌∙◌, ap, subst, Bool, false, cond}
+use Rattle.pm_frame.specs.declared.message.Message.{Message}
+use Rattle.pm_frame.specs.Layout.{is_read_message, sent, with_pec}
+use Rattle.pm_host.specs.{Laws.TranscriptsAreFollowed, Lemmas.accepted-free, Messages.IsFrameOf, declared.fault.HostFault.HostFault}
+use Rattle.pm_host.specs.{declared.job.Job.Job}
 use Rattle.pm_host.specs.Jobs.{Begins, accepted_job}
-use Rattle.pm_host.specs.Laws.{TranscriptsAreFollowed}
-use Rattle.pm_host.specs.Lemmas.{accepted-free}
 use Rattle.pm_host.specs.Now.{now, AreTold}
 use Rattle.pm_host.specs.Refusals.{IsSetup, may_come}
-use Rattle.pm_host.specs.Summary.{Summary, next, start}
+use Rattle.pm_host.specs.Summary.{Summary, next, start, sending_in}
 use Rattle.pm_host.specs.Transcript as host
-use Rattle.pm_log.specs.declared.act.Act.{Act}
+use Rattle.pm_log.specs.{declared.act.Act.Act, declared.check_fault.ActFault.TheVariants.Refused, declared.claim.Claim.Claim}
+use Rattle.pm_log.specs.Checks.{Acts, AreClaimed, IsEntry, MightComeFrom, all_after, entries_from, entry_of, is_claimed, frame_of, is_own}
 use Rattle.pm_log.specs.declared.act.Act.TheVariants as act
-use Rattle.pm_log.specs.declared.claim.Claim.{Claim}
-use Rattle.pm_log.specs.declared.check_fault.ActFault.TheVariants.{Refused}
-use Rattle.pm_log.specs.Checks.{Acts, AreClaimed, IsEntry, MightComeFrom, all_after, entries_from, entry_of, is_claimed}
+
+-- The acts of a log: why one may come, and the transcript that they are.
 
 -- a job that begins is an act
 pub begun : (s new : Summary) (asked : Job) → Begins {X = Unit {0}} s asked (Ok tt) new → Acts s (act.Begun asked) (Ok tt) new
@@ -71,3 +72,19 @@ follow laws setup (act ∷ before) made come =
               ∙ (laws.more setup entries entry made told
               ∙ (ap (λ (t : Summary). next t entry) was.same ∙ sym after));
         }
+
+-- The bytes of a frame, as a function of its message.
+
+pub frame-is : (addr : ℕ) (message : Message) (bytes : List ℕ) → IsFrameOf addr message bytes → bytes ≡ frame_of addr message
+frame-is addr message bytes frame = go (is_read_message message) refl where
+  go : (b : Bool) → is_read_message message ≡ b → bytes ≡ cond b (sent addr message) (with_pec [] (sent addr message))
+  go true e = (frame.request e).spelled
+  go false e = (frame.write e).spelled
+
+pub own_is : (s : Summary) (bytes frame : List ℕ) → IsSomeAnd (sending_in s) (λ message. IsFrameOf s.setup.addr message bytes) →
+    bytes_eq bytes frame ≡ is_own s frame
+own_is s bytes frame shown = go (sending_in s) shown where
+  go : (m : Option Message) → IsSomeAnd m (λ message. IsFrameOf s.setup.addr message bytes) →
+      bytes_eq bytes frame ≡ option_map_or (λ message. bytes_eq (frame_of s.setup.addr message) frame) m false
+  go None is = absurd is
+  go (Some message) is = ap (λ (b : List ℕ). bytes_eq b frame) (frame-is s.setup.addr message bytes is)

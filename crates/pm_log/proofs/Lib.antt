@@ -1,11 +1,3 @@
-mod Claims
-mod Checks
-mod EmptyLog
-mod EndLemmas
 mod Follow
-mod Frames
-mod Pieces
-mod Pushes
-mod TextLemmas
-mod Trust
-mod TrustedText
+mod Checks
+mod Texts

@@ -136,7 +136,7 @@ fn take_bytes(alloc: Global, log: &mut LogText, bytes: &[u8]) -> Result<(), Text
 }
 
 // The verdict of no byte.
-#[tactic(auto, using(crate::proofs::EmptyLog::empty_text))]
+#[tactic(auto, using(crate::proofs::Texts::empty_text))]
 fn empty_verdict() -> &'static str
     ensures { (allowed : List PartRegisters) → result.now ≡ log_text allowed [] }
 {

@@ -1,43 +1,191 @@
--- Which orders a sequence begins, case by case.
-use Rattle.std.proofs.Common.{◌≡◌, ℕ, Bool, true, false, cond, Option, Some, None, is_some, refl, sym, ◌∙◌, ap, subst}
+-- How the list of a sequence goes, which orders begin, which survey is fresh, and how many orders turn an output on, act by act.
 use Rattle.std.specs.Ordering.{int_eq}
-use Rattle.std.specs.Prelude.{◌&&◌, ◌||◌, ◌==◌, ◌-◌, nat_lt, not}
-use Rattle.std.proofs.lemmas.Bool.{and_parts, eqb-true}
+use Rattle.std.specs.Prelude.{◌==◌, ◌&&◌, ◌||◌, ◌-◌, nat_lt, not, Result, IfSome, ◌+◌}
 use Rattle.std.proofs.lemmas.Bool.Decides.{Decides-int_eq}
-use Rattle.pm_table.specs.Cell.{same_cell}
-use Rattle.pm_table.specs.Laws.{CellsAreToldApart}
-use Rattle.pm_host.specs.declared.job.Job.{Job}
+use Rattle.std.proofs.Common.{◌≡◌, ◌⊎◌, inl, inr, ℕ, Bool, true, false, cond, Option, Some, None, refl, sym, ◌∙◌, ap, subst, is_some, []}
+use Rattle.std.proofs.Common.{◌∷◌, Ok}
+use Rattle.std.proofs.lemmas.Bool.{and_parts, eqb-true, eqb-false}
+use Rattle.pm_table.specs.{Cell.same_cell, Laws.CellsAreToldApart}
+use Rattle.pm_host.specs.{declared.fault.Untold.Untold, declared.job.Job.Job}
+use Rattle.pm_host.specs.Transcript.{Entry, Accepted, Finished, Got, Restarted}
 use Rattle.pm_host.specs.declared.job.Job.TheVariants as asked
 use Rattle.pm_limits.specs.Guard.{Guarded}
-use Rattle.pm_stairs.specs.declared.sequence.Sequence.{Sequence as List}
-use Rattle.pm_stairs.specs.declared.sequence.Turn.{Turn}
-use Rattle.pm_stairs.specs.declared.sequence.Turn.TheVariants as turn
-use Rattle.pm_stairs.specs.declared.stairs.Under.{Under}
-use Rattle.pm_stairs.specs.declared.step.WordStep.{WordStep}
-use Rattle.pm_stairs.specs.Sequence.{Turns}
-use Rattle.pm_sequence.specs.declared.gate.Gate.{Gate}
-use Rattle.pm_sequence.specs.declared.gate.Gate.TheVariants as gate_is
-use Rattle.pm_sequence.specs.declared.look.Look.{Look}
-use Rattle.pm_sequence.specs.declared.look.LookAct.{LookAct}
-use Rattle.pm_sequence.specs.declared.look.LookAct.TheVariants as look
-use Rattle.pm_sequence.specs.declared.sequence.Act.{Act}
-use Rattle.pm_sequence.specs.declared.sequence.Act.TheVariants as act
-use Rattle.pm_sequence.specs.declared.sequence.End.{End}
-use Rattle.pm_sequence.specs.declared.sequence.End.TheVariants as end
-use Rattle.pm_sequence.specs.declared.sequence.Fresh.{Fresh}
-use Rattle.pm_sequence.specs.declared.sequence.Phase.{Phase}
-use Rattle.pm_sequence.specs.declared.sequence.Phase.TheVariants as phase
-use Rattle.pm_sequence.specs.declared.sequence.Sequence.{Sequence}
-use Rattle.pm_sequence.specs.declared.step.Step.{Step}
-use Rattle.pm_sequence.specs.Gate.{is_on_order, is_order, is_told, is_untold, order_gate, same_order, step_gate}
-use Rattle.pm_sequence.specs.Look.{look_act, look_after}
-use Rattle.pm_delivery.specs.declared.verdict.Verdict.{Verdict}
-use Rattle.pm_sequence.specs.Sequence.{Acts, Steps, act_of, after_of, ahead_act, asked_of, done_act, due_in, found_at, found_in, fresh_gate, gate, gated_act, gated_after, had_two, is_fresh, is_good, is_read_for, job_after, judged_gate, looked_act, may_leave, needs_look, over_act, read_gate, said_act, shown, spent_end, step_act, stopped_act, told_with, twice_gate, verdict_in, with_list, with_look}
-use Rattle.pm_sequence.specs.Sequence as does
-use Rattle.pm_sequence_laws.proofs.Listed.{either-list}
-use Rattle.pm_sequence_laws.specs.Judged.{IsDue, IsJudged, IsTold, OrdersAreJudged, OrdersAreTold}
+use Rattle.pm_rail.specs.Survey.{nothing_read}
+use Rattle.pm_course.specs.declared.frame_course.FrameCourse.{FrameCourse}
+use Rattle.pm_stairs.specs.{OpenCourse.course_open, Stairs.Goes, declared.sequence.Placed.Placed}
+use Rattle.pm_stairs.specs.{declared.sequence.Sequence.Sequence as List, declared.sequence.Turn.Turn, declared.stairs.Move.Move}
+use Rattle.pm_stairs.specs.{declared.stairs.Stairs.Stairs, declared.stairs.Under.Under, declared.step.Step.Step as Output}
+use Rattle.pm_stairs.specs.{declared.step.WordStep.WordStep}
+use Rattle.pm_stairs.specs.Sequence.{Turns, skipped}
+use Rattle.pm_stairs.specs.Stairs as goes
 use Rattle.pm_stairs.specs.declared.said.StepEnd.TheVariants as ended
+use Rattle.pm_stairs.specs.declared.sequence.Turn.TheVariants as turn
+use Rattle.pm_delivery.specs.declared.verdict.Verdict.{Verdict}
+use Rattle.pm_sequence.specs.{declared.gate.Gate.Gate, declared.look.Look.Look, declared.look.LookAct.LookAct, declared.sequence.Act.Act}
+use Rattle.pm_sequence.specs.{declared.sequence.End.End, declared.sequence.Fresh.Fresh, declared.sequence.Phase.Phase}
+use Rattle.pm_sequence.specs.{declared.sequence.Sequence.Sequence, declared.step.Step.Step}
+use Rattle.pm_sequence.specs.Frames as hear
+use Rattle.pm_sequence.specs.Frames.{Hears, fresh_heard}
+use Rattle.pm_sequence.specs.Gate.{is_order, is_untold, is_on_order, is_told, order_gate, same_order, step_gate}
+use Rattle.pm_sequence.specs.Look.{look_act, look_after}
+use Rattle.pm_sequence.specs.Sequence as does
+use Rattle.pm_sequence.specs.Sequence.{Acts, Steps, after_of, ahead_after, asked_list, asked_of, begun_by, begun_with, done_after, due_in}
+use Rattle.pm_sequence.specs.Sequence.{gate, gated_after, is_good, job_after, judged_in, left_out, look_before, may_leave, needs_look}
+use Rattle.pm_sequence.specs.Sequence.{over_after, read_after, said_after, shown, spent_end, stopped_after, told_with, verdict_in}
+use Rattle.pm_sequence.specs.Sequence.{with_list, with_look, act_of, ahead_act, done_act, found_in, fresh_gate, gated_act, had_two}
+use Rattle.pm_sequence.specs.Sequence.{is_fresh, is_read_for, judged_gate, looked_act, over_act, said_act, stopped_act, twice_gate, afresh}
+use Rattle.pm_sequence.specs.Sequence.{looking_at, ordered_after}
+use Rattle.pm_sequence.specs.declared.gate.Gate.TheVariants as gate_is
+use Rattle.pm_sequence.specs.declared.look.LookAct.TheVariants as look
+use Rattle.pm_sequence.specs.declared.sequence.Act.TheVariants as act
+use Rattle.pm_sequence.specs.declared.sequence.End.TheVariants as end
+use Rattle.pm_sequence.specs.declared.sequence.Fresh.TheVariants as fresh
+use Rattle.pm_sequence.specs.declared.sequence.Phase.TheVariants as phase
+use Rattle.pm_sequence_laws.specs.Fresh.{ComesFresh, OrdersAreFresh, anew, ends, reads, stays}
 use Rattle.pm_sequence_laws.specs.Judged as due
+use Rattle.pm_sequence_laws.specs.Judged.{IsDue, IsJudged, IsTold, OrdersAreJudged, OrdersAreTold}
+use Rattle.pm_sequence_laws.specs.Turned as it
+use Rattle.pm_sequence_laws.specs.Turned.{IsKept, ListGoes, SequencesTurn, is_begin}
+use Rattle.pm_sequence_laws.specs.Twice.{CountsOn, OrdersStopAtTwo, at_once, counts, first as twice_first, keeps, passes}
+
+-- How the list of a sequence goes, act by act.
+
+-- one of two that have this list
+pub either-list : (b : Bool) (x y : Sequence) (list : List) → x.list ≡ list → y.list ≡ list → (cond b x y).list ≡ list
+either-list true x y list first second = first
+either-list false x y list first second = second
+
+before-list : (q : Sequence) (step : Option Step) → (look_before q step).list ≡ q.list
+before-list q None = refl
+before-list q (Some step) = refl
+
+ahead-list : (q : Sequence) (ahead : Option Step) → (ahead_after q ahead).list ≡ q.list
+ahead-list q None = refl
+ahead-list q (Some step) = either-list (step.wait == 0 || q.is_waited) _ _ q.list refl refl
+
+over-list : (q : Sequence) (under ahead : Option Step) → (over_after q under ahead).list ≡ q.list
+over-list q None ahead = ahead-list q ahead
+over-list q (Some step) ahead = either-list (needs_look q step) _ (ahead_after q ahead) q.list refl (ahead-list q ahead)
+
+-- the list stays where a step stops, or the step is left
+data Stops (leaves_steps : Bool) (old new : List) : Type 0 where
+  kept : new ≡ old → Stops leaves_steps old new
+  left : leaves_steps ≡ true → new ≡ skipped old → Stops leaves_steps old new
+
+stop-by : (q : Sequence) (why : End) (may leaves_steps : Bool)
+    → Stops leaves_steps q.list (cond (leaves_steps && may) (left_out q) (record q { end = Some why })).list
+stop-by q why true true = left refl refl
+stop-by q why false true = kept refl
+stop-by q why may false = kept refl
+
+stop-list : (q : Sequence) (why : End) → Stops q.leaves q.list (stopped_after q why).list
+stop-list q why = stop-by q why (may_leave why) q.leaves
+
+module _ (g : Guarded) (ahead : Option Placed) (leaves_steps : Bool) where
+  staying : (old new : List) → Stops leaves_steps old new → ListGoes g ahead leaves_steps old new
+  staying old new (kept is) = it.stays is
+  staying old new (left leaves is) = it.leaves leaves is
+
+  saying : (old list new : List) (x : Turn) → Turns g ahead old x list → new ≡ list → ListGoes g ahead leaves_steps old new
+  saying old list new x turned is = it.says x (subst (λ (l : List). Turns g ahead old x l) (sym is) turned)
+
+  stopping : (old list new : List) (x : Turn) → Turns g ahead old x list → Stops leaves_steps list new
+      → ListGoes g ahead leaves_steps old new
+  stopping old list new x turned (kept is) = saying old list new x turned is
+  stopping old list new x turned (left leaves is) = it.says_and_leaves x list turned leaves is
+
+  asking : (old list new : List) (x : Turn) → Turns g ahead old x list → Stops leaves_steps (asked_list old list (is_begin x)) new
+      → ListGoes g ahead leaves_steps old new
+  asking old list new x turned (kept is) = it.asked x list turned is
+  asking old list new x turned (left leaves is) = it.asked_and_leaves x list turned leaves is
+
+  either-goes : (old : List) (b : Bool) (x y : Sequence) → ListGoes g ahead leaves_steps old x.list → ListGoes g ahead leaves_steps old y.list
+      → ListGoes g ahead leaves_steps old (cond b x y).list
+  either-goes old true x y first second = first
+  either-goes old false x y first second = second
+
+gate-so : (g : Guarded) (ahead : Option Placed) (q : Sequence) (step : Option Step) (job : Job) (after : Sequence) (list : List) (x : Turn)
+    → Turns g ahead q.list x list → after.list ≡ list → (is : Gate)
+    → ListGoes g ahead q.leaves q.list (gated_after (asked_of q list (is_begin x)) step is job after).list
+gate-so g ahead q step job after list x turned is gate_is.Goes =
+    either-goes g ahead q.leaves q.list (is_untold q.asks q.told job) (told_with (asked_of q list (is_begin x)) job) after
+    (it.asked x list turned refl) (saying g ahead q.leaves q.list list after.list x turned is)
+gate-so g ahead q step job after list x turned is gate_is.Looks = it.asked x list turned (before-list (asked_of q list (is_begin x)) step)
+gate-so g ahead q step job after list x turned is (gate_is.Beyond fault) =
+    asking g ahead q.leaves q.list list _ x turned (stop-list (asked_of q list (is_begin x)) (end.Beyond fault))
+gate-so g ahead q step job after list x turned is gate_is.Blind = it.surveyed_anew x list turned refl
+gate-so g ahead q step job after list x turned is gate_is.Unjudged =
+    asking g ahead q.leaves q.list list _ x turned (stop-list (asked_of q list (is_begin x)) end.Unjudged)
+gate-so g ahead q step job after list x turned is gate_is.Twice =
+    asking g ahead q.leaves q.list list _ x turned (stop-list (asked_of q list (is_begin x)) (spent_end (asked_of q list (is_begin x))))
+
+turn-so : (g : Guarded) (under ahead : Option Step) (q : Sequence) (x : Turn) (list : List) → Turns g (shown q ahead) q.list x list
+    → ListGoes g (shown q ahead) q.leaves q.list (after_of g under ahead q x list).list
+turn-so g under ahead q turn.Again list turned =
+    saying g (shown q ahead) q.leaves q.list list _ turn.Again turned
+    (either-list (list.begun == q.list.begun) (with_list q list) (begun_with q list) list refl refl)
+turn-so g under ahead q (turn.Job job) list turned =
+    gate-so g (shown q ahead) q under job (job_after q job list) list (turn.Job job) turned
+    (either-list (is_order job) _ (read_after q list) list refl refl) (gate g q under job list false)
+turn-so g under ahead q (turn.Begins job back) list turned =
+    gate-so g (shown q ahead) q ahead job (begun_by g q job list) list (turn.Begins job back) turned refl (gate g q ahead job list true)
+turn-so g under ahead q (turn.Passes back) list turned = it.says (turn.Passes back) turned
+turn-so g under ahead q (turn.NoWayBack fault) list turned = it.says (turn.NoWayBack fault) turned
+turn-so g under ahead q turn.Reached list turned =
+    saying g (shown q ahead) q.leaves q.list list _ turn.Reached turned (over-list (with_list q list) under ahead)
+turn-so g under ahead q (turn.Stops why) list turned =
+    stopping g (shown q ahead) q.leaves q.list list _ (turn.Stops why) turned (stop-list (with_list q list) (end.Stopped why))
+
+-- a look
+done-by : (q : Sequence) (found : Verdict) (b : Bool)
+    → Stops q.leaves q.list (cond b (record q { phase = phase.Steps; is_looked = true }) (stopped_after q (end.Does found))).list
+done-by q found true = kept refl
+done-by q found false = stop-list q (end.Does found)
+
+found-so : (p : Phase) (q : Sequence) (under : Option Step) (verdict : Verdict) → Stops q.leaves q.list (judged_in p q under verdict).list
+found-so phase.Before q under verdict = kept refl
+found-so phase.Steps q under verdict = done-by q verdict (is_good under verdict)
+found-so phase.After q under verdict = done-by q verdict (is_good under verdict)
+
+said-so : (g : Guarded) (q : Sequence) (under : Option Step) (x : LookAct) → Stops q.leaves q.list (said_after g q under x).list
+said-so g q under (look.Ask question) = kept refl
+said-so g q under look.Probe = kept refl
+said-so g q under look.Pause = kept refl
+said-so g q under look.Again = kept refl
+said-so g q under look.Restarted = stop-list q (end.Stopped ended.Restarted)
+said-so g q under look.Over = found-so q.phase q under (verdict_in g q.look.delivery)
+
+steps-so : (g : Guarded) (under ahead : Option Step) (q new : Sequence) (said : Act) → Steps g under ahead q said new
+    → ListGoes g (shown q ahead) q.leaves q.list new.list
+steps-so g under ahead q new said (does.turns x list turned) = turn-so g under ahead q x list turned
+
+acts-so : (g : Guarded) (under ahead : Option Step) (q new : Sequence) (said : Act) → Acts g under ahead q said new
+    → ListGoes g (shown q ahead) q.leaves q.list new.list
+acts-so g under ahead q new said (does.ended why is) = it.stays refl
+acts-so g under ahead q new said (does.steps said' new' on is says) = steps-so g under ahead q new said says
+acts-so g under ahead q new said (does.before on is) =
+    staying g (shown q ahead) q.leaves q.list _
+    (said-so g (with_look q (look_after q.look g.host.setup.passes (due_in g q.look.delivery))) under
+    (look_act q.look g.host.setup.passes (due_in g q.look.delivery)))
+acts-so g under ahead q new said (does.after on is) =
+    staying g (shown q ahead) q.leaves q.list _
+    (said-so g (with_look q (look_after q.look g.host.setup.passes (due_in g q.look.delivery))) under
+    (look_act q.look g.host.setup.passes (due_in g q.look.delivery)))
+
+kept-so : (g : Guarded) (tries : ℕ) (ahead shut : Option Output) (old new : Stairs) (x : Move) → Goes g tries shut old x new → shut ≡ None
+    → Goes g tries ahead old x new ⊎ IsKept g old new x
+kept-so g tries ahead shut old new x (goes.restarted was) is = inl (goes.restarted was)
+kept-so g tries ahead shut old new x (goes.under next new' on says) is = inl (goes.under next new' on says)
+kept-so g tries ahead shut old new x (goes.first step next between new' on over some says) is = cc
+kept-so g tries ahead shut old new x (goes.all new' on over gone) is = inr (record { reached = refl; over = over })
+
+pub sequences-turn : SequencesTurn
+sequences-turn = record {
+  turns = acts-so;
+  kept = λ g tries ahead old new x says. kept-so g tries ahead None old new x says refl;
+}
+
+-- Which orders a sequence begins, case by case.
 
 -- an act that names a job, or tells one
 abbrev pub is_named : Act → Bool
@@ -232,27 +380,28 @@ begin-so g under ahead q job back list says gate_is.Blind goes = none act.Again 
 begin-so g under ahead q job back list says gate_is.Unjudged goes = none _ (stop-quiet (asked_of q list true) end.Unjudged)
 begin-so g under ahead q job back list says gate_is.Twice goes = none _ (stop-quiet (asked_of q list true) (spent_end (asked_of q list true)))
 
-turn-so : (g : Guarded) (under ahead : Option Step) (q : Sequence) (said : Turn) (list : List) → Turns g (shown q ahead) q.list said list
+judged_turn-so : (g : Guarded) (under ahead : Option Step) (q : Sequence) (said : Turn) (list : List)
+    → Turns g (shown q ahead) q.list said list
     → NamesSo g under ahead q (after_of g under ahead q said list) (act_of g under ahead q said list)
-turn-so g under ahead q turn.Again list says = none act.Again refl
-turn-so g under ahead q (turn.Job job) list says = job-so g under ahead q job list says (gate g q under job list false) refl
-turn-so g under ahead q (turn.Begins job back) list says =
+judged_turn-so g under ahead q turn.Again list says = none act.Again refl
+judged_turn-so g under ahead q (turn.Job job) list says = job-so g under ahead q job list says (gate g q under job list false) refl
+judged_turn-so g under ahead q (turn.Begins job back) list says =
     begin-so g under ahead q job back list says (gate g q ahead job list true) refl
-turn-so g under ahead q (turn.Passes back) list says = none (act.Passes back) refl
-turn-so g under ahead q (turn.NoWayBack fault) list says = none (act.NoWayBack fault) refl
-turn-so g under ahead q turn.Reached list says = none _ (over-quiet (with_list q list) under ahead)
-turn-so g under ahead q (turn.Stops why) list says = none _ (stop-quiet (with_list q list) (end.Stopped why))
+judged_turn-so g under ahead q (turn.Passes back) list says = none (act.Passes back) refl
+judged_turn-so g under ahead q (turn.NoWayBack fault) list says = none (act.NoWayBack fault) refl
+judged_turn-so g under ahead q turn.Reached list says = none _ (over-quiet (with_list q list) under ahead)
+judged_turn-so g under ahead q (turn.Stops why) list says = none _ (stop-quiet (with_list q list) (end.Stopped why))
 
-steps-so : (g : Guarded) (under ahead : Option Step) (q new : Sequence) (said : Act) → Steps g under ahead q said new
+judged_steps-so : (g : Guarded) (under ahead : Option Step) (q new : Sequence) (said : Act) → Steps g under ahead q said new
     → NamesSo g under ahead q new said
-steps-so g under ahead q new said (does.turns turned list says) = turn-so g under ahead q turned list says
+judged_steps-so g under ahead q new said (does.turns turned list says) = judged_turn-so g under ahead q turned list says
 
-pub acts-so : (g : Guarded) (under ahead : Option Step) (q new : Sequence) (said : Act) → Acts g under ahead q said new
+pub judged_acts-so : (g : Guarded) (under ahead : Option Step) (q new : Sequence) (said : Act) → Acts g under ahead q said new
     → NamesSo g under ahead q new said
-acts-so g under ahead q new said (does.ended why is) = none (act.Ended why) refl
-acts-so g under ahead q new said (does.steps said' new' on is says) = steps-so g under ahead q new said says
-acts-so g under ahead q new said (does.before on is) = none _ (look-quiet g q under)
-acts-so g under ahead q new said (does.after on is) = none _ (look-quiet g q under)
+judged_acts-so g under ahead q new said (does.ended why is) = none (act.Ended why) refl
+judged_acts-so g under ahead q new said (does.steps said' new' on is says) = judged_steps-so g under ahead q new said says
+judged_acts-so g under ahead q new said (does.before on is) = none _ (look-quiet g q under)
+judged_acts-so g under ahead q new said (does.after on is) = none _ (look-quiet g q under)
 
 job-of : (g : Guarded) (under ahead : Option Step) (q new : Sequence) (job : Job) → NamesSo g under ahead q new (act.Job job)
     → (list : List) × (Turns g (shown q ahead) q.list (turn.Job job) list × (new.list ≡ list) × IsJudged g q under job list)
@@ -267,8 +416,9 @@ begin-of g under ahead q new job back (none said quiet) = cc
 
 pub orders-judged : OrdersAreJudged
 orders-judged = record {
-  job = λ g under ahead q new job says. job-of g under ahead q new job (acts-so g under ahead q new (act.Job job) says);
-  begins = λ g under ahead q new job back says. begin-of g under ahead q new job back (acts-so g under ahead q new (act.Begins job back) says);
+  job = λ g under ahead q new job says. job-of g under ahead q new job (judged_acts-so g under ahead q new (act.Job job) says);
+  begins = λ g under ahead q new job back says. begin-of g under ahead q new job back
+      (judged_acts-so g under ahead q new (act.Begins job back) says);
 }
 
 -- ---- What is told ----
@@ -329,8 +479,329 @@ module _ (apart : CellsAreToldApart) where
 
   pub orders-told : OrdersAreTold
   orders-told = record {
-    job = λ g under ahead q new job says. job-told g under ahead q new job (acts-so g under ahead q new (act.Job job) says);
+    job = λ g under ahead q new job says. job-told g under ahead q new job (judged_acts-so g under ahead q new (act.Job job) says);
     begins = λ g under ahead q new job back says.
-        begin-told g under ahead q new job back (acts-so g under ahead q new (act.Begins job back) says);
-    tells = λ g under ahead q new job says. order-of g under ahead q new job (acts-so g under ahead q new (act.Order job) says);
+        begin-told g under ahead q new job back (judged_acts-so g under ahead q new (act.Begins job back) says);
+    tells = λ g under ahead q new job says. order-of g under ahead q new job (judged_acts-so g under ahead q new (act.Order job) says);
   }
+
+-- Which survey is fresh, act by act.
+
+-- ---- What begins anew ----
+
+abbrev IsUnread : FrameCourse → Type 0
+IsUnread course = (course.course.survey.learned ≡ false) × (course.course.survey.read ≡ nothing_read)
+
+abbrev made : List → Bool → Option FrameCourse → Option Under → List
+made q reading coming under = record q { stairs = record q.stairs { reading = reading; coming = coming; under = under } }
+
+unread-at : (q : List) (reading : Bool) (coming : Option FrameCourse) (under : Option Under)
+    → IfSome (course_open (afresh (made q reading coming under)).stairs) IsUnread
+unread-at q true None under = tt
+unread-at q true (Some course) under = (refl, refl)
+unread-at q false coming None = tt
+unread-at q false coming (Some under) = (refl, refl)
+
+unread : (q : List) → IfSome (course_open (afresh q).stairs) IsUnread
+unread q = unread-at q q.stairs.reading q.stairs.coming q.stairs.under
+
+module _ (g : Guarded) (under ahead : Option Step) (old : Sequence) where
+  abbrev Comes : Sequence → Act → Type 0
+  Comes new said = ComesFresh g ahead old new said
+
+  fresh_either : (b : Bool) (x y : Sequence) (this that : Act) → Comes x this → Comes y that → Comes (cond b x y) (cond b this that)
+  fresh_either true x y this that first second = first
+  fresh_either false x y this that first second = second
+
+  stop-so : (q : Sequence) (why : End) → q.fresh ≡ old.fresh → Comes (stopped_after q why) (stopped_act q why)
+  stop-so q why same =
+      fresh_either (q.leaves && may_leave why) (left_out q) (record q { end = Some why }) (act.Leaves why) (act.Ended why)
+      (ends (act.Leaves why) refl) (stays (act.Ended why) refl same)
+
+  before-so : (q : Sequence) (step : Option Step) → q.fresh ≡ old.fresh → Comes (look_before q step) act.Again
+  before-so q None same = stays act.Again refl same
+  before-so q (Some step) same = stays act.Again refl same
+
+  -- a job that reads, or an order
+  read-so : (job : Job) (list : List) → is_order job ≡ false → (b : Bool) → is_fresh old.fresh list.stairs.reading ≡ b
+      → Comes (record old { list = list; told = None; fresh = cond b old.fresh fresh.Nothing }) (act.Job job)
+  read-so job list quiet true own = reads job quiet refl own
+  read-so job list quiet false own = ends (act.Job job) refl
+
+  fresh_job-so : (job : Job) (list : List) (b : Bool) → is_order job ≡ b
+      → Comes (cond b (ordered_after old job list) (read_after old list)) (act.Job job)
+  fresh_job-so job list true is = ends (act.Job job) refl
+  fresh_job-so job list false is = read-so job list is (is_fresh old.fresh list.stairs.reading) refl
+
+  fresh_gate-so : (step : Option Step) (job : Job) (after : Sequence) (said : Act) (list : List) (x : Turn)
+      → Turns g (shown old ahead) old.list x list
+      → Comes after said → (is : Gate)
+      → Comes (gated_after (asked_of old list (is_begin x)) step is job after) (gated_act (asked_of old list (is_begin x)) is job said)
+  fresh_gate-so step job after said list x turned goes gate_is.Goes =
+      fresh_either (is_untold old.asks old.told job) (told_with (asked_of old list (is_begin x)) job) after (act.Order job) said
+      (stays (act.Order job) refl refl) goes
+  fresh_gate-so step job after said list x turned goes gate_is.Looks = before-so (asked_of old list (is_begin x)) step refl
+  fresh_gate-so step job after said list x turned goes (gate_is.Beyond fault) =
+      stop-so (asked_of old list (is_begin x)) (end.Beyond fault) refl
+  fresh_gate-so step job after said list x turned goes gate_is.Unjudged = stop-so (asked_of old list (is_begin x)) end.Unjudged refl
+  fresh_gate-so step job after said list x turned goes gate_is.Twice =
+      stop-so (asked_of old list (is_begin x)) (spent_end (asked_of old list (is_begin x))) refl
+  fresh_gate-so step job after said list x turned goes gate_is.Blind =
+      anew act.Again (record {
+        x = x;
+        list = list;
+        names = turned;
+        is = refl;
+        again = refl;
+        unread = unread (asked_of old list (is_begin x)).list;
+      })
+
+  ahead-so : (q : Sequence) (a : Option Step) → q.fresh ≡ old.fresh → Comes (ahead_after q a) (ahead_act q a)
+  ahead-so q None same = stays _ refl same
+  ahead-so q (Some step) same =
+      fresh_either (step.wait == 0 || q.is_waited) (record q { is_shown = true }) (record q { is_waited = true; fresh = fresh.Nothing })
+          act.Again
+      (act.Wait step.wait) (stays act.Again refl same) (ends (act.Wait step.wait) refl)
+
+  over-so : (q : Sequence) (u a : Option Step) → q.fresh ≡ old.fresh → Comes (over_after q u a) (over_act q u a)
+  over-so q None a same = ahead-so q a same
+  over-so q (Some step) a same =
+      fresh_either (needs_look q step) (looking_at q step) (ahead_after q a) act.Again (ahead_act q a) (stays act.Again refl same)
+          (ahead-so q a same)
+
+  again-by : (b : Bool) (x y : Sequence) → Comes x act.Again → Comes y act.Again → Comes (cond b x y) act.Again
+  again-by true x y first second = first
+  again-by false x y first second = second
+
+  fresh_turn-so : (x : Turn) (list : List) → Turns g (shown old ahead) old.list x list
+      → Comes (after_of g under ahead old x list) (act_of g under ahead old x list)
+  fresh_turn-so turn.Again list turned =
+      again-by (list.begun == old.list.begun) (with_list old list) (begun_with old list) (stays act.Again refl refl) (ends act.Again refl)
+  fresh_turn-so (turn.Job job) list turned =
+      fresh_gate-so under job (job_after old job list) (act.Job job) list (turn.Job job) turned (fresh_job-so job list (is_order job) refl)
+      (gate g old under job list false)
+  fresh_turn-so (turn.Begins job back) list turned =
+      fresh_gate-so ahead job (begun_by g old job list) (act.Begins job back) list (turn.Begins job back) turned
+          (ends (act.Begins job back) refl)
+      (gate g old ahead job list true)
+  fresh_turn-so (turn.Passes back) list turned = ends (act.Passes back) refl
+  fresh_turn-so (turn.NoWayBack fault) list turned = stays (act.NoWayBack fault) refl refl
+  fresh_turn-so turn.Reached list turned = over-so (with_list old list) under ahead refl
+  fresh_turn-so (turn.Stops why) list turned = stop-so (with_list old list) (end.Stopped why) refl
+
+  fresh_steps-so : (new : Sequence) (said : Act) → Steps g under ahead old said new → Comes new said
+  fresh_steps-so new said (does.turns x list turned) = fresh_turn-so x list turned
+
+  -- ---- A look ----
+
+  left-so : (q : Sequence) (why : End) → q.fresh ≡ fresh.Nothing → Comes (stopped_after q why) (stopped_act q why)
+  left-so q why gone =
+      fresh_either (q.leaves && may_leave why) (left_out q) (record q { end = Some why }) (act.Leaves why) (act.Ended why)
+      (ends (act.Leaves why) refl) (ends (act.Ended why) gone)
+
+  done-so : (q : Sequence) (found : Verdict) → q.fresh ≡ fresh.Nothing → Comes (done_after q under found) (done_act q under found)
+  done-so q found gone =
+      fresh_either (is_good under found) (record q { phase = phase.Steps; is_looked = true }) (stopped_after q (end.Does found))
+          (act.Does found)
+      (stopped_act q (end.Does found)) (ends (act.Does found) gone) (left-so q (end.Does found) gone)
+
+  fresh_found-so : (p : Phase) (q : Sequence) (found : Verdict) → q.fresh ≡ fresh.Nothing
+      → Comes (judged_in p q under found) (found_in p q under found)
+  fresh_found-so phase.Before q found gone = ends act.Again gone
+  fresh_found-so phase.Steps q found gone = done-so q found gone
+  fresh_found-so phase.After q found gone = done-so q found gone
+
+  fresh_said-so : (l : Look) (x : LookAct) → Comes (said_after g (with_look old l) under x) (said_act g (with_look old l) under x)
+  fresh_said-so l (look.Ask question) = ends (act.Ask question) refl
+  fresh_said-so l look.Probe = ends act.Probe refl
+  fresh_said-so l look.Pause = ends act.Pause refl
+  fresh_said-so l look.Again = ends act.Again refl
+  fresh_said-so l look.Restarted = left-so (with_look old l) (end.Stopped ended.Restarted) refl
+  fresh_said-so l look.Over = fresh_found-so old.phase (with_look old l) (verdict_in g l.delivery) refl
+
+  comes : (new : Sequence) (said : Act) → Acts g under ahead old said new → Comes new said
+  comes new said (does.ended why is) = stays (act.Ended why) refl refl
+  comes new said (does.steps said' new' on is says) = fresh_steps-so new said says
+  comes new said (does.before on is) =
+      fresh_said-so (look_after old.look g.host.setup.passes (due_in g old.look.delivery))
+      (look_act old.look g.host.setup.passes (due_in g old.look.delivery))
+  comes new said (does.after on is) =
+      fresh_said-so (look_after old.look g.host.setup.passes (due_in g old.look.delivery))
+      (look_act old.look g.host.setup.passes (due_in g old.look.delivery))
+
+fresh_job-of : (g : Guarded) (under ahead : Option Step) (q new : Sequence) (job : Job) → NamesSo g under ahead q new (act.Job job)
+    → is_on_order job ≡ true
+    → (list : List) × (Turns g (shown q ahead) q.list (turn.Job job) list × (is_fresh q.fresh list.stairs.reading ≡ true))
+fresh_job-of g under ahead q new job (a-job job' list says is so told own) on = (list, (says, own on))
+fresh_job-of g under ahead q new job (none said quiet) on = cc
+
+fresh_begin-of : (g : Guarded) (under ahead : Option Step) (q new : Sequence) (job : Job) (back : WordStep)
+    → NamesSo g under ahead q new (act.Begins job back) → is_on_order job ≡ true → is_fresh q.fresh true ≡ true
+fresh_begin-of g under ahead q new job back (a-begin job' back' list says is so told own) on = own on
+fresh_begin-of g under ahead q new job back (none said quiet) on = cc
+
+-- what is heard
+fresh-heard : (it : Fresh) (entry : Entry) → (fresh_heard it entry ≡ fresh.Nothing) ⊎ (fresh_heard it entry ≡ it)
+fresh-heard it (Got []) = inl refl
+fresh-heard it (Got (byte ∷ bytes)) = inr refl
+fresh-heard it (Finished acked) = inr refl
+fresh-heard it (Accepted job) = inr refl
+fresh-heard it Restarted = inr refl
+
+heard-so : (g after : Guarded) (old new : Sequence) (entry : Entry) (result : Result (Unit {0}) Untold) → Hears g old entry result after new
+    → (new.fresh ≡ fresh.Nothing) ⊎ (new.fresh ≡ old.fresh)
+heard-so g after old new entry result (hear.nothing shut) = inr refl
+heard-so g after old new entry result (hear.unheard course why opens hears) = inr refl
+heard-so g after old new entry result (hear.heard course is after' opens hears) = fresh-heard old.fresh entry
+
+silent-so : (g after : Guarded) (old new : Sequence) (entry : Entry) (result : Result (Unit {0}) Untold) → Hears g old entry result after new
+    → entry ≡ Got [] → result ≡ Ok tt → new.fresh ≡ fresh.Nothing
+silent-so g after old new entry result (hear.nothing shut) is ok = cc
+silent-so g after old new entry result (hear.unheard course why opens hears) is ok = cc
+silent-so g after old new entry result (hear.heard course it after' opens hears) is ok =
+    ap (λ (e : Entry). fresh_heard old.fresh e) is
+
+pub orders-fresh : OrdersAreFresh
+orders-fresh = record {
+  job = λ g under ahead q new job says on. fresh_job-of g under ahead q new job (judged_acts-so g under ahead q new (act.Job job) says) on;
+  begins = λ g under ahead q new job back says on.
+      fresh_begin-of g under ahead q new job back (judged_acts-so g under ahead q new (act.Begins job back) says) on;
+  heard = heard-so;
+  silent = λ g after old new hears. silent-so g after old new (Got []) (Ok tt) hears refl refl;
+  comes = λ g under ahead old new said says. comes g under ahead old new said says;
+}
+
+-- How many orders that turn its output on a step has, act by act.
+
+module _ (g : Guarded) (under ahead : Option Step) (old : Sequence) where
+  abbrev Counts : Sequence → Act → Type 0
+  Counts new said = CountsOn old new said
+
+  twice_either : (b : Bool) (x y : Sequence) (this that : Act) → Counts x this → Counts y that → Counts (cond b x y) (cond b this that)
+  twice_either true x y this that one other = one
+  twice_either false x y this that one other = other
+
+  twice_stop-so : (q : Sequence) (why : End) → q.turned_on ≡ old.turned_on → Counts (stopped_after q why) (stopped_act q why)
+  twice_stop-so q why same =
+      twice_either (q.leaves && may_leave why) (left_out q) (record q { end = Some why }) (act.Leaves why) (act.Ended why)
+      (keeps (act.Leaves why) refl same) (keeps (act.Ended why) refl same)
+
+  twice_before-so : (q : Sequence) (step : Option Step) → q.turned_on ≡ old.turned_on → Counts (look_before q step) act.Again
+  twice_before-so q None same = keeps act.Again refl same
+  twice_before-so q (Some step) same = keeps act.Again refl same
+
+  -- an order, where there were fewer than two
+  count-so : (had : ℕ) (it : Job) (on few : Bool) → is_on_order it ≡ on → nat_lt had 2 ≡ few → (on ≡ true → few ≡ true)
+      → (new : Sequence) → old.turned_on ≡ had → new.turned_on ≡ cond on (cond few (had + 1) 2) had → Counts new (act.Job it)
+  count-so had it true true on few may new was is =
+      counts it on (ap (λ (n : ℕ). nat_lt n 2) was ∙ few) (is ∙ ap (λ (n : ℕ). n + 1) (sym was))
+  count-so had it true false on few may new was is = let wrong : false ≡ true = may refl in cc
+  count-so had it false few on is-few may new was is = keeps (act.Job it) on (is ∙ sym was)
+
+  order-so : (it : Job) (list : List) → (is_on_order it ≡ true → nat_lt old.turned_on 2 ≡ true) → Counts (ordered_after old it list) (act.Job it)
+  order-so it list few =
+      count-so old.turned_on it (is_on_order it) (nat_lt old.turned_on 2) refl refl few (ordered_after old it list) refl refl
+
+  -- a job that is no order turns nothing on
+  quiet-so : (it : Job) → is_order it ≡ false → is_on_order it ≡ false
+  quiet-so (asked.Order cell word) is = cc
+  quiet-so (asked.OrderMicro cell x) is = cc
+  quiet-so (asked.Check cell) is = refl
+  quiet-so (asked.Learn output) is = refl
+  quiet-so (asked.Send command) is = refl
+
+  twice_job-so : (it : Job) (list : List) → (is_on_order it ≡ true → nat_lt old.turned_on 2 ≡ true) → (b : Bool) → is_order it ≡ b
+      → Counts (cond b (ordered_after old it list) (read_after old list)) (act.Job it)
+  twice_job-so it list few true is = order-so it list few
+  twice_job-so it list few false is = keeps (act.Job it) (quiet-so it is) refl
+
+  twice_gate-so : (step : Option Step) (it : Job) (list : List) (begins : Bool) (after : Sequence) (said : Act) → (is : Gate)
+      → (is ≡ gate_is.Goes → Counts after said)
+      → Counts (gated_after (asked_of old list begins) step is it after) (gated_act (asked_of old list begins) is it said)
+  twice_gate-so step it list begins after said gate_is.Goes goes =
+      twice_either (is_untold old.asks old.told it) (told_with (asked_of old list begins) it) after (act.Order it) said
+      (keeps (act.Order it) refl refl) (goes refl)
+  twice_gate-so step it list begins after said gate_is.Looks goes = twice_before-so (asked_of old list begins) step refl
+  twice_gate-so step it list begins after said (gate_is.Beyond fault) goes =
+      twice_stop-so (asked_of old list begins) (end.Beyond fault) refl
+  twice_gate-so step it list begins after said gate_is.Unjudged goes = twice_stop-so (asked_of old list begins) end.Unjudged refl
+  twice_gate-so step it list begins after said gate_is.Blind goes = keeps act.Again refl refl
+  twice_gate-so step it list begins after said gate_is.Twice goes =
+      twice_stop-so (asked_of old list begins) (spent_end (asked_of old list begins)) refl
+
+  twice_ahead-so : (q : Sequence) (a : Option Step) → q.turned_on ≡ old.turned_on → Counts (ahead_after q a) (ahead_act q a)
+  twice_ahead-so q None same = keeps _ refl same
+  twice_ahead-so q (Some step) same =
+      twice_either (step.wait == 0 || q.is_waited) (record q { is_shown = true }) (record q { is_waited = true; fresh = fresh.Nothing })
+          act.Again
+      (act.Wait step.wait) (keeps act.Again refl same) (keeps (act.Wait step.wait) refl same)
+
+  twice_over-so : (q : Sequence) (u a : Option Step) → q.turned_on ≡ old.turned_on → Counts (over_after q u a) (over_act q u a)
+  twice_over-so q None a same = twice_ahead-so q a same
+  twice_over-so q (Some step) a same =
+      twice_either (needs_look q step) (looking_at q step) (ahead_after q a) act.Again (ahead_act q a) (keeps act.Again refl same)
+          (twice_ahead-so q a same)
+
+  twice_again-by : (list : List) (b : Bool) → (list.begun == old.list.begun) ≡ b
+      → Counts (cond b (with_list old list) (begun_with old list)) act.Again
+  twice_again-by list true is = keeps act.Again refl refl
+  twice_again-by list false is = at_once (eqb-false list.begun old.list.begun is) refl
+
+  twice_turn-so : (x : Turn) (list : List) → Counts (after_of g under ahead old x list) (act_of g under ahead old x list)
+  twice_turn-so turn.Again list = twice_again-by list (list.begun == old.list.begun) refl
+  twice_turn-so (turn.Job it) list =
+      twice_gate-so under it list false (job_after old it list) (act.Job it) (gate g old under it list false)
+      (λ goes. twice_job-so it list (few-by g old under it list goes) (is_order it) refl)
+  twice_turn-so (turn.Begins it back) list =
+      twice_gate-so ahead it list true (begun_by g old it list) (act.Begins it back) (gate g old ahead it list true)
+          (λ goes. twice_first it back refl)
+  twice_turn-so (turn.Passes back) list = passes back refl
+  twice_turn-so (turn.NoWayBack fault) list = keeps (act.NoWayBack fault) refl refl
+  twice_turn-so turn.Reached list = twice_over-so (with_list old list) under ahead refl
+  twice_turn-so (turn.Stops why) list = twice_stop-so (with_list old list) (end.Stopped why) refl
+
+  -- ---- A look ----
+
+  twice_done-so : (q : Sequence) (found : Verdict) → q.turned_on ≡ old.turned_on
+      → Counts (done_after q under found) (done_act q under found)
+  twice_done-so q found same =
+      twice_either (is_good under found) (record q { phase = phase.Steps; is_looked = true }) (stopped_after q (end.Does found))
+          (act.Does found)
+      (stopped_act q (end.Does found)) (keeps (act.Does found) refl same) (twice_stop-so q (end.Does found) same)
+
+  twice_found-so : (p : Phase) (q : Sequence) (found : Verdict) → q.turned_on ≡ old.turned_on
+      → Counts (judged_in p q under found) (found_in p q under found)
+  twice_found-so phase.Before q found same = keeps act.Again refl same
+  twice_found-so phase.Steps q found same = twice_done-so q found same
+  twice_found-so phase.After q found same = twice_done-so q found same
+
+  twice_said-so : (l : Look) (x : LookAct) → Counts (said_after g (with_look old l) under x) (said_act g (with_look old l) under x)
+  twice_said-so l (look.Ask question) = keeps (act.Ask question) refl refl
+  twice_said-so l look.Probe = keeps act.Probe refl refl
+  twice_said-so l look.Pause = keeps act.Pause refl refl
+  twice_said-so l look.Again = keeps act.Again refl refl
+  twice_said-so l look.Restarted = twice_stop-so (with_look old l) (end.Stopped ended.Restarted) refl
+  twice_said-so l look.Over = twice_found-so old.phase (with_look old l) (verdict_in g l.delivery) refl
+
+  twice_steps-so : (new : Sequence) (said : Act) → Steps g under ahead old said new → Counts new said
+  twice_steps-so new said (does.turns x list turned) = twice_turn-so x list
+
+  counts-so : (new : Sequence) (said : Act) → Acts g under ahead old said new → Counts new said
+  counts-so new said (does.ended why is) = keeps (act.Ended why) refl refl
+  counts-so new said (does.steps said' new' on is says) = twice_steps-so new said says
+  counts-so new said (does.before on is) =
+      twice_said-so (look_after old.look g.host.setup.passes (due_in g old.look.delivery))
+      (look_act old.look g.host.setup.passes (due_in g old.look.delivery))
+  counts-so new said (does.after on is) =
+      twice_said-so (look_after old.look g.host.setup.passes (due_in g old.look.delivery))
+      (look_act old.look g.host.setup.passes (due_in g old.look.delivery))
+
+twice_heard-so : (g after : Guarded) (old new : Sequence) (entry : Entry) (result : Result (Unit {0}) Untold)
+    → Hears g old entry result after new
+    → new.turned_on ≡ old.turned_on
+twice_heard-so g after old new entry result (hear.nothing shut) = refl
+twice_heard-so g after old new entry result (hear.unheard course why opens hears) = refl
+twice_heard-so g after old new entry result (hear.heard course is after' opens hears) = refl
+
+pub stops-at-two : OrdersStopAtTwo
+stops-at-two = record { acts = counts-so; heard = twice_heard-so }

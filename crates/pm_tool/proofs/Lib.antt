@@ -1,12 +1,4 @@
-pub mod EndLemmas
-pub mod GivenOptions
-mod LackingLemmas
-pub mod LogLemmas
+pub mod Texts
+pub mod Options
 pub mod OneText
-pub mod PartLemmas
-pub mod RangeLemmas
-pub mod RefusalLemmas
-pub mod ScriptLemmas
-pub mod SetupLemmas
-pub mod StatusLemmas
-pub mod TellLemmas
+pub mod Refusals

@@ -22,7 +22,7 @@ pub(super) enum LineEvent {
 /// What a line that is not skipped asks, with the bytes of its frame, if any. X1 for more words
 /// after `restart` or after a `/`, X2 for a frame that isn't hexadecimal, X6 if memory for the
 /// bytes was refused.
-#[tactic(auto, using(crate::proofs::ScriptLemmas::uncut), unfolding(crate::specs::Script::line_event))]
+#[tactic(auto, using(crate::proofs::Texts::uncut), unfolding(crate::specs::Script::line_event))]
 pub(super) fn read_event(line: Line<'_>, frame: &mut Vec<u8>) -> Result<LineEvent, TextFault>
     ensures event { IfOk result (λ event.
         line_event (line.entry.number, line.entry.text.now) ≡ Ok (event_of event frame.new.items)) }

@@ -1,4 +1,4 @@
-use Rattle.pm_course_laws.proofs.ProgressBeside.{get-there-beside}
+use Rattle.pm_course_laws.proofs.Beside.{get-there-beside}
 use Rattle.pm_course_laws.proofs.laws.frame_courses_get_there_beside.Goals as goal
 
 pub returns : goal.returns

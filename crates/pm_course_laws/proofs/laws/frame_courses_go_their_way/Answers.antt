@@ -1,4 +1,4 @@
-use Rattle.pm_course_laws.proofs.Calls.{go-their-way}
+use Rattle.pm_course_laws.proofs.Worth.{go-their-way}
 use Rattle.pm_course_laws.proofs.laws.frame_courses_go_their_way.Goals as goal
 
 pub returns : goal.returns

@@ -1,4 +1,4 @@
-use Rattle.pm_course_laws.proofs.FramesBeside.{hold-beside}
+use Rattle.pm_course_laws.proofs.Beside.{hold-beside}
 use Rattle.pm_course_laws.proofs.laws.frame_courses_hold_beside.Goals as goal
 
 pub returns : goal.returns

@@ -1,4 +1,4 @@
-use Rattle.pm_course_laws.proofs.Calls.{hold-in-lives}
+use Rattle.pm_course_laws.proofs.Worth.{hold-in-lives}
 use Rattle.pm_course_laws.proofs.laws.frame_courses_hold_in_lives.Goals as goal
 
 pub returns : goal.returns

@@ -1,4 +1,4 @@
-use Rattle.pm_course_laws.proofs.Between.{keep-between}
+use Rattle.pm_course_laws.proofs.Beside.{keep-between}
 use Rattle.pm_course_laws.proofs.laws.frame_courses_keep_between_beside.Goals as goal
 
 pub returns : goal.returns

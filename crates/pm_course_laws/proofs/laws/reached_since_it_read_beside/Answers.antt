@@ -1,4 +1,4 @@
-use Rattle.pm_course_laws.proofs.ReachedBeside.{reached-beside}
+use Rattle.pm_course_laws.proofs.Beside.{reached-beside}
 use Rattle.pm_course_laws.proofs.laws.reached_since_it_read_beside.Goals as goal
 
 pub returns : goal.returns

@@ -4,10 +4,7 @@ use Rattle.pm_lines.specs.Engine.{over}
 use Rattle.pm_log.specs.Texts.{Kept, ended, finished, log_end, log_text}
 use Rattle.pm_log.specs.Verdicts.{end_of, verdict_text}
 use Rattle.pm_log.specs.declared.checking.LogEnd.TheVariants.{Refused}
-use Rattle.pm_log.proofs.EmptyLog.{empty_end}
-use Rattle.pm_log.proofs.EndLemmas.{all_said, front_said}
-use Rattle.pm_log.proofs.Pieces.{all_now, none_now, room_now}
-use Rattle.pm_log.proofs.TextLemmas.{finished_is}
+use Rattle.pm_log.proofs.Texts.{empty_end, all_said, front_said, all_now, none_now, room_now, finished_is}
 use Rattle.pm_log.proofs.checking.check_all.Goals as goal
 
 pub returns-in_err-put : goal.returns-in_err-put

@@ -2,7 +2,7 @@
 use Rattle.std.proofs.Common.{◌++◌, [], ap, rules, arith}
 use Rattle.std.proofs.lemmas.Result.{err_from_is_err_and}
 use Rattle.pm_log.specs.Texts.{Kept}
-use Rattle.pm_log.proofs.Pieces.{broken, grown, room_now, taken_more, taken_none}
+use Rattle.pm_log.proofs.Texts.{broken, grown, room_now, taken_more, taken_none}
 use Rattle.pm_log.proofs.checking.take_all.Goals as goal
 
 pub reads-init : goal.reads-init

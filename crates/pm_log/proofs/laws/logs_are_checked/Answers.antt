@@ -1,6 +1,5 @@
-use Rattle.pm_log.proofs.Claims.{accepts, refuses, says}
-use Rattle.pm_log.proofs.TextLemmas.{text_lines}
-use Rattle.pm_log.proofs.Trust.{Below}
+use Rattle.pm_log.proofs.Follow.{accepts, refuses, says, Below}
+use Rattle.pm_log.proofs.Texts.{text_lines}
 use Rattle.pm_log.proofs.laws.logs_are_checked.Goals as goal
 
 pub returns : goal.returns

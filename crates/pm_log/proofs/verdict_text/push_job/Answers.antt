@@ -1,6 +1,6 @@
 use Rattle.std.proofs.Common.{◌≡◌, ◌∙◌, ◌++◌, ℕ, List, OnOk, ap, append_assoc, codes, string_bytes, subst}
 use Rattle.pm_log.specs.Verdicts.{no_job}
-use Rattle.pm_log.proofs.Pushes.{pushed}
+use Rattle.pm_log.proofs.Texts.{pushed}
 use Rattle.pm_log.proofs.verdict_text.push_job.Goals as goal
 
 pub returns : goal.returns

@@ -1,7 +1,7 @@
 use Rattle.std.proofs.Common.{◌≡◌, ◌∙◌, ◌++◌, ℕ, List, OnOk, ap, append_assoc, codes, string_bytes, subst}
 use Rattle.std.specs.Prelude.{decimal}
 use Rattle.pm_log.specs.Verdicts.{output_text}
-use Rattle.pm_log.proofs.Pushes.{pushed}
+use Rattle.pm_log.proofs.Texts.{pushed}
 use Rattle.pm_log.proofs.verdict_text.push_output.Goals as goal
 
 pub returns : goal.returns

@@ -1,7 +1,7 @@
 use Rattle.std.proofs.Common.{◌∙◌, ◌++◌, ap, string_bytes}
 use Rattle.pm_log.specs.Lacks.{part_at}
 use Rattle.pm_log.specs.Verdicts.{trusted_at}
-use Rattle.pm_log.proofs.TrustedText.{trusted_more, trusted_none}
+use Rattle.pm_log.proofs.Follow.{trusted_more, trusted_none}
 use Rattle.pm_log.proofs.verdict_text.push_trusted.Goals as goal
 
 pub loop-addr-init : goal.loop-addr-init

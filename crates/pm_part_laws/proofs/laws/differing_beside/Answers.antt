@@ -1,4 +1,4 @@
-use Rattle.pm_part_laws.proofs.Moves.{never-took}
+use Rattle.pm_part_laws.proofs.Knowledge.{never-took}
 use Rattle.pm_part_laws.proofs.laws.differing_beside.Goals as goal
 
 pub returns : goal.returns

@@ -1,4 +1,4 @@
-use Rattle.pm_part_laws.proofs.Exact.{exact}
+use Rattle.pm_part_laws.proofs.Knowledge.{exact}
 use Rattle.pm_part_laws.proofs.laws.exact_beside.Goals as goal
 
 pub returns : goal.returns

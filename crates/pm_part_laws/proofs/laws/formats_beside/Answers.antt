@@ -1,4 +1,4 @@
-use Rattle.pm_part_laws.proofs.Formats.{formats}
+use Rattle.pm_part_laws.proofs.Knowledge.{formats}
 use Rattle.pm_part_laws.proofs.laws.formats_beside.Goals as goal
 
 pub returns : goal.returns

@@ -1,4 +1,4 @@
-use Rattle.pm_part_laws.proofs.HonestOrders.{honest-through}
+use Rattle.pm_part_laws.proofs.Knowledge.{honest-through}
 use Rattle.pm_part_laws.proofs.laws.honest_orders_beside.Goals as goal
 
 pub returns : goal.returns

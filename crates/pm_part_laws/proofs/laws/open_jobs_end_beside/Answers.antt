@@ -1,4 +1,4 @@
-use Rattle.pm_part_laws.proofs.OpenJobs.{open-jobs-end}
+use Rattle.pm_part_laws.proofs.Alike.{open-jobs-end}
 use Rattle.pm_part_laws.proofs.laws.open_jobs_end_beside.Goals as goal
 
 pub returns : goal.returns

@@ -1,4 +1,4 @@
-use Rattle.pm_part_laws.proofs.OwnWords.{command-own}
+use Rattle.pm_part_laws.proofs.Limits.{command-own}
 use Rattle.pm_part_laws.proofs.laws.own_words_beside.Goals as goal
 
 pub returns : goal.returns

@@ -1,4 +1,4 @@
-use Rattle.pm_part_laws.proofs.Parts.{parts-stay}
+use Rattle.pm_part_laws.proofs.Knowledge.{parts-stay}
 use Rattle.pm_part_laws.proofs.laws.parts_stay_parts.Goals as goal
 
 pub returns : goal.returns

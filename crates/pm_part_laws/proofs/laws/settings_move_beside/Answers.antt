@@ -1,4 +1,4 @@
-use Rattle.pm_part_laws.proofs.Moves.{parts-move}
+use Rattle.pm_part_laws.proofs.Knowledge.{parts-move}
 use Rattle.pm_part_laws.proofs.laws.settings_move_beside.Goals as goal
 
 pub returns : goal.returns

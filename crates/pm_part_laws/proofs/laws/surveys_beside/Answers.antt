@@ -1,4 +1,4 @@
-use Rattle.pm_part_laws.proofs.Surveys.{surveys}
+use Rattle.pm_part_laws.proofs.Limits.{surveys}
 use Rattle.pm_part_laws.proofs.laws.surveys_beside.Goals as goal
 
 pub returns : goal.returns

@@ -1,4 +1,4 @@
-use Rattle.pm_sequence_laws.proofs.Fresh.{orders-fresh}
+use Rattle.pm_sequence_laws.proofs.Judged.{orders-fresh}
 use Rattle.pm_sequence_laws.proofs.laws.orders_are_fresh.Goals as goal
 
 pub returns : goal.returns

@@ -1,4 +1,4 @@
-use Rattle.pm_sequence_laws.proofs.Twice.{stops-at-two}
+use Rattle.pm_sequence_laws.proofs.Judged.{stops-at-two}
 use Rattle.pm_sequence_laws.proofs.laws.orders_stop_at_two.Goals as goal
 
 pub returns : goal.returns

@@ -17,7 +17,7 @@ use Rattle.pm_tool.specs.Lacking.{lacks_asked}
 use Rattle.pm_tool.specs.Question.{text_at}
 use Rattle.pm_tool.specs.Telling.{HasTexts, is_any}
 use Rattle.pm_tool.specs.declared.commandline.telling.TellTexts.{TellTexts}
-use Rattle.pm_tool.proofs.GivenOptions.{first_text, number_met, number_passes, row}
+use Rattle.pm_tool.proofs.Options.{first_text, number_met, number_passes, row}
 use Rattle.pm_tool.proofs.commandline.chosen.Goals as goal
 
 -- the subcommand that the parser meets is chosen if the parser finds no fault, unless memory ran out

@@ -1,5 +1,5 @@
 use Rattle.std.proofs.Common.{codes, refl, inr}
-use Rattle.pm_tool.proofs.EndLemmas.{said_as}
+use Rattle.pm_tool.proofs.Texts.{said_as}
 use Rattle.pm_tool.proofs.execution.done_with.Goals as goal
 
 pub returns-in-Err-clause-done : goal.returns-in-Err-clause-done

@@ -1,5 +1,5 @@
 use Rattle.std.proofs.Common.{codes, refl, inl, inr}
-use Rattle.pm_tool.proofs.EndLemmas.{cut, ended, said_as}
+use Rattle.pm_tool.proofs.Texts.{cut, ended, said_as}
 use Rattle.pm_tool.specs.Execution.{Printed, CutShort}
 use Rattle.pm_tool.proofs.execution.print_whole.Goals as goal
 

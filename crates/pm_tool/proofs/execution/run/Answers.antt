@@ -4,7 +4,7 @@ use Rattle.clap.specs.Words.{fault_of}
 use Rattle.pm_tool.specs.Refusals.{no_words, no_words_status}
 use Rattle.pm_tool.specs.Commandline.{pmb}
 use Rattle.pm_tool.specs.Execution.{Refused}
-use Rattle.pm_tool.proofs.EndLemmas.{usage_ends}
+use Rattle.pm_tool.proofs.Texts.{usage_ends}
 use Rattle.pm_tool.proofs.execution.run.Goals as goal
 
 pub returns-in-Err : goal.returns-in-Err

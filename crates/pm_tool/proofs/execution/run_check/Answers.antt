@@ -1,6 +1,6 @@
 use Rattle.std.proofs.Common.{refl}
 use Rattle.pm_tool.specs.Execution.{Refused, bad_lacks}
-use Rattle.pm_tool.proofs.EndLemmas.{said_as}
+use Rattle.pm_tool.proofs.Texts.{said_as}
 use Rattle.pm_tool.proofs.execution.run_check.Goals as goal
 
 pub returns-in-None : goal.returns-in-None

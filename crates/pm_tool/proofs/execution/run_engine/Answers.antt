@@ -1,5 +1,5 @@
 use Rattle.pm_tool.specs.Execution.{CommandRuns}
-use Rattle.pm_tool.proofs.TellLemmas.{command_refused, command_wrote}
+use Rattle.pm_tool.proofs.Texts.{command_refused, command_wrote}
 use Rattle.pm_tool.proofs.execution.run_engine.Goals as goal
 
 pub returns-in-Ok : goal.returns-in-Ok

@@ -1,6 +1,6 @@
 use Rattle.std.proofs.Common.{ap, Err}
 use Rattle.pm_tool.specs.NumberFaults.{refusal_words}
-use Rattle.pm_tool.proofs.EndLemmas.{numbered, number_refused, said_as}
+use Rattle.pm_tool.proofs.Texts.{numbered, number_refused, said_as}
 use Rattle.pm_tool.proofs.execution.run_number.Goals as goal
 
 pub returns-in-Ok : goal.returns-in-Ok

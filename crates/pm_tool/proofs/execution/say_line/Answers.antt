@@ -1,6 +1,6 @@
 use Rattle.std.proofs.Common.{◌∙◌, subst}
 use Rattle.pm_tool.specs.Refusals.{Says}
-use Rattle.pm_tool.proofs.TellLemmas.{line_of_pieces}
+use Rattle.pm_tool.proofs.Texts.{line_of_pieces}
 use Rattle.pm_tool.proofs.execution.say_line.Goals as goal
 
 pub returns : goal.returns

@@ -1,6 +1,6 @@
 use Rattle.std.proofs.Common.{◌∙◌, subst}
 use Rattle.pm_tool.specs.Refusals.{Says}
-use Rattle.pm_tool.proofs.TellLemmas.{too_long_line}
+use Rattle.pm_tool.proofs.Texts.{too_long_line}
 use Rattle.pm_tool.proofs.execution.say_too_long.Goals as goal
 
 pub returns : goal.returns

@@ -1,7 +1,7 @@
 use Rattle.std.proofs.Common.{Err, refl}
 use Rattle.pm_tool.specs.Execution.{Refused}
 use Rattle.pm_tool.specs.Telling.{tell_fault_status, tell_fault_words}
-use Rattle.pm_tool.proofs.EndLemmas.{said_as}
+use Rattle.pm_tool.proofs.Texts.{said_as}
 use Rattle.pm_tool.proofs.execution.tell_given.Goals as goal
 
 pub returns-in-Err : goal.returns-in-Err

@@ -1,7 +1,7 @@
 use Rattle.std.proofs.Common.{◌∙◌, [], ◌∷◌, ◌++◌, length, ap, arith}
 use Rattle.pm_tool.specs.LineEvent.{event_of}
 use Rattle.pm_tool.specs.Script.{events_in}
-use Rattle.pm_tool.proofs.ScriptLemmas.{events-more, held-more, lines-more, prepended, unskipped-some}
+use Rattle.pm_tool.proofs.Texts.{events-more, held-more, lines-more, prepended, unskipped-some}
 use Rattle.pm_tool.proofs.script.answer_lines.Goals as goal
 
 pub returns-in_err-event-clause-memory : goal.returns-in_err-event-clause-memory

@@ -2,7 +2,7 @@ use Rattle.std.proofs.Common.{◌≡◌, ◌≤◌, List, length}
 use Rattle.pm_device.specs.Effect.{Event}
 use Rattle.pm_lines.specs.Lines.{unskipped_from}
 use Rattle.pm_tool.specs.Script.{event_lines, events_in, held_after}
-use Rattle.pm_tool.proofs.ScriptLemmas.{prepended}
+use Rattle.pm_tool.proofs.Texts.{prepended}
 use Rattle.pm_tool.proofs.script.answer_lines.Given as goal
 
 -- the events of the lines so far were heard, and their lines are the text

@@ -1,6 +1,6 @@
 use Rattle.std.proofs.Common.{inl, inr}
 use Rattle.std.proofs.lemmas.Result.{err_from_is_err_and}
-use Rattle.pm_tool.proofs.ScriptLemmas.{answered-text, printed-fault}
+use Rattle.pm_tool.proofs.Texts.{answered-text, printed-fault}
 use Rattle.pm_tool.proofs.script.answers_to.Goals as goal
 
 pub returns-in_err-lines-clause-fault : goal.returns-in_err-lines-clause-fault

@@ -1,4 +1,4 @@
-use Rattle.pm_tool.proofs.LogLemmas.{log_refused, log_wrote}
+use Rattle.pm_tool.proofs.Texts.{log_refused, log_wrote}
 use Rattle.pm_tool.proofs.text_commands.run_check.Goals as goal
 
 pub returns-in-Ok : goal.returns-in-Ok

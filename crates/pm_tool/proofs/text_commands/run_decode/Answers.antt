@@ -1,6 +1,6 @@
 use Rattle.pm_trace.specs.Outcome.{decoding}
 use Rattle.pm_tool.specs.Execution.{decode_status}
-use Rattle.pm_tool.proofs.EndLemmas.{engine_refused, engine_wrote}
+use Rattle.pm_tool.proofs.Texts.{engine_refused, engine_wrote}
 use Rattle.pm_tool.proofs.text_commands.run_decode.Goals as goal
 
 pub returns-in-Ok : goal.returns-in-Ok

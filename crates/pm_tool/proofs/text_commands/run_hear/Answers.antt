@@ -1,6 +1,6 @@
 use Rattle.std.proofs.Common.{refl}
 use Rattle.pm_tool.specs.Outcome.{hearing}
-use Rattle.pm_tool.proofs.EndLemmas.{engine_refused, engine_wrote}
+use Rattle.pm_tool.proofs.Texts.{engine_refused, engine_wrote}
 use Rattle.pm_tool.proofs.text_commands.run_hear.Goals as goal
 
 pub returns-in-Ok : goal.returns-in-Ok

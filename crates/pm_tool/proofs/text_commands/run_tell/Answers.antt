@@ -1,4 +1,4 @@
-use Rattle.pm_tool.proofs.TellLemmas.{tell_refused, tell_wrote}
+use Rattle.pm_tool.proofs.Texts.{tell_refused, tell_wrote}
 use Rattle.pm_tool.proofs.text_commands.run_tell.Goals as goal
 
 pub returns-in-Ok : goal.returns-in-Ok

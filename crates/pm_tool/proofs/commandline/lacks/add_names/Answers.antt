@@ -1,7 +1,7 @@
 use Rattle.std.proofs.Common.{◌∙◌, ap, rules, sym}
 use Rattle.pm_tool.specs.Lacking.{lacks_names}
 use Rattle.pm_tool.specs.Question.{items}
-use Rattle.pm_tool.proofs.LackingLemmas.{fewer_names, last_name, no_name, one_name}
+use Rattle.pm_tool.proofs.Options.{fewer_names, last_name, no_name, one_name}
 use Rattle.pm_tool.proofs.commandline.lacks.add_names.Goals as goal
 
 pub returns-then-not-add_name : goal.returns-then-not-add_name

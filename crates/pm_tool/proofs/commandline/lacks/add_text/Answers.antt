@@ -1,5 +1,5 @@
 use Rattle.std.proofs.Common.{◌∙◌, sym}
-use Rattle.pm_tool.proofs.LackingLemmas.{too_many}
+use Rattle.pm_tool.proofs.Options.{too_many}
 use Rattle.pm_tool.proofs.commandline.lacks.add_text.Goals as goal
 
 pub returns-then-is_some : goal.returns-then-is_some

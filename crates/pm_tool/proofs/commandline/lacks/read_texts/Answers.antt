@@ -1,6 +1,6 @@
 use Rattle.std.proofs.Common.{◌∙◌, ap, option_map, sym}
 use Rattle.pm_tool.specs.Lacking.{lacks_in}
-use Rattle.pm_tool.proofs.LackingLemmas.{no_text, one_text}
+use Rattle.pm_tool.proofs.Options.{no_text, one_text}
 use Rattle.pm_tool.proofs.commandline.lacks.read_texts.Goals as goal
 
 pub returns-then-not-add_text : goal.returns-then-not-add_text

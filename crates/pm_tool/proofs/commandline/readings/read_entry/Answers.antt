@@ -2,7 +2,7 @@ use Rattle.std.proofs.Common.{◌≡◌, ◌∙◌, ◌∷◌, ℕ, List, Option
 use Rattle.pm_lines.specs.Digits.{hex_of}
 use Rattle.pm_tool.specs.Question.{Text, is_colon}
 use Rattle.pm_tool.specs.ReadingList.{entry_by, entry_from}
-use Rattle.pm_tool.proofs.PartLemmas.{some_parts}
+use Rattle.pm_tool.proofs.Options.{some_parts}
 use Rattle.pm_tool.proofs.commandline.readings.read_entry.Goals as goal
 
 pub returns-in-Some-read_byte : goal.returns-in-Some-read_byte

@@ -4,7 +4,7 @@ use Rattle.pm_trace.specs.declared.formats.GivenFormat.{GivenFormat}
 use Rattle.pm_tool.specs.Question.{Text, is_comma, items, text_at}
 use Rattle.pm_tool.specs.ReadingList.{Entry, entries_in, entries_left, if_any}
 use Rattle.pm_tool.specs.declared.commandline.readings.Listed.{Listed}
-use Rattle.pm_tool.proofs.PartLemmas.{some_parts}
+use Rattle.pm_tool.proofs.Options.{some_parts}
 use Rattle.pm_tool.proofs.commandline.readings.read_list.Goals as goal
 
 -- four entries before others

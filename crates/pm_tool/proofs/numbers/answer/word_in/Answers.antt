@@ -5,7 +5,7 @@ use Rattle.pm_num.specs.Nearest.{IsOutside}
 use Rattle.pm_num.specs.Ratio.{AtMost, IsBetween, Ratio, micros}
 use Rattle.pm_tool.specs.NumberText.{RefusesValue}
 use Rattle.pm_tool.specs.declared.numbers.question.Asked.{Asked}
-use Rattle.pm_tool.proofs.RangeLemmas.{refused_outside}
+use Rattle.pm_tool.proofs.Texts.{refused_outside}
 use Rattle.pm_tool.proofs.numbers.answer.word_in.Goals as goal
 
 pub returns-in_ok-micro-in-Nearest-clause-refused : goal.returns-in_ok-micro-in-Nearest-clause-refused

@@ -1,4 +1,4 @@
-use Rattle.pm_tool.proofs.PartLemmas.{cut_at_comma}
+use Rattle.pm_tool.proofs.Options.{cut_at_comma}
 use Rattle.pm_tool.proofs.numbers.question.first_item.Goals as goal
 
 pub returns : goal.returns

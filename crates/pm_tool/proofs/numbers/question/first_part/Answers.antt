@@ -1,4 +1,4 @@
-use Rattle.pm_tool.proofs.PartLemmas.{cut_at_colon}
+use Rattle.pm_tool.proofs.Options.{cut_at_colon}
 use Rattle.pm_tool.proofs.numbers.question.first_part.Goals as goal
 
 pub returns : goal.returns

@@ -1,6 +1,6 @@
 use Rattle.std.proofs.Common.{◌∙◌, ◌∷◌, List, ap, codes, sym}
 use Rattle.pm_tool.specs.Question.{Text, format_by}
-use Rattle.pm_tool.proofs.PartLemmas.{direct_parts}
+use Rattle.pm_tool.proofs.Options.{direct_parts}
 use Rattle.pm_tool.proofs.numbers.question.read_direct.Goals as goal
 
 pub returns-clause-named : goal.returns-clause-named

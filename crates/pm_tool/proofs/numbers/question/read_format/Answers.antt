@@ -2,7 +2,7 @@ use Rattle.std.proofs.Common.{◌≡◌, ◌≢◌, ◌∙◌, ◌∷◌, Bool, 
 use Rattle.std.specs.Str.{bytes_eq}
 use Rattle.std.proofs.lemmas.Slice.Eq.{bytes_eq-Decides}
 use Rattle.pm_tool.specs.Question.{Text, format_by, parts}
-use Rattle.pm_tool.proofs.PartLemmas.{other_parts, ulinear16_parts}
+use Rattle.pm_tool.proofs.Options.{other_parts, ulinear16_parts}
 use Rattle.pm_tool.proofs.numbers.question.read_format.Goals as goal
 
 -- texts that aren't equal compare as unequal

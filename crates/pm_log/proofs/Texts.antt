@@ -1,25 +1,85 @@
--- The lines of a text, as its bytes come.
-use Rattle.std.proofs.Common.{arith, ◌≡◌, ◌≤◌, ◌+◌, ℕ, suc, Bool, true, false, List, [], ◌∷◌, ◌++◌, length, take, Option, Some, None, Result, Ok, Err, refl, sym, ◌∙◌, ap, subst, append_assoc, cond, append-nil}
-use Rattle.std.specs.Prelude.{map, nat_lt, reverse}
+-- The text of a log as its bytes come, in any pieces, up to its end.
+use Rattle.std.specs.Fmt.{digits}
+use Rattle.std.specs.Io.KnownBytes.{Appends, Consumes, IsAtEnd}
 use Rattle.std.specs.List.{enumerate_from, fold}
-use Rattle.std.proofs.lemmas.Bool.Decides.{nat_tests}
-use Rattle.std.proofs.lemmas.Grind.{fold-append}
-use Rattle.std.proofs.lemmas.List.{length-append, length-take, reverse-append, take-append-le, take_all}
-use Rattle.pm_lines.specs.Lines.{has_bytes, is_line_feed, without_empty_last}
-use Rattle.pm_trace.specs.Marks.{ended, since}
-use Rattle.pm_trace.specs.Lemmas.Marks.{ended-mark, ended-other, since-mark, since-other, split-ended}
-use Rattle.pm_trace.specs.Lemmas.Said.{last_kept}
-use Rattle.pm_text.specs.declared.scenario.fault.ScenarioFault.{ScenarioFault}
-use Rattle.pm_limits.specs.declared.part_registers.PartRegisters.{PartRegisters}
-use Rattle.pm_log.specs.Laws.{TextLines, known_by, known_of, ok_line}
-use Rattle.pm_log.specs.Lines.{said}
-use Rattle.pm_log.specs.Logs.{Checked, Known, at_end, has_head, judged, known_with, line_said, max_line, no_line, nothing, or_refused, read_judged, with_line}
-use Rattle.pm_log.specs.Texts.{Kept, checked_lines, ended as ended_log, finished, kept_of, line_with, log_of, no_byte, raw_lines, with_byte}
-use Rattle.pm_log.specs.declared.checked.Refusal.{Refusal}
+use Rattle.std.specs.Prelude.{map, nat_lt, reverse, if◌then◌else◌, is_ok}
+use Rattle.std.proofs.{lemmas.Bool.Decides.nat_tests, lemmas.Grind.fold-append}
+use Rattle.std.proofs.Common.{◌≡◌, List, [], refl, codes, ◌↔◌, ℕ, Ok, Err, IsFalse, IsTrue, subst, arith, ◌≤◌, ◌+◌, suc, Bool, true, false}
+use Rattle.std.proofs.Common.{◌∷◌, ◌++◌, length, take, Option, Some, None, Result, sym, ◌∙◌, ap, append_assoc, cond, append-nil, OnOk}
+use Rattle.std.proofs.KnownBytes.{Consumes-nil, Consumes-trans}
+use Rattle.std.proofs.lemmas.List.{length-append, length-take, reverse-append, take-append-le, take_all, nil_from_length}
 use Rattle.pm_host.specs.Summary.{Summary}
-use Rattle.pm_log.specs.declared.fault.LogFault.{LogFault}
-use Rattle.pm_log.specs.declared.fault.LogFault.TheVariants.{Line}
-use Rattle.pm_log.specs.declared.log_line.LogLine.{LogLine}
+use Rattle.pm_limits.specs.declared.part_registers.PartRegisters.{PartRegisters}
+use Rattle.pm_lines.specs.{Engine.Run, Streams.AppendsFront, declared.fault.TextFault.TextFault}
+use Rattle.pm_lines.specs.Lines.{has_bytes, is_line_feed, without_empty_last}
+use Rattle.pm_lines.specs.declared.fault.TextFault.TheVariants.{Syntax, BadHex, TooLong, Read, Write, Memory, Setup}
+use Rattle.pm_trace.specs.Lemmas.Said.{last_kept}
+use Rattle.pm_trace.specs.Lemmas.Marks.{ended-mark, ended-other, since-mark, since-other, split-ended}
+use Rattle.pm_trace.specs.Marks.{ended, since}
+use Rattle.pm_text.specs.declared.scenario.fault.ScenarioFault.{ScenarioFault}
+use Rattle.pm_log.specs.{Lines.said, Verdicts.refusal_text, declared.checked.Refusal.Refusal, declared.checking.LogEnd.LogEnd}
+use Rattle.pm_log.specs.{declared.checking.LogEnd.TheVariants.Refused, declared.fault.LogFault.LogFault}
+use Rattle.pm_log.specs.{declared.fault.LogFault.TheVariants.Line, declared.log_line.LogLine.LogLine}
+use Rattle.pm_log.specs.Laws.{TextLines, known_by, known_of, ok_line}
+use Rattle.pm_log.specs.Logs.{Checked, Known, at_end, has_head, judged, known_with, line_said, max_line, no_line, nothing, or_refused}
+use Rattle.pm_log.specs.Logs.{read_judged, with_line}
+use Rattle.pm_log.specs.TakenLogs.{StopsPiece, Taken, TakesPiece}
+use Rattle.pm_log.specs.Texts.{log_end, log_of, log_text, Breaks, IsAll, LogEnds, Kept, checked_lines, ended as ended_log, finished}
+use Rattle.pm_log.specs.Texts.{kept_of, line_with, no_byte, raw_lines, with_byte, most_bytes}
+
+-- What is written of a log of no bytes.
+
+pub empty_text : (allowed : List PartRegisters) → codes "line 1: no #log line stands before it\n" ≡ log_text allowed []
+unfolding log_of refusal_text digits
+empty_text allowed = refl
+
+pub empty_end : (allowed : List PartRegisters) → Refused ≡ log_end allowed []
+unfolding log_of
+empty_end allowed = refl
+
+-- How a check of a log ends, by what was read and what was written.
+
+module _ {R W : Type 0} (allowed : List PartRegisters) (run : Run R W) where
+  abbrev All : List ℕ → Type 0
+  All input = IsAll (run.remaining run.reader.inner) (run.remaining run.reader'.inner) input
+
+  -- the line of the whole log was written
+  pub all_said : IsFalse run.reader'.failed → IsFalse run.writer'.failed → (input text : List ℕ) (end : LogEnd) → All input →
+      end ≡ log_end allowed input → text ≡ log_text allowed input → Appends (run.contents run.writer.inner) (run.contents run.writer'.inner) text →
+      LogEnds allowed run (Ok end)
+  all_said read sound input text end gave is same got = (
+    read,
+    sound,
+    input,
+    gave,
+    is,
+    subst (λ (l : List ℕ). Appends (run.contents run.writer.inner) (run.contents run.writer'.inner) l) same got,
+  )
+
+  -- a strict front of it was
+  pub front_said : IsFalse run.reader'.failed → IsTrue run.writer'.failed → (input text : List ℕ) → All input →
+      text ≡ log_text allowed input → AppendsFront (run.contents run.writer.inner) (run.contents run.writer'.inner) text →
+      LogEnds allowed run (Err Write)
+  front_said read failed input text gave same got = (
+    read,
+    failed,
+    input,
+    gave,
+    subst (λ (l : List ℕ). AppendsFront (run.contents run.writer.inner) (run.contents run.writer'.inner) l) same got,
+  )
+
+  -- nothing was
+  pub none_said : (fault : TextFault) → run.writer' ≡ run.writer → IsTrue run.reader'.failed ↔ (fault ≡ Read) →
+      Breaks (run.remaining run.reader.inner) (run.remaining run.reader'.inner) fault → LogEnds allowed run (Err fault)
+  none_said Write same failed never = absurd never
+  none_said TooLong same failed why = (same, failed, why)
+  none_said Read same failed why = (same, failed, why)
+  none_said Memory same failed why = (same, failed, why)
+  none_said (Syntax line) same failed never = absurd never
+  none_said (BadHex line) same failed never = absurd never
+  none_said (Setup reason) same failed never = absurd never
+
+-- The lines of a text, as its bytes come.
 
 -- ---- a line that is too long
 
@@ -41,8 +101,8 @@ short_more : (n : ℕ) (line : List ℕ) (byte : ℕ) → nat_lt n (length line)
 short_more n line byte short = let size = length-append line (byte ∷ []) in grind (arith, nat_tests)
 
 -- say what the line says
-front_said : (number : ℕ) (line : List ℕ) → line_said (number, kept_front line) ≡ line_said (number, line)
-front_said number line = go (nat_lt max_line (length line)) refl
+lemmas_front_said : (number : ℕ) (line : List ℕ) → line_said (number, kept_front line) ≡ line_said (number, line)
+lemmas_front_said number line = go (nat_lt max_line (length line)) refl
   where
     go : (b : Bool) → nat_lt max_line (length line) ≡ b → line_said (number, kept_front line) ≡ line_said (number, line)
     go true long = rw (long, long_front max_line line long) refl
@@ -50,7 +110,8 @@ front_said number line = go (nat_lt max_line (length line)) refl
 
 front_known : (log : Result Known Refusal) (number : ℕ) (line : List ℕ) → known_with log (number, kept_front line) ≡ known_with log (number, line)
 front_known (Err refusal) number line = refl
-front_known (Ok known) number line = ap (λ (r : Result LogLine ScenarioFault). or_refused number (read_judged number known r)) (front_said number line)
+front_known (Ok known) number line =
+    ap (λ (r : Result LogLine ScenarioFault). or_refused number (read_judged number known r)) (lemmas_front_said number line)
 
 front_line : (checked : Checked) (line : List ℕ) → with_line checked (kept_front line) ≡ with_line checked line
 unfolding with_line
@@ -251,3 +312,71 @@ text_lines allowed text known is =
       read = found.read;
       come = ap (known_of allowed) (sym (append-nil (reverse found.said))) ∙ found.come;
     }
+
+-- What was taken of a reader, with a piece more, and at its end.
+
+-- nothing was read yet
+pub taken_none : (allowed : List PartRegisters) (r : Option (List ℕ)) (kept : Kept) → kept ≡ no_byte allowed → Taken allowed r r [] kept
+taken_none allowed r kept fresh = record { given = Consumes-nil r; kept_is = fresh; short = omega arith }
+
+module _ (allowed : List PartRegisters) (r0 r1 : Option (List ℕ)) (front : List ℕ) (old : Kept) (taken : Taken allowed r0 r1 front old) where
+  -- as many bytes were taken as the reader gave
+  pub taken_now : old.taken ≡ length front
+  taken_now = ap (λ (k : Kept). k.taken) taken.kept_is ∙ taken_is allowed front
+
+  pub room_now : old.taken ≤ most_bytes
+  room_now = let now = taken_now in let short = taken.short in omega (arith, now, short)
+
+  -- the reader has no more
+  pub all_now : IsAtEnd r1 → IsAll r0 r1 front
+  all_now ended = record { given = taken.given; ended = ended; short = taken.short }
+
+  -- nothing was taken
+  pub none_now : old.taken ≡ 0 → front ≡ []
+  none_now none = nil_from_length front (sym taken_now ∙ none)
+
+  module _ (r2 : Option (List ℕ)) where
+    -- a piece more
+    pub taken_more : (new : Kept) (count : ℕ) (piece : TakesPiece r1 r2 old new count) → Taken allowed r0 r2 (front ++ piece.bytes) new
+    taken_more new count piece =
+        let now = taken_now in
+        let size = length-append front piece.bytes in
+        let room = piece.room in
+        record {
+          given = Consumes-trans r0 r1 r2 front piece.bytes taken.given piece.given;
+          kept_is = piece.taken_is ∙ ap (λ (k : Kept). fold with_byte k piece.bytes) taken.kept_is ∙ kept_more allowed front piece.bytes;
+          short = omega (arith, now, size, room);
+        }
+
+    -- why no more is taken
+    pub broken : (fault : TextFault) → StopsPiece r1 r2 old fault → Breaks r0 r2 fault
+    broken TooLong (bytes, more, given) =
+        let now = taken_now in
+        let size = length-append front bytes in
+        (front ++ bytes, omega (arith, now, size, more), Consumes-trans r0 r1 r2 front bytes taken.given given)
+    broken Read given =
+        (front, subst (λ (l : List ℕ). Consumes r0 r2 l) (append-nil front) (Consumes-trans r0 r1 r2 front [] taken.given given))
+    broken Memory (bytes, some, given) =
+        let size = length-append front bytes in
+        (front ++ bytes, omega (arith, size, some), Consumes-trans r0 r1 r2 front bytes taken.given given)
+    broken Write never = absurd never
+    broken (Syntax line) never = absurd never
+    broken (BadHex line) never = absurd never
+    broken (Setup reason) never = absurd never
+
+-- a piece more is as many bytes more
+pub grown : (allowed : List PartRegisters) (r0 r1 r2 : Option (List ℕ)) (front : List ℕ) (old new : Kept) (taken : Taken allowed r0 r1 front old) (count : ℕ) →
+    TakesPiece r1 r2 old new count → new.taken ≡ old.taken + count
+grown allowed r0 r1 r2 front old new taken count piece =
+    let before = taken_now allowed r0 r1 front old taken in
+    let after = taken_now allowed r0 r2 (front ++ piece.bytes) new (taken_more allowed r0 r1 front old taken r2 new count piece) in
+    let size = length-append front piece.bytes in
+    let same = piece.count_is in
+    omega (arith, before, after, size, same)
+
+-- What a call that pushes text leaves.
+
+-- a call that ended well appended the text
+pub pushed : {T E : Type 0} (r : Result T E) (new old added : List ℕ) → new ≡ (if is_ok r then old ++ added else old) → OnOk r (new ≡ old ++ added)
+pushed (Ok done) new old added is = is
+pushed (Err fault) new old added is = tt
