@@ -870,7 +870,7 @@ module _ (laws : Given) (config : Config) (passes : ℕ) (part : PartRegisters) 
         NamesNames limits c is later job
     names-known formed planned same named =
         let way-same : way_to part limits (names_at later) c formed ≡ names_way_of c =
-            ap (λ (p : Option Wanted). with_plan c.course p) planned in
+        ap (λ (p : Option Wanted). with_plan c.course p) planned in
         let next' : next_of part limits (names_at later) (names_way_of c) ≡ said.Job job =
         subst (λ (y : Course). next_of part limits (names_at later) y ≡ said.Job job) way-same named.next in
         let r = renewed part limits (names_at later) (names_way_of c) in
@@ -885,7 +885,7 @@ module _ (laws : Given) (config : Config) (passes : ℕ) (part : PartRegisters) 
           after = way-is formed r named after ∙ (ap (λ (y : Course). naming y (said.Job job)) (own-plan r plan r-plan) ∙ sym after');
           same = same-is formed r same named after
               (renewed-so (λ (y : Course). y.survey.output ≡ c.course.survey.output) part limits (names_at later) (names_way_of c) refl
-                  refl)
+              refl)
               (renewed-so (λ (y : Course). y.byte ≡ c.course.byte) part limits (names_at later) (names_way_of c) refl refl);
         }
 

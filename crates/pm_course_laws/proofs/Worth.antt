@@ -279,35 +279,35 @@ module _ (laws : Given) (config : Config) (passes : ℕ) (part : PartRegisters) 
       Unknown l limits f formed
   unknown limits l f formed r r-is same lived are =
       by f.course.survey.learned refl (format_at (nothing_at l) f.course.survey.output) refl where
-    as-such : format_now (nothing_at l) f.course ≡ None → formed ≡ words
-    as-such none =
-        let is : r ≡ Ok (wanted_in f.course.survey.plan) =
-        subst (λ (x : Option Shape). AreFormed x (wanted_in f.course.survey.plan) f.voltages r) none are in
-        let both : Ok formed ≡ Ok words =
-        sym r-is ∙ (is ∙ ap (λ (p : Option Wanted). ok (wanted_in p)) same.plan') in
-        cc
+        as-such : format_now (nothing_at l) f.course ≡ None → formed ≡ words
+        as-such none =
+            let is : r ≡ Ok (wanted_in f.course.survey.plan) =
+            subst (λ (x : Option Shape). AreFormed x (wanted_in f.course.survey.plan) f.voltages r) none are in
+            let both : Ok formed ≡ Ok words =
+            sym r-is ∙ (is ∙ ap (λ (p : Option Wanted). ok (wanted_in p)) same.plan') in
+            cc
 
-    by : (b : Bool) → f.course.survey.learned ≡ b → (g : Option Shape) →
-        format_at (nothing_at l) f.course.survey.output ≡ g → Unknown l limits f formed
-    by false e g i = record { unlearned = inl e; formed_is = as-such (rw e refl) }
-    by true e None i = record { unlearned = inr i; formed_is = as-such (rw e i) }
-    by true e (Some shape) i = absurd (so formed-ok.0) where
-      now-is : format_now (nothing_at l) f.course ≡ Some shape
-      now-is = ap (λ (b : Bool). if b then format_at (nothing_at l) f.course.survey.output else None) e ∙ i
+        by : (b : Bool) → f.course.survey.learned ≡ b → (g : Option Shape) →
+            format_at (nothing_at l) f.course.survey.output ≡ g → Unknown l limits f formed
+        by false e g i = record { unlearned = inl e; formed_is = as-such (rw e refl) }
+        by true e None i = record { unlearned = inr i; formed_is = as-such (rw e i) }
+        by true e (Some shape) i = absurd (so formed-ok.0) where
+          now-is : format_now (nothing_at l) f.course ≡ Some shape
+          now-is = ap (λ (b : Bool). if b then format_at (nothing_at l) f.course.survey.output else None) e ∙ i
 
-      shape-is : shape ≡ shape_for config output
-      shape-is = (laws.formats.agree config passes (l ++ before) spelled lived).held output shape
-          (sym (ap (λ (o : ℕ). format_at (nothing_at l) o) same.output) ∙ i)
+          shape-is : shape ≡ shape_for config output
+          shape-is = (laws.formats.agree config passes (l ++ before) spelled lived).held output shape
+              (sym (ap (λ (o : ℕ). format_at (nothing_at l) o) same.output) ∙ i)
 
-      formed-ok : AreFormed (Some shape) (wanted_in f.course.survey.plan) f.voltages (Ok formed)
-      formed-ok = subst (λ (x : Result Wanted Refusal). AreFormed (Some shape) (wanted_in f.course.survey.plan) f.voltages x) r-is
-          (subst (λ (x : Option Shape). AreFormed x (wanted_in f.course.survey.plan) f.voltages r) now-is are)
+          formed-ok : AreFormed (Some shape) (wanted_in f.course.survey.plan) f.voltages (Ok formed)
+          formed-ok = subst (λ (x : Result Wanted Refusal). AreFormed (Some shape) (wanted_in f.course.survey.plan) f.voltages x) r-is
+              (subst (λ (x : Option Shape). AreFormed x (wanted_in f.course.survey.plan) f.voltages r) now-is are)
 
-      so : None ≡ meant_faults shape f.voltages → ⊥
-      so h =
-          let never : None ≡ Some refusal = h ∙ (ap (λ (x : Shape). meant_faults x f.voltages) shape-is
-          ∙ (ap (λ (v : Voltages). meant_faults (shape_for config output) v) same.voltages ∙ faults)) in
-          cc
+          so : None ≡ meant_faults shape f.voltages → ⊥
+          so h =
+              let never : None ≡ Some refusal = h ∙ (ap (λ (x : Shape). meant_faults x f.voltages) shape-is
+              ∙ (ap (λ (v : Voltages). meant_faults (shape_for config output) v) same.voltages ∙ faults)) in
+              cc
 
   nothing_names : (limits : OutputLimits) (f g : FrameCourse) (l : List Event) (job : Asked) → NothingSame f
       → IsLived config passes (l ++ before) →
@@ -327,7 +327,7 @@ module _ (laws : Given) (config : Config) (passes : ℕ) (part : PartRegisters) 
       let u = unknown limits l f n.formed said'.words n.words_are same lived' said'.formed in
       subst (λ (j : Asked). is_reading j ≡ true)
       (says.due-is part limits (nothing_at l) (says.way_to part limits (nothing_at l) f n.formed) job n.idle same.byte u.unlearned
-          n.named.next) refl
+      n.named.next) refl
 
   pub unformed-order-nothing : (c : FrameCourse) (own : Bool) (later : List Event) → IsLived config passes (later ++ before) →
       BeginsFrames config passes part nothing_begun c own later before → OrdersNothing config passes output later before
@@ -506,7 +506,7 @@ module _ (laws : Given) (config : Config) (passes : ℕ) (part : PartRegisters) 
     plain : is_turning (on_at later) c.course t.named ≡ false → t.named ≡ job → Leads c is later event job
     plain off is' = says.named-leads laws.followed laws.lives config passes part on_begun before None limits c is later event job
         (names-known laws config passes part on_begun before None limits c is later job all.formed (on_planned c all.formed same) same
-            (record {
+        (record {
           next = t.next ∙ ap (λ (j : Asked). said.Job j) is';
           course = t.course ∙ ap (λ (j : Asked). asking_for c.course (after_next part limits (on_at later)
               (says.way_to part limits (on_at later) c all.formed)) j job) is';
@@ -527,7 +527,7 @@ module _ (laws : Given) (config : Config) (passes : ℕ) (part : PartRegisters) 
     other : turning c.course byte (protect_in (on_at later) c.course) ≡ Ok job → Leads c is later event job
     other is' =
         let may : IsElse part x.survey.output byte job =
-            is-else (on_at later) c job (selected-had c later event job same had.0 asked') is' in
+        is-else (on_at later) c job (selected-had c later event job same had.0 asked') is' in
         record {
           same = record {
             output = ap (λ (y : Course). y.survey.output) course-is

@@ -4,10 +4,10 @@ ghost use Rattle.std.specs.Prelude.{◌≡◌, ◌≢◌, IsSomeAnd};
 ghost use Rattle.pm_frame.specs.Layout.{IsAnswer};
 ghost use Rattle.pm_memory.specs.Packets.{answer_number, payload_of, packet_message, HasPayload};
 
+use pm_frame::{fits, read_answer};
 use pm_memory::answer::PayloadImage;
 use pm_memory::numbers::{ACCEPTED, NO_ADDRESS, NO_PACKET};
 use pm_memory::packet::PacketImage;
-use pm_frame::{fits, read_answer};
 use pm_table::address_ok;
 
 /// What the bytes that came back after a request say, the read address first: their PEC covers the request too. E3h,

@@ -9,13 +9,13 @@ ghost use Rattle.pm_memory.specs.Guard.{guard_of};
 ghost use Rattle.pm_memory.specs.CourseImage.{course_image, course_in, course_version};
 ghost use Rattle.pm_memory.specs.Sizes.{course_size};
 
+use pm_course::{FrameCourse, Wishes};
+use pm_host::{HostFault, Told};
 use pm_memory::course::{
     CourseJobImage, accept, hand_out, tell, tell_and_send, voltage_of, would_begin,
 };
 use pm_memory::host_step::HostStep;
 use pm_memory::numbers::{ACCEPTED, NO_COURSE};
-use pm_course::{FrameCourse, Wishes};
-use pm_host::{HostFault, Told};
 use pm_memory::{CourseEndImage, CourseImage, GuardImage, SendingImage, WantedImage};
 use std::mem::size_of;
 

@@ -11,10 +11,10 @@ ghost use Rattle.pm_memory.specs.Memory.{IsMemory};
 ghost use Rattle.pm_memory.specs.Sizes.{host_size, library_version};
 ghost use Rattle.pm_memory.specs.Host.{new_number, memory_number, after, BeginsJob};
 
-use pm_memory::host::{begin, start_with};
-use pm_memory::numbers::{ACCEPTED, NO_HOST};
 use pm_host::{Command, HostImage, Job};
 use pm_limits::PartRegisters;
+use pm_memory::host::{begin, start_with};
+use pm_memory::numbers::{ACCEPTED, NO_HOST};
 use pm_memory::{GuardImage, RegistersImage};
 use pm_table::{Code, cell_of};
 use std::mem::size_of;

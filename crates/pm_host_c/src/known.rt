@@ -5,10 +5,10 @@ ghost use Rattle.pm_table.specs.Cell.{cell_at};
 ghost use Rattle.pm_host.specs.Image.{host_of};
 ghost use Rattle.pm_memory.specs.Host.{cell_number, IsStanding, IsPossible, seen_number};
 
-use pm_memory::known::{counted, flagged};
-use pm_memory::numbers::{ACCEPTED, NO_CELL, NO_HOST};
 use pm_host::{HostFault, StandingImage, WordsImage};
 use pm_memory::GuardImage;
+use pm_memory::known::{counted, flagged};
+use pm_memory::numbers::{ACCEPTED, NO_CELL, NO_HOST};
 use pm_table::{Code, cell_of};
 
 /// What is known of a cell's word. E0h, E1h, H4.

@@ -5,9 +5,9 @@ ghost use Rattle.pm_host.specs.Image.{host_of};
 ghost use Rattle.pm_memory.specs.Host.{memory_number};
 ghost use Rattle.pm_memory.specs.Known.{IsKnownOf};
 
+use pm_memory::GuardImage;
 use pm_memory::known_cells::{KnownCells, fill};
 use pm_memory::numbers::{ACCEPTED, NO_HOST};
-use pm_memory::GuardImage;
 
 /// What is known of every cell. E0h.
 #[unsafe(no_mangle)]

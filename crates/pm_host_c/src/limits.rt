@@ -7,10 +7,10 @@ ghost use Rattle.pm_memory.specs.Guard.{guard_of, limits_held};
 ghost use Rattle.pm_memory.specs.Memory.{IsMemory};
 ghost use Rattle.pm_memory.specs.Limits.{band_number, limits_number, narrow_number, unlimited_number, within_number, IsEnds};
 
-use pm_memory::limits::{BandImage, of_within, put_band_of, within_in};
-use pm_memory::numbers::{ACCEPTED, NO_HOST, NO_LIMITS};
 use pm_host::HostFault;
 use pm_limits::{LimitFault, NewLimits, OutputLimits, narrower_limits};
+use pm_memory::limits::{BandImage, of_within, put_band_of, within_in};
+use pm_memory::numbers::{ACCEPTED, NO_HOST, NO_LIMITS};
 use pm_memory::{GuardImage, LimitsImage};
 
 /// Gives an output narrower limits; an output without any takes these. E0h, H4, N5, L1, L6, then H3 if an order of the

@@ -8,10 +8,10 @@ ghost use Rattle.pm_frame.specs.PlainRead.{IsPlainAnswer};
 ghost use Rattle.pm_memory.specs.Paged.{paged_answer, paged_number, read_paged_number, size_asked, IsPagedSending};
 ghost use Rattle.pm_memory.specs.Packets.{HasBlock, block_of, plain_read_number, read_number};
 
-use pm_memory::numbers::{ACCEPTED, NO_ADDRESS, NO_PACKET};
-use pm_memory::other_read::{BlockImage, asked_size, whole_answer};
 use pm_frame::{MOST_READ, is_carried, paged_request, read_block, read_paged, read_plain};
 use pm_memory::SendingImage;
+use pm_memory::numbers::{ACCEPTED, NO_ADDRESS, NO_PACKET};
+use pm_memory::other_read::{BlockImage, asked_size, whole_answer};
 use pm_table::address_ok;
 
 /// What came back for a block read of a code, the read address first, then the count. E3h, F1 to F5.

@@ -7,10 +7,10 @@ ghost use Rattle.pm_frame.specs.Pec.{pec_of};
 ghost use Rattle.pm_memory.specs.Sending.{IsSending};
 ghost use Rattle.pm_memory.specs.Packets.{packet_message, read_number, written_number};
 
-use pm_memory::numbers::{ACCEPTED, NO_ADDRESS, NO_PACKET};
-use pm_memory::packet::{PacketImage, packet_of};
 use pm_frame::{fits, pec, read_request, read_write};
 use pm_memory::SendingImage;
+use pm_memory::numbers::{ACCEPTED, NO_ADDRESS, NO_PACKET};
+use pm_memory::packet::{PacketImage, packet_of};
 use pm_table::address_ok;
 
 /// The packet error code of bytes, of any number.

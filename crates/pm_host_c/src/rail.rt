@@ -6,10 +6,10 @@ ghost use Rattle.pm_memory.specs.Guard.{guard_of};
 ghost use Rattle.pm_memory.specs.Rail.{IsRail};
 ghost use Rattle.pm_memory.specs.Voltages.{output_number};
 
-use pm_memory::numbers::{ACCEPTED, NO_HOST};
-use pm_memory::rail::{RailImage, rail_in};
 use pm_host::HostFault;
 use pm_memory::GuardImage;
+use pm_memory::numbers::{ACCEPTED, NO_HOST};
+use pm_memory::rail::{RailImage, rail_in};
 
 /// What an output commands, by what is known: whether it is on, its band and whether that lies within its limits, and which
 /// register has its voltage. E0h, H4.

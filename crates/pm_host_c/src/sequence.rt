@@ -8,12 +8,12 @@ ghost use Rattle.pm_memory.specs.Sequence.{sequence_begun, HearsIn, NextIn, Read
 ghost use Rattle.pm_memory.specs.Sizes.{sequence_size};
 ghost use Rattle.pm_memory.specs.SequenceImage.{sequence_version};
 
+use pm_host::Told;
 use pm_memory::host_step::HostStep;
 use pm_memory::judgement::{JudgementImage, judge_in, refusal};
 use pm_memory::numbers::ACCEPTED;
 use pm_memory::sequence::{begun, next, read_ended, tell};
 use pm_memory::sequence_step::{SequenceRecordImage, SequenceStepImage};
-use pm_host::Told;
 use pm_memory::{GuardImage, SendingImage, SequenceImage};
 use std::mem::size_of;
 

@@ -5,9 +5,9 @@ ghost use Rattle.pm_host.specs.Transcript.{Finished, Got};
 ghost use Rattle.pm_memory.specs.Host.{TellsHost, IsSent, memory_number};
 ghost use Rattle.pm_host.specs.Image.{host_of};
 
+use pm_host::Told;
 use pm_memory::host_step::HostStep;
 use pm_memory::told::{put_frame, tell};
-use pm_host::Told;
 use pm_memory::{GuardImage, SendingImage};
 
 /// The frame that is to be sent now. E0h if the memory holds no host; then, and if no job is

@@ -10,9 +10,9 @@ ghost use Rattle.pm_host.specs.Summary.{format_at};
 ghost use Rattle.pm_memory.specs.Format.{format_meant, IsFormat};
 ghost use Rattle.pm_memory.specs.Voltages.{at_least_number, at_most_number, output_number, value_number, word_number, IsFloor};
 
+use pm_host::{HostFault, nearest_word};
 use pm_memory::numbers::{ACCEPTED, NO_HOST};
 use pm_memory::voltages::put_floor;
-use pm_host::{HostFault, nearest_word};
 use pm_memory::{FormatNumbers, GuardImage};
 use pm_num::{NumFormat, at_least, at_most};
 

@@ -49,12 +49,12 @@ ghost use Rattle.pm_part_laws.specs.OwnWords.{CommandsOwn, commands};
 ghost use Rattle.pm_part_laws.specs.Surveys.{AreRead, IsOneValue};
 ghost use Rattle.pm_law_tests.specs.Beside.{GuardedLife, IsLeft, LedTo, PartLife, ReachedIsHeld, both_in};
 
-use pm_log::{Act, Claim, check};
-use pm_log_laws::accepted_claims_hold_beside;
 use pm_course_laws::frame_courses_hold_beside;
 use pm_device::{Config, Converter, Ending, Heard};
 use pm_host::{Host, HostFault, Job, Possible, Standing};
 use pm_limits::{Band, PartRegisters, band_of, whole_parts_miss_nothing};
+use pm_log::{Act, Claim, check};
+use pm_log_laws::accepted_claims_hold_beside;
 use pm_num::{AnyFormat, Frac};
 use pm_part_laws::{
     bands_beside, confirmed_beside, differing_beside, exact_beside, formats_beside,

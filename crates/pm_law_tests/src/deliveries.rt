@@ -11,9 +11,9 @@ ghost use Rattle.pm_law_tests.specs.Beside.{PartLife, both_in};
 ghost use Rattle.pm_law_tests.specs.Deliveries.{LookLife, LooksAt};
 
 use pm_delivery::{Delivery, Question, Reading, Verdict, answer_of, request};
-use pm_sequence_laws::delivers_beside;
 use pm_device::{Converter, Ending};
 use pm_rail::Power;
+use pm_sequence_laws::delivers_beside;
 use pm_world::answer_in;
 
 /// A look begins beside a part, after whatever happened there.

@@ -9,11 +9,11 @@ ghost use Rattle.pm_part_laws.specs.Happenings.{beside};
 ghost use Rattle.pm_sequence_laws.specs.CourseCalls.{StepsOn, StepsTold, StepsToldOn, is_answered};
 ghost use Rattle.pm_law_tests.specs.Exports.{CourseLife, IsOf};
 
+use pm_host::Told;
 use pm_memory::course::{hand_out, tell, tell_and_send};
 use pm_memory::host_step::HostStep;
-use pm_sequence_laws::exports_are_steps_beside;
-use pm_host::Told;
 use pm_memory::{CourseImage, GuardImage, SendingImage};
+use pm_sequence_laws::exports_are_steps_beside;
 
 /// A frame that is handed out is one of the course beside the part, or begins the job that the course says.
 pub fn a_frame_of_a_course(

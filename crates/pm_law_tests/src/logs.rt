@@ -25,12 +25,12 @@ ghost use Rattle.pm_world.specs.Setup.{setup_of};
 ghost use Rattle.pm_world.specs.Uncertainty.{AreOpen, since_restart};
 
 use crate::further::run_all;
+use pm_device::Config;
 use pm_log::{Act, Claim, check};
 use pm_log_laws::{
     accepted_claims_are_held, accepted_claims_stay, accepted_voltages_stay,
     unknown_claims_are_open, unknown_voltages_are_open,
 };
-use pm_device::Config;
 use pm_world::{Event, SetupFault, World};
 
 /// The converter held each claimed word at the host's last good answer for its cell, and holds it unless it restarted

@@ -5,10 +5,11 @@ ghost use Rattle.pm_law_tests.specs.Beside.{LedTo, PartLife};
 ghost use Rattle.pm_law_tests.specs.Restarts.{LiesBetween, LiesBetweenBeside, WritesWishes, WritesWishesBeside};
 
 use crate::further::run_all;
-use pm_course_laws::{frame_courses_go_their_way, frame_courses_keep_between_beside};
+use pm_course_laws::{
+    courses_keep_between, frame_courses_go_their_way, frame_courses_keep_between_beside,
+};
 use pm_device::{Config, Converter};
 use pm_host::Host;
-use pm_course_laws::courses_keep_between;
 use pm_world::{Event, SetupFault, World};
 
 /// Runs the events; `None` if one isn't taken. The output of a course to wanted words commands a value between its start value and what

@@ -3,8 +3,8 @@
 ghost use Rattle.pm_log_laws.specs.Checked.{AcceptedClaimsAreHeld, AcceptedClaimsStay, AcceptedVoltagesStay, UnknownClaimsAreOpen, UnknownVoltagesAreOpen};
 ghost use Rattle.pm_log_laws.specs.CheckedBeside.{AcceptedClaimsHoldBeside};
 
-use pm_log::logs_are_transcripts;
 use pm_host::{possible_words_are_followed, transcripts_are_followed};
+use pm_log::logs_are_transcripts;
 use pm_part_laws::same_settings_live_alike;
 use pm_table::cells_are_told_apart;
 use pm_world::{

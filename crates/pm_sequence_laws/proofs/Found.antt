@@ -281,7 +281,7 @@ module _ (steps : Places) (was : Sequence) where
 
     ahead-kind : (q : Sequence) → q.list.begun ≡ was.list.begun → q.is_shown ≡ was.is_shown → q.is_looked ≡ was.is_looked → q.left ≡ was.left
         → q.end ≡ None → (must (under_at steps was.list.begun) ≡ true → was.is_looked ≡ true) → (a : Option SequenceStep)
-            → steps was.list.begun ≡ a
+        → steps was.list.begun ≡ a
         → Kind steps was (ahead_after q a) (marks_of (ahead_after q a).list.begun (ahead_act q a))
     ahead-kind q begun shows looks lefts off seen None is =
         ends begun seen lefts is (λ e. sym lefts ∙ end-by q.left (q.left == 0) refl e) (λ e. sym shows ∙ e) (λ e. sym looks ∙ e)
@@ -721,7 +721,7 @@ module _ (steps : Places) (short : Short steps) (tries : ℕ) (rules : Rules) wh
       kept steps short before old _ (invariant before old runs) _ (refuse-kind steps old g job named fault after says names)
   invariant marks q (run.hears before old new runs hears) =
       kept steps short before old new (invariant before old runs) []
-          (acted_quiet hears.begun (λ e. sym hears.shown ∙ e) (λ e. sym hears.looked ∙ e)
+      (acted_quiet hears.begun (λ e. sym hears.shown ∙ e) (λ e. sym hears.looked ∙ e)
       hears.left (λ e. sym hears.ended ∙ e))
 
 -- each step that has begun is settled where all is reached
@@ -796,18 +796,18 @@ data FindsSo (g : Guarded) (under : Option SequenceStep) (new : Sequence) : Act 
   a-find : (found : Verdict) → IsFound g under new found → FindsSo g under new (act.Does found)
   found_none : (said : Act) → is_find said ≡ false → FindsSo g under new said
 
-done-by : (g : Guarded) (q : Sequence) (under : Option SequenceStep) (b : Bool)
+finds-by : (g : Guarded) (q : Sequence) (under : Option SequenceStep) (b : Bool)
     → is_good under (verdict_in g q.look.delivery) ≡ b
     → FindsSo g under (cond b (record q { phase = phase.Steps; is_looked = true }) (stopped_after q (end.Does (verdict_in g q.look.delivery))))
     (cond b (act.Does (verdict_in g q.look.delivery)) (stopped_act q (end.Does (verdict_in g q.look.delivery))))
-done-by g q under true good = a-find _ (record { is = refl; good = good })
-done-by g q under false good = found_none _ (stop-quiet q (end.Does (verdict_in g q.look.delivery)))
+finds-by g q under true good = a-find _ (record { is = refl; good = good })
+finds-by g q under false good = found_none _ (stop-quiet q (end.Does (verdict_in g q.look.delivery)))
 
 found-so : (g : Guarded) (p : Phase) (q : Sequence) (under : Option SequenceStep)
     → FindsSo g under (judged_in p q under (verdict_in g q.look.delivery)) (found_in p q under (verdict_in g q.look.delivery))
 found-so g phase.Before q under = found_none act.Again refl
-found-so g phase.Steps q under = done-by g q under (is_good under (verdict_in g q.look.delivery)) refl
-found-so g phase.After q under = done-by g q under (is_good under (verdict_in g q.look.delivery)) refl
+found-so g phase.Steps q under = finds-by g q under (is_good under (verdict_in g q.look.delivery)) refl
+found-so g phase.After q under = finds-by g q under (is_good under (verdict_in g q.look.delivery)) refl
 
 said-so : (g : Guarded) (q : Sequence) (under : Option SequenceStep) (x : LookAct)
     → FindsSo g under (said_after g q under x) (said_act g q under x)

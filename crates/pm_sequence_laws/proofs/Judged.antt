@@ -560,14 +560,14 @@ module _ (g : Guarded) (under ahead : Option Step) (old : Sequence) where
   ahead-so q None same = stays _ refl same
   ahead-so q (Some step) same =
       fresh_either (step.wait == 0 || q.is_waited) (record q { is_shown = true }) (record q { is_waited = true; fresh = fresh.Nothing })
-          act.Again
+      act.Again
       (act.Wait step.wait) (stays act.Again refl same) (ends (act.Wait step.wait) refl)
 
   over-so : (q : Sequence) (u a : Option Step) → q.fresh ≡ old.fresh → Comes (over_after q u a) (over_act q u a)
   over-so q None a same = ahead-so q a same
   over-so q (Some step) a same =
       fresh_either (needs_look q step) (looking_at q step) (ahead_after q a) act.Again (ahead_act q a) (stays act.Again refl same)
-          (ahead-so q a same)
+      (ahead-so q a same)
 
   again-by : (b : Bool) (x y : Sequence) → Comes x act.Again → Comes y act.Again → Comes (cond b x y) act.Again
   again-by true x y first second = first
@@ -582,7 +582,7 @@ module _ (g : Guarded) (under ahead : Option Step) (old : Sequence) where
       (gate g old under job list false)
   fresh_turn-so (turn.Begins job back) list turned =
       fresh_gate-so ahead job (begun_by g old job list) (act.Begins job back) list (turn.Begins job back) turned
-          (ends (act.Begins job back) refl)
+      (ends (act.Begins job back) refl)
       (gate g old ahead job list true)
   fresh_turn-so (turn.Passes back) list turned = ends (act.Passes back) refl
   fresh_turn-so (turn.NoWayBack fault) list turned = stays (act.NoWayBack fault) refl refl
@@ -602,7 +602,7 @@ module _ (g : Guarded) (under ahead : Option Step) (old : Sequence) where
   done-so : (q : Sequence) (found : Verdict) → q.fresh ≡ fresh.Nothing → Comes (done_after q under found) (done_act q under found)
   done-so q found gone =
       fresh_either (is_good under found) (record q { phase = phase.Steps; is_looked = true }) (stopped_after q (end.Does found))
-          (act.Does found)
+      (act.Does found)
       (stopped_act q (end.Does found)) (ends (act.Does found) gone) (left-so q (end.Does found) gone)
 
   fresh_found-so : (p : Phase) (q : Sequence) (found : Verdict) → q.fresh ≡ fresh.Nothing
@@ -733,14 +733,14 @@ module _ (g : Guarded) (under ahead : Option Step) (old : Sequence) where
   twice_ahead-so q None same = keeps _ refl same
   twice_ahead-so q (Some step) same =
       twice_either (step.wait == 0 || q.is_waited) (record q { is_shown = true }) (record q { is_waited = true; fresh = fresh.Nothing })
-          act.Again
+      act.Again
       (act.Wait step.wait) (keeps act.Again refl same) (keeps (act.Wait step.wait) refl same)
 
   twice_over-so : (q : Sequence) (u a : Option Step) → q.turned_on ≡ old.turned_on → Counts (over_after q u a) (over_act q u a)
   twice_over-so q None a same = twice_ahead-so q a same
   twice_over-so q (Some step) a same =
       twice_either (needs_look q step) (looking_at q step) (ahead_after q a) act.Again (ahead_act q a) (keeps act.Again refl same)
-          (twice_ahead-so q a same)
+      (twice_ahead-so q a same)
 
   twice_again-by : (list : List) (b : Bool) → (list.begun == old.list.begun) ≡ b
       → Counts (cond b (with_list old list) (begun_with old list)) act.Again
@@ -754,7 +754,7 @@ module _ (g : Guarded) (under ahead : Option Step) (old : Sequence) where
       (λ goes. twice_job-so it list (few-by g old under it list goes) (is_order it) refl)
   twice_turn-so (turn.Begins it back) list =
       twice_gate-so ahead it list true (begun_by g old it list) (act.Begins it back) (gate g old ahead it list true)
-          (λ goes. twice_first it back refl)
+      (λ goes. twice_first it back refl)
   twice_turn-so (turn.Passes back) list = passes back refl
   twice_turn-so (turn.NoWayBack fault) list = keeps (act.NoWayBack fault) refl refl
   twice_turn-so turn.Reached list = twice_over-so (with_list old list) under ahead refl
@@ -766,7 +766,7 @@ module _ (g : Guarded) (under ahead : Option Step) (old : Sequence) where
       → Counts (done_after q under found) (done_act q under found)
   twice_done-so q found same =
       twice_either (is_good under found) (record q { phase = phase.Steps; is_looked = true }) (stopped_after q (end.Does found))
-          (act.Does found)
+      (act.Does found)
       (stopped_act q (end.Does found)) (keeps (act.Does found) refl same) (twice_stop-so q (end.Does found) same)
 
   twice_found-so : (p : Phase) (q : Sequence) (found : Verdict) → q.turned_on ≡ old.turned_on

@@ -552,7 +552,7 @@ text_taken xs i d small =
     let next : suc i ≡ i + 1 = omega arith in
     drop-map now_of i xs ∙ ap (map now_of) (drop-cons xs i d small)
     ∙ ap (λ (l : List QuestionText). (get_or xs i d).now ∷ l)
-        (sym (drop-map now_of (suc i) xs) ∙ ap (λ (n : ℕ). drop n (map now_of xs)) next)
+    (sym (drop-map now_of (suc i) xs) ∙ ap (λ (n : ℕ). drop n (map now_of xs)) next)
 
 module _ (xs : List (Bor QuestionText)) (i : ℕ) (d : Bor QuestionText) (small : i < length xs) (lacks new : List PartRegisters)
     (result : Bool)

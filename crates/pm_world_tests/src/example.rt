@@ -1,7 +1,7 @@
 //! The examples of the roots of `pm_world` and `pm_setup`, word for word.
 
-use pm_device::{Config, ConfigFault, Converter};
 use pm_core_tests::BASE;
+use pm_device::{Config, ConfigFault, Converter};
 use pm_host::{Host, HostFault, JobEnd};
 use pm_table::{Cell, Reg};
 use pm_world::{Arrival, Back, Event, SetupFault, World};

@@ -1,5 +1,5 @@
-use pm_device::{Config, Ending, Heard};
 use pm_core_tests::BASE;
+use pm_device::{Config, Ending, Heard};
 use pm_host::{JobEnd, Possible, Standing};
 use pm_table::Cell;
 use pm_world::{Cause, Event, SetupFault, Stop, World};

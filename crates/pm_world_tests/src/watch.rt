@@ -5,8 +5,8 @@ ghost use Rattle.std.specs.Prelude.{◌≡◌, ◌<◌};
 
 use crate::Look;
 use crate::checks::equal;
-use pm_device::{Ending, Heard};
 use pm_core_tests::{CELLS, FIRST, SECOND};
+use pm_device::{Ending, Heard};
 use pm_model::{OrderMachine, PendingJob};
 use pm_table::Cell;
 use pm_world::{Arrival, Back, Event, World};

@@ -17,6 +17,7 @@ use crate::packet::{pm_packet_read_request, pm_packet_read_write, pm_packet_writ
 use crate::rail::pm_host_rail;
 use crate::told::{pm_host_frame, pm_host_read_ended, pm_host_write_ended};
 use crate::voltages::{pm_at_least, pm_at_most, pm_host_format, pm_microvolts, pm_nearest_word};
+use pm_host::{HostImage, StandingImage, WordsImage};
 use pm_memory::answer::PayloadImage;
 use pm_memory::known_cells::{KnownCell, KnownCells};
 use pm_memory::limits::BandImage;
@@ -24,7 +25,6 @@ use pm_memory::names::NameImage;
 use pm_memory::other_read::BlockImage;
 use pm_memory::packet::PacketImage;
 use pm_memory::rail::RailImage;
-use pm_host::{HostImage, StandingImage, WordsImage};
 use pm_memory::{FormatNumbers, GuardImage, LimitsImage, RegistersImage, SendingImage};
 use pm_table::Cell;
 

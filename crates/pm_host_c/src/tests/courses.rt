@@ -8,8 +8,8 @@ use crate::course::{
     pm_course_read_ended, pm_course_size, pm_course_survey, pm_course_version, pm_course_want,
     pm_course_words, pm_course_write_ended,
 };
-use pm_memory::course::CourseJobImage;
 use pm_course::FrameCourse;
+use pm_memory::course::CourseJobImage;
 use pm_memory::{CourseEndImage, CourseImage, GuardImage, SendingImage};
 
 // A course of no meaning.

@@ -9,10 +9,11 @@ ghost use Rattle.pm_memory.specs.Names.{HasText};
 use crate::course::pm_course_survey;
 use crate::host::pm_host_new;
 use crate::names::pm_refusal_name;
-use pm_memory::refusals_are_named;
-use pm_memory::names::NameImage;
 use pm_limits::LimitFault;
-use pm_memory::{CourseImage, GuardImage, courses_are_kept, memories_are_meanings};
+use pm_memory::names::NameImage;
+use pm_memory::{
+    CourseImage, GuardImage, courses_are_kept, memories_are_meanings, refusals_are_named,
+};
 
 /// Each refusal of limits, and of a host by them, has a name, which is its own words.
 pub fn a_refusal_by_name(fault: LimitFault, name: &mut NameImage) -> u8

@@ -6,10 +6,10 @@ use crate::sequence::{
     pm_sequence_judge, pm_sequence_new, pm_sequence_next, pm_sequence_read_ended, pm_sequence_size,
     pm_sequence_version, pm_sequence_write_ended,
 };
+use pm_delivery::{Delivery, Heard, Question, Verdict};
 use pm_memory::judgement::JudgementImage;
 use pm_memory::placed::PlacedImage;
 use pm_memory::sequence_step::{SequenceRecordImage, SequenceStepImage};
-use pm_delivery::{Delivery, Heard, Question, Verdict};
 use pm_memory::{
     DeliveryImage, GuardImage, SaidImage, SendingImage, SequenceImage, VerdictNumbers,
 };
