@@ -1,4 +1,4 @@
 pub mod Texts
 pub mod Options
 pub mod OneText
-pub mod Refusals
+pub mod RefusedLines
