@@ -1,3 +1,5 @@
+//! Which messages fit the layout of their code.
+
 use crate::checks::agrees;
 use pm_frame::{Message, Payload, fits};
 

@@ -1,3 +1,5 @@
+//! Why a held word isn't taken in the place of a wanted one.
+
 ghost use Rattle.std.specs.Prelude.{◌≡◌};
 
 use thiserror::Error;

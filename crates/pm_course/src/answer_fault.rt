@@ -1,3 +1,5 @@
+//! What was wrong with what became of a frame.
+
 ghost use Rattle.std.specs.Prelude.{◌≡◌, ◌≢◌};
 
 use pm_frame::FrameFault;

@@ -1,3 +1,5 @@
+//! How a course ends, and what it says next.
+
 ghost use Rattle.std.specs.Prelude.{◌≡◌};
 ghost use Rattle.pm_course.specs.Ends.{code_asked, is_open_end, refusal_of_job, refusal_of_plan};
 

@@ -1,3 +1,5 @@
+//! A course that hands out frames, one after another.
+
 ghost use Rattle.std.specs.Prelude.{◌≡◌, ◌<◌, None, Some, Ok};
 ghost use Rattle.pm_host.specs.Image.{held};
 ghost use Rattle.pm_limits.specs.Guard.{limits_at};

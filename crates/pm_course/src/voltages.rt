@@ -1,3 +1,5 @@
+//! The voltages that a course wants of an output's registers.
+
 ghost use Rattle.std.specs.Prelude.{◌≡◌};
 ghost use Rattle.pm_course.specs.Wishes.{no_voltages, voltage_of, with_voltage};
 

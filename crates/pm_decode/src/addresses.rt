@@ -1,3 +1,5 @@
+//! The addresses that a user names.
+
 ghost use Rattle.std.specs.Prelude.{◌≡◌, ◌<◌};
 ghost use Rattle.pm_decode.specs.Options.{is_named, no_addresses, with_address};
 

@@ -1,3 +1,5 @@
+//! The digits of a line's number, from line to line.
+
 ghost use Rattle.std.specs.Prelude.{[], ◌≡◌, ◌+◌, ◌<◌, ◌^◌, ℕ, true, decimal, length, OnOk, OnErr};
 
 use itoa::Buffer;

@@ -1,3 +1,5 @@
+//! The options by which a capture is shown.
+
 ghost use Rattle.std.specs.Prelude.{◌≡◌};
 
 use crate::addresses::Addresses;

@@ -1,3 +1,5 @@
+//! The text of lines that ended and was not written yet.
+
 ghost use Rattle.std.specs.Prelude.{◌≡◌};
 
 use crate::capture::Capture;

@@ -1,3 +1,5 @@
+//! How far a look at a rail has come.
+
 ghost use Rattle.std.specs.Prelude.{◌≡◌, find, option_map, true, false};
 ghost use Rattle.pm_delivery.specs.Deliveries.{again, first_question as spec_first_question, has as spec_has, has_status as spec_has_status, has_vout as spec_has_vout, lacks_any, heard_of, in_round};
 ghost use Rattle.pm_delivery.specs.Deliveries.{fault_bit, is_new as spec_is_new, is_off as spec_is_off, is_unexplained as spec_is_unexplained, lacks_power_good as spec_lacks_power_good, look_of as spec_look_of, looks_on as spec_looks_on};

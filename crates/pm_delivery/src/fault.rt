@@ -1,3 +1,5 @@
+//! P8: why nothing is ordered though a course would.
+
 ghost use Rattle.std.specs.Prelude.{◌≡◌};
 
 use crate::question::Question;

@@ -1,3 +1,5 @@
+//! What came of one question of a look.
+
 ghost use Rattle.std.specs.Prelude.{◌≡◌};
 ghost use Rattle.pm_delivery.specs.Heard.{asked_more as spec_asked_more, heard_after, is_due, is_good};
 

@@ -1,3 +1,5 @@
+//! The registers that a look asks for.
+
 ghost use Rattle.std.specs.Prelude.{◌≡◌};
 ghost use Rattle.pm_delivery.specs.Questions.{question_code, question_size};
 

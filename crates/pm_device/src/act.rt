@@ -1,3 +1,5 @@
+//! What a write that is taken does.
+
 ghost use Rattle.std.specs.Prelude.{◌≡◌, ◌<◌, ◌^◌, IfSome};
 ghost use Rattle.pm_table.specs.Commands.{payload_length};
 ghost use Rattle.pm_device.specs.Verdict as spec;

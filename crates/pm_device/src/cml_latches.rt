@@ -1,3 +1,5 @@
+//! The latched bits of STATUS_CML.
+
 ghost use Rattle.std.specs.Prelude.{◌≡◌};
 ghost use Rattle.pm_device.specs.Held.{no_faults};
 ghost use Rattle.pm_device.specs.Image.{latches_held};

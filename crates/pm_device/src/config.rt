@@ -1,3 +1,5 @@
+//! What a converter is made from.
+
 ghost use Rattle.std.specs.Prelude.{◌≡◌, ◌≤◌};
 ghost use Rattle.pm_device.specs.Start.{has_direct, outputs};
 ghost use Rattle.pm_device.specs.Verdict.{answers_coefficients, has_coefficients};

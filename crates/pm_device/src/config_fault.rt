@@ -1,3 +1,5 @@
+//! V1 to V5: why no converter is made from a configuration.
+
 ghost use Rattle.std.specs.Prelude.{◌≡◌, ◌≢◌};
 ghost use Rattle.pm_device.specs.Start.{outputs};
 

@@ -1,3 +1,5 @@
+//! The converter: what it hears, and what it answers.
+
 ghost use Rattle.std.specs.Prelude.{◌≡◌, ◌<◌, true, false, IfOk, OnOk};
 ghost use Rattle.std.specs.Result.{result_err};
 ghost use Rattle.pm_table.specs.Cell.{cell_accepts, is_output_cell, IsCell};

@@ -1,3 +1,5 @@
+//! K1 to K7: why a converter refuses a frame that is for it.
+
 ghost use Rattle.std.specs.Prelude.{◌≡◌, ◌≢◌};
 
 use pm_frame::FrameFault;

@@ -1,3 +1,5 @@
+//! What an output's settings are as the converter starts.
+
 ghost use Rattle.std.specs.Prelude.{◌≡◌};
 
 use pm_table::{Cell, Reg};

@@ -1,3 +1,5 @@
+//! What the READ codes of the converter answer.
+
 ghost use Rattle.std.specs.Prelude.{◌≡◌, ◌<◌, ◌≤◌, ◌||◌, ◌==◌, if◌then◌else◌, IfSome, length, position};
 ghost use Rattle.pm_device.specs.Held.{
   is_device_reading,

@@ -1,3 +1,5 @@
+//! What a hearing results in.
+
 ghost use Rattle.std.specs.Prelude.{◌≡◌, ◌<◌, ◌≤◌, ◌^◌, ℕ, true, length};
 ghost use Rattle.pm_table.specs.Commands.{payload_length};
 ghost use Rattle.pm_frame.specs.Layout.{fits_layout, is_read_message, payload_bytes};

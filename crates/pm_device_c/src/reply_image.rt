@@ -1,3 +1,5 @@
+//! The answer of a part, as C has it.
+
 ghost use Rattle.std.specs.Prelude.{◌≡◌, length, take, drop};
 ghost use Rattle.pm_device_c.specs.Part.{HasReply, frame_number};
 ghost use Rattle.pm_device_c.specs.Numbers.{heard_number};

@@ -1,3 +1,5 @@
+//! Rows over the exported calls of the part.
+
 mod calls;
 mod checks;
 mod example;

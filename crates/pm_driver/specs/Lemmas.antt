@@ -1,1 +1,2 @@
+-- Lemmas on drivers, which the crates above rest on. No public clause cites them.
 pub mod Restarts

@@ -1,3 +1,5 @@
+//! A bus that says of each frame whether the converter heard any of it.
+
 ghost use Rattle.std.specs.Prelude.{◌≤◌, ℕ, length};
 ghost use Rattle.pm_device.specs.Held.{Held};
 ghost use Rattle.pm_driver.specs.Adapter.{Asks, IsAskTried, IsSendTried, Sends, Try, bytes_in, came_in};

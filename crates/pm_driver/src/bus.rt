@@ -1,3 +1,5 @@
+//! What a driver asks of a bus.
+
 ghost use Rattle.std.specs.Prelude.{◌≤◌, ℕ, Bool, List, length, take};
 ghost use Rattle.pm_device.specs.Held.{Held};
 ghost use Rattle.pm_driver.specs.Acts.{Call, Wrote, Read as Asked};

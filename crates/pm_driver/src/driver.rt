@@ -1,3 +1,5 @@
+//! A host with its limits over a bus: each call carries its job out.
+
 ghost use Rattle.std.specs.Prelude.{◌≡◌, ◌≤◌, ◌<◌, [], ◌∷◌, None, false, true, OnOk, OnErr, length, replicate};
 ghost use Rattle.std.specs.Result.{result_err};
 ghost use Rattle.pm_host.specs.declared.job.Job.TheVariants as asked;

@@ -1,3 +1,5 @@
+//! F1 to F8: what is wrong with a frame, and where.
+
 ghost use Rattle.std.specs.Prelude.{◌≡◌, ◌≢◌};
 
 use thiserror::Error;

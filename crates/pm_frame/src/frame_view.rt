@@ -1,3 +1,5 @@
+//! The bytes of a packet that was read without a fault.
+
 ghost use Rattle.std.specs.Prelude.{◌≡◌};
 ghost use Rattle.pm_frame.specs.Whole.{IsWhole};
 ghost use Rattle.pm_frame.specs.View.{message_in, message_page, message_code, message_payload, payload_in, plain_write as spec_plain_write};

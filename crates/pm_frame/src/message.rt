@@ -1,3 +1,5 @@
+//! What a frame says: its address, page, code and payload.
+
 ghost use Rattle.std.specs.Prelude.{◌≡◌, ◌≤◌, ◌&&◌, ◌==◌, if◌then◌else◌, length};
 ghost use Rattle.pm_table.specs.Commands.{payload_length};
 ghost use Rattle.pm_frame.specs.Layout.{fits_layout, is_plain_write};

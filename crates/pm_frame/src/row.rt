@@ -1,3 +1,5 @@
+//! A code with what the command table says of it.
+
 ghost use Rattle.std.specs.Prelude.{◌≡◌, ◌≤◌};
 ghost use Rattle.pm_table.specs.Commands.{attributes_of, is_known, payload_length};
 ghost use Rattle.pm_frame.specs.Fault.{codes_of};

@@ -1,3 +1,5 @@
+//! The commands that a job sends until one is acknowledged.
+
 ghost use Rattle.std.specs.Prelude.{◌≡◌, Some, IfSome};
 ghost use Rattle.pm_host.specs.Cells.{is_command};
 ghost use Rattle.pm_host.specs.Command.{command_code, command_of, command_output};

@@ -1,3 +1,5 @@
+//! H1 to H7: why a host refuses a call, and why it can't hear what became of a frame.
+
 ghost use Rattle.std.specs.Prelude.{◌≡◌, ◌≢◌};
 
 use pm_num::NumFault;

@@ -1,3 +1,5 @@
+//! The bytes by which a host learned an output's format.
+
 ghost use Rattle.std.specs.Prelude.{◌≡◌, ◌<◌, length, Some, option_map};
 ghost use Rattle.std.specs.Result.{result_ok};
 ghost use Rattle.pm_num.specs.AnyFormat.{shape_of, voltage_shape, InUlinear16};

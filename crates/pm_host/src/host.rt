@@ -1,3 +1,5 @@
+//! The host: jobs begin, frames are shown, and what became of them is told.
+
 ghost use Rattle.std.specs.Prelude.{◌≡◌, ◌<◌, true, None, IfOk, MatchOption, IsNone, IsSomeAnd};
 ghost use Rattle.std.specs.Option.{option_map};
 ghost use Rattle.std.specs.Result.{result_err};

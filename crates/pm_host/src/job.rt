@@ -1,3 +1,5 @@
+//! What a host is asked for, and how that ends.
+
 use crate::command::Command;
 use pm_table::Cell;
 

@@ -1,3 +1,5 @@
+//! What a host knows of each cell's word.
+
 ghost use Rattle.std.specs.Prelude.{◌≡◌, ◌&&◌, true, false, slice_set};
 ghost use Rattle.pm_table.specs.Cell.{place_of, IsCell};
 ghost use Rattle.pm_host.specs.Image.{is_unknown, known_held, words_held, standing_held};

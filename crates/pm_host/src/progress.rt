@@ -1,3 +1,5 @@
+//! A job's next stage or its end.
+
 ghost use Rattle.std.specs.Prelude.{◌≡◌};
 ghost use Rattle.pm_host.specs.Progress.{stage_after, step_after};
 

@@ -1,3 +1,5 @@
+//! What a job asks the device by a request.
+
 ghost use Rattle.std.specs.Prelude.{◌≡◌, true};
 ghost use Rattle.pm_frame.specs.Layout.{answer_length, fits_layout, is_read_message};
 ghost use Rattle.pm_host.specs.Question.{is_question, question_message, IsQuestion};

@@ -1,3 +1,5 @@
+//! The frame that is being sent.
+
 ghost use Rattle.std.specs.Prelude.{◌≡◌};
 ghost use Rattle.pm_table.specs.Address.{IsAddress};
 ghost use Rattle.pm_host.specs.Messages.{IsFrameOf};

@@ -1,3 +1,5 @@
+//! The stages of an open job.
+
 ghost use Rattle.std.specs.Prelude.{◌≡◌, true};
 ghost use Rattle.pm_frame.specs.Layout.{fits_layout};
 ghost use Rattle.pm_host.specs.Summary.{stage_message};

@@ -1,3 +1,5 @@
+//! What a host says of a cell's word, as plain numbers.
+
 ghost use Rattle.std.specs.Prelude.{◌≡◌};
 ghost use Rattle.pm_host.specs.Image.{standing_held};
 

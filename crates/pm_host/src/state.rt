@@ -1,3 +1,5 @@
+//! What a host holds beside its open job, in a caller's memory.
+
 mod jobs;
 mod microvolts;
 mod turns;

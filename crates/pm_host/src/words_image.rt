@@ -1,3 +1,5 @@
+//! The words that a cell may hold, as plain numbers.
+
 ghost use Rattle.std.specs.Prelude.{◌≡◌, true, false, MatchOption};
 ghost use Rattle.pm_host.specs.Image.{listing, words_held};
 ghost use Rattle.pm_host.specs.Memory.{AreWords};

@@ -1,3 +1,5 @@
+//! Rows over the exported calls of the host.
+
 mod calls;
 mod checks;
 mod courses;

@@ -1,3 +1,4 @@
+-- Lemmas on bands and limits, which the crates above rest on. No public clause cites them.
 pub mod Bands
 pub mod Cuts
 pub mod Farthest

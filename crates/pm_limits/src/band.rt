@@ -1,3 +1,5 @@
+//! The voltages that an output may command, by what is known.
+
 ghost use Rattle.std.specs.Prelude.{◌≡◌, ◌<◌, None, MatchOption};
 ghost use Rattle.std.specs.List.{list_any};
 ghost use Rattle.pm_host.specs.declared.knowledge.Possible.TheVariants.{Any};

@@ -1,3 +1,5 @@
+//! L1 to L8: why a guard refuses a call.
+
 ghost use Rattle.std.specs.Prelude.{◌≡◌, ◌≢◌};
 
 use pm_host::HostFault;

@@ -1,3 +1,5 @@
+//! A guard: a host that orders no voltage outside the limits.
+
 mod calls;
 
 /// Whether an output's voltage lies within its limits, by what is known.

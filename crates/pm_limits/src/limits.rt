@@ -1,3 +1,5 @@
+//! The least and the most that an output's voltage may be.
+
 ghost use Rattle.std.specs.Prelude.{◌≡◌, ◌≤◌, ◌^◌, unsigned_abs, Some, IfOk};
 ghost use Rattle.std.specs.Result.{result_err};
 ghost use Rattle.pm_num.specs.Ratio.{is_above as spec_is_above, micros};

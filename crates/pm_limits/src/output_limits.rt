@@ -1,3 +1,5 @@
+//! What is known of the limits of an output.
+
 use crate::limits::Limits;
 
 /// What an output's voltage is limited to, as far as the caller said it.

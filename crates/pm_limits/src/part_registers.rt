@@ -1,3 +1,5 @@
+//! Which registers of an output a part has.
+
 ghost use Rattle.std.specs.Prelude.{◌≡◌};
 ghost use Rattle.pm_num.specs.AnyFormat.{voltage_shape};
 ghost use Rattle.pm_limits.specs.Part.{all_registers, has_register, missing_word};

@@ -1,3 +1,5 @@
+//! X1 to X7: why a text is refused, or was not read or written.
+
 ghost use Rattle.std.specs.Prelude.{◌≡◌};
 ghost use Rattle.pm_lines.specs.declared.fault.TextFault.TheVariants.{Memory, Setup};
 

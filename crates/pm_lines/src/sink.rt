@@ -1,3 +1,5 @@
+//! A writer that is written to until it fails.
+
 ghost use Rattle.std.specs.Prelude.{◌≡◌, false, IsFalse, is_err, flat_map, IfErr, OnOk, OnErr};
 ghost use Rattle.std.specs.Io.KnownBytes.{Appends, Keeps};
 ghost use Rattle.pm_lines.specs.Streams.{AppendsFront};

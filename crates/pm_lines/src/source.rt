@@ -1,3 +1,5 @@
+//! A reader that is read until it fails.
+
 ghost use Rattle.std.specs.Prelude.{◌≡◌, false, IsFalse, is_err, IfErr};
 ghost use Rattle.std.specs.Io.{ReadsAtMost};
 ghost use Rattle.std.specs.Io.KnownBytes.{ReadConsumes};

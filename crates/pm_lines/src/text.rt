@@ -1,3 +1,5 @@
+//! A whole text as it is read.
+
 ghost use Rattle.std.specs.Prelude.{◌≡◌, ◌↔◌, IsTrue, IsFalse, MatchResult, ◌++◌, [], ◌∷◌, ◌⊎◌, IfOk, string_bytes};
 ghost use Rattle.pm_lines.specs.Streams.{BreaksOff, IsWholeText, max_text};
 ghost use Rattle.pm_lines.specs.Lines.{EndsLine};

@@ -1,3 +1,5 @@
+//! The words of a line.
+
 ghost use Rattle.std.specs.Prelude.{◌≡◌, ◌≢◌, true, false, [], ◌∷◌, IfNone, MatchBool, MatchOption, position};
 ghost use Rattle.std.specs.List.{before_first, after_first};
 ghost use Rattle.pm_lines.specs.Lines.{has_space_first, is_next, is_one_word, is_space, words_of};

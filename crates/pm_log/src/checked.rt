@@ -1,3 +1,5 @@
+//! What is known after lines of a log, or which line isn't accepted.
+
 ghost use Rattle.std.specs.Prelude.{◌≡◌, ◌+◌, IfErr, IfOk, OnOk, Err};
 ghost use Rattle.pm_log.specs.Holdings.{refusal_of};
 ghost use Rattle.pm_log.specs.Logs.{line_said};

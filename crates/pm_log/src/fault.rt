@@ -1,3 +1,5 @@
+//! Why a line of a log isn't accepted.
+
 use pm_frame::FrameFault;
 use pm_host::{HostFault, Possible};
 use pm_limits::PartRegisters;

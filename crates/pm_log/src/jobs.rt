@@ -1,3 +1,5 @@
+//! Which job begins with a message.
+
 ghost use Rattle.std.specs.Prelude.{◌≡◌};
 ghost use Rattle.pm_log.specs.Jobs as spec;
 

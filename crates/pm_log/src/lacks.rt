@@ -1,3 +1,5 @@
+//! Which registers parts lack, by the receiver's own word.
+
 ghost use Rattle.std.specs.Prelude.{◌≡◌};
 ghost use Rattle.pm_log.specs.Lacks as spec;
 

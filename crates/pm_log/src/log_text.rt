@@ -1,3 +1,5 @@
+//! A log as its bytes come.
+
 ghost use Rattle.std.specs.Prelude.{◌≡◌};
 
 use crate::checked::Checked;

@@ -1,3 +1,5 @@
+//! What is known after lines that were accepted.
+
 ghost use Rattle.std.specs.Prelude.{◌≡◌, ◌<◌, Some, Ok, Err, MatchResult};
 ghost use Rattle.pm_host.specs.Told.{entry_told};
 ghost use Rattle.pm_log.specs.Answered.{answer_in as spec_answer_in};

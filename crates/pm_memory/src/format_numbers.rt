@@ -1,3 +1,5 @@
+//! A format as callers in C have it.
+
 ghost use Rattle.std.specs.Prelude.{◌≡◌, option_map};
 ghost use Rattle.pm_num.specs.AnyFormat.{shape_of};
 ghost use Rattle.pm_host.specs.Image.{format_held};

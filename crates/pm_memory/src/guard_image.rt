@@ -1,3 +1,5 @@
+//! A host with its limits in a caller's memory.
+
 ghost use Rattle.std.specs.Prelude.{◌≡◌, ◌<◌, map, slice_index_or, slice_set};
 ghost use Rattle.pm_memory.specs.Guard.{job_limits, limits_held, limits_kept, registers_held, unknown_limits};
 ghost use Rattle.pm_memory.specs.Memory.{limits_image, registers_image, AreLimits, IsMemory};

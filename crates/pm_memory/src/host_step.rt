@@ -1,3 +1,5 @@
+//! What a call answers that hears what became of a frame.
+
 ghost use Rattle.std.specs.Prelude.{◌≡◌, true};
 ghost use Rattle.pm_table.specs.Address.{IsAddress};
 ghost use Rattle.pm_frame.specs.Layout.{is_read_message};

@@ -1,3 +1,5 @@
+//! A frame to be sent, as callers in C have it.
+
 ghost use Rattle.std.specs.Prelude.{◌≡◌, true, length, take, drop};
 ghost use Rattle.pm_table.specs.Address.{IsAddress};
 ghost use Rattle.pm_frame.specs.Layout.{fits_layout};

@@ -1,3 +1,5 @@
+//! The words of all outputs as plain settings, and what each output commands by them.
+
 ghost use Rattle.std.specs.Prelude.{◌≡◌, ◌↔◌, ◌≤◌, ◌<◌, ◌/◌, ◌%◌, ℕ, [], true, false, Some, IsTrue, slice_index, slice_index_or};
 ghost use Rattle.pm_num.specs.AnyFormat.{any_value};
 ghost use Rattle.pm_table.specs.Cell.{cell_accepts, protect_place, register_accepts, register_count, register_number, places, IsCell};

@@ -1,3 +1,4 @@
+-- A format that is chosen at run time.
 use Rattle.std.specs.Prelude.{ℕ, ℤ}
 use Rattle.pm_num.specs.declared.any_format.AnyFormat.{AnyFormat}
 use Rattle.pm_num.specs.declared.any_format.AnyFormat.TheVariants.{Linear11, Ulinear16, Direct}

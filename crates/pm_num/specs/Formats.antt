@@ -1,7 +1,6 @@
-use Rattle.std.specs.Prelude.{ℤ, pos, neg_ℤ, ◌≤ℤ◌}
-
 -- What the formats are made from. The first range is that of the five bits of VOUT_MODE, the second
 -- this project's own.
+use Rattle.std.specs.Prelude.{ℤ, pos, neg_ℤ, ◌≤ℤ◌}
 
 -- An exponent that five bits hold in two's complement.
 pub record IsExponent (n : ℤ) : Type 0 where

@@ -1,10 +1,9 @@
+-- Which word a fraction is encoded as. This is this project's own rule.
 use Rattle.std.specs.Prelude.{◌≡◌, ℕ, ◌+◌, ◌*◌, ◌^◌, ◌<◌, ◌≤◌, ℤ, pos, negsuc, ◌-ℤ◌, ◌*ℤ◌, unsigned_abs}
 use Rattle.pm_num.specs.declared.fault.NumFault.{NumFault}
 use Rattle.pm_num.specs.declared.fault.NumFault.TheVariants.{ZeroSlope, ExponentRange, BelowLeast, AboveGreatest, TooLarge}
 use Rattle.pm_num.specs.Ratio.{Ratio, AtMost, LessThan, SameValue}
 use Rattle.pm_num.specs.Value.{exponent}
-
--- Which word a fraction is encoded as. This is this project's own rule.
 
 -- How far apart two fractions are, in units of one over both denominators.
 abbrev pub gap : Ratio → Ratio → ℕ

@@ -1,8 +1,7 @@
+-- What a format was made from.
 use Rattle.std.specs.Prelude.{◌≡◌, ℤ}
 use Rattle.pm_num.specs.declared.direct.Direct.{Direct}
 use Rattle.pm_num.specs.declared.ulinear16.Ulinear16.{Ulinear16}
-
--- What a format was made from.
 
 -- The exponent of a ULINEAR16 format is n.
 pub record HasExponent (f : Ulinear16) (n : ℤ) : Type 0 where

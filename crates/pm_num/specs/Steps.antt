@@ -1,11 +1,10 @@
+-- Words of private contracts alone: the steps by which a nearest word is found. No public clause
+-- cites them.
 use Rattle.std.specs.Prelude.{◌≡◌, ◌≢◌, ℕ, ◌+◌, ◌-◌, ◌*◌, ◌^◌, ◌<◌, ◌≤◌, ℤ, pos, negsuc, neg_ℤ, int_rem, ◌+ℤ◌, ◌-ℤ◌, ◌*ℤ◌, ◌<ℤ◌, ◌≤ℤ◌}
 use Rattle.std.specs.Prelude.{unsigned_abs, ◌⊎◌}
 use Rattle.pm_num.specs.Ratio.{Ratio, AtMost, IsBetween}
 use Rattle.pm_num.specs.Value.{upper, lower, sign}
 use Rattle.pm_num.specs.Nearest.{Near}
-
--- Words of private contracts alone: the steps by which a nearest word is found. No public clause
--- cites them.
 
 -- q is the greatest whole number not above a / d.
 pub record IsFloor (a d q : ℤ) : Type 0 where

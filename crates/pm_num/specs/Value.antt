@@ -1,7 +1,6 @@
+-- The fraction that a word stands for, in each of the three numeric formats of PMBus 1.3 Part II.
 use Rattle.std.specs.Prelude.{ℕ, ◌-◌, ◌*◌, ◌/◌, ◌%◌, ◌^◌, suc, ℤ, pos, negsuc, ◌-ℤ◌, ◌*ℤ◌, unsigned_abs, nat_lt, if◌then◌else◌}
 use Rattle.pm_num.specs.Ratio.{Ratio}
-
--- The fraction that a word stands for, in each of the three numeric formats of PMBus 1.3 Part II.
 
 -- base^n as the fraction upper/lower of whole numbers: one of the two is 1.
 abbrev pub upper : ℕ → ℤ → ℕ

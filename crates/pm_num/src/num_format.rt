@@ -1,3 +1,5 @@
+//! What a format of numbers has to offer.
+
 ghost use Rattle.std.specs.Prelude.{◌≡◌, ℕ, ◌^◌, ◌<◌, ◌↔◌, IsOk, IfOk, IfErr};
 ghost use Rattle.pm_num.specs.Ratio.{Ratio, IsBetween};
 ghost use Rattle.pm_num.specs.Nearest.{IsNearest, IsOutside, IsValue};

@@ -1,3 +1,4 @@
+-- Lemmas on surveys and courses, which the crates above rest on. No public clause cites them.
 pub mod Limits
 pub mod Steps
 pub mod Ends

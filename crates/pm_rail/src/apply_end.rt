@@ -1,3 +1,5 @@
+//! How a course ended.
+
 use crate::fault::PlanFault;
 use pm_host::Job;
 use pm_table::Reg;

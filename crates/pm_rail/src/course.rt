@@ -1,3 +1,5 @@
+//! A course: a survey, the orders of a plan, and the reads after them.
+
 ghost use Rattle.std.specs.Prelude.{◌≡◌, ◌<◌, None, Some};
 ghost use Rattle.pm_host.specs.Image.{held};
 ghost use Rattle.pm_limits.specs.Guard.{limits_at};

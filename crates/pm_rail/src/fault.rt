@@ -1,3 +1,5 @@
+//! Why no order of a plan is given.
+
 ghost use Rattle.std.specs.Prelude.{◌≡◌, ◌≢◌};
 
 use pm_host::HostFault;

@@ -1,3 +1,5 @@
+//! The orders of a plan, one after another.
+
 ghost use Rattle.std.specs.Prelude.{◌≡◌, ◌<◌, Some, None, IfOk, OnErr};
 ghost use Rattle.pm_num.specs.AnyFormat.{voltage_value, voltage_shape};
 ghost use Rattle.pm_host.specs.Image.{held as state_held};

@@ -1,3 +1,5 @@
+//! Which register of a plan is ordered next.
+
 ghost use Rattle.std.specs.Prelude.{◌≡◌};
 ghost use Rattle.pm_num.specs.AnyFormat.{voltage_value};
 ghost use Rattle.pm_rail.specs.Plan.{goal_of, next_register as spec_next_register};

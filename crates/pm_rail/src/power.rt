@@ -1,3 +1,5 @@
+//! Whether an output is on, and which voltage OPERATION selects.
+
 ghost use Rattle.std.specs.Prelude.{◌≡◌, ◌<◌};
 ghost use Rattle.pm_host.specs.Image.{held};
 ghost use Rattle.pm_host.specs.Summary.{possible_at};

@@ -1,3 +1,5 @@
+//! The words of an output's registers.
+
 ghost use Rattle.std.specs.Prelude.{◌≡◌};
 
 use pm_table::Reg;

@@ -1,3 +1,5 @@
+//! The reads that find what an output commands.
+
 ghost use Rattle.std.specs.Prelude.{◌≡◌, ◌<◌, None, Some, find};
 ghost use Rattle.pm_num.specs.AnyFormat.{voltage_shape};
 ghost use Rattle.pm_table.specs.Cell.{registers};

@@ -1,3 +1,5 @@
+//! The words that are wanted of an output's voltages.
+
 ghost use Rattle.std.specs.Prelude.{◌≡◌};
 
 use pm_table::Reg;

@@ -1,3 +1,5 @@
+//! Why no world is made.
+
 ghost use Rattle.std.specs.Prelude.{◌≡◌};
 ghost use Rattle.pm_setup.specs.declared.setup_fault.SetupFault.TheVariants as setups;
 

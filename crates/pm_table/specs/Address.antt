@@ -1,3 +1,4 @@
+-- Which bytes are a device's address.
 use Rattle.std.specs.Prelude.{ℕ, ◌≤◌}
 
 -- A seven-bit address that this project takes for a device: 08h to 77h. SMBus reserves the others.

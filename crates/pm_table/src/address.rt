@@ -1,3 +1,5 @@
+//! Which bytes are a device's address.
+
 ghost use Rattle.std.specs.Prelude.{IsTrue, ◌↔◌};
 ghost use Rattle.pm_table.specs.Address.{IsAddress};
 

@@ -1,3 +1,5 @@
+//! The coefficients of DIRECT, and the format that they give.
+
 ghost use Rattle.std.specs.Prelude.{◌≡◌};
 ghost use Rattle.pm_table.specs.VoutMode.{IsMode};
 ghost use Rattle.pm_table.specs.Format.{shape_in, shape_seen, voltage_shape_seen};

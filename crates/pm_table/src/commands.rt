@@ -1,3 +1,5 @@
+//! The command codes that this project speaks.
+
 ghost use Rattle.std.specs.Prelude.{◌≡◌, ◌≤◌, IfSome, true, false};
 ghost use Rattle.std.specs.Option.{option_map};
 ghost use Rattle.pm_table.specs.declared.protection.Protection.TheVariants.{NotWritten};

@@ -1,3 +1,5 @@
+//! C1 to C4: why a byte of VOUT_MODE isn't one of this project's profile.
+
 ghost use Rattle.std.specs.Prelude.{◌≡◌};
 
 use thiserror::Error;

@@ -1,3 +1,5 @@
+//! What a byte of OPERATION asks of an output.
+
 ghost use Rattle.std.specs.Prelude.{◌≡◌};
 
 use crate::reg::Reg;

@@ -1,3 +1,5 @@
+//! Which writes WRITE_PROTECT lets through.
+
 ghost use Rattle.std.specs.Prelude.{◌≡◌};
 ghost use Rattle.pm_table.specs.Protection.{is_allowed as spec_is_allowed};
 

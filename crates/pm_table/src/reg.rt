@@ -1,3 +1,5 @@
+//! The registers of an output.
+
 ghost use Rattle.std.specs.Prelude.{◌≡◌, ◌<◌};
 ghost use Rattle.pm_table.specs.declared.cell.Cell.{Cell};
 

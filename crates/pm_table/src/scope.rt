@@ -1,3 +1,5 @@
+//! What a command code acts on.
+
 /// What a command code acts on.
 #[derive(Clone, Copy, Debug, PartialEq, Eq)]
 pub enum Scope {

@@ -1,3 +1,5 @@
+//! What a byte of VOUT_MODE says of an output's words.
+
 ghost use Rattle.std.specs.Prelude.{◌≡◌, ◌<◌, IfOk};
 ghost use Rattle.pm_num.specs.Formats.{IsExponent};
 ghost use Rattle.pm_table.specs.VoutMode.{mode_of, exponent_of, IsMode};

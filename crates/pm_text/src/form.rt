@@ -1,3 +1,5 @@
+//! The versions of a scenario's text.
+
 ghost use Rattle.std.specs.Prelude.{◌≡◌};
 ghost use Rattle.pm_text.specs.Kinds.{form_named, form_of, registers_of, version_of};
 

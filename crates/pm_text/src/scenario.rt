@@ -1,3 +1,5 @@
+//! A scenario, as its text says it.
+
 ghost use Rattle.std.specs.Prelude.{◌≡◌, ◌⊎◌, ◌<◌, length, Ok, Err, IfOk, IfErr, IsErrOf};
 ghost use Rattle.pm_lines.specs.Faults.{IsOfText};
 ghost use Rattle.pm_lines.specs.Streams.{max_text};

@@ -1,3 +1,5 @@
+//! Which words of a command line are taken, and how others are refused.
+
 use crate::checks::is_true;
 use pm_log::Lacks;
 use pm_tool::{Chosen, chosen};

@@ -1,3 +1,5 @@
+//! Texts of `hear`, with what is written of each.
+
 use crate::checks::{equal, is_true};
 use crate::{TAKEN, blank_paper, in_pieces};
 use pm_tool::{Sink, Source, TextFault, hear};

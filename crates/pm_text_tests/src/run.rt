@@ -1,3 +1,5 @@
+//! A run of the program over memory.
+
 ghost use Rattle.std.specs.Prelude.{IsFalse};
 
 use crate::checks::{equal, is_true};

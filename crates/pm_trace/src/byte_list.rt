@@ -1,3 +1,5 @@
+//! Bytes of any number, as a list.
+
 ghost use Rattle.std.specs.Prelude.{◌≡◌};
 
 use std::marker::Model;

@@ -1,3 +1,5 @@
+//! How a decoding ended.
+
 /// How `decode` ended.
 #[derive(Clone, Copy, Debug, PartialEq, Eq)]
 pub enum DecodeEnd {

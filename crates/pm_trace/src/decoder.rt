@@ -1,3 +1,5 @@
+//! A decoder of traces, which is fed in pieces.
+
 mod intake;
 mod line_kind;
 mod line_part;

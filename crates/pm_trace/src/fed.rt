@@ -1,3 +1,5 @@
+//! What one call of a decoder took of a piece.
+
 /// What one call of `Decoder::feed` took of a piece.
 #[derive(Clone, Copy, Debug, PartialEq, Eq)]
 pub struct Fed {

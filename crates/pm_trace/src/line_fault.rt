@@ -1,3 +1,5 @@
+//! Why a line of a trace can't be read.
+
 /// Why a trace line can't be read.
 #[derive(Clone, Copy, Debug)]
 pub enum LineFault {

@@ -1,3 +1,5 @@
+//! How often codes without a row were carried.
+
 ghost use Rattle.std.specs.Prelude.{◌≡◌, ◌+◌, ◌<◌, ◌≤◌, ◌^◌};
 
 use crate::count_code;

@@ -1,3 +1,5 @@
+//! What a line of a trace says.
+
 ghost use Rattle.std.specs.Prelude.{◌≡◌, option_map};
 ghost use Rattle.pm_table.specs.Address.{IsAddress};
 ghost use Rattle.pm_frame.specs.Fault.{write_fault, request_fault};

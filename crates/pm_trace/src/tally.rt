@@ -1,3 +1,5 @@
+//! How many lines were of each kind, and how often each code was carried.
+
 ghost use Rattle.std.specs.Prelude.{◌≡◌, ◌+◌, ◌<◌, ◌^◌, true, false, option_map, slice_get, OnOk, OnErr};
 ghost use Rattle.pm_trace.specs.Counts.{one_more, has_code, total_of};
 

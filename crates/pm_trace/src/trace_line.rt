@@ -1,3 +1,5 @@
+//! A line of a trace as bytes, and its text.
+
 ghost use Rattle.std.specs.Prelude.{◌≡◌, ◌⊎◌, IfOk, IfErr, IsOk, Ok, Err, string_bytes};
 ghost use Rattle.pm_trace.specs.Trace.{line_read, max_part, parts_judged};
 ghost use Rattle.pm_trace.specs.TraceText.{told_text};

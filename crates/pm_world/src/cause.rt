@@ -1,3 +1,5 @@
+//! Why an event isn't taken.
+
 ghost use Rattle.pm_world.specs.declared.cause.Cause.TheVariants as causes;
 ghost use Rattle.std.specs.Prelude.{◌≡◌};
 

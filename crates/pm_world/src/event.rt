@@ -1,3 +1,5 @@
+//! What may happen between a host and a converter.
+
 ghost use Rattle.std.specs.Prelude.{◌≡◌, Some};
 ghost use Rattle.pm_world.specs.Bytes.{CarriesBytes, ArrivesInBytes, ReturnsInBytes};
 ghost use Rattle.pm_world.specs.Job.{asked_by, event_of};

@@ -1,3 +1,5 @@
+//! What tests ask of a world, by calls that promise nothing.
+
 use pm_core_tests::BASE;
 use pm_device::{Config, Ending, Heard};
 use pm_host::{JobEnd, Possible, Standing};

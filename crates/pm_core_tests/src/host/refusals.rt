@@ -1,3 +1,5 @@
+//! Which fault a host's call is refused by, row by row.
+
 use super::*;
 use crate::checks::equal;
 

@@ -1,3 +1,5 @@
+//! What a hearing that came to an effect does to the converter.
+
 ghost use Rattle.std.specs.Prelude.{◌≡◌, true};
 ghost use Rattle.pm_table.specs.Cell.{cell_accepts};
 ghost use Rattle.pm_model.specs.Settings.{IsCell};

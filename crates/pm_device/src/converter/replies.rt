@@ -1,3 +1,5 @@
+//! What the converter answers to a request.
+
 ghost use Rattle.std.specs.Prelude.{◌≡◌, ◌<◌, true, false};
 ghost use Rattle.pm_frame.specs.Layout.{is_read_message, fits_layout, answer_length, answered, sent, with_pec};
 ghost use Rattle.pm_table.specs.Commands.{payload_length};

@@ -1,3 +1,5 @@
+//! What the status registers of the converter answer.
+
 ghost use Rattle.std.specs.Prelude.{◌≡◌, ◌<◌, ◌==◌, not};
 ghost use Rattle.pm_device.specs.Status as spec;
 

@@ -1,3 +1,5 @@
+//! A bus whose line is cut.
+
 ghost use Rattle.pm_driver.specs.DeadLine.{gives_nothing};
 
 use crate::Bus;

@@ -1,3 +1,5 @@
+//! What goes wrong with one frame of a simulated bus.
+
 use pm_world::{Arrival, Back};
 
 /// What goes wrong with one frame, and what happens beside the bus before it.

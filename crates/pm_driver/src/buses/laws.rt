@@ -1,3 +1,5 @@
+//! Laws of buses: what happens to a converter in parts, put together.
+
 ghost use Rattle.pm_driver.specs.Disturbed.{PartsCompose, RequestsMayBeLost};
 ghost use Rattle.pm_driver.specs.NeverRestarts.{NeverRestartsStays, PatientNeverRestartsStays, ReadsKeepNeverRestarts};
 

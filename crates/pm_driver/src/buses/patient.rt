@@ -1,3 +1,5 @@
+//! A bus that sends again what the converter heard nothing of.
+
 ghost use Rattle.std.specs.Prelude.{◌≡◌};
 ghost use Rattle.pm_driver.specs.Patience.{gives_patiently};
 

@@ -1,3 +1,5 @@
+//! A bus that sends a write a second time if it wasn't acknowledged.
+
 ghost use Rattle.pm_driver.specs.Tries.{tries_give};
 
 use crate::Bus;

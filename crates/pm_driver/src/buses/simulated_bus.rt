@@ -1,3 +1,5 @@
+//! A bus with the model converter at its other end.
+
 ghost use Rattle.std.specs.Prelude.{◌≡◌, IfSome, MatchOption, None, Some, is_some, replicate, true};
 ghost use Rattle.pm_limits.specs.declared.output_limits.OutputLimits.TheVariants.{Unlimited};
 ghost use Rattle.pm_limits.specs.Part.{all_registers};

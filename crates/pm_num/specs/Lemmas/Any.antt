@@ -1,3 +1,4 @@
+-- A format that is chosen at run time: each fact is the chosen format's.
 use Rattle.std.specs.Prelude.{ℕ, ◌^◌, ◌<◌, refl}
 use Rattle.std.proofs.Common.{lit<}
 use Rattle.pm_num.specs.declared.any_format.AnyFormat.{AnyFormat}
@@ -10,8 +11,6 @@ use Rattle.pm_num.specs.Lemmas.OneWord.{IsOneWord}
 use Rattle.pm_num.specs.Lemmas.Unsigned.{lower-positive, ulinear16-within, ulinear16-one_word}
 use Rattle.pm_num.specs.Lemmas.Slope.{direct-has_den, direct-within, direct-one_word, direct-least_met, direct-greatest_met}
 use Rattle.pm_num.specs.Lemmas.Spelling.{linear11-within, linear11-one_word}
-
--- A format that is chosen at run time: each fact is the chosen format's.
 
 -- The denominators of the format's values are positive.
 pub any-has_den : (f : AnyFormat) (w : ℕ) → w < 2 ^ 16 → 0 < (any_value f w).den

@@ -1,3 +1,4 @@
+-- The word that is nearest is the one that is found.
 use Rattle.std.specs.Prelude.{◌≡◌, ℕ, zero, suc, ◌^◌, ◌<◌, ◌≤◌, Bool, true, false, not, ◌||◌, cond, nat_le, Some, refl}
 use Rattle.std.specs.Bool.{Decides}
 use Rattle.std.proofs.Common.{T, sym, ◌∙◌, ap, subst, arith}
@@ -6,8 +7,6 @@ use Rattle.std.proofs.lemmas.Bool.Decides.{Decides-int_eq, Decides-and, Decides-
 use Rattle.pm_num.specs.Ratio.{Ratio, AtMost, SameValue}
 use Rattle.pm_num.specs.Nearest.{Near, IsNearest}
 use Rattle.pm_num.specs.NearestWord.{is_near, is_at_most, is_same, each_below, found_below, is_nearest, nearest_word}
-
--- The word that is nearest is the one that is found.
 
 -- A test that holds is true.
 pub from_T : (b : Bool) → T b → b ≡ true

@@ -1,10 +1,9 @@
+-- Whole numbers times positive ones, which `omega` does not multiply by itself.
 use Rattle.std.specs.Prelude.{◌≡◌, ℕ, ◌+◌, ◌*◌, ◌<◌, ◌≤◌, ℤ, pos, negsuc, ◌+ℤ◌, ◌-ℤ◌, ◌*ℤ◌, ◌<ℤ◌, ◌≤ℤ◌, unsigned_abs, int_lt, false, refl}
 use Rattle.std.proofs.Common.{arith, ap}
 use Rattle.std.proofs.Math.Nat.{mul-le-mul_right}
 use Rattle.std.proofs.lemmas.Int.{ints, by_lt_z}
 use borrow.Author.Differences.{up, down, product_is, le_out, lt_out}
-
--- Whole numbers times positive ones, which `omega` does not multiply by itself.
 
 -- A positive whole number is its size again.
 pub back_from_size : {A : Type 0} (f : ℤ → A) (d : ℤ) → pos 1 ≤ℤ d → f (pos (unsigned_abs d)) ≡ f d

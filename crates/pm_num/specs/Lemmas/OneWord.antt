@@ -1,11 +1,10 @@
+-- What follows for every format from the definition of the nearest word.
 use Rattle.std.specs.Prelude.{◌≡◌, ℕ, ◌*◌, ◌^◌, ◌<◌, ◌≤◌}
 use Rattle.std.proofs.Common.{arith, ap}
 use Rattle.std.proofs.lemmas.Int.{ints}
 use Rattle.std.proofs.Math.Nat.{le_of_mul-le-mul_right}
 use Rattle.pm_num.specs.Ratio.{Ratio, AtMost, SameValue}
 use Rattle.pm_num.specs.Nearest.{gap, Near, IsNearest}
-
--- What follows for every format from the definition of the nearest word.
 
 -- A number is not away from itself.
 gap-same : (v : Ratio) → gap v v ≡ 0

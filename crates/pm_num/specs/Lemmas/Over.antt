@@ -1,3 +1,4 @@
+-- Fractions over one denominator c: there the talk of order and nearness is one of whole numbers.
 use Rattle.std.specs.Prelude.{◌≡◌, ℕ, ◌*◌, ◌<◌, ◌≤◌, ℤ, pos, ◌-ℤ◌, ◌*ℤ◌, ◌≤ℤ◌, unsigned_abs}
 use Rattle.std.proofs.Common.{arith, ap, sym, ◌∙◌}
 use Rattle.std.proofs.Math.Nat.{mul-le-mul_right, le_of_mul-le-mul_right}
@@ -5,8 +6,6 @@ use Rattle.std.proofs.lemmas.Int.{ints, unsigned_abs-mul}
 use Rattle.pm_num.specs.Ratio.{Ratio, AtMost, SameValue}
 use Rattle.pm_num.specs.Nearest.{gap, Near}
 use Rattle.pm_num.specs.Lemmas.Integers.{sub-times, times-swap, le-times, le_from_times}
-
--- Fractions over one denominator c: there the talk of order and nearness is one of whole numbers.
 
 -- v is s / c.
 pub record Over (c : ℕ) (s : ℤ) (v : Ratio) : Type 0 where

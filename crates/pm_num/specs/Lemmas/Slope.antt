@@ -1,3 +1,4 @@
+-- Order and nearness of the values of DIRECT.
 use Rattle.std.specs.Prelude.{◌≡◌, ◌≢◌, ℕ, ◌*◌, ◌^◌, ◌<◌, suc, ℤ, pos, negsuc, ◌-ℤ◌, ◌*ℤ◌, ◌≤ℤ◌, unsigned_abs, int_lt, refl}
 use Rattle.std.proofs.Common.{◌<ℤ◌, ap, arith, lit<, sym}
 use Rattle.std.proofs.lemmas.Int.{ints}
@@ -8,8 +9,6 @@ use Rattle.pm_num.specs.Value.{upper, lower, signed, sign, direct_value, direct_
 use Rattle.pm_num.specs.Nearest.{IsValue, one_rank}
 use Rattle.pm_num.specs.Lemmas.Integers.{le-times, same_from_times}
 use Rattle.pm_num.specs.Lemmas.OneWord.{IsOneWord}
-
--- DIRECT.
 
 -- The numerator of a power of ten is positive.
 pub upper_ten-positive : (n : ℤ) → 0 < upper 10 n

@@ -1,3 +1,4 @@
+-- How a word of LINEAR11 is spelled.
 use Rattle.std.specs.Prelude.{◌≡◌, ℕ, ◌+◌, ◌-◌, ◌*◌, ◌/◌, ◌%◌, ◌^◌, ◌<◌, ◌≤◌, suc, ℤ, pos, negsuc, ◌*ℤ◌}
 use Rattle.std.proofs.Common.{arith, ap, sym, ◌∙◌, lit<}
 use Rattle.std.proofs.lemmas.Int.{ints}
@@ -13,8 +14,6 @@ use Rattle.pm_num.specs.Lemmas.Integers.{times-times, le-times, same_from_times}
 use Rattle.pm_num.specs.Lemmas.Over.{Over, at_most_over, same_over_back}
 use Rattle.pm_num.specs.Lemmas.OneWord.{IsOneWord}
 use Rattle.pm_num.specs.Lemmas.Unsigned.{lower-positive}
-
--- LINEAR11.
 
 -- A word's exponent is one of five bits.
 pub IsExponent-exponent : (w : ℕ) → w < 2 ^ 16 → IsExponent (exponent w)

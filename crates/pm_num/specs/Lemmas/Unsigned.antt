@@ -1,3 +1,4 @@
+-- Order and nearness of the values of ULINEAR16.
 use Rattle.std.specs.Prelude.{◌≡◌, ℕ, ◌^◌, ◌<◌, ◌≤◌, suc, ℤ, pos, negsuc, ◌*ℤ◌, ◌≤ℤ◌, nat_lt}
 use Rattle.std.proofs.Common.{arith}
 use Rattle.std.proofs.lemmas.Int.{ints}
@@ -8,8 +9,6 @@ use Rattle.pm_num.specs.Value.{upper, lower, ulinear16_value}
 use Rattle.pm_num.specs.Nearest.{one_rank}
 use Rattle.pm_num.specs.Lemmas.Integers.{le-times, same_from_times}
 use Rattle.pm_num.specs.Lemmas.OneWord.{IsOneWord}
-
--- ULINEAR16.
 
 -- The numerator of a power of two is positive.
 pub upper-positive : (n : ℤ) → 0 < upper 2 n

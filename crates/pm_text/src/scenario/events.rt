@@ -1,3 +1,5 @@
+//! The events of a scenario, as a list.
+
 ghost use Rattle.std.specs.Prelude.{◌≡◌};
 
 use pm_world::Event;

@@ -1,3 +1,5 @@
+//! Why a line of a scenario can't be read.
+
 use pm_lines::TextFault;
 
 /// Why a line of a scenario can't be read.

@@ -1,3 +1,5 @@
+//! The outputs of a scenario's head.
+
 use pm_device::OutputStart;
 
 /// The outputs that were read: how many, of which more than 255 count as 255, and the first eight.

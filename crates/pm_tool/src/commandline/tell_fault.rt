@@ -1,3 +1,5 @@
+//! Why the options of `decode` ask for no telling.
+
 use thiserror::Error;
 
 /// Why the options of `decode` ask for no telling: the first that applies, in the order of these. All are

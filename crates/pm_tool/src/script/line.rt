@@ -1,3 +1,5 @@
+//! What a line of `hear` asks.
+
 ghost use Rattle.std.specs.Prelude.{◌≡◌, ◌⊎◌, Ok, Err, codes, IfOk, IfErr, OnOk};
 ghost use Rattle.pm_lines.specs.Faults.{IsOfText};
 ghost use Rattle.pm_lines.specs.Lines.{words_of};

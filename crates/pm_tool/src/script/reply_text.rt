@@ -1,3 +1,5 @@
+//! The lines that `hear` writes of an answer and of an output.
+
 ghost use Rattle.std.specs.Prelude.{◌≡◌, ◌<◌, ◌++◌, OnOk};
 ghost use Rattle.pm_tool.specs.HeardText.{reply_words};
 ghost use Rattle.pm_tool.specs.Script.{as_line, output_line};

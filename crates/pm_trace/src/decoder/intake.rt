@@ -1,3 +1,5 @@
+//! Whether a decoder takes bytes.
+
 use pm_lines::TextFault;
 
 /// Whether a decoder takes bytes.

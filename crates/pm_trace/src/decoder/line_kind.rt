@@ -1,3 +1,5 @@
+//! What a line of a trace is by its first bytes.
+
 ghost use Rattle.std.specs.Prelude.{◌≡◌};
 ghost use Rattle.pm_trace.specs.OpenLines.{begins_with_pair as spec_begins_with_pair};
 

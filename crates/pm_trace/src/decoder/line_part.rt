@@ -1,3 +1,5 @@
+//! The first bytes of a part of a line.
+
 ghost use Rattle.std.specs.Prelude.{◌≡◌, ◌≤◌, length};
 ghost use Rattle.pm_lines.specs.Pairs.{paired_bytes, behind_pairs};
 

@@ -1,3 +1,5 @@
+//! What is kept of a line while its bytes come.
+
 ghost use Rattle.std.specs.Prelude.{◌≡◌};
 
 use crate::decoder::line_kind::LineKind;

@@ -1,3 +1,5 @@
+//! How many slashes a line has.
+
 /// How many slashes a line of a trace has.
 #[derive(Clone, Copy, Debug)]
 pub(crate) enum Slashes {
