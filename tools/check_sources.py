@@ -26,6 +26,8 @@ where X6 arises instead. Without git the files are those that stand in the tree.
     tally      a script of Python or bash prints `N passed, M failed` by itself: tools/tally.py and tools/tally.sh count and print
     edit       a text that a planted bug replaces doesn't stand once in its file
     name       a file names what users get as it was called before: CHANGELOG has the names now
+    first      the first line of a file of src/, specs/, proofs/ (but Answers, Invariants, Lib), python/src or rust/src doesn't say what
+               is inside
 
 Tests are left out.
 """
@@ -73,11 +75,10 @@ EACH_REGISTER = ("crates/pm_limits/src/ends.rt", "crates/pm_limits/src/part_regi
                  "crates/pm_rail/", "crates/pm_course/", "crates/pm_world/proofs/Limits.antt", "crates/pm_world/proofs/Plans.antt",
                  "crates/pm_world/proofs/Board.antt", "crates/pm_law_tests/proofs/limits/",
                  "crates/pm_course_laws/proofs/", "crates/pm_sequence_laws/proofs/Steps.antt",
-                 "crates/pm_sequence_laws/proofs/Commands.antt",
                  "crates/pm_sequence_laws/proofs/Callers.antt",
                  "crates/pm_stairs/src/step.rt", "crates/pm_stairs/specs/Steps.antt",
                  "crates/pm_log/src/answers.rt", "crates/pm_log/src/verdict_text.rt", "crates/pm_log/specs/Answered.antt",
-                 "crates/pm_log/proofs/Claims.antt", "crates/pm_log/proofs/Trust.antt")
+                 "crates/pm_log/proofs/Follow.antt")
 
 
 def sources(crates, folders):
@@ -318,6 +319,22 @@ def old_names():
         yield path, 1, "name", house.OLD_NAMES.search(read(path)).group()
 
 
+# A first line that says what is inside, by where a file stands.
+FIRST = ((re.compile(r"crates/\w+/(?:src|specs|proofs)/.*\.(?:rt|antt)|rust/src/.*\.rs"), ("//! ", "-- ", "#![doc = include_str!")),
+         (re.compile(r"python/src/.*\.py"), ('"""',)))
+UNTITLED = ("Answers.antt", "Invariants.antt", "Lib.antt")
+
+
+def untitled():
+    """Files whose first line doesn't say what is inside."""
+    for name in kept_files():
+        begins = next((begins for where, begins in FIRST if where.fullmatch(name)), None)
+        if begins and os.path.isfile(name) and os.path.basename(name) not in UNTITLED:
+            text = read(name)
+            if text and not text.startswith(begins):
+                yield name, 1, "first", text.split("\n")[0]
+
+
 def laws_of(crates):
     """The laws of crates, as tools/claims prints them: public functions that take nothing and answer nothing, by crate."""
     for crate in crates:
@@ -379,7 +396,7 @@ def findings(crates):
     yield from hanging(crates)
     yield from unrun(crates)
     yield from unclaimed(crates)
-    yield from (*lost_paths(), *hand_tallies(), *old_names(), *prose.findings(), *claims.lost_names()) if "pmb" in crates else ()
+    yield from (*lost_paths(), *hand_tallies(), *old_names(), *prose.findings(), *claims.lost_names(), *untitled()) if "pmb" in crates else ()
     yield from planted.findings(crates)
 
 

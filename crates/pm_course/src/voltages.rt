@@ -1,4 +1,4 @@
-//! The voltages that a course wants of an output's registers.
+//! The voltages that are wanted of the registers of an output.
 
 ghost use Rattle.std.specs.Prelude.{◌≡◌};
 ghost use Rattle.pm_course.specs.Wishes.{no_voltages, voltage_of, with_voltage};

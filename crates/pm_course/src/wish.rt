@@ -1,4 +1,4 @@
-//! What a course wants of each register: nothing, a word or a voltage.
+//! What is wanted of each register: nothing, a word or a voltage.
 
 ghost use Rattle.std.specs.Prelude.{◌≡◌};
 ghost use Rattle.pm_course.specs.Wishes.{has_voltage, stays_wished, voltage_in, voltages_in, word_in, words_in};

@@ -1,4 +1,4 @@
-//! The host: jobs begin, frames are shown, and what became of them is told.
+//! The host: jobs begin, frames are shown, and it hears what became of them.
 
 ghost use Rattle.std.specs.Prelude.{◌≡◌, ◌<◌, true, None, IfOk, MatchOption, IsNone, IsSomeAnd};
 ghost use Rattle.std.specs.Option.{option_map};
