@@ -21,6 +21,11 @@ CODES = {
     "WRITE_PROTECT": 0x10,
 }
 NAMES = {code: name for name, code in CODES.items()}
+# The device's own, those of an output, and of these the voltages; and those of one byte.
+DEVICE = "WRITE_PROTECT"
+REGISTERS = tuple(name for name in CODES if name != DEVICE)
+VOLTAGES = tuple(name for name in REGISTERS if name.startswith("VOUT_"))
+BYTES = ("OPERATION", DEVICE)
 # The registers of an output that a part may lack: those of a host, and those by which a rail is judged.
 MISSABLE = ("VOUT_MAX", "VOUT_MARGIN_HIGH", "VOUT_MARGIN_LOW", "VOUT_MIN")
 LOOKED_AT = ("STATUS_WORD", "READ_VOUT")

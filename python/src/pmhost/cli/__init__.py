@@ -1,9 +1,7 @@
 """The command `pmhost`: each module of `MODULES` has a command or a group of them.
 
-`add(commands)` of a module adds its subparsers, and sets `run` of each by `set_defaults`. `run(arguments)` carries the
-command out and answers the status; `arguments.call` is what all commands of a call share. A module may set `judge_file` and
-`judge`, too, which raise `BadCall` before any command of the call is carried out: `judge_file` gives the call outputs and
-limits, `judge` looks at what the whole call has. A command that uses a bus adds `bus_options`.
+`add(commands)` of a module adds its subparsers, and sets the `Task` of each by `set_defaults`. A command that uses a bus adds `bus_options`. What
+the parser answers becomes a `Command`; what all commands of a call share is a `Call`.
 """
 from __future__ import annotations
 
@@ -19,17 +17,19 @@ from .._version import __version__
 from ..bus import NoBus
 from ..bus.linux import Calls
 from ..errors import PmhostError
-from . import capture, faults, known, margins, names, orders, probe, rails, sequence, streams, torture, up, why
+from . import capture, faults, known, margins, names, power, probe, rails, reads, registers, sequence, stores, streams, torture, up, why
 from .about import WHOLE
 from .again import are_several
 from .answer import Answer
 from .completion import bash
 from .call import Call, complain
-from .parser import OF_A_BUS, BadCall, Parser, bus_options, flag_of, own_options, shown, usage_of
+from .command import Command, command_of
+from .options import OF_A_BUS, bus_options, flag_of, own_options, usage_of
+from .parser import BadCall, Parser, shown
 from .signals import Interrupted, interruptible
 
 # The modules of the commands, in the order of the help.
-MODULES: list[ModuleType] = [probe, orders, why, known, rails, up, margins, faults, torture, capture]
+MODULES: list[ModuleType] = [probe, reads, registers, power, stores, why, known, rails, up, margins, faults, torture, capture]
 # The commands that have jobs of their own, between which a + stands: the call has no other command.
 OWN_JOBS = ("faults", "torture")
 
@@ -79,9 +79,9 @@ def parts_of(words: list[str]) -> list[list[str]]:
     return parts
 
 
-def commands_of(words: list[str]) -> list[argparse.Namespace]:
-    """The commands of a command line, each with its own words as `said`."""
-    options, found = options_of(parser()[0]), list[argparse.Namespace]()
+def commands_of(words: list[str]) -> list[Command]:
+    """The commands of a command line."""
+    options, found = options_of(parser()[0]), list[Command]()
     # argparse would take the file behind a bare --store for its value.
     whole = parts_of([rails.STORE_ALL if word == "--store=always" else word for word in words])
     for part in [each for part in whole for each in names.parted(part, all_valued())]:
@@ -92,17 +92,16 @@ def commands_of(words: list[str]) -> list[argparse.Namespace]:
     return found
 
 
-def read_command(part: list[str], named: names.Named | None) -> argparse.Namespace:
+def read_command(part: list[str], named: names.Named | None) -> Command:
     """A command by its own words, which may be about a rail of a file."""
     whole, commands = parser()
-    arguments = whole.parse_args(part)
-    has_value = valued(whole) | valued(commands[arguments.command])
-    arguments.said = " ".join([arguments.command, *words_behind(arguments.command, part, has_value)])
-    if named is not None:
-        names.attach(arguments, named)
-        if named.rail is None:
-            sequence.attach(arguments, named.file)
-    return arguments
+    found = whole.parse_args(part)
+    has_value = valued(whole) | valued(commands[found.command])
+    command = command_of(found, " ".join([found.command, *words_behind(found.command, part, has_value)]))
+    if named is None:
+        return command
+    command = names.attached(command, named)
+    return sequence.attached(command) if named.rail is None else command
 
 
 @functools.cache
@@ -137,12 +136,11 @@ def completion() -> int:
 def run_commands(call: Call) -> int:
     """The status of a call's commands."""
     status = 0
-    for arguments in call.commands:
-        if status and not getattr(arguments, "is_question", False) and not getattr(arguments, "goes_on", False):
+    for command in call.commands:
+        if status and not command.task.is_question and not command.goes_on:
             continue
-        call.begin(arguments)
-        is_order = getattr(arguments, "is_order", False)
-        status = max(status, call.other_model(arguments) or is_order and call.no_part(arguments) or int(arguments.run(arguments)))
+        call.begin(command)
+        status = max(status, call.other_model(command) or command.task.is_order and call.no_part(command) or command.task.run(call, command))
         call.claim()
     return status or (call.ordered.look(call) if are_several(call.commands) else 0)
 
@@ -171,15 +169,10 @@ def judged(words: list[str], kernel: Calls | None) -> Call:
 
 
 def judge(call: Call) -> None:
-    """Judges each command of a call, and what they have in common. BadCall."""
-    for arguments in call.commands:
-        arguments.call = call
-        if hasattr(arguments, "judge_file"):
-            arguments.judge_file(arguments)
+    """Judges each command of a call, and what they have in common: first the files, which give the call outputs and limits. BadCall."""
+    call.commands = [names.with_rails(call, each) for each in call.commands]
     call.judge()
-    for arguments in call.commands:
-        if hasattr(arguments, "judge"):
-            arguments.judge(arguments)
+    call.commands = [each.task.judge(call, each) or each for each in call.commands]
 
 
 def fail(words: list[str], why: str, end: str, status: int, call: Call | None = None) -> int:

@@ -2,13 +2,13 @@
 middle of a call brings its stored words back."""
 from __future__ import annotations
 
-import argparse
 from typing import TYPE_CHECKING
 
 from .answer import Answer, in_digits
 
 if TYPE_CHECKING:
     from .call import Call
+    from .command import Command
 
 
 # The status where a part restarted, and nothing else went wrong.
@@ -52,6 +52,6 @@ class Ordered:
         return call.say(Answer(command, end, status=status, why=why))
 
 
-def are_several(commands: list[argparse.Namespace]) -> bool:
+def are_several(commands: list[Command]) -> bool:
     """Whether a call has several commands that send something."""
-    return sum(not getattr(each, "is_question", False) for each in commands) > 1
+    return sum(not each.task.is_question for each in commands) > 1

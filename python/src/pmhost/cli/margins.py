@@ -2,7 +2,6 @@
 while all others are looked at, and back at its voltage."""
 from __future__ import annotations
 
-import argparse
 import contextlib
 from dataclasses import dataclass, replace
 from typing import Any, Iterator
@@ -17,7 +16,6 @@ from ..device import Device
 from ..errors import SAYINGS, ChangedRefused, RailRefused, refusal
 from ..looks import Looks
 from ..operation import MARGINS, ON, margin_byte, same_command, selected_by, uncounted
-from ..parts import BadRails
 from ..rail_run import Restarted, Stopped
 from ..rails import Rail
 from ..rehearsal import first_not_reached, unprotected
@@ -30,12 +28,10 @@ from .about import described
 from .again import RESTARTED
 from .answer import Answer, between, delivery_of, number
 from .back import words_of
-from .call import Call, said
-from .completion import FILES, completed_by
-from .names import IGNORE
-from .orders import IGNORING
+from .call import Call
+from .command import Command, Task
+from .options import IGNORE, bus_options, file_word, shared
 from .outcome import IGNORED, cell_words, limit_words, why_not, why_refused, with_advice
-from .parser import BadCall, bus_options, file_of, shown
 
 # A margin isn't to be selected at the end, whatever came.
 POINTS = ("nominal", "high", "low", "nominal")
@@ -44,26 +40,11 @@ POINTS = ("nominal", "high", "low", "nominal")
 def add(commands: Any) -> None:
     """Adds the subparser."""
     found = commands.add_parser("margin-test", **described("margin-test"))
-    completed_by(found.add_argument("file", metavar="FILE", type=file_of, help="settings of a board's rails, in TOML"), FILES)
+    file_word(found)
     found.add_argument("names", metavar="RAIL", nargs="*", help="rails of the file; all that are to be on if left out")
-    found.set_defaults(run=margin_test, judge_file=judge_file)
-    found.add_argument(IGNORE, **IGNORING)
+    found.set_defaults(task=Task(margin_test))
+    shared(found, IGNORE)
     bus_options(found)
-
-
-def judge_file(arguments: argparse.Namespace) -> None:
-    """The file is judged whole, and the named rails are among its own. BadCall."""
-    call: Call = arguments.call
-    try:
-        found = arguments.rails = rails.read(arguments.file)
-    except BadRails as bad:
-        raise BadCall(str(bad)) from bad
-    call.take_rails(arguments, found)
-    named = {rail.name: rail for rail in found.rails}
-    for name in arguments.names:
-        if name not in named:
-            raise BadCall(f"margin-test: {shown(name)}: there is no such rail in {shown(arguments.file)}, which has {', '.join(named)}")
-    arguments.chosen = [rail for rail in found.rails if (rail.name in arguments.names if arguments.names else rail.is_on)]
 
 
 @dataclass
@@ -275,7 +256,7 @@ class RailTest:
         said = f"{OPERATION} {byte:02X}"
         if end.kind == "refused":
             fault = refusal(end.number, end.register)
-            why = why_refused(argparse.Namespace(byte=byte), commanded(self.part, self.rail.output), fault.letter)
+            why = why_refused(commanded(self.part, self.rail.output), fault.letter, byte)
             return f"{said}: {why or SAYINGS.get(fault.letter, fault.name)}: {fault.letter} {fault.name}"
         if end.word is not None:
             return f"{said}: {end.register} is {in_hexadecimal(end.register, end.word)}"
@@ -292,7 +273,7 @@ def judge_board(board: Board) -> None:
     for rail in board.rails:
         byte = only_word(board.on(rail), rail.output, OPERATION)
         if rail.is_on and byte is not None and not same_command(ON, byte):
-            said = cell_words(argparse.Namespace(output=rail.output), board.on(rail), OPERATION, byte)
+            said = cell_words(board.on(rail), rail.output, OPERATION, byte)
             raise Stopped(f"{rail.name}: {said}: `on` first")
     board.take()
     wrong = [f"{it.name} is {board.shown(it, it.last)}, and the file says {board.shown(it, it.asked)}" for it in board.settings
@@ -302,17 +283,17 @@ def judge_board(board: Board) -> None:
     board.finish()
 
 
-def margin_test(arguments: argparse.Namespace) -> int:
+def margin_test(call: Call, command: Command) -> int:
     """Tests the rails: all of the file are read and judged before the first order, and the first that fails ends the test. The status."""
-    call: Call = arguments.call
-    places, file, rows, begun = call.places(), arguments.rails, list[Row](), list[RailTest]()
+    places, file, rows, begun = call.places(), command.rails, list[Row](), list[RailTest]()
     board = Board({name: place.pmbus() for name, place in places.items()}, file.rails, file.parts if file.is_board else {},
                   lambda name: places[name].ask_operation(), looks=call.looks)
     why, status = "", 0
     try:
         judge_board(board)
         befores = {name: Heard(1, found.status) for name, found in board.delivered.items() if found.status is not None}
-        tests = [RailTest(call, board, rail, call.looks, befores, rows, arguments.ignore_faults) for rail in arguments.chosen]
+        tests = [RailTest(call, board, rail, call.looks, befores, rows, command.ignore_faults) for rail in file.rails
+                 if (rail.name in command.names if command.names else rail.is_on)]
         for each in tests:
             each.judge()
         for each in tests:
@@ -325,12 +306,11 @@ def margin_test(arguments: argparse.Namespace) -> int:
     for held, fault in call.back.go():
         begun[-1].is_back, status = not fault, 1 if fault else status
         why += f"; {words_of(held, fault, bool(rows) and rows[-1].rail is begun[-1].rail and rows[-1].delivered.has_tripped)}"
-    return tell(arguments, begun, rows, why, status)
+    return tell(call, command, begun, rows, why, status)
 
 
-def tell(arguments: argparse.Namespace, begun: list[RailTest], rows: list[Row], why: str, status: int) -> int:
+def tell(call: Call, command: Command, begun: list[RailTest], rows: list[Row], why: str, status: int) -> int:
     """Says it: the table, and which rails are back. The status."""
-    call: Call = arguments.call
     call.maybe = ""
     if not call.is_json and rows:
         lines = [("rail", "point", "commands", "READ_VOUT", "STATUS_WORD"), *(row.columns() for row in rows)]
@@ -339,5 +319,5 @@ def tell(arguments: argparse.Namespace, begun: list[RailTest], rows: list[Row], 
         call.say_lines([f"{each.rail.name}: back, {OPERATION} {ON:02X}{each.held_back()}" for each in begun if each.is_back])
     backs = [{"rail": each.rail.name, "point": "back", "confirmed": each.is_back} for each in begun]
     end = "restarted" if status == RESTARTED else "stopped" if why else "done"
-    return call.say(Answer(said(arguments), end, "", status, why, rows=[*(row.by_names() for row in rows), *backs],
+    return call.say(Answer(command.said, end, "", status, why, rows=[*(row.by_names() for row in rows), *backs],
                            restart_seen=any(place.pmbus().restart_seen for place in call.places().values())))

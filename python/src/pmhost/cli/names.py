@@ -2,14 +2,15 @@
 file. `on board.toml` and `off board.toml` are about all of its rails."""
 from __future__ import annotations
 
-import argparse
 import re
-from dataclasses import dataclass
+from dataclasses import dataclass, replace
 from typing import TYPE_CHECKING
 
 from .. import rails
 from ..parts import BadRails
 from ..rails import Rail, Rails
+from .command import Command
+from .options import BACK, IGNORE
 from .parser import BadCall, shown
 
 if TYPE_CHECKING:
@@ -20,7 +21,6 @@ OF_A_RAIL = ("learn", "read", "survey", "set", "word", "on", "off", "margin", "c
 OF_ALL = ("survey", "why", "known", "band")
 # Those that go from rail to rail in the order of the file, which is a command of its own.
 IN_ORDER = ("on", "off")
-BACK, IGNORE, TELL_TRIM = "--back", "--ignore-faults", "--trim=tell"
 ENDING = ".toml"
 
 
@@ -59,10 +59,7 @@ def expanded(part: list[str], has_value: set[str]) -> list[tuple[list[str], Name
     if command not in OF_A_RAIL or at is None or not part[at].endswith(ENDING):
         return [(part, None)]
     file = part[at]
-    try:
-        found = rails.read(file)
-    except BadRails as bad:
-        raise BadCall(str(bad)) from bad
+    found = read(file)
     behind = [word for word in part[at + 1:at + 2] if not word.startswith("-")]
     names = {rail.name: rail for rail in found.rails}
     if behind and behind[0] in names:
@@ -78,16 +75,28 @@ def expanded(part: list[str], has_value: set[str]) -> list[tuple[list[str], Name
     raise BadCall(f"{command}: {said} {shown(file)}, which has {', '.join(names)}")
 
 
-def attach(arguments: argparse.Namespace, named: Named) -> None:
-    """A command is about a rail of a file, or about all of them, which the call hears of as it is judged."""
-    arguments.rails, arguments.named, arguments.goes_on, arguments.of_file = named.found, named.rail, named.is_one_of_all, named.file
-    words = arguments.said.split()
-    name = shown(named.file) if named.rail is None else named.rail.name
-    arguments.said = " ".join([words[0], name, *words[2:]])
-    arguments.judge_file = judge_file
+def attached(command: Command, named: Named) -> Command:
+    """A command is about a rail of a file, or about all of them."""
+    words, name = command.said.split(), shown(named.file) if named.rail is None else named.rail.name
+    return replace(command, file=named.file, found=named.found, named=named.rail, goes_on=named.is_one_of_all, said=" ".join([words[0], name, *words[2:]]))
 
 
-def judge_file(arguments: argparse.Namespace) -> None:
-    """The outputs and the limits of the file are those of the call."""
-    call: Call = arguments.call
-    call.take_rails(arguments, arguments.rails)
+def with_rails(call: Call, command: Command) -> Command:
+    """The same command with the rails of its file, if it has one: their outputs and limits are those of the call. BadCall."""
+    if command.file is None:
+        return command
+    found = command.found or read(command.file)
+    call.take_rails(command, found)
+    there = [rail.name for rail in found.rails]
+    for name in command.names:
+        if name not in there:
+            raise BadCall(f"{command.name}: {shown(name)}: there is no such rail in {shown(command.file)}, which has {', '.join(there)}")
+    return replace(command, found=found)
+
+
+def read(file: str) -> Rails:
+    """The rails of a file. BadCall."""
+    try:
+        return rails.read(file)
+    except BadRails as bad:
+        raise BadCall(str(bad)) from bad

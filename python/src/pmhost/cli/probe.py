@@ -1,7 +1,7 @@
 """The command probe."""
 from __future__ import annotations
 
-import argparse
+from dataclasses import dataclass
 from typing import Any
 
 from ..parts import MODEL_BUS
@@ -11,13 +11,23 @@ from ..scan import LEFT_OUT, Seen, bus_or_why, scan
 from ..values import LACKABLE
 from .about import described
 from .answer import Answer, in_digits
-from .call import MODEL_ADDRESS, Call, complain, said
-from .parser import BadCall, bus_options
+from .call import MODEL_ADDRESS, Call, complain
+from .command import Command, Task
+from .options import bus_options
+from .parser import BadCall
 
 MAY_NOTE = "the part may note in STATUS_CML that it was asked for what it lacks, and pull SMBALERT#"
 CLEARS = "--writes sends CLEAR_FAULTS, which clears the part's latched faults"
 MAY_BE_TAKEN = "a device that isn't a PMBus part may take the command byte for a register's number"
 MAY_BE_CLEARED = "the part's latched faults may be cleared, and no setting was written"
+
+
+@dataclass(frozen=True, kw_only=True)
+class Probed(Command):
+    """A probe, which may write, and without an address ask all."""
+
+    writes: bool
+    all_addresses: bool
 
 
 FITS, BUT = "the part fits", "for a frame that is both damaged and cut before its last byte, which is not proved"
@@ -31,41 +41,39 @@ def add(commands: Any) -> None:
                        "takes a wrong PEC can't be driven. This clears latched faults; only reads if left out")
     found.add_argument("--all-addresses", action="store_true", help="without -a: also sends a command byte to 70 to 77, at which multiplexers "
                        "sit, which take it for their channels; these are passed over if left out")
-    found.set_defaults(run=run, judge=judge, can_scan=True)
+    found.set_defaults(task=Task(run, judge, Probed, can_scan=True))
     bus_options(found)
 
 
-def judge(arguments: argparse.Namespace) -> None:
-    call: Call = arguments.call
+def judge(call: Call, command: Probed) -> None:
     is_scan = call.address is None and call.bus != MODEL_BUS
-    if arguments.all_addresses and not is_scan:
+    if command.all_addresses and not is_scan:
         raise BadCall("probe: --all-addresses is for a look at a whole bus: leave the address out")
-    for name, is_given in (("--writes", arguments.writes), ("--trace", call.trace_path is not None)):
+    for name, is_given in (("--writes", command.writes), ("--trace", call.trace_path is not None)):
         if is_given and is_scan:
             raise BadCall(f"probe: {name}: give the part's address, as -a 58; probe without both finds the parts")
 
 
-def run(arguments: argparse.Namespace) -> int:
+def run(call: Call, command: Probed) -> int:
     """What the part has, and in the last line what to give to `pmhost` for it, or why it can't be driven."""
-    call: Call = arguments.call
     if call.address is None and call.bus != MODEL_BUS:
-        return look_around(arguments, call)
+        return look_around(call, command)
     # Its own tries wait for a busy part. A question behind a write could change STATUS_CML, which it reads.
     bus = call.patient(0)
-    complain(f"{said(arguments)}: {MAY_NOTE}{f'; {CLEARS}' if arguments.writes else ''}")
+    complain(f"{command.said}: {MAY_NOTE}{f'; {CLEARS}' if command.writes else ''}")
     probe = Probe(bus, call.address or MODEL_ADDRESS, call.outputs, call.lacks)
     found = probe.run()
-    if arguments.writes and found.outputs:
+    if command.writes and found.outputs:
         call.settled = MAY_BE_CLEARED
         probe.write()
-    lines, give = lines_of(found, arguments.writes), give_of(call, found) if found.is_fit else None
+    lines, give = lines_of(found, command.writes), give_of(call, found) if found.is_fit else None
     if found.is_fit and found.is_pec_optional:
         lines.append(next_words(call))
     if not call.is_json:
         call.say_lines([*(f"probe: {line}" for line in lines), *([give] if give else [])])
     told = [*(row_of(each) for each in found.outputs), device_row(found, lines, give)]
     end = "unfit" if not found.is_fit else "fit but" if found.is_pec_optional else "fit"
-    return call.say(Answer(said(arguments), end, status=0 if found.is_fit else 1, rows=told))
+    return call.say(Answer(command.said, end, status=0 if found.is_fit else 1, rows=told))
 
 
 def next_words(call: Call) -> str:
@@ -75,14 +83,14 @@ def next_words(call: Call) -> str:
             f"0x{call.address or MODEL_ADDRESS:02X} 0xD1 0xNN bp writes that byte. Then probe --writes again")
 
 
-def look_around(arguments: argparse.Namespace, call: Call) -> int:
+def look_around(call: Call, command: Probed) -> int:
     """Which addresses of the bus answer, a line each, and the command line that probes each PMBus part. The status is 1 if there is none."""
     bus = bus_or_why(call.bus_at)
     if not isinstance(bus, str):
         bus.close()
-    complain(f"{said(arguments)}: {MAY_BE_TAKEN}; {MAY_NOTE}")
+    complain(f"{command.said}: {MAY_BE_TAKEN}; {MAY_NOTE}")
     rows, lines = [], []
-    for seen in scan(call.bus_at, arguments.all_addresses):
+    for seen in scan(call.bus_at, command.all_addresses):
         line = seen_words(seen)
         rows.append({"address": f"{seen.address:02X}", "part": seen.is_part, "asked": seen.is_asked, "says": line})
         if not call.is_json:
@@ -92,7 +100,7 @@ def look_around(arguments: argparse.Namespace, call: Call) -> int:
     if not call.is_json:
         call.say_lines([f"probe: {LEFT_OUT}", *lines])
     why = "" if lines else "no PMBus part answers on this bus"
-    return call.say(Answer(said(arguments), "parts" if lines else "no part", status=0 if lines else 1, why=why, rows=rows))
+    return call.say(Answer(command.said, "parts" if lines else "no part", status=0 if lines else 1, why=why, rows=rows))
 
 
 def seen_words(seen: Seen) -> str:

@@ -1,7 +1,6 @@
 """What `read` says of readings and status registers, and what the part noted after a job that ended badly."""
 from __future__ import annotations
 
-import argparse
 from typing import Iterable
 
 from .. import readings
@@ -13,17 +12,17 @@ from ..reads import Reads
 from ..status import BITS
 from ..values import LACKABLE
 from .answer import Answer
-from .call import Call, said
+from .call import Call
+from .command import Command
 
 
 PROTECT = Packet("read", 0x10)
 
 
-def tell(arguments: argparse.Namespace) -> int:
+def tell(call: Call, command: Command) -> int:
     """A reading with its unit, or a status register with the names of its bits. The host hears of nothing but the format of the
     output's voltages, which is learned if a reading's unit rests on it."""
-    call: Call = arguments.call
-    part, name, output = call.part(), arguments.register, arguments.output
+    part, name, output = call.part(), command.register, command.output
     form = None
     if name not in BITS:
         form = part.host.format(output or 0)
@@ -33,15 +32,14 @@ def tell(arguments: argparse.Namespace) -> int:
             form = part.host.format(output or 0)
     found = readings.read(part.bus, part.host.address, output, name, form)
     is_good = found.word is not None
-    return call.say(Answer(said(arguments), "done" if is_good else "unknown", found.words, 0 if is_good else 1, found.why, output, name,
+    return call.say(Answer(command.said, "done" if is_good else "unknown", found.words, 0 if is_good else 1, found.why, output, name,
                            found.word, rows=[row_of(found)], restart_seen=part.host.restart_seen))
 
 
-def tell_code(arguments: argparse.Namespace) -> int:
+def tell_code(call: Call, command: Command) -> int:
     """The bytes of any command code, of an output by PAGE_PLUS or of the device: a byte or a word in hexadecimal digits, a block with its
     text if it is text."""
-    call: Call = arguments.call
-    part, name, output, asked = call.part(), arguments.register, arguments.output, code_of(arguments.register)
+    part, name, output, asked = call.part(), command.register, command.output, code_of(command.register)
     assert asked is not None
     reads, size = Reads(part.bus, part.host.address), SIZES[asked.kind]
     if size:
@@ -49,7 +47,7 @@ def tell_code(arguments: argparse.Namespace) -> int:
     else:
         found = reads.block(asked.code) if output is None else reads.of_page(output, asked.code, 0)
     row: dict[str, object] = {"register": name, "code": f"{asked.code:02X}", "bytes": None, "text": None}
-    answer = Answer(said(arguments), "unknown", f"no good {name}", 1, found.why or "no good answer", output, name,
+    answer = Answer(command.said, "unknown", f"no good {name}", 1, found.why or "no good answer", output, name,
                     rows=[row], restart_seen=part.host.restart_seen)
     if found.payload is not None:
         text = block_text(found.payload) if asked.kind == BLOCK else ""
