@@ -244,7 +244,7 @@ class Rows(unittest.TestCase):
                 host, course, bus = self.begun(row)
                 orders_told = []
                 hooks = (orders_told.append, lambda order, step: orders_told.append(step.kind)) if has_hooks else ()
-                end = end_by(course, lambda: host.run_course(course, bus, None, *hooks))
+                end = end_by(course, lambda: course.run(host, bus, None, *hooks))
                 self.assertEqual((end, bus.tokens), (row.end, []))
                 if has_hooks:
                     self.assertEqual(len(orders_told) % 2, 0)

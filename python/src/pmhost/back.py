@@ -57,9 +57,9 @@ def bring_back(part: Device, held: Held, lift: Callable[[], bool] = lambda: Fals
 def try_back(part: Device, held: Held, lift: Callable[[], bool]) -> str:
     """The same, once."""
     try:
-        why = read_first(part, held) or carried_out(part, held)
+        why = read_first(part, held) or run(part, held)
         if why and lift():
-            why = carried_out(part, held)
+            why = run(part, held)
     except NotBelieved as doubt:
         part.restart()
         return str(doubt)
@@ -77,12 +77,12 @@ def read_first(part: Device, held: Held) -> str:
     return ""
 
 
-def carried_out(part: Device, held: Held) -> str:
+def run(part: Device, held: Held) -> str:
     """Carries the step back out: why it isn't reached."""
-    part.transfers, run = Transfers(), StepRun(part, held.step(), TRIES)
+    part.transfers, step = Transfers(), StepRun(part, held.step(), TRIES)
     # What was held before isn't judged: it comes back, whatever the trim.
-    run.trims = None
-    end, form = run.carry_out(), part.host.format(held.output)
+    step.trims = None
+    end, form = step.run(), part.host.format(held.output)
     if held.form is not None and form != held.form:
         return "its voltages have another format now"
     if end.is_well and all(is_held(part, held.output, register, word) for register, word in held.words.items()):

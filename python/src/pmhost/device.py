@@ -234,7 +234,7 @@ class Device:
         step = replace(step, host=0, looks=step.looks or self.looks)
         run = StepRun(self, step, tries, before_order)
         run.guarded = run.guarded if is_guarded else None
-        end = run.carry_out(after_order, None, None if accept is None else given_microvolts(accept, "accept"))
+        end = run.run(after_order, None, None if accept is None else given_microvolts(accept, "accept"))
         self.delivered = run.delivered
         on_off.look(self, run.step, run.delivered)
         if not end.is_well or run.delivered is not None and run.delivered.is_bad:

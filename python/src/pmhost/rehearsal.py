@@ -58,7 +58,7 @@ def modelled(part: Device, output: int, is_lifted: bool = False) -> Device:
 
 def is_reached(part: Device, course: Course) -> bool:
     """Whether a course over a model reaches what is wanted: `ended` says how it came to another end."""
-    part.host.run_course(course, part.bus)
+    course.run(part.host, part.bus)
     return course.ended is not None and course.ended.kind == "reached"
 
 

@@ -111,7 +111,7 @@ def looked_at(part: Device, output: int, looks: Looks | None) -> tuple[Commanded
     """The same, and what its rail does: also if the survey comes to no end, since another source may decide or a register is missing."""
     part.transfers = Transfers()
     run = StepRun(part, SequenceStep.surveys(0, output, looks), SURVEY_TRIES)
-    found = behind(part, output, run.carry_out(ask=lambda: part.transfers.why()))
+    found = behind(part, output, run.run(ask=lambda: part.transfers.why()))
     return found, look_at(part, output, looks) if looks is not None and found.unended else run.delivered
 
 

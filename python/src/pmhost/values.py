@@ -54,6 +54,13 @@ def code_of(register: object) -> int:
     return code
 
 
+def is_true(answer: object, what: str) -> bool:
+    """An answer of True or False."""
+    if not isinstance(answer, bool):
+        raise TypeError(f"{what}: True or False is wanted, and not {answer!r}")
+    return answer
+
+
 def decimal_of(millionths: int) -> Decimal:
     """So many millionths of a unit, in that unit."""
     return Decimal(f"{millionths}E-6")

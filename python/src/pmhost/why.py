@@ -5,7 +5,6 @@ from __future__ import annotations
 from dataclasses import dataclass, field
 
 from . import voltages
-from .apply import word_of
 from .delivered import Delivered
 from .device import Device
 from .errors import Refused
@@ -14,6 +13,7 @@ from .on_off import BY_COMMAND, BY_PIN, unheeded
 from .rails import SETTINGS, Rail
 from .readings import KINDS, Reading, read
 from .rounded import near_word
+from .settings import word_of
 from .status import BITS
 from .survey import Commanded, commanded, looked_at
 from .values import LOOKED_AT

@@ -67,7 +67,7 @@ class FileSteps:
         known of that."""
         for at, each in self.looked[place]:
             run = StepRun(*self.steps[at], TRIES, lists=self.lists, place=at)
-            end = run.carry_out()
+            end = run.run()
             if run.delivered is None:
                 return each, WHY.get(end.kind, end.kind)
             file.measure(each, run.delivered.verdict.microvolts)

@@ -7,7 +7,7 @@ from dataclasses import dataclass, replace
 from typing import Any, Iterator
 
 from .. import rails, turn_on, voltages
-from ..apply import AS_WANTED, Board
+from ..apply import Board
 from ..back import OPERATION, Held
 from ..course import CourseEnd, in_hexadecimal
 from ..cuts import cuts
@@ -16,10 +16,10 @@ from ..device import Device
 from ..errors import SAYINGS, ChangedRefused, RailRefused, refusal
 from ..looks import Looks
 from ..operation import MARGINS, ON, margin_byte, same_command, selected_by, uncounted
-from ..rail_run import Restarted, Stopped
 from ..rails import Rail
 from ..rehearsal import first_not_reached, unprotected
 from ..sequence import UP, WHY, Heard, Said, Sequence, SequenceStep
+from ..settings import AS_WANTED, Restarted, Stopped
 from ..step_run import StepRun, look_at
 from ..survey import TRIES, Commanded, commanded, only_word, read, survey, why_not_off
 from ..transfers import Transfers
@@ -132,7 +132,7 @@ class RailTest:
         run = StepRun(part, self.step_to(point), TRIES, lambda _: False)
         with self.stopping():
             part.transfers = Transfers()
-            end = run.carry_out(ask=self.call.places()[self.rail.part].ask_operation)
+            end = run.run(ask=self.call.places()[self.rail.part].ask_operation)
         self.befores.setdefault(self.rail.name, run.before)
         return end
 

@@ -9,8 +9,8 @@ from ..delivered import Delivered, beyond_of
 from ..device import FORMAT_UNKNOWN, Device
 from ..errors import SAYINGS, ChangedRefused, PlanRefused, RailRefused, Refused, TrimRefused, refusal
 from ..operation import avsbus, ignores_faults, uncounted
-from ..rail_run import OUTSIDE
 from ..sequence import WHY
+from ..settings import OUTSIDE
 from ..states import Step
 from ..step_run import StepRun
 from ..survey import FORMAT, Commanded, behind, commanded

@@ -5,9 +5,9 @@ from dataclasses import replace
 from typing import Any, Callable
 
 from .. import voltages
-from ..apply import AS_WANTED, Board
-from ..rail_run import Restarted, Setting, Stopped
+from ..apply import Board
 from ..rails import Rail
+from ..settings import AS_WANTED, Restarted, Setting, Stopped
 from ..stores import cml, stood_before, too_hot, why_failed
 from . import way
 from .about import described

@@ -30,7 +30,7 @@ def turn_all(call: Call, command: Command) -> int:
     file = StairsFile(call, command, rails)
     with call.going_on(), file.drawn():
         if not is_down:
-            return WayUp(call, command, rails, file, turn_off).go()
+            return WayUp(call, command, rails, file, turn_off).run()
         status = turn_off(call, command, rails, file)
         call.begin(command)
         return status or call.ordered.look(call)

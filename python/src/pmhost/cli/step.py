@@ -115,7 +115,7 @@ def ended(call: Call, command: Command, register: str, made: StepRun) -> StepRun
             confirmed(order.register, order.word)
 
     try:
-        end = made.carry_out(after, call.only().ask_operation, accept)
+        end = made.run(after, call.only().ask_operation, accept)
     except RailRefused as fault:
         return call.say(unordered_rail(command, part, register, fault))
     except NotBelieved as doubt:

@@ -5,8 +5,8 @@ from __future__ import annotations
 from typing import Any
 
 from ..apply import Board
-from ..rail_run import Restarted, Setting, Stopped
 from ..rails import Rail
+from ..settings import Restarted, Setting, Stopped
 from . import way
 from .about import described
 from .again import RESTARTED
@@ -36,7 +36,7 @@ def up(call: Call, command: Command) -> int:
     rails = [rail for rail in command.rails.rails if rail.is_on]
     file = StairsFile(call, command, rails)
     with call.going_on(), file.drawn():
-        return BoardUp(call, command, rails, file, board_of(call, command)).go()
+        return BoardUp(call, command, rails, file, board_of(call, command)).run()
 
 
 class BoardUp(WayUp):
@@ -84,7 +84,7 @@ class BoardUp(WayUp):
         call, board, run = self.call, self.board, self.board.runs[rail.name]
         try:
             if run.is_due:
-                run.go(True)
+                run.run(True)
                 board.judge_refused(rail)
             if why := board.why_dead(rail) if self.is_on(rail) else "":
                 raise Stopped(why)

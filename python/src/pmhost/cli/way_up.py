@@ -60,7 +60,7 @@ class WayUp:
         self.call.begin(one)
         return one
 
-    def go(self) -> int:
+    def run(self) -> int:
         """The status."""
         if status := self.judge():
             return status
@@ -109,7 +109,7 @@ class WayUp:
         run = StepRun(part, SequenceStep.turns(0, rail.output, ON, looks), TRIES, lambda _: False)
         part.transfers = Transfers()
         try:
-            end = run.carry_out(ask=self.call.only().ask_operation)
+            end = run.run(ask=self.call.only().ask_operation)
             is_locked = is_protected(end) and self.call.protection.is_in_the_way(rail.part)
             if is_locked and part.trims is not None:
                 # It is judged as if that were lifted.
