@@ -2,16 +2,19 @@
 from __future__ import annotations
 
 import ctypes
-from typing import Any, Callable, Iterable
+from typing import TYPE_CHECKING, Any, Callable, Iterable
 
 from . import _library as at
 from ._library import library
 from .errors import accepted, refusal
 from .operation import turns_on
-from .states import Band, Bus, Known, Limits, Listener, RailState, Sending, Step
+from .states import Band, Bus, Known, Limits, RailState, Sending, Step
 from .transfers import Transfers
 from .values import DEVICE, NAMES, Format, code_of, frame_bytes, is_true, whole
 from .voltages import GivenVoltage, given_microvolts, of_microvolts
+
+if TYPE_CHECKING:
+    from .log import HostLog
 
 REFERENCE = ctypes.byref
 ENDS = ("next", "done", "differs", "unknown", "learned")
@@ -62,7 +65,7 @@ class Host:
     """
 
     # Told of what the host hears, as by `run`, and of restarts; a copy has none.
-    listener: Listener | None = None
+    listener: HostLog | None = None
 
     def __init__(self, address: int, outputs: int = 1, passes: int = 3, lacks: Iterable[str | int] = ()) -> None:
         self._image = at.HostImage()

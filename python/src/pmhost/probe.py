@@ -10,7 +10,7 @@ from .reads import TRIES, Read, Reads
 from .states import Bus
 from .transfers import Transfers
 from .trims import REGISTERS as TRIMS
-from .values import CODES, Format
+from .values import CODES, DEVICE, REGISTERS, Format
 from .zeros import NotBelieved, guard
 
 MOST_OUTPUTS = 8
@@ -20,11 +20,10 @@ VOUT_MODE, COEFFICIENTS, DIRECT = 0x20, 0x30, 0x40
 ON_OFF_CONFIG, MFR_BLOCKS = 0x02, {"MFR_ID": 0x99, "MFR_MODEL": 0x9A, "MFR_REVISION": 0x9B}
 # Blocks that say which unit a part is, where it has them.
 UNIT_BLOCKS = {"MFR_SERIAL": 0x9E, "IC_DEVICE_ID": 0xAD}
-REVISION, PROTECT, STATUS_CML = Packet("read", 0x98), Packet("read", CODES["WRITE_PROTECT"]), Packet("read", 0x7E)
+REVISION, PROTECT, STATUS_CML = Packet("read", 0x98), Packet("read", CODES[DEVICE]), Packet("read", 0x7E)
 CLEAR = Packet("send byte", 0x03)
 # The bits of STATUS_CML of a wrong packet error code, and of another fault of the bus, as a byte too few.
 NOT_TAKEN = 0x22
-REGISTERS = tuple(name for name in CODES if name != "WRITE_PROTECT")
 SPOKEN = "this host speaks ULINEAR16 and DIRECT"
 BLIND = "the part doesn't look at the page"
 UNFIT = "this host can't drive the part"
@@ -120,7 +119,7 @@ class Probe:
             return read.payload != b"\0" or self.reads.packet(PROTECT).payload == b"\0"
 
         try:
-            return guard(self.address, "WRITE_PROTECT", lambda: self._word(0, "OPERATION")[1], lambda: self.reads.packet(PROTECT),
+            return guard(self.address, DEVICE, lambda: self._word(0, "OPERATION")[1], lambda: self.reads.packet(PROTECT),
                            is_held)
         except NotBelieved as doubt:
             self.found.doubt = self.found.doubt or "WRITE_PROTECT gave no answer that can be believed: probe again"

@@ -11,15 +11,8 @@ from .errors import NumberRefused, accepted
 from .voltages import GivenVoltage, Voltage, given_microvolts, of_microvolts
 
 # The cells of a host, by their names in PMBus 1.3 Part II.
-CODES = {
-    "OPERATION": 0x01,
-    "VOUT_COMMAND": 0x21,
-    "VOUT_MAX": 0x24,
-    "VOUT_MARGIN_HIGH": 0x25,
-    "VOUT_MARGIN_LOW": 0x26,
-    "VOUT_MIN": 0x2B,
-    "WRITE_PROTECT": 0x10,
-}
+CODES = {"OPERATION": 0x01, "VOUT_COMMAND": 0x21, "VOUT_MAX": 0x24, "VOUT_MARGIN_HIGH": 0x25, "VOUT_MARGIN_LOW": 0x26, "VOUT_MIN": 0x2B,
+         "WRITE_PROTECT": 0x10}
 NAMES = {code: name for name, code in CODES.items()}
 # The device's own, those of an output, and of these the voltages; and those of one byte.
 DEVICE = "WRITE_PROTECT"

@@ -15,7 +15,7 @@ from types import ModuleType
 from .._started import take_interruptions
 from .._version import __version__
 from ..bus import NoBus
-from ..bus.linux import Calls
+from ..bus.linux import Kernel
 from ..errors import PmhostError
 from . import capture, faults, known, margins, names, power, probe, rails, reads, registers, sequence, stores, streams, torture, up, why
 from .about import WHOLE
@@ -33,7 +33,7 @@ MODULES: list[ModuleType] = [probe, reads, registers, power, stores, why, known,
 # The commands that have jobs of their own, between which a + stands: the call has no other command.
 OWN_JOBS = ("faults", "torture")
 
-BAD_CALL, INTERRUPTED = 2, 130
+BAD_CALL = 2
 
 
 @functools.cache
@@ -68,12 +68,7 @@ def parts_of(words: list[str]) -> list[list[str]]:
     takes one after a blank for what it is."""
     if words[:1] and words[0] in OWN_JOBS:
         return [words]
-    parts: list[list[str]] = [[]]
-    for word in words:
-        if word == "+":
-            parts.append([])
-        else:
-            parts[-1].append(f" {word}" if re.match(r"-[.0-9]", word) else word)
+    parts = names.split([f" {word}" if re.match(r"-[.0-9]", word) else word for word in words])
     if len(parts) > 1 and not all(parts):
         raise BadCall("+: a command stands before it and after it, as learn 0 + clear 0")
     return parts
@@ -161,7 +156,7 @@ def run_to_the_end(call: Call) -> int:
     return status
 
 
-def judged(words: list[str], kernel: Calls | None) -> Call:
+def judged(words: list[str], kernel: Kernel | None) -> Call:
     """The call of a command line, judged whole before anything is opened."""
     call = Call(commands_of(words), kernel)
     judge(call)
@@ -187,7 +182,7 @@ def fail(words: list[str], why: str, end: str, status: int, call: Call | None = 
     return status
 
 
-def main(words: list[str] | None = None, kernel: Calls | None = None) -> int:
+def main(words: list[str] | None = None, kernel: Kernel | None = None) -> int:
     """The status of the command line, over the calls of a kernel. The last line says what is left unprotected."""
     calls: list[Call] = []
     status = run(list(sys.argv[1:] if words is None else words), kernel, calls)
@@ -198,7 +193,7 @@ def main(words: list[str] | None = None, kernel: Calls | None = None) -> int:
     return status
 
 
-def run(given: list[str], kernel: Calls | None, calls: list[Call]) -> int:
+def run(given: list[str], kernel: Kernel | None, calls: list[Call]) -> int:
     """The same, with the call that is made put into a list."""
     closed, call = streams.open_missing(), None
     try:
@@ -219,9 +214,9 @@ def run(given: list[str], kernel: Calls | None, calls: list[Call]) -> int:
     except Interrupted:
         during = f" during {call.under_way}" if call and call.under_way else ""
         unsure = f"{call.unsure()}{call.unsaid}" if call and call.under_way else "no command was begun"
-        return fail(given, f"interrupted{during}: {unsure}", "interrupted", INTERRUPTED, call)
+        return fail(given, f"interrupted{during}: {unsure}", "interrupted", streams.INTERRUPTED, call)
     except KeyboardInterrupt:
-        return fail(given, "interrupted", "interrupted", INTERRUPTED, call)
+        return fail(given, "interrupted", "interrupted", streams.INTERRUPTED, call)
     except streams.NoStream as fault:
         return fail(given, f"{fault}{call.unsaid if call else ''}", "stream", BAD_CALL)
     except NoBus as fault:

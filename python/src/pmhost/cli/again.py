@@ -4,6 +4,7 @@ from __future__ import annotations
 
 from typing import TYPE_CHECKING
 
+from ..settings import Restarted, Stopped
 from .answer import Answer, in_digits
 
 if TYPE_CHECKING:
@@ -13,6 +14,11 @@ if TYPE_CHECKING:
 
 # The status where a part restarted, and nothing else went wrong.
 RESTARTED = 3
+
+
+def status_of(stopped: Stopped) -> int:
+    """The status of what stopped, or is stopped by."""
+    return RESTARTED if isinstance(stopped, Restarted) else 1
 
 
 class Ordered:

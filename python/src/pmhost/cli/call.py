@@ -3,11 +3,12 @@ from __future__ import annotations
 
 import contextlib
 import sys
+from dataclasses import replace
 from typing import Any, Callable, Iterator
 
 from ..began import head_of
 from ..bus import LinuxBus, NoBus, PatientBus, Trace
-from ..bus.linux import BusTrace, Calls
+from ..bus.linux import BusTrace, Kernel
 from ..part import ModelPartBus
 from ..parts import MODEL_BUS, BoardPart
 from ..device import Device
@@ -23,7 +24,7 @@ from .back import WayBack
 from .command import Command
 from .options import OPTIONS
 from .parser import BadCall
-from .place import Options, Place
+from .place import Place
 from .protection import Protection
 
 MODEL_ADDRESS, MODEL_OUTPUTS, PASSES = 0x58, 2, 3
@@ -50,7 +51,7 @@ class Call:
     `maybe` says what the part may hold if the job under way is broken off once it has written, and `settled` what is certain
     of the command all the same."""
 
-    def __init__(self, commands: list[Command], kernel: Calls | None = None) -> None:
+    def __init__(self, commands: list[Command], kernel: Kernel | None = None) -> None:
         self.commands, self.kernel, self.words = commands, kernel, ""
         self._places: dict[str, Place] = {}
         self._trace: Trace | None = None
@@ -65,14 +66,12 @@ class Call:
         self.has_answered, self.identified, self.ordered = set[str](), set[str](), Ordered()
         self.named: Rail | None = None
         self.protection, self.back = Protection(self), WayBack(self)
-        self.protect: int | None = None
-        self.store_time: int | None = None
         self.bus: str | None = self._one("bus")
         self.address: int | None = self._one("address")
         self.outputs: int | None = self._one("outputs")
         self.passes: int = self._one("passes") or PASSES
-        self.lacks: tuple[str, ...] = self._one("lacks") or ()
-        self.has_trims = bool(self._all("trims"))
+        # What the one part has, wherever it is.
+        self.one_part = BoardPart(ONLY, "", 0, 0, lacks=self._one("lacks") or (), trims=bool(self._all("trims")))
         self.trace_path: str | None = self._one("trace")
         self._log_path: str | None = self._one("log")
         self.delay: int = self._one("delay") or 0
@@ -106,6 +105,11 @@ class Call:
         return found[0] if found else None
 
     @property
+    def board(self) -> Rails | None:
+        """The file of a board, which has the places of its parts."""
+        return self._rails if self._rails is not None and self._rails.is_board else None
+
+    @property
     def has_bus(self) -> bool:
         """Whether a command of the call uses a bus."""
         return any(each.uses_bus for each in self.commands)
@@ -114,11 +118,12 @@ class Call:
         """The options agree with one another. BadCall."""
         if self.is_timed and self.trace_path is None:
             raise BadCall("--trace-times: give --trace FILE, too")
-        if not self.has_bus or self._rails is not None and self._rails.is_board:
+        if not self.has_bus or self.board is not None:
             return
         if self.bus is None:
             raise BadCall("give a bus, as -b 1 for /dev/i2c-1, or -b model for a model part")
-        if self.bus != MODEL_BUS and self.address is None and not self._scans():
+        scans = len(self.commands) == 1 and self.commands[0].task.can_scan
+        if self.bus != MODEL_BUS and self.address is None and not scans:
             raise BadCall("give the part's address, as -a 58")
         for output in self.limits:
             if self.outputs is not None and output >= self.outputs:
@@ -127,10 +132,6 @@ class Call:
             if each.output is not None and self.outputs is not None and each.output >= self.outputs:
                 counted = f"0 to {self.outputs - 1}" if self.outputs > 1 else "0"
                 raise BadCall(f"{each.said}: output {each.output}: give {counted}, with --outputs {self.outputs}")
-
-    def _scans(self) -> bool:
-        """Whether the only command looks for parts at all addresses."""
-        return len(self.commands) == 1 and self.commands[0].task.can_scan
 
     def take_rails(self, command: Command, found: Rails) -> None:
         """What the parts have, and the limits, by a file of rails, counts for the whole call; a board file has their places,
@@ -148,14 +149,13 @@ class Call:
                     raise BadCall(f"{each.said}: it is for one part, and {command.name} has a file of a board: give it in a "
                                   "call of its own")
         else:
-            self.outputs, self.limits, self.lacks = found.parts[ONLY].outputs, found.limits(ONLY), found.parts[ONLY].lacks
-            self.protect, self.has_trims, self.store_time = found.parts[ONLY].protect, found.parts[ONLY].trims, found.parts[ONLY].store_time
+            self.one_part, self.outputs, self.limits = found.parts[ONLY], found.parts[ONLY].outputs, found.limits(ONLY)
         self._rails = found
 
     def judge_write(self, command: Command, more: str = "") -> None:
         """What is written goes to a part of a known number of outputs, at an address that a part may have. `more` is asked for beside it. A file
         has both."""
-        if self._rails is not None and self._rails.is_board:
+        if self.board is not None:
             return
         if self.address is not None and (why := why_reserved(self.address)):
             raise BadCall(f"{command.said}: {why}")
@@ -180,18 +180,14 @@ class Call:
     def places(self) -> dict[str, Place]:
         """The parts of the call by their names, none of which was opened before its first use."""
         if not self._places:
-            options = Options(self.passes, self.delay, self.busy_timeout, self.is_forced, self.is_shared, self.kernel, self.is_unlimited)
             self._trace = Trace(self.trace_path, head_of(self.words), self.is_timed)
-            is_board = self._rails is not None and self._rails.is_board
-            self._log = Log(self._log_path, self.words, not is_board)
-            if self._rails is not None and is_board:
-                self._places = {part.name: Place(part, limits, options, BusTrace(self._trace, part.bus), log=self._log)
-                                for part, limits in self._rails.made_for()}
+            self._log = Log(self._log_path, self.words, self.board is None)
+            if self.board is not None:
+                self._places = {part.name: Place(self, part, limits, BusTrace(self._trace, part.bus), log=self._log)
+                                for part, limits in self.board.made_for()}
             else:
-                only = BoardPart(ONLY, self.bus or "", self.address or MODEL_ADDRESS, self.counted(), "", self.lacks, self._one("ready"), self.protect,
-                                 self.has_trims, self.store_time)
-                self._places = {ONLY: Place(only, self.limits, options, self._trace, self.outputs or max(MODEL_OUTPUTS, self.counted()),
-                                            self._log)}
+                only = replace(self.one_part, bus=self.bus or "", address=self.address or MODEL_ADDRESS, outputs=self.counted(), ready=self._one("ready"))
+                self._places = {ONLY: Place(self, only, self.limits, self._trace, self.outputs or max(MODEL_OUTPUTS, self.counted()), self._log)}
         return self._places
 
     @property
@@ -218,8 +214,7 @@ class Call:
     def no_part(self, command: Command) -> int:
         """Before the first command that writes something without a course the part has to answer. 0, or the status if it doesn't:
         nothing was ordered. Those of a board file are looked for by its own command."""
-        is_board = self._rails is not None and self._rails.is_board and self.named is None
-        if is_board or self.part_name in self.has_answered or command.dry_run:
+        if self.board is not None and self.named is None or self.part_name in self.has_answered or command.dry_run:
             return 0
         why = self.only().ask_operation()
         if why:
@@ -227,7 +222,7 @@ class Call:
         self.has_answered.add(self.part_name)
         return 0
 
-    def other_model(self, command: Command) -> int:
+    def other_model(self, command: Command, more: str = ": nothing was ordered") -> int:
         """Before the first command about a rail of a part that a file has, this has to be the model that the file says. 0, or the status."""
         place = None if self.named is None else self.only()
         if place is None or self.part_name in self.identified or command.task.is_question or command.name == "off":
@@ -235,7 +230,7 @@ class Call:
             return 0
         why = why_other_model(place.pmbus(), place.part)
         if why:
-            return self.say(Answer(command.said, "other part", "", 1, f"{why}: nothing was ordered", command.output))
+            return self.say(Answer(command.said, "other part", "", 1, why + more, command.output))
         self.identified.add(self.part_name)
         return 0
 
@@ -305,10 +300,10 @@ class Call:
 
     def where(self) -> dict[str, object]:
         """The bus, the address and the name of the part that the command under way is about, None of each if these are several."""
-        if self._rails is not None and self._rails.is_board:
+        if self.board is not None:
             if self.named is None:
                 return NOWHERE
-            part = self._rails.parts[self.named.part]
+            part = self.board.parts[self.named.part]
             return {"bus": part.bus, "address": f"{part.address:02X}", "part": part.name}
         address = MODEL_ADDRESS if self.address is None and self.bus == MODEL_BUS else self.address
         return {"bus": self.bus, "address": None if address is None else f"{address:02X}", "part": None}

@@ -37,7 +37,7 @@ KINDS = {
     "saleae": "Logic 2's table of an I2C analyser as CSV",
 }
 UNITS = {"": 1, "Hz": 1, "kHz": 10**3, "MHz": 10**6, "GHz": 10**9}
-BAD_LINE, INTERRUPTED = 1, 130
+BAD_LINE = 1
 
 
 @dataclass(frozen=True, kw_only=True)
@@ -183,7 +183,7 @@ def run_commands(text: bytes, bus: str, is_shared: bool, call: Call) -> int:
             streams.write(line)
     except KeyboardInterrupt:
         complain("capture i2ctransfer: interrupted: the last frame may have been taken")
-        return INTERRUPTED
+        return streams.INTERRUPTED
     return 0 if is_well else 1
 
 

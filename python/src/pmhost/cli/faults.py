@@ -22,10 +22,10 @@ from .answer import in_digits
 from .call import MODEL_OUTPUTS, PASSES, Call, complain
 from .command import Command, Task
 from .completion import FILES, completed_by
-from .names import read
+from .names import read, split
 from .options import OPTIONS
 from .parser import BadCall, shown
-from .place import Options, Place
+from .place import Place
 from .texts import without_a_bus
 from .words import file_of, whole
 
@@ -154,34 +154,18 @@ class JobsCall(Call):
 
     def places(self) -> dict[str, Place]:
         if not self._places:
-            part = BoardPart(ONLY, MODEL_BUS, faults.ADDRESS, self.counted(), "", self.lacks)
-            options = Options(self.passes, 0, None, False, False, None, self.is_unlimited)
-            self._places = {ONLY: FaultyPlace(part, self.limits, options, self.bench.bus)}
+            part = BoardPart(ONLY, MODEL_BUS, faults.ADDRESS, self.counted(), "", self.one_part.lacks)
+            self._places = {ONLY: FaultyPlace(self, part, self.limits, Trace(None))}
         return self._places
 
 
 class FaultyPlace(Place):
     """The model part, on the bus with faults."""
 
-    def __init__(self, part: BoardPart, limits: dict[int, tuple[int, int]], options: Options, faulty: ModelPartBus) -> None:
-        super().__init__(part, limits, options, Trace(None))
-        self._faulty = faulty
+    call: JobsCall
 
     def _made(self) -> ModelPartBus:
-        return self._faulty
-
-
-def read_jobs(words: list[str]) -> list[list[str]]:
-    """The words of each job; a + stands between two."""
-    jobs: list[list[str]] = [[]] if words else []
-    for word in words:
-        if word == "+":
-            jobs.append([])
-        else:
-            jobs[-1].append(word)
-    if not all(jobs):
-        raise BadCall("faults: a job is missing beside a +")
-    return jobs
+        return self.call.bench.bus
 
 
 def job_of(words: list[str]) -> Job:
@@ -215,7 +199,10 @@ def judge(whole_call: Call, command: Faults) -> Judged:
     """Judges each job, and what they share."""
     from . import judge as judge_jobs
     without_a_bus(whole_call, command)
-    jobs: list[Job] = [job_of(words) for words in read_jobs(command.jobs)]
+    parts = split(command.jobs) if command.jobs else []
+    if not all(parts):
+        raise BadCall("faults: a job is missing beside a +")
+    jobs: list[Job] = [job_of(words) for words in parts]
     if bool(jobs) == (command.runs is not None):
         raise BadCall(f"faults: give a job, as {EXAMPLE}, or --runs")
     if command.runs is not None and (command.plain_host or command.strike):

@@ -25,8 +25,8 @@ from ..survey import TRIES, Commanded, commanded, only_word, read, survey, why_n
 from ..transfers import Transfers
 from ..zeros import NotBelieved, believed
 from .about import described
-from .again import RESTARTED
-from .answer import Answer, between, delivery_of, number
+from .again import RESTARTED, status_of
+from .answer import Answer, between, commanded_of, delivery_of, table
 from .back import words_of
 from .call import Call
 from .command import Command, Task
@@ -67,10 +67,9 @@ class Row:
 
     def by_names(self) -> dict[str, object]:
         """The same by names and numbers."""
-        state = self.state
+        told = commanded_of(self.state)
         return {"rail": self.rail.name, "part": self.rail.part or None, "output": self.rail.output, "point": self.point,
-                "faults_ignored": state.ignores_faults,
-                "commands": None if state.least is None else [number(state.least), number(state.greatest)], **delivery_of(self.delivered)}
+                "faults_ignored": told["faults_ignored"], "commands": told["commands"], **delivery_of(self.delivered)}
 
 
 @dataclass
@@ -302,7 +301,7 @@ def margin_test(call: Call, command: Command) -> int:
         for rail in file.rails:
             board.look_at(rail)
     except Stopped as stopped:
-        why, status = str(stopped) if begun else f"{stopped}: nothing was ordered", RESTARTED if isinstance(stopped, Restarted) else 1
+        why, status = str(stopped) if begun else f"{stopped}: nothing was ordered", status_of(stopped)
     for held, fault in call.back.go():
         begun[-1].is_back, status = not fault, 1 if fault else status
         why += f"; {words_of(held, fault, bool(rows) and rows[-1].rail is begun[-1].rail and rows[-1].delivered.has_tripped)}"
@@ -313,9 +312,7 @@ def tell(call: Call, command: Command, begun: list[RailTest], rows: list[Row], w
     """Says it: the table, and which rails are back. The status."""
     call.maybe = ""
     if not call.is_json and rows:
-        lines = [("rail", "point", "commands", "READ_VOUT", "STATUS_WORD"), *(row.columns() for row in rows)]
-        wide = [max(len(line[at]) for line in lines) for at in range(4)]
-        call.say_lines(["  ".join([*(line[at].ljust(wide[at]) for at in range(4)), line[4]]).rstrip() for line in lines])
+        call.say_lines(table([("rail", "point", "commands", "READ_VOUT", "STATUS_WORD"), *(row.columns() for row in rows)]))
         call.say_lines([f"{each.rail.name}: back, {OPERATION} {ON:02X}{each.held_back()}" for each in begun if each.is_back])
     backs = [{"rail": each.rail.name, "point": "back", "confirmed": each.is_back} for each in begun]
     end = "restarted" if status == RESTARTED else "stopped" if why else "done"

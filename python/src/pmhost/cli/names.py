@@ -34,6 +34,17 @@ class Named:
     is_one_of_all: bool
 
 
+def split(words: list[str]) -> list[list[str]]:
+    """The words of each command: a + stands between two."""
+    parts: list[list[str]] = [[]]
+    for word in words:
+        if word == "+":
+            parts.append([])
+        else:
+            parts[-1].append(word)
+    return parts
+
+
 def parted(part: list[str], has_value: set[str]) -> list[list[str]]:
     """The words of a command, and those of the one after its --back, which needs no + between them."""
     at = part.index(BACK) + 1 if BACK in part else 0

@@ -4,7 +4,7 @@ from __future__ import annotations
 from typing import Any
 
 from .. import voltages
-from ..course import CourseEnd, in_hexadecimal
+from ..course import in_hexadecimal
 from ..delivered import Delivered, beyond_of
 from ..device import FORMAT_UNKNOWN, Device
 from ..errors import SAYINGS, ChangedRefused, PlanRefused, RailRefused, Refused, TrimRefused, refusal
@@ -201,7 +201,7 @@ def step_answer(command: Command, part: Device, register: str, run: StepRun) -> 
         found.why = "order OPERATION first, as by `on`"
     elif has_written and cell is not None and end.register == register:
         found.text = possible_words(found) if found.word is None else f"{cell_words(part, command.output, register, found.word)} differs"
-        found.why = why_spent(part, end)
+        found.why = part.transfers.why() or end.fault or "the part restarts again and again"
     elif has_written and found.word is not None:
         found.text, found.why = f"{cell_words(part, command.output, register, found.word)} confirmed; {missed_words(state)}", why_not(state)
     else:
@@ -213,11 +213,6 @@ def step_answer(command: Command, part: Device, register: str, run: StepRun) -> 
 
 def unordered(has_written: bool) -> str:
     return "" if has_written else ", nothing was ordered"
-
-
-def why_spent(part: Device, end: CourseEnd) -> str:
-    """Why a course has no try left, as far as its last transfers say it."""
-    return part.transfers.why() or end.fault or "the part restarts again and again"
 
 
 def missed_words(found: Commanded) -> str:

@@ -26,14 +26,14 @@ from .words import side_of
 def add(commands: Any) -> None:
     """Adds the subparsers."""
     found = commands.add_parser("on", **described("on"))
-    found.set_defaults(task=Task(turn_on, judge_on))
+    found.set_defaults(task=Task(turn_on, judge))
     output_word(found)
     shared(found, PICTURE)
     shared(found, LEAVE_ON)
     shared(found, DEADLINE)
     bus_options(found)
     found = commands.add_parser("off", **described("off"))
-    found.set_defaults(task=Task(turn_off, judge_off))
+    found.set_defaults(task=Task(turn_off, judge))
     output_word(found)
     shared(found, PICTURE, "draws as `on` does")
     found.add_argument("--now", action="store_true", dest="is_now",
@@ -50,16 +50,10 @@ def add(commands: Any) -> None:
                                                        "after this run on the margin; stays on the margin if left out")
 
 
-def judge_on(call: Call, command: Command) -> None:
-    """An order of one output, which has no option of a board."""
+def judge(call: Call, command: Command) -> None:
+    """An order of one output, which has no option of a board. To turn it off needs no limits."""
     way.judge_none(command)
-    call.judge_order(command)
-
-
-def judge_off(call: Call, command: Command) -> None:
-    """The same, which needs no limits."""
-    way.judge_none(command)
-    call.judge_write(command)
+    call.judge_order(command) if command.name == "on" else call.judge_write(command)
 
 
 def turn_on(call: Call, command: Command) -> int:

@@ -5,10 +5,10 @@ from dataclasses import dataclass
 from typing import Any
 
 from ..parts import MODEL_BUS
-from ..probe import REGISTERS, UNFIT, WITHOUT_PEC_TAKEN, Found, FoundOutput, Probe, block_words, spaced, text_of
+from ..probe import UNFIT, WITHOUT_PEC_TAKEN, Found, FoundOutput, Probe, block_words, spaced, text_of
 from ..reads import Read
 from ..scan import LEFT_OUT, Seen, bus_or_why, scan
-from ..values import LACKABLE
+from ..values import LACKABLE, REGISTERS
 from .about import described
 from .answer import Answer, in_digits
 from .call import MODEL_ADDRESS, Call, complain
@@ -21,6 +21,8 @@ CLEARS = "--writes sends CLEAR_FAULTS, which clears the part's latched faults"
 MAY_BE_TAKEN = "a device that isn't a PMBus part may take the command byte for a register's number"
 MAY_BE_CLEARED = "the part's latched faults may be cleared, and no setting was written"
 
+FITS, BUT = "the part fits", "for a frame that is both damaged and cut before its last byte, which is not proved"
+
 
 @dataclass(frozen=True, kw_only=True)
 class Probed(Command):
@@ -28,9 +30,6 @@ class Probed(Command):
 
     writes: bool
     all_addresses: bool
-
-
-FITS, BUT = "the part fits", "for a frame that is both damaged and cut before its last byte, which is not proved"
 
 
 def add(commands: Any) -> None:
@@ -61,7 +60,7 @@ def run(call: Call, command: Probed) -> int:
     # Its own tries wait for a busy part. A question behind a write could change STATUS_CML, which it reads.
     bus = call.patient(0)
     complain(f"{command.said}: {MAY_NOTE}{f'; {CLEARS}' if command.writes else ''}")
-    probe = Probe(bus, call.address or MODEL_ADDRESS, call.outputs, call.lacks)
+    probe = Probe(bus, call.address or MODEL_ADDRESS, call.outputs, call.one_part.lacks)
     found = probe.run()
     if command.writes and found.outputs:
         call.settled = MAY_BE_CLEARED
@@ -120,7 +119,7 @@ def give_of(call: Call, found: Found) -> str:
     """The command line for this part, but for its commands and the limits of its outputs."""
     place = [MODEL_BUS] if call.bus == MODEL_BUS else [str(call.bus), "-a", f"{call.address:02X}"]
     limits = (f"--limit {each.number}:LEAST:MOST" for each in found.outputs)
-    lacked = ",".join(name for name in LACKABLE if name in call.lacks or all(name in each.missing for each in found.outputs))
+    lacked = ",".join(name for name in LACKABLE if name in call.one_part.lacks or all(name in each.missing for each in found.outputs))
     reached = [*(["--force"] if call.is_forced else []), *(["--share-bus"] if call.is_shared else []),
                *(["--delay", f"{call.delay}ms"] if call.delay else []),
                *([] if call.busy_timeout is None else ["--busy-timeout", f"{call.busy_timeout}ms"])]
@@ -171,16 +170,13 @@ def revision_words(revision: int | None) -> str:
 
 def text_words(name: str, read: Read) -> str:
     """A block, as a text if it is one."""
-    if read.payload is None:
-        return f"no good {name} ({read.why})"
-    return f"{name} {block_words(read.payload)}"
+    return f"no good {name} ({read.why})" if read.payload is None else f"{name} {block_words(read.payload)}"
 
 
 def protect_words(read: Read) -> str:
     """WRITE_PROTECT."""
-    if read.payload is None:
-        return f"no good WRITE_PROTECT ({read.why})"
-    return f"WRITE_PROTECT {read.payload[0]:02X}{': it refuses writes' if read.payload[0] else ''}"
+    return (f"no good WRITE_PROTECT ({read.why})" if read.payload is None else
+            f"WRITE_PROTECT {read.payload[0]:02X}{': it refuses writes' if read.payload[0] else ''}")
 
 
 def registers_words(output: FoundOutput) -> str:

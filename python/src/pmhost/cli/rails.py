@@ -7,12 +7,13 @@ from typing import Any, Callable
 from .. import voltages
 from ..apply import Board
 from ..rails import Rail
-from ..settings import AS_WANTED, Restarted, Setting, Stopped
+from ..settings import AS_WANTED, Setting, Stopped
 from ..stores import cml, stood_before, too_hot, why_failed
+from ..survey import Commanded
 from . import way
 from .about import described
-from .again import RESTARTED
-from .answer import Answer, delivery_of, in_digits, number
+from .again import status_of
+from .answer import Answer, commanded_of, delivery_of, in_digits, number, table
 from .back import words_of
 from .call import Call
 from .command import Command, Task
@@ -133,7 +134,7 @@ def went_back(call: Call, board: Board, is_bad: bool) -> tuple[str, bool]:
 def answer(call: Call, board: Board, found: Answer, is_dry: bool, are_wanted: bool, stores_all: bool) -> int:
     """Says it, and has the parts store if that is wanted."""
     if not call.is_json and board.settings:
-        call.say_lines([*table(board, is_dry and not found.status),
+        call.say_lines([*table_of(board, is_dry and not found.status),
                         *(line for rail in board.rails for line in rail_lines(board, rail, are_wanted))])
     if board.wants_store and not found.status and not is_dry:
         store(call, board, found, stores_all)
@@ -194,7 +195,7 @@ def stop_of(board: Board, run: Callable[[], None]) -> tuple[str, int]:
     try:
         run()
     except Stopped as stopped:
-        return told_of(board, stopped), RESTARTED if isinstance(stopped, Restarted) else 1
+        return told_of(board, stopped), status_of(stopped)
     return "", 0
 
 
@@ -232,14 +233,12 @@ def end_of(board: Board, rail: Rail, is_dry: bool) -> tuple[str, str]:
     return "fault" if wrong or board.why_not_well(rail) else "good", "; ".join([words, *wrong])
 
 
-def table(board: Board, is_dry: bool) -> list[str]:
+def table_of(board: Board, is_dry: bool) -> list[str]:
     """The lines: the part of a board, rail, setting, wanted, read back, and confirmed or what else."""
-    lines = [("part", "rail", "setting", "wanted", "read back", "")]
+    lines: list[tuple[str, ...]] = [("part", "rail", "setting", "wanted", "read back", "")]
     lines += [(it.rail.part, it.rail.name, it.register, board.shown(it, it.asked), board.shown(it, it.last), state_of(board, it, is_dry))
               for it in board.settings]
-    columns = range(0 if board.described else 1, 5)
-    wide = {at: max(len(line[at]) for line in lines) for at in columns}
-    return ["  ".join([*(line[at].ljust(wide[at]) for at in columns), line[5]]).rstrip() for line in lines]
+    return table([line[0 if board.described else 1:] for line in lines])
 
 
 def rail_lines(board: Board, rail: Rail, are_wanted: bool) -> list[str]:
@@ -256,28 +255,20 @@ def delivered_words(board: Board, rail: Rail) -> str:
     return board.delivered[rail.name].words if rail.name in board.delivered else ""
 
 
-def volts(board: Board, it: Setting, word: int | None) -> float | None:
-    """A word's volts, if the library says them."""
-    micro = board.format(it.rail).told(word)
-    return None if micro is None else number(micro)
-
-
 def rows(board: Board, is_dry: bool, are_wanted: bool) -> list[dict[str, object]]:
     """The same by names and numbers."""
     found: list[dict[str, object]] = []
     for rail in board.rails:
-        known = board.state(rail) if rail.name in board.surveys else None
+        is_known = rail.name in board.surveys
+        known = board.state(rail) if is_known else Commanded()
         found.append({
             "rail": rail.name, "part": rail.part or None, "output": rail.output, "limits": [number(each) for each in rail.limits],
-            "selected": known and known.selected, "faults_ignored": known and known.ignores_faults,
-            "on": None if known is None else known.is_on,
-            "commands": None if known is None or known.least is None else [number(known.least), number(known.greatest)],
-            "within": None if known is None else known.is_within, **delivery_of(board.delivered.get(rail.name)),
+            **commanded_of(known), "within": known.is_within, **delivery_of(board.delivered.get(rail.name)),
             "cut": [{"register": it.register, "word": in_digits(it.register, it.word), "volts": number(it.value), "to": number(it.to)}
-                    for it in (board.cuts(rail, are_wanted) if known else [])],
+                    for it in (board.cuts(rail, are_wanted) if is_known else [])],
             "settings": [{
-                "register": it.register, "wanted": in_digits(it.register, it.asked), "wanted_volts": volts(board, it, it.asked),
-                "word": in_digits(it.register, it.last), "volts": volts(board, it, it.last),
+                "register": it.register, "wanted": in_digits(it.register, it.asked), "wanted_volts": number(board.format(rail).told(it.asked)),
+                "word": in_digits(it.register, it.last), "volts": number(board.format(rail).told(it.last)),
                 "state": "would be ordered" if is_dry and it.state == "differs" else it.state, "ordered": it.is_ordered,
             } for it in board.of(rail)]})
     return found

@@ -67,7 +67,7 @@ def block_text(payload: bytes) -> str:
 def row_of(found: readings.Reading) -> dict[str, object]:
     """The same by names and numbers."""
     return {"register": found.name, "word": digits_of(found), "value": None if found.value is None else float(found.value),
-            "unit": KINDS[found.name].unit or None, "bits": found.bits if found.is_status else None}
+            "unit": KINDS[found.name].unit or None, "bits": found.bits if found.name in BITS else None}
 
 
 def digits_of(found: readings.Reading) -> str | None:

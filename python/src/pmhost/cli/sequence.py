@@ -59,16 +59,12 @@ def turn_off(call: Call, command: Command, rails: list[Rail], file: StairsFile) 
         if found[1]:
             silent.remove(rail.name)
         status = max(status, found[0])
+    passed_by = [it for place, it in enumerate(rails) if it in last and any(each not in last for each in rails[place:])]
     named = [("not known to be off: {}", [it.name for it in rails if it.name in silent]),
-             ("off only at the end, since nothing was acknowledged before: {}", [it.name for it in passed_by(rails, last) if it.name not in silent])]
+             ("off only at the end, since nothing was acknowledged before: {}", [it.name for it in passed_by if it.name not in silent])]
     why = "; ".join(words.format(", ".join(names)) for words, names in named if names)
     call.begin(command)
     return call.say(Answer(command.said, "unknown", "", 1, why)) if why else status
-
-
-def passed_by(rails: list[Rail], last: list[Rail]) -> list[Rail]:
-    """The rails that were put off to the end, before others that weren't."""
-    return [it for place, it in enumerate(rails) if it in last and any(each not in last for each in rails[place:])]
 
 
 def step_off(steps: FileSteps, rail: Rail, file: StairsFile, puts_off: bool) -> tuple[int, bool] | None:

@@ -6,10 +6,10 @@ from typing import Any
 
 from ..apply import Board
 from ..rails import Rail
-from ..settings import Restarted, Setting, Stopped
+from ..settings import Setting, Stopped
 from . import way
 from .about import described
-from .again import RESTARTED
+from .again import status_of
 from .answer import Answer
 from .call import Call
 from .command import Command, Task
@@ -59,16 +59,13 @@ class BoardUp(WayUp):
                 if not rail.is_on and self.is_on(rail) is not False:
                     raise Stopped(f"{rail.name}: the output is to be off, and isn't known to be: order `off` first")
         except Stopped as stopped:
-            status = RESTARTED if isinstance(stopped, Restarted) else 1
-            return call.say(Answer(self.command.said, "refused", "", status, f"{told_of(board, stopped)}: nothing was ordered"))
+            return self.refused(status_of(stopped), told_of(board, stopped))
         self.befores = {**board.befores}
         for rail in self.rails:
             # A rail that holds its words already is judged as `on` judges it.
             one = self.of_rail(rail)
-            status = (0 if board.runs[rail.name].is_due else self.judge_rail(one, rail)) or self.judge_config(one, rail)
-            if status:
-                call.begin(self.command)
-                return max(status, call.say(Answer(self.command.said, "refused", "", status, "nothing was ordered")))
+            if status := (0 if board.runs[rail.name].is_due else self.judge_rail(one, rail)) or self.judge_config(one, rail):
+                return self.refused(status)
         self.was_on = [rail for rail in self.rails if self.is_on(rail)]
         return 0
 
@@ -89,8 +86,7 @@ class BoardUp(WayUp):
             if why := board.why_dead(rail) if self.is_on(rail) else "":
                 raise Stopped(why)
         except Stopped as stopped:
-            status = RESTARTED if isinstance(stopped, Restarted) else 1
-            return call.say(Answer(one.said, "stopped", "", status, told_of(board, stopped), rail.output))
+            return call.say(Answer(one.said, "stopped", "", status_of(stopped), told_of(board, stopped), rail.output))
         call.begin(one)
         return 0
 

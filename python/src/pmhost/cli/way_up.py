@@ -11,14 +11,11 @@ from ..course import Job
 from ..delivered import Delivered, why_not_before
 from ..device import Device
 from ..errors import Refused, TrimRefused, refusal
-from ..models import why_other_model
 from ..operation import ON, selected_by
 from ..rails import Rail
 from ..sequence import Heard, SequenceStep
 from ..step_run import StepRun
 from ..survey import TRIES, only_word, read
-from ..transfers import Transfers
-from ..zeros import NotBelieved
 from .again import RESTARTED
 from .answer import Answer
 from .call import Call
@@ -26,7 +23,7 @@ from .command import Command, RailStep
 from .file_steps import AT_THE_END, FileSteps
 from .outcome import refused, step_answer, unordered_rail
 from .signals import Later
-from .step import is_protected, not_told, turn
+from .step import ended, is_protected, turn
 from .way import StairsFile
 
 
@@ -84,19 +81,14 @@ class WayUp:
         """Asks each part and judges each rail, and orders nothing. 0, or the status if the way up isn't to begin."""
         for rail in self.rails:
             one = self.of_rail(rail)
-            status = self.other_model(one, rail) or self.judge_rail(one, rail) or self.judge_config(one, rail)
-            if status:
-                self.call.begin(self.command)
-                return max(status, self.call.say(Answer(self.command.said, "refused", "", status, "nothing was ordered")))
+            if status := self.call.other_model(one, "") or self.judge_rail(one, rail) or self.judge_config(one, rail):
+                return self.refused(status)
         return 0
 
-    def other_model(self, one: Command, rail: Rail) -> int:
-        """The status if a rail's part isn't the one of the file."""
-        if rail.part in self.call.identified:
-            return 0
-        why = why_other_model(self.part(rail), self.call.places()[rail.part].part)
-        self.call.identified.add(rail.part)
-        return self.call.say(Answer(one.said, "other part", "", 1, why, rail.output)) if why else 0
+    def refused(self, status: int, why: str = "") -> int:
+        """The way up isn't to begin. The status."""
+        self.call.begin(self.command)
+        return max(status, self.call.say(Answer(self.command.said, "refused", "", status, f"{why}{': ' * bool(why)}nothing was ordered")))
 
     def judge_config(self, one: Command, rail: Rail) -> int:
         """The status if a rail's part doesn't heed OPERATION."""
@@ -106,22 +98,18 @@ class WayUp:
     def judge_rail(self, one: Command, rail: Rail) -> int:
         """Reads all that a rail's order needs, up to the order. The status if it would be refused, but for WRITE_PROTECT of the file."""
         part, looks = self.part(rail), replace(self.call.looks_of(rail), settle=0)
-        run = StepRun(part, SequenceStep.turns(0, rail.output, ON, looks), TRIES, lambda _: False)
-        part.transfers = Transfers()
-        try:
-            end = run.run(ask=self.call.only().ask_operation)
-            is_locked = is_protected(end) and self.call.protection.is_in_the_way(rail.part)
-            if is_locked and part.trims is not None:
-                # It is judged as if that were lifted.
-                read(part, rail.output, selected_by(ON) or "")
+        ran = ended(self.call, one, "OPERATION", StepRun(part, SequenceStep.turns(0, rail.output, ON, looks), TRIES, lambda _: False))
+        if isinstance(ran, int):
+            return ran
+        run, end = ran, ran.end
+        is_locked = is_protected(end) and self.call.protection.is_in_the_way(rail.part)
+        if is_locked and part.trims is not None:
+            # It is judged as if that were lifted.
+            read(part, rail.output, selected_by(ON) or "")
+            try:
                 part.trims.judge(run.step, part.host, looks)
-        except NotBelieved as doubt:
-            return self.call.say(not_told(one, part, doubt))
-        except TrimRefused as fault:
-            return self.call.say(unordered_rail(one, part, "OPERATION", fault))
-        if end.kind == "nobody":
-            return self.call.say(self.call.nobody(one, end.fault))
-        self.call.has_answered.add(rail.part)
+            except TrimRefused as fault:
+                return self.call.say(unordered_rail(one, part, "OPERATION", fault))
         self.befores[rail.name] = run.before
         if self.is_on(rail):
             self.was_on.append(rail)
@@ -258,12 +246,7 @@ class WayUp:
         down = replace(self.command, name="off", said=f"off {self.command.said.partition(' ')[2]}",
                        ways=replace(self.command.ways, is_now=is_now, off_time=self.off_time))
         self.call.begin(down)
-        self.down = replace_status(self.file)
+        # The same file, with statuses of its own.
+        self.down = copy.copy(self.file)
+        self.down.status = {}
         return self.turn_off(self.call, down, self.turned_off, self.down)
-
-
-def replace_status(file: StairsFile) -> StairsFile:
-    """The same file, into which the way down is drawn, with statuses of its own."""
-    found = copy.copy(file)
-    found.status = {}
-    return found
