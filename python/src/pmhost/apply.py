@@ -12,7 +12,7 @@ from typing import Callable
 
 from . import probe
 from .back import Held
-from .delivered import Delivered
+from .delivered import Delivered, register_words
 from .held import begin, judge_way_back
 from .looks import Looks
 from .models import why_other_model
@@ -24,8 +24,8 @@ from .settings import AS_WANTED, Restarted, Setting, Settings, Stopped
 from .states import Step
 from .status import names_of
 from .step_run import StepRun
-from .stores import MEMORY, cml, cml_words, has_failed, why_on
-from .survey import answers, only_word, read
+from .stores import CML, MEMORY, cml, has_failed, why_on
+from .survey import answers, only_word, read, why_unread
 from .values import DEVICE
 
 
@@ -218,12 +218,9 @@ class Board(Settings):
     def read_again(self) -> None:
         """Reads each register that was ordered once more, since a part that restarts after the looks has its stored words. Stopped."""
         for it in self.settings:
-            part = self.on(it.rail)
             if it.is_ordered:
-                part.host.check(it.rail.output, it.register)
-                if part.run().kind != "done":
-                    raise Stopped(f"{it.name}: whether it still holds its word isn't known: {part.transfers.why() or 'no good answer'}", it.rail.part,
-                                  it.rail.output)
+                if why := why_unread(self.on(it.rail), it.rail.output, it.register):
+                    raise Stopped(f"{it.name}: whether it still holds its word isn't known: {why}", it.rail.part, it.rail.output)
                 self.look(it.rail)
 
     def verify(self) -> None:
@@ -267,7 +264,7 @@ class Board(Settings):
         """That a part says that its memory failed, whose STATUS_WORD said CML; nothing otherwise."""
         seen = [found for rail in self.rails if rail.part == name and (found := self.delivered.get(rail.name)) is not None]
         word = cml(self.parts[name]) if any("CML" in names_of("STATUS_WORD", found.status or 0) for found in seen) else None
-        return (f"{f'{name}: ' * bool(name)}{cml_words(word)}: the part says that its memory failed: its next start may bring other words"
+        return (f"{f'{name}: ' * bool(name)}{register_words(CML, word)}: the part says that its memory failed: its next start may bring other words"
                 if word is not None and word & MEMORY else "")
 
     def why_dead(self, rail: Rail) -> str:

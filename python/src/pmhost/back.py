@@ -12,7 +12,7 @@ from .errors import SAYINGS, ChangedRefused, refusal
 from .operation import same_command
 from .sequence import WHY, Said, SequenceStep, Wishes
 from .step_run import StepRun
-from .survey import only_word
+from .survey import only_word, why_unread
 from .transfers import Transfers
 from .values import Format
 from .zeros import NotBelieved
@@ -57,7 +57,8 @@ def bring_back(part: Device, held: Held, lift: Callable[[], bool] = lambda: Fals
 def try_back(part: Device, held: Held, lift: Callable[[], bool]) -> str:
     """The same, once."""
     try:
-        why = read_first(part, held) or run(part, held)
+        # What was known before may be of a time before a restart.
+        why = next((f"{each}: {why}" for each in held.words if (why := why_unread(part, held.output, each))), "") or run(part, held)
         if why and lift():
             why = run(part, held)
     except NotBelieved as doubt:
@@ -66,15 +67,6 @@ def try_back(part: Device, held: Held, lift: Callable[[], bool]) -> str:
     except ChangedRefused as fault:
         return fault.said
     return why
-
-
-def read_first(part: Device, held: Held) -> str:
-    """Reads what is to be brought back, since what was known before may be of a time before a restart: why that isn't known."""
-    for register in held.words:
-        part.host.check(held.output, register)
-        if part.run().kind != "done":
-            return f"{register}: {part.transfers.why() or 'no good answer'}"
-    return ""
 
 
 def run(part: Device, held: Held) -> str:

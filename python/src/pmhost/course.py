@@ -10,13 +10,13 @@ from . import _library as at
 from ._library import library
 from .errors import Differs, NoFormat, OtherSource, PmhostError, Spent, accepted, name_of, refusal
 from .operation import avsbus, margin_byte
+from .states import Bus, Sending, Step
 from .transfers import Transfers
 from .values import BYTES, NAMES, code_of, frame_bytes, is_true, whole
 from .voltages import GivenVoltage, given_microvolts
 
 if TYPE_CHECKING:
     from .host import Host
-    from .states import Bus, Sending, Step
 
 REFERENCE = ctypes.byref
 # How many jobs a course begins at most, where a caller says nothing.
@@ -330,7 +330,12 @@ def end_in(memory: bytes) -> Optional[CourseEnd]:
     kind, number = ENDS[found.kind], found.fault
     register = {"format": "VOUT_MODE", "source": "OPERATION"}.get(kind, REGISTERS.get(found.code))
     word = found.word if kind in ("differs", "format", "source") else None
-    return CourseEnd(kind, register, found.number, word, FAULTS.get(number) or (name_of(number) if number else ""))
+    return CourseEnd(kind, register, found.number, word, fault_words(number))
+
+
+def fault_words(number: int) -> str:
+    """What was wrong with an answer."""
+    return FAULTS.get(number) or (name_of(number) if number else "")
 
 
 def in_hexadecimal(register: Optional[str], word: int) -> str:

@@ -1,4 +1,4 @@
-"""Supply voltages over a bus: jobs that are carried out, and voltages with their unit."""
+"""`Device`, a part on a bus: it is ordered, read and surveyed, in voltages with their unit."""
 from __future__ import annotations
 
 import functools

@@ -69,9 +69,9 @@ class Host:
 
     def __init__(self, address: int, outputs: int = 1, passes: int = 3, lacks: Iterable[str | int] = ()) -> None:
         self._image = at.HostImage()
-        self._address = whole(address, 0x08, 0x77, "address", "seven bits, as 0x58, which the wire shows as B0h")
-        self._outputs = whole(outputs, 1, 8, "outputs")
-        self._passes = whole(passes, 1, 15, "passes")
+        self.address = whole(address, 0x08, 0x77, "address", "seven bits, as 0x58, which the wire shows as B0h")
+        self.outputs = whole(outputs, 1, 8, "outputs")
+        self.passes = whole(passes, 1, 15, "passes")
         has = registers_image(lacks)
         accepted(library.pm_host_new_with(REFERENCE(self._image), address, outputs, passes, REFERENCE(has)))
         # What it saw was a command that was read back with bits that don't count.
@@ -85,23 +85,11 @@ class Host:
     def __repr__(self) -> str:
         known = [f"{'' if it.output is None else f'{it.output} '}{it.register} {it.confirmed:04X}"
                  for it in self.known_cells() if it.confirmed is not None]
-        return (f"{type(self).__name__}(0x{self._address:02X}, outputs={self._outputs}, passes={self._passes}; "
+        return (f"{type(self).__name__}(0x{self.address:02X}, outputs={self.outputs}, passes={self.passes}; "
                 f"confirmed: {', '.join(known) or 'nothing'})")
 
-    @property
-    def address(self) -> int:
-        return self._address
-
-    @property
-    def outputs(self) -> int:
-        return self._outputs
-
-    @property
-    def passes(self) -> int:
-        return self._passes
-
     def _there(self, output: int) -> int:
-        return whole(output, 0, self._outputs - 1, "output", f"the host was made with outputs={self._outputs}")
+        return whole(output, 0, self.outputs - 1, "output", f"the host was made with outputs={self.outputs}")
 
     # ---- Limits ----
 
@@ -289,8 +277,8 @@ class Host:
         if not taken:
             transfers.unheard(getattr(came, "why", "no answer"))
             return b""
-        answer = bytes([self._address << 1 | 1]) + taken
-        transfers.answered(self._address, sending.frame, answer)
+        answer = bytes([self.address << 1 | 1]) + taken
+        transfers.answered(self.address, sending.frame, answer)
         return answer
 
     # ---- What is known ----
@@ -343,7 +331,7 @@ class Host:
         """Another host that knows the same."""
         other = object.__new__(type(self))
         other._image = at.HostImage.from_buffer_copy(self._image)
-        other._address, other._outputs, other._passes = self._address, self._outputs, self._passes
+        other.address, other.outputs, other.passes = self.address, self.outputs, self.passes
         return other
 
     def __copy__(self) -> Host:

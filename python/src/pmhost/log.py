@@ -9,11 +9,12 @@ from typing import Callable
 
 from .began import head_of
 from .bus.linux import Trace
+from .course import in_hexadecimal
 from .errors import PmhostError
 from .host import Host
 from .states import Sending
 from .texts import in_hex
-from .values import BYTES, MISSABLE
+from .values import MISSABLE
 
 # The bytes of a line of a note: the rest of a long one is left out.
 MOST_NOTE = 1000
@@ -54,8 +55,7 @@ class HostLog:
         self._has_news = False
         for it in self._host.known_cells():
             if it.possible is not None and len(it.possible) == 1:
-                digits = 2 if it.register in BYTES else 4
-                self._note(f"#holds {'-' if it.output is None else it.output} {it.register} {it.possible[0]:0{digits}X}")
+                self._note(f"#holds {'-' if it.output is None else it.output} {it.register} {in_hexadecimal(it.register, it.possible[0])}")
         for output in range(self._host.outputs):
             self._claim_band(output)
 

@@ -8,6 +8,7 @@ from .packets import Packet
 from .device import Device
 from .reads import TRIES, Read, Reads
 from .states import Bus
+from .texts import in_hex
 from .transfers import Transfers
 from .trims import REGISTERS as TRIMS
 from .values import CODES, DEVICE, REGISTERS, Format
@@ -99,7 +100,7 @@ class Probe:
             found.identity = {name: reads.block(code) for name, code in MFR_BLOCKS.items()}
             found.protect = self._protect()
             if no_page.has_answer:
-                found.outputs, found.verdict = [], f"PEC yes, {BLIND} (page 1F answers {spaced(no_page.came)}): {UNFIT}"
+                found.outputs, found.verdict = [], f"PEC yes, {BLIND} (page 1F answers {in_hex(no_page.came)}): {UNFIT}"
         elif no_page.has_answer:
             found.verdict = unfit_words(reads, revision, Transfers())
         found.late, found.high = reads.late, reads.high
@@ -263,14 +264,10 @@ def unfit_words(reads: Reads, revision: Read, first: Transfers) -> str:
         return f"PEC yes, no PAGE_PLUS ({why}): {UNFIT}"
     if revision.came:
         wanted = reads.with_pec(REVISION.frame(reads.address), revision.came)
-        return f"no PEC (PMBUS_REVISION gave {spaced(revision.came)}, with PEC it is {spaced(wanted)}): {UNFIT}"
+        return f"no PEC (PMBUS_REVISION gave {in_hex(revision.came)}, with PEC it is {in_hex(wanted)}): {UNFIT}"
     if first.faults:
         return f"no PMBUS_REVISION ({revision.why}), no PAGE_PLUS ({why}): {UNFIT}"
     return f"nobody answers at {reads.address:02X} ({why}): {UNFIT}"
-
-
-def spaced(data: bytes) -> str:
-    return data.hex(" ").upper()
 
 
 def text_of(payload: bytes) -> str | None:
@@ -282,7 +279,7 @@ def text_of(payload: bytes) -> str | None:
 def block_words(payload: bytes) -> str:
     """A block in words: as a text if it is one."""
     text = text_of(payload)
-    return f'"{text}"' if text else spaced(payload) or "empty"
+    return f'"{text}"' if text else in_hex(payload) or "empty"
 
 
 def format_words(form: Format) -> str:

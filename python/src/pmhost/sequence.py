@@ -10,8 +10,8 @@ from . import _library as at
 from . import clock
 from ._library import library
 from .bus.ones import is_ones
-from .course import FAULTS, REGISTERS, TRIES, CourseEnd, Job
-from .errors import accepted, name_of
+from .course import REGISTERS, TRIES, CourseEnd, Job, fault_words
+from .errors import accepted
 from .host import Host
 from .looks import FAULT_LIMITS, Looks
 from .operation import ON, same_command
@@ -404,11 +404,6 @@ def ordered(host: Host, sending: Sending) -> Job:
     """The order that a write begins."""
     found = read_write(host.address, sending.frame)
     return Job("order", NAMES[found.code], found.word)
-
-
-def fault_words(number: int) -> str:
-    """What was wrong with an answer."""
-    return FAULTS.get(number) or (name_of(number) if number else "")
 
 
 def said_of(image: at.SaidImage, is_end: bool) -> Said:

@@ -68,7 +68,6 @@ class Commanded:
         found = self.cells[register].possible
         return found[0] if found is not None and len(found) == 1 else None
 
-
     def would(self, operation: int) -> int | None:
         """What it would command by a byte of OPERATION, if that is known."""
         selected = selected_by(operation)
@@ -144,15 +143,19 @@ def holds_zeros(part: Device) -> bool:
     """No zeros are known of WRITE_PROTECT, or a second check gives them too."""
     if only_word(part, 0, REGISTER) != 0:
         return True
-    part.host.check(0, REGISTER)
-    return part.run().kind == "done" and only_word(part, 0, REGISTER) == 0
+    return not why_unread(part, 0, REGISTER) and only_word(part, 0, REGISTER) == 0
+
+
+def why_unread(part: Device, output: int, register: str) -> str:
+    """Reads a register: why it gave no good answer, nothing if it gave one."""
+    part.host.check(output, register)
+    return "" if part.run().kind == "done" else part.transfers.why() or "no good answer"
 
 
 def read(part: Device, output: int, register: str) -> None:
     """Reads a register, whatever comes. One that the part doesn't have is left out (L7)."""
     with contextlib.suppress(LimitRefused):
-        part.host.check(output, register)
-        part.run()
+        why_unread(part, output, register)
 
 
 def why_not_off(part: Device, output: int) -> str:

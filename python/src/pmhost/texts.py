@@ -1,4 +1,4 @@
-"""Texts of lines, as the programs read them."""
+"""Texts: their lines, as the programs read them, and bytes as pairs of digits."""
 from __future__ import annotations
 
 

@@ -1,4 +1,4 @@
-"""A bus of the package smbus2."""
+"""`Smbus2Bus`: a bus that the package smbus2 has opened."""
 from __future__ import annotations
 
 import errno

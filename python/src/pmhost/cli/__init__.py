@@ -17,7 +17,7 @@ from .._version import __version__
 from ..bus import NoBus
 from ..bus.linux import Kernel
 from ..errors import PmhostError
-from . import capture, faults, known, margins, names, power, probe, rails, reads, registers, sequence, stores, streams, torture, up, why
+from . import capture, faults, known, margins, names, power, probe, rails, reads, registers, stores, streams, torture, up, way_up, why
 from .about import WHOLE
 from .again import are_several
 from .answer import Answer
@@ -92,11 +92,11 @@ def read_command(part: list[str], named: names.Named | None) -> Command:
     whole, commands = parser()
     found = whole.parse_args(part)
     has_value = valued(whole) | valued(commands[found.command])
-    command = command_of(found, " ".join([found.command, *words_behind(found.command, part, has_value)]))
+    command = command_of(found, " ".join(shown(part[at].removeprefix(" ")) for at in names.places_of(part, has_value)))
     if named is None:
         return command
     command = names.attached(command, named)
-    return sequence.attached(command) if named.rail is None else command
+    return way_up.attached(command) if named.rail is None else command
 
 
 @functools.cache
@@ -109,23 +109,6 @@ def all_valued() -> set[str]:
 def valued(found: argparse.ArgumentParser) -> set[str]:
     """The options of a parser after which a value stands."""
     return {flag for action in found._actions if action.nargs != 0 for flag in action.option_strings}
-
-
-def words_behind(command: str, part: list[str], has_value: set[str]) -> list[str]:
-    """The words of a command without its options, of which these have a value."""
-    found, words = [], iter(part)
-    for word in words:
-        if word in has_value:
-            next(words, None)
-        elif not re.match("-.*[A-Za-z]", word):
-            found.append(shown(word.removeprefix(" ")))
-    return found[found.index(command) + 1:]
-
-
-def completion() -> int:
-    """Prints the completion for bash."""
-    streams.write(bash(*parser()).rstrip("\n"))
-    return 0
 
 
 def run_commands(call: Call) -> int:
@@ -201,7 +184,8 @@ def run(given: list[str], kernel: Kernel | None, calls: list[Call]) -> int:
         if 1 in closed:
             raise BadCall("standard output is closed: nothing was sent")
         if given == ["--completion"]:
-            return completion()
+            streams.write(bash(*parser()).rstrip("\n"))
+            return 0
         call = judged(given, kernel)
         call.words = shlex.join(given)
         calls.append(call)

@@ -5,6 +5,7 @@ from __future__ import annotations
 from typing import TYPE_CHECKING
 
 from ..settings import Restarted, Stopped
+from ..survey import why_unread
 from .answer import Answer, in_digits
 
 if TYPE_CHECKING:
@@ -40,9 +41,7 @@ class Ordered:
         for (name, output, register), (word, command) in self._words.items():
             part, where = call.places()[name].pmbus(), register if output is None else f"{register} of output {output}"
             whose = f" of {name}" * bool(name)
-            part.host.check(output or 0, register)
-            if part.run().kind != "done":
-                why = part.transfers.why() or "no good answer"
+            if why := why_unread(part, output or 0, register):
                 return self._told(call, command, "unknown", 1, f"whether {where}{whose} still holds its word isn't known: {why}")
             held = part.host.confirmed_word(output or 0, register)
             if held != word:

@@ -7,6 +7,7 @@ from dataclasses import dataclass
 from typing import Any
 
 from .. import capture
+from ..bus.linux import NUMBER
 from ..capture import i2ctransfer, vcd
 from . import streams
 from .about import COMMANDS
@@ -14,7 +15,7 @@ from .call import Call, complain
 from .command import Command, Task
 from .parser import BadCall, shown
 from .texts import standard_input, told, without_a_bus
-from .words import BUS, address_of
+from .words import address_of
 
 ABOUT = """Turns a capture of a bus on standard input into a trace for `pmb decode`, packet by packet as they end.
 
@@ -42,20 +43,13 @@ BAD_LINE = 1
 
 @dataclass(frozen=True, kw_only=True)
 class Capture(Command):
-    """A capture of a kind, and what is wanted of it: the packets of a device, on a bus of this number, with their times."""
+    """A capture of a kind, or frames, and the number of a bus. Of a capture the packets of a device are wanted, with their times."""
 
     kind: str
-    device: int | None = None
     wanted: int | None = None
+    device: int | None = None
     times: bool = False
     samplerate: int | None = None
-
-
-@dataclass(frozen=True, kw_only=True)
-class Frames(Command):
-    """Frames, and the bus of Linux on which they are run."""
-
-    wanted: int | None = None
     is_run: bool = False
     is_shared: bool = False
     is_back: bool = False
@@ -72,7 +66,7 @@ def samplerate_of(word: str) -> int:
 
 def bus_number(word: str) -> int:
     """The number of a bus of Linux: a model part has none."""
-    found = BUS.match(word)
+    found = NUMBER.match(word)
     if not found:
         raise argparse.ArgumentTypeError(f"bus {shown(word)}: give the number of /dev/i2c-N, as 1")
     return int(found[1])
@@ -107,7 +101,7 @@ def add(commands: Any) -> None:
     frames.add_argument("--share-bus", action=Once, nargs=0, const=True, dest="is_shared",
                         help="with --run: goes on beside another program that drives the address; refused if left out")
     frames.add_argument("--back", action=Once, nargs=0, const=True, dest="is_back", help="turns such commands into frames; frames into commands if left out")
-    frames.set_defaults(task=Task(run_frames, judge_frames, Frames))
+    frames.set_defaults(task=Task(run_frames, judge_frames, Capture))
     drawn = kinds.add_parser("waveform", help="a trace as a waveform (VCD)", description=vcd.__doc__)
     drawn.add_argument("file", type=no_file, nargs="?", help=argparse.SUPPRESS)
     drawn.set_defaults(task=Task(run_waveform, without_a_bus))
@@ -150,7 +144,7 @@ def run(_: Call, command: Capture) -> int:
     return BAD_LINE
 
 
-def judge_frames(call: Call, command: Frames) -> None:
+def judge_frames(call: Call, command: Capture) -> None:
     without_a_bus(call, command)
     if command.is_back and (command.is_run or command.wanted is not None):
         raise BadCall("capture i2ctransfer: --back stands by itself: it needs no bus, and runs nothing")
@@ -160,7 +154,7 @@ def judge_frames(call: Call, command: Frames) -> None:
         raise BadCall("capture i2ctransfer: give a bus, as 1, with --run after it to run the commands; or --back")
 
 
-def run_frames(call: Call, command: Frames) -> int:
+def run_frames(call: Call, command: Capture) -> int:
     """Writes the commands of frames, or runs them, or writes the frames of commands."""
     text, bus = standard_input().read(), str(command.wanted)
     try:

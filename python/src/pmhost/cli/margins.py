@@ -6,11 +6,10 @@ import contextlib
 from dataclasses import dataclass, replace
 from typing import Any, Iterator
 
-from .. import rails, turn_on, voltages
+from .. import turn_on, voltages
 from ..apply import Board
 from ..back import OPERATION, Held
 from ..course import CourseEnd, in_hexadecimal
-from ..cuts import cuts
 from ..delivered import Delivered, beyond_of, register_words
 from ..device import Device
 from ..errors import SAYINGS, ChangedRefused, RailRefused, refusal
@@ -21,7 +20,7 @@ from ..rehearsal import first_not_reached, unprotected
 from ..sequence import UP, WHY, Heard, Said, Sequence, SequenceStep
 from ..settings import AS_WANTED, Restarted, Stopped
 from ..step_run import StepRun, look_at
-from ..survey import TRIES, Commanded, commanded, only_word, read, survey, why_not_off
+from ..survey import TRIES, Commanded, commanded, only_word, read, survey, why_not_off, why_unread
 from ..transfers import Transfers
 from ..zeros import NotBelieved, believed
 from .about import described
@@ -103,8 +102,7 @@ class RailTest:
         refused = first_not_reached(self.part, self.rail.output, map(self.byte_at, POINTS), self.call.protection.is_in_the_way(self.rail.part))
         if refused is not None:
             raise self.stopped(self.why_ended(*refused))
-        form, words = found.form, {each: only_word(self.part, self.rail.output, each) for each in (*rails.MARGINS, *rails.BOUNDS)}
-        for it in cuts(form, {each: words[each] for each in rails.MARGINS}, *(words[each] for each in rails.BOUNDS)) if form else ():
+        for it in self.board.cuts(self.rail, False):
             raise Stopped(f"{name}: {it.register} {voltages.shown(it.value)} is cut to {voltages.shown(it.to)}: order it within VOUT_MIN and VOUT_MAX")
 
     def byte_at(self, point: str) -> int:
@@ -177,9 +175,9 @@ class RailTest:
         for point in left:
             self.measure(point)
 
-    def looked(self) -> Delivered:
-        """What the rail does."""
-        return look_at(self.part, self.rail.output, self.rail.looks(self.how), self.befores.get(self.rail.name, Heard()))
+    def look(self, rail: Rail) -> Delivered:
+        """What a rail does."""
+        return look_at(self.board.on(rail), rail.output, rail.looks(self.how), self.befores.get(rail.name, Heard()))
 
     def ended(self, point: str, end: Said, at: str = "") -> Stopped:
         """Why the rail isn't at a point."""
@@ -193,7 +191,7 @@ class RailTest:
 
     def measure(self, point: str) -> None:
         """Looks at the rail and at all others, which stay as they are. Restarted, or Stopped if one doesn't do what it is to."""
-        found = self.looked()
+        found = self.look(self.rail)
         others = [(rail, self.why_other(rail)) for rail in self.board.rails if rail is not self.rail]
         silent = self.read_again(point, self.byte_at(point))
         self.rows.append(Row(self.rail, point, commanded(self.part, self.rail.output), found))
@@ -212,19 +210,17 @@ class RailTest:
 
     def why_other(self, rail: Rail) -> str:
         """Why another rail doesn't do what it is to, nothing if it does."""
-        part = self.board.on(rail)
         if not rail.is_on:
-            return why_not_off(part, rail.output)
-        found = look_at(part, rail.output, rail.looks(self.how), self.befores.get(rail.name, Heard()))
+            return why_not_off(self.board.on(rail), rail.output)
+        found = self.look(rail)
         return found.why_told if found.is_bad else ""
 
     def read_again(self, point: str, byte: int) -> str:
         """Reads OPERATION and the register that it selects after a look: a restart before that may pass for a margin that is near. Why one
         gave no good answer. Restarted."""
         for register in (OPERATION, selected_by(byte) or ""):
-            self.part.host.check(self.rail.output, register)
-            if self.part.run().kind != "done":
-                return f"{register}: {self.part.transfers.why() or 'no good answer'}"
+            if why := why_unread(self.part, self.rail.output, register):
+                return f"{register}: {why}"
             if self.board.has_restarted(self.rail):
                 word = only_word(self.part, self.rail.output, register)
                 is_held = "isn't known" if word is None else f"is {in_hexadecimal(register, word)}"

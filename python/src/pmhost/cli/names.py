@@ -49,27 +49,27 @@ def parted(part: list[str], has_value: set[str]) -> list[list[str]]:
     """The words of a command, and those of the one after its --back, which needs no + between them."""
     at = part.index(BACK) + 1 if BACK in part else 0
     at += at > 0 and part[at:at + 1] == [IGNORE]
-    command, behind = place_of(part, has_value)[0], place_of(part[at:], has_value)[0]
-    return [part[:at], part[at:]] if at and command == "margin" and behind else [part]
+    places = places_of(part, has_value)
+    return [part[:at], part[at:]] if at and places and part[places[0]] == "margin" and places_of(part[at:], has_value) else [part]
 
 
-def place_of(part: list[str], has_value: set[str]) -> tuple[str, int | None]:
-    """The command of a call's words, and the place of the word after it that is no option: these options have a value."""
+def places_of(part: list[str], has_value: set[str]) -> list[int]:
+    """The places of the words that are no options, first that of the command: these options have a value."""
     places, words = list[int](), iter(enumerate(part))
     for at, word in words:
         if word in has_value:
             next(words, None)
         elif not re.match("-.*[A-Za-z]", word):
             places.append(at)
-    return part[places[0]] if places else "", places[1] if len(places) > 1 else None
+    return places
 
 
 def expanded(part: list[str], has_value: set[str]) -> list[tuple[list[str], Named | None]]:
     """The words of a command with an output, and the rail that these had in its place: several if it goes over all rails of a file."""
-    command, at = place_of(part, has_value)
-    if command not in OF_A_RAIL or at is None or not part[at].endswith(ENDING):
+    places = places_of(part, has_value)
+    if len(places) < 2 or part[places[0]] not in OF_A_RAIL or not part[places[1]].endswith(ENDING):
         return [(part, None)]
-    file = part[at]
+    command, at, file = part[places[0]], places[1], part[places[1]]
     found = read(file)
     behind = [word for word in part[at + 1:at + 2] if not word.startswith("-")]
     names = {rail.name: rail for rail in found.rails}

@@ -1,4 +1,4 @@
-"""The options of the command line: those of a bus, which stand before or behind a command's words, and those that several commands have."""
+"""The options of the command line: those of a bus, which stand before or after a command's words, and those that several commands have."""
 from __future__ import annotations
 
 import argparse

@@ -7,10 +7,10 @@ from .. import on_off
 from ..back import Held
 from ..errors import TrimRefused
 from ..looks import Looks
-from ..models import why_another_model
+from ..models import why_other_model
 from ..operation import ANOTHER, MARGINS, OFF, ON, margin_byte
 from ..sequence import SequenceStep
-from ..survey import survey
+from ..survey import survey, why_unread
 from . import way
 from .about import described
 from .answer import Answer
@@ -66,13 +66,11 @@ def turn_on(call: Call, command: Command) -> int:
 def turn_off(call: Call, command: Command) -> int:
     """Turns an output off, whatever its part is. If MFR_MODEL says that it is another one than the file's, OPERATION has to answer first, and a
     line after it says so."""
-    why = "" if call.named is None else why_another_model(call.part(), call.only().part)
+    why = "" if call.named is None else why_other_model(call.part(), call.only().part, False)
     if why:
-        part = call.part()
-        part.host.check(command.at, "OPERATION")
-        if part.run().kind != "done":
-            return call.say(answer_of(command, part, "OPERATION", "unknown", status=1, text="not known to be off, and nothing was ordered",
-                                      why=f"{why}; OPERATION: {part.transfers.why() or 'no good answer'}"))
+        if silent := why_unread(call.part(), command.at, "OPERATION"):
+            return call.say(answer_of(command, call.part(), "OPERATION", "unknown", status=1, text="not known to be off, and nothing was ordered",
+                                      why=f"{why}; OPERATION: {silent}"))
     status = turn(call, command, OFF if call.named is None else call.named.off_byte(command.ways.is_now))
     return max(status, call.say(Answer(command.said, "other part", "", 1, why, command.output))) if why else status
 

@@ -1,13 +1,14 @@
-"""The command probe."""
+"""The command probe: what a part has and whether the host can drive it, or which parts a bus has."""
 from __future__ import annotations
 
 from dataclasses import dataclass
 from typing import Any
 
 from ..parts import MODEL_BUS
-from ..probe import UNFIT, WITHOUT_PEC_TAKEN, Found, FoundOutput, Probe, block_words, spaced, text_of
+from ..probe import UNFIT, WITHOUT_PEC_TAKEN, Found, FoundOutput, Probe, block_words, text_of
 from ..reads import Read
 from ..scan import LEFT_OUT, Seen, bus_or_why, scan
+from ..texts import in_hex
 from ..values import LACKABLE, REGISTERS
 from .about import described
 from .answer import Answer, in_digits
@@ -219,9 +220,9 @@ def row_of(output: FoundOutput) -> dict[str, object]:
 
 def device_row(found: Found, lines: list[str], give: str | None) -> dict[str, object]:
     """The same of the device, with what is said of it and the command line for it."""
-    texts = {name.lower(): None if read.payload is None else text_of(read.payload) or spaced(read.payload)
+    texts = {name.lower(): None if read.payload is None else text_of(read.payload) or in_hex(read.payload)
              for name, read in found.identity.items()}
-    texts.update({name.lower(): text_of(block) or spaced(block) for name, block in found.unit.items()})
+    texts.update({name.lower(): text_of(block) or in_hex(block) for name, block in found.unit.items()})
     protect = found.protect.payload
     return {"output": None, "pmbus_revision": None if found.revision is None else f"{found.revision:02X}", **texts,
             "write_protect": None if protect is None else f"{protect[0]:02X}", "writes": found.writes,

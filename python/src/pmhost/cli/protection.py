@@ -7,7 +7,7 @@ from typing import TYPE_CHECKING
 
 from ..errors import Refused
 from ..states import Step
-from ..survey import holds_zeros, only_word
+from ..survey import holds_zeros, only_word, why_unread
 from ..values import DEVICE
 from ..zeros import NotBelieved, guard
 from . import streams
@@ -43,9 +43,13 @@ class Protection:
     def read(self, name: str) -> None:
         """Reads it, if a byte is to be written last."""
         if self.of(name) is not None or name in self._forced:
-            part = self.call.places()[name].pmbus()
-            part.host.check(0, DEVICE)
-            part.run()
+            self._check(name)
+
+    def _check(self, name: str) -> int | None:
+        """Reads it: the byte, if that is known then."""
+        part = self.call.places()[name].pmbus()
+        why_unread(part, 0, DEVICE)
+        return only_word(part, 0, DEVICE)
 
     def lift(self, name: str) -> bool:
         """Lifts it if that byte is in the way: whether the part takes orders now. The line says so."""
@@ -53,10 +57,7 @@ class Protection:
 
     def force(self, name: str) -> bool:
         """Lifts it if it keeps an output on that is to go off, whatever the file says: whether the part takes orders now. The line says so."""
-        part = self.call.places()[name].pmbus()
-        part.host.check(0, DEVICE)
-        part.run()
-        if only_word(part, 0, DEVICE) != ALL:
+        if self._check(name) != ALL:
             return False
         self._forced.add(name)
         return self._lift(name)

@@ -1,4 +1,4 @@
-"""The commands apply and verify: a file of rails."""
+"""The commands apply and verify, which bring the parts of a board to a file of rails, and compare them with it."""
 from __future__ import annotations
 
 from dataclasses import replace

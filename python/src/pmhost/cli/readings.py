@@ -6,17 +6,15 @@ from typing import Iterable
 from .. import readings
 from ..codes import BLOCK, SIZES, code_of
 from ..device import Device
-from ..packets import Packet
+from ..probe import PROTECT, text_of
 from ..readings import KINDS
 from ..reads import Reads
 from ..status import BITS
 from ..values import LACKABLE
-from .answer import Answer
+from .answer import Answer, in_digits
 from .call import Call
 from .command import Command
 
-
-PROTECT = Packet("read", 0x10)
 
 
 def tell(call: Call, command: Command) -> int:
@@ -50,29 +48,18 @@ def tell_code(call: Call, command: Command) -> int:
     answer = Answer(command.said, "unknown", f"no good {name}", 1, found.why or "no good answer", output, name,
                     rows=[row], restart_seen=part.host.restart_seen)
     if found.payload is not None:
-        text = block_text(found.payload) if asked.kind == BLOCK else ""
+        text = text_of(found.payload) if asked.kind == BLOCK else None
         held = found.payload.hex(" ") if asked.kind == BLOCK else found.payload[::-1].hex()
-        row["bytes"], row["text"] = found.payload.hex().upper(), text or None
+        row["bytes"], row["text"] = found.payload.hex().upper(), text
         answer.end, answer.status, answer.why = "done", 0, ""
         answer.text = " ".join([name, held.upper() or "no bytes", *([f'"{text}"'] if text else [])])
     return call.say(answer)
 
 
-def block_text(payload: bytes) -> str:
-    """The text of a block of printable ASCII, without zeros and blanks after it; nothing if it is none."""
-    text = payload.rstrip(b"\0 ")
-    return text.decode("ascii") if text and all(0x20 <= byte < 0x7F for byte in text) else ""
-
-
 def row_of(found: readings.Reading) -> dict[str, object]:
     """The same by names and numbers."""
-    return {"register": found.name, "word": digits_of(found), "value": None if found.value is None else float(found.value),
+    return {"register": found.name, "word": in_digits(found.name, found.word), "value": None if found.value is None else float(found.value),
             "unit": KINDS[found.name].unit or None, "bits": found.bits if found.name in BITS else None}
-
-
-def digits_of(found: readings.Reading) -> str | None:
-    """The word in two or four hexadecimal digits."""
-    return None if found.word is None else f"{found.word:0{2 * KINDS[found.name].size}X}"
 
 
 def read_protect(part: Device) -> str:

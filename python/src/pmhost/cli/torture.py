@@ -1,4 +1,4 @@
-"""`pmhost torture`: a bench for anybody's host."""
+"""`pmhost torture`: a bench for anybody's host, over the proved converter with one fault in each run."""
 from __future__ import annotations
 
 import argparse

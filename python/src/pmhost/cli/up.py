@@ -15,7 +15,6 @@ from .call import Call
 from .command import Command, Task
 from .options import ACCEPT, DEADLINE, LEAVE_ON, PICTURE, bus_options, file_word, shared
 from .rails import board_of, told_of
-from .sequence import turn_off
 from .way import StairsFile
 from .way_up import WayUp
 
@@ -43,7 +42,7 @@ class BoardUp(WayUp):
     """The rails of a file that are to be on, and the board whose words they get."""
 
     def __init__(self, call: Call, command: Command, rails: list[Rail], file: StairsFile, board: Board) -> None:
-        super().__init__(call, command, rails, file, turn_off)
+        super().__init__(call, command, rails, file)
         self.board, note = board, board.after_order
         board.after_order = lambda it, is_confirmed: self.moved(it, is_confirmed, note)
 

@@ -1,10 +1,9 @@
-"""`on board.toml`, the way up: all is asked and judged before the first order, the rails that are on are looked at before each further one, and a way
-up that fails goes down again."""
+"""`on board.toml`, the way up, from which `off board.toml` begins, too: all is asked and judged before the first order, the rails that are on are
+looked at before each further one, and a way up that fails goes down again."""
 from __future__ import annotations
 
 import copy
 from dataclasses import replace
-from typing import Callable
 
 from .. import clock, on_off
 from ..course import Job
@@ -15,25 +14,43 @@ from ..operation import ON, selected_by
 from ..rails import Rail
 from ..sequence import Heard, SequenceStep
 from ..step_run import StepRun
-from ..survey import TRIES, only_word, read
+from ..survey import TRIES, only_word, read, why_unread
 from .again import RESTARTED
 from .answer import Answer
 from .call import Call
-from .command import Command, RailStep
+from .command import Command, RailStep, Task
 from .file_steps import AT_THE_END, FileSteps
 from .outcome import refused, step_answer, unordered_rail
 from .signals import Later
 from .step import ended, is_protected, turn
-from .way import StairsFile
+from .way import StairsFile, judge
+from .way_down import turn_off
+
+
+def attached(command: Command) -> Command:
+    """The command is about all rails of its file."""
+    return replace(command, task=Task(turn_all, judge), output=None, goes_on=False)
+
+
+def turn_all(call: Call, command: Command) -> int:
+    """Turns the rails of a file on, those that are to be on, or all of them off. The status."""
+    is_down, rails = command.name == "off", command.rails.rails
+    rails = rails[::-1] if is_down else [rail for rail in rails if rail.is_on]
+    file = StairsFile(call, command, rails)
+    with call.going_on(), file.drawn():
+        if not is_down:
+            return WayUp(call, command, rails, file).run()
+        status = turn_off(call, command, rails, file)
+        call.begin(command)
+        return status or call.ordered.look(call)
 
 
 class WayUp:
     """Rails of a file that are turned on, in their order. `turned` are those that were known to be off, and of which an order that turns on may have been
-    heard; `turn_off` turns them off again, the last one first."""
+    heard: they are turned off again, the last one first."""
 
-    def __init__(self, call: Call, command: Command, rails: list[Rail], file: StairsFile,
-                 turn_off: Callable[[Call, Command, list[Rail], StairsFile], int]) -> None:
-        self.call, self.command, self.rails, self.file, self.turn_off = call, command, rails, file, turn_off
+    def __init__(self, call: Call, command: Command, rails: list[Rail], file: StairsFile) -> None:
+        self.call, self.command, self.rails, self.file = call, command, rails, file
         self.turned, self.turned_off, self.was_on, self.ended = list[Rail](), list[Rail](), list[Rail](), dict[str, int]()
         self.befores, self.down = dict[str, Heard](), file
         # Whether a step was refused, which is no fault of a rail.
@@ -169,10 +186,8 @@ class WayUp:
 
     def caused(self, rail: Rail, status: int) -> int:
         """RESTARTED if a part restarted meanwhile, as OPERATION shows that is read once more; otherwise the status of a rail."""
-        part = self.part(rail)
         if status == 1 and rail in self.turned:
-            part.host.check(rail.output, "OPERATION")
-            part.run()
+            why_unread(self.part(rail), rail.output, "OPERATION")
         return RESTARTED if self.restarted() else status
 
     def restarted(self) -> list[str]:
@@ -194,9 +209,7 @@ class WayUp:
 
     def why_fallen(self, rail: Rail, found: Delivered | str) -> tuple[str, int]:
         """Why a rail doesn't deliver that did, and the status: RESTARTED if its part restarted."""
-        part = self.part(rail)
-        part.host.check(rail.output, "OPERATION")
-        part.run()
+        why_unread(self.part(rail), rail.output, "OPERATION")
         if rail.part in self.restarted():
             return f"{rail.name} went off after it delivered: {rail.part or 'the part'} restarted, or another one orders beside this call", RESTARTED
         if isinstance(found, str):
@@ -249,4 +262,4 @@ class WayUp:
         # The same file, with statuses of its own.
         self.down = copy.copy(self.file)
         self.down.status = {}
-        return self.turn_off(self.call, down, self.turned_off, self.down)
+        return turn_off(self.call, down, self.turned_off, self.down)

@@ -6,6 +6,7 @@ import re
 from typing import Callable, TypeVar
 
 from .. import parts, times, voltages
+from ..bus.linux import NUMBER
 from ..codes import CODES, code_of
 from ..operation import MARGINS
 from ..parts import MODEL_BUS
@@ -13,7 +14,6 @@ from ..readings import KINDS
 from ..values import DEVICE, LACKABLE, REGISTERS
 from .parser import shown
 
-BUS = re.compile(r"(?:/dev/i2c-|i2c-)?([0-9]{1,9})\Z")
 PERCENT = re.compile(r"([0-9]{1,3})(?:\.([0-9]))?%")
 LIMIT_EXAMPLE = "0:3.135V:3.465V"
 Made = TypeVar("Made")
@@ -44,7 +44,7 @@ OUTPUT = whole(0, 7, "output")
 
 
 def read_by(read: Callable[[str], Made], what: str) -> Callable[[str], Made]:
-    """The judge of a word by what reads it: its ValueError is said behind this."""
+    """The judge of a word by what reads it: its ValueError is said after this."""
     def judge(word: str) -> Made:
         try:
             return read(word)
@@ -69,7 +69,7 @@ def percent_of(word: str) -> int:
 
 def bus_of(word: str) -> str:
     """`model`, or the number of a bus of Linux."""
-    found = BUS.match(word)
+    found = NUMBER.match(word)
     if word != MODEL_BUS and not found:
         raise argparse.ArgumentTypeError(f"bus {shown(word)}: give the number of /dev/i2c-N, as 1, or {MODEL_BUS}")
     return word if found is None else str(int(found[1]))

@@ -56,8 +56,13 @@ def draw_faults(dice: random.Random, rate: int, count: int = 64) -> list[str]:
 
 
 def drawn(dice: random.Random) -> str:
-    kind, place, bit = dice.choice(DRAWN), dice.randrange(16), dice.randrange(8)
-    return {"cut": f"cut:{place}", "short": f"short:{place}", "damaged": f"damaged:{place}:{bit}",
+    return fault_of(dice.choice(DRAWN), dice, 16)
+
+
+def fault_of(kind: str, dice: random.Random, places: int = 12) -> str:
+    """A fault of a kind, with a place of so many and a bit if it has them."""
+    place, bit = dice.randrange(places), dice.randrange(8)
+    return {"cut": f"cut:{place}", "short": f"short:{place}", "restarting": f"restart:{place}", "damaged": f"damaged:{place}:{bit}",
             "garbled": f"garbled:{place}:{bit}"}.get(kind, kind)
 
 

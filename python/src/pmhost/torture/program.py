@@ -13,7 +13,7 @@ import time
 from collections.abc import Callable, Sequence
 from dataclasses import dataclass, field
 
-from ..faults.bus import OF_ANSWERS, FaultyBus, Struck
+from ..faults.bus import OF_ANSWERS, FaultyBus, Struck, fault_of
 from .below import Connections, NoBench, Preload
 from .cuse import Cuse
 from .server import Server
@@ -30,13 +30,6 @@ Fault = tuple[int, str]
 # How a program reaches the bench: by LD_PRELOAD, or by a device of its own; and what is served while it runs.
 Way = Preload | Cuse
 Serving = Connections | Cuse
-
-
-def fault_of(kind: str, dice: random.Random) -> str:
-    """A fault of a kind, with a place and a bit if it has them."""
-    place, bit = dice.randrange(12), dice.randrange(8)
-    return {"cut": f"cut:{place}", "short": f"short:{place}", "restarting": f"restart:{place}", "damaged": f"damaged:{place}:{bit}",
-            "garbled": f"garbled:{place}:{bit}"}.get(kind, kind)
 
 
 def drawn_faults(transfers: Sequence[Struck], kinds: Sequence[str], seed: int) -> list[tuple[int, str]]:

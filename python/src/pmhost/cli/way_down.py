@@ -1,39 +1,18 @@
-"""`off board.toml`, the way down: the rails of a file one after another in reverse, each a step of one list. `on board.toml` begins here, too."""
+"""`off board.toml`, the way down: the rails of a file one after another in reverse, each a step of one list."""
 from __future__ import annotations
-
-from dataclasses import replace
 
 from .. import clock, readings
 from ..bus import NoBus, PatientBus
 from ..errors import PmhostError
 from ..looks import FIRST_WAIT
 from ..rails import Rail
-from . import power, way
+from . import power
 from .answer import Answer
 from .call import Call
-from .command import Command, Task
+from .command import Command
 from .file_steps import FileSteps
 from .step import PutOff
 from .way import StairsFile
-from .way_up import WayUp
-
-
-def attached(command: Command) -> Command:
-    """The command is about all rails of its file."""
-    return replace(command, task=Task(turn_all, way.judge), output=None, goes_on=False)
-
-
-def turn_all(call: Call, command: Command) -> int:
-    """Turns the rails of a file on, those that are to be on, or all of them off. The status."""
-    is_down, rails = command.name == "off", command.rails.rails
-    rails = rails[::-1] if is_down else [rail for rail in rails if rail.is_on]
-    file = StairsFile(call, command, rails)
-    with call.going_on(), file.drawn():
-        if not is_down:
-            return WayUp(call, command, rails, file, turn_off).run()
-        status = turn_off(call, command, rails, file)
-        call.begin(command)
-        return status or call.ordered.look(call)
 
 
 def turn_off(call: Call, command: Command, rails: list[Rail], file: StairsFile) -> int:
