@@ -8,12 +8,12 @@ from typing import TYPE_CHECKING, Any, Callable, Mapping, Optional, Union
 
 from . import _library as at
 from ._library import library
-from .errors import Differs, NoFormat, OtherSource, PmhostError, Spent, accepted, name_of, refusal
+from .errors import Differs, NoFormat, OtherSource, PmhostError, Refused, Spent, accepted, name_of, refusal
 from .operation import avsbus, margin_byte
 from .states import Bus, Sending, Step
 from .transfers import Transfers
 from .values import BYTES, NAMES, code_of, frame_bytes, is_true, whole
-from .voltages import GivenVoltage, given_microvolts
+from .voltages import GivenVoltage, given_microvolts, of_microvolts
 
 if TYPE_CHECKING:
     from .host import Host
@@ -299,6 +299,19 @@ class Course:
             raise ValueError("end: the course goes on: send its frame first")
         if found.kind != "reached":
             raise end_fault(found, self.tries)
+
+
+def near_word(host: Host, output: int, register: str | int, wanted: int | GivenVoltage, accept: int) -> int | None:
+    """The word that a register is known to hold, of a part that rounds, if its value is that near to a word's, or to a voltage, and within the
+    limits, as a course of this register only says; otherwise None."""
+    course = Course.words(output, {register: wanted}) if isinstance(wanted, int) else Course.voltage(output, wanted, register)
+    try:
+        course.accept(host, of_microvolts(accept))
+    except Refused:
+        return None
+    found = host.possible_words(output, register)
+    assert found is not None and len(found) == 1
+    return found[0]
 
 
 def end_fault(found: CourseEnd, tries: int) -> PmhostError:

@@ -4,12 +4,11 @@ from __future__ import annotations
 from dataclasses import replace
 from typing import TYPE_CHECKING
 
-from .course import Job
+from .course import Job, near_word
 from .delivered import beyond_of
 from .device import FORMAT_UNKNOWN
 from .errors import SAYINGS, PlanRefused, Refused, TrimRefused, refusal
 from .rails import SETTINGS, Rail
-from .rounded import near_word
 from .sequence import Said, SequenceStep
 from .settings import OUTSIDE, Setting, Stopped
 from .states import Step

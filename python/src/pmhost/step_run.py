@@ -6,11 +6,10 @@ from dataclasses import replace
 from typing import TYPE_CHECKING, Callable, Optional
 
 from . import turn_on
-from .course import Job
+from .course import Job, near_word
 from .delivered import Delivered, delivered_of, judge_margin, limit_notes, silence_words, silent_limits
 from .looks import Looks
 from .operation import MARGINS, ON, selected_by
-from .rounded import near_word
 from .sequence import Heard, RailHeard, Rules, Said, Sequence, SequenceStep, Wishes
 from .states import Bus, Step
 from .zeros import believed

@@ -7,7 +7,7 @@ from .delivered import register_words
 from .device import Device
 from .operation import ON
 from .readings import read
-from .survey import only_word, why_not_off, why_unread
+from .survey import learned_format, only_word, why_not_off, why_unread
 
 TEMPERATURE, MOST, CML = "READ_TEMPERATURE_1", 85, "STATUS_CML"
 # The bits of STATUS_CML by which what is stored isn't what was to be: DATA and MEMORY.
@@ -17,10 +17,7 @@ FAILED, MEMORY = 0x50, 0x10
 def too_hot(part: Device) -> str:
     """Why a part is too hot to store, nothing if it isn't: by READ_TEMPERATURE_1 of output 0, or of the device. One that doesn't
     answer it, or not in LINEAR11, isn't judged."""
-    if part.host.format(0) is None:
-        part.host.learn(0)
-        part.run()
-    form = part.host.format(0)
+    form = learned_format(part, 0)
     if form is None or form.kind == "DIRECT":
         return ""
     for output in (0, None):

@@ -139,6 +139,14 @@ def answers(part: Device) -> bool:
     return Reads(part.bus, part.host.address).packet(CAPABILITY).has_answer
 
 
+def learned_format(part: Device, output: int) -> Format | None:
+    """The format of an output, which is learned if it isn't known; None if that gives none."""
+    if part.host.format(output) is None:
+        part.host.learn(output)
+        part.run()
+    return part.host.format(output)
+
+
 def holds_zeros(part: Device) -> bool:
     """No zeros are known of WRITE_PROTECT, or a second check gives them too."""
     if only_word(part, 0, REGISTER) != 0:

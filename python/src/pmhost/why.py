@@ -5,6 +5,7 @@ from __future__ import annotations
 from dataclasses import dataclass, field
 
 from . import voltages
+from .course import near_word
 from .delivered import Delivered
 from .device import Device
 from .errors import Refused
@@ -12,7 +13,6 @@ from .looks import Looks
 from .on_off import BY_COMMAND, BY_PIN, unheeded
 from .rails import SETTINGS, Rail
 from .readings import KINDS, Reading, read
-from .rounded import near_word
 from .settings import word_of
 from .status import BITS
 from .survey import Commanded, commanded, looked_at

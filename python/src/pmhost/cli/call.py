@@ -7,9 +7,8 @@ from dataclasses import replace
 from typing import Any, Callable, Iterator
 
 from ..began import head_of
-from ..bus import LinuxBus, NoBus, PatientBus, Trace
+from ..bus import LinuxBus, NoBus, Trace
 from ..bus.linux import BusTrace, Kernel
-from ..part import ModelPartBus
 from ..parts import MODEL_BUS, BoardPart
 from ..device import Device
 from ..log import Log
@@ -207,10 +206,6 @@ class Call:
         """The same, through the one host of the call."""
         return self.only().pmbus()
 
-    def patient(self, busy_timeout: int | None = None) -> ModelPartBus | PatientBus:
-        """The bus of the one part, which waits for it if it is busy."""
-        return self.only().patient(busy_timeout)
-
     def no_part(self, command: Command) -> int:
         """Before the first command that writes something without a course the part has to answer. 0, or the status if it doesn't:
         nothing was ordered. Those of a board file are looked for by its own command."""
@@ -257,10 +252,11 @@ class Call:
 
     # ---- What is said ----
 
-    def begin(self, command: Command) -> None:
+    def begin(self, command: Command) -> Command:
         """A command is under way, of which nothing was sent."""
         self.under_way, self.maybe, self.settled = command.said, "", NOTHING
         self.named = command.named
+        return command
 
     def say(self, answer: Answer) -> int:
         """Prints an answer, and on standard error why it is a bad one. Its status."""

@@ -74,7 +74,7 @@ class Command:
     uses_bus: bool
     # A file of rails, the rails of it that are named, and the one that the command is about. One of several goes on after a bad one.
     file: str | None = None
-    found: Rails | None = None
+    of_file: Rails | None = None
     names: Sequence[str] = ()
     named: Rail | None = None
     goes_on: bool = False
@@ -97,8 +97,8 @@ class Command:
     @property
     def rails(self) -> Rails:
         """The rails of its file."""
-        assert self.found is not None
-        return self.found
+        assert self.of_file is not None
+        return self.of_file
 
     @property
     def at(self) -> int:

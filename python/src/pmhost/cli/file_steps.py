@@ -58,9 +58,7 @@ class FileSteps:
     def of_rail(self, rail: Rail) -> Command:
         """The same command about one of its rails, which has begun: its step of the list."""
         place = self.places.get(rail.name)
-        one = self.command.of_rail(rail) if place is None else self.command.of_rail(rail, self.lists, place)
-        self.call.begin(one)
-        return one
+        return self.call.begin(self.command.of_rail(rail) if place is None else self.command.of_rail(rail, self.lists, place))
 
     def fallen(self, place: str, file: StairsFile) -> tuple[Rail, Delivered | str] | None:
         """Looks at the rails that stand before a place: the first that doesn't do what it is to any more, and what it does, or why nothing is

@@ -8,11 +8,10 @@ from ..device import Device
 from ..states import Known
 from ..survey import commanded
 from ..values import VOLTAGES
-from .about import described
 from .answer import Answer, between, in_digits, number
 from .call import Call
 from .command import Command, Task
-from .options import bus_options, output_word
+from .options import command_parser, output_word
 from .outcome import limit_words
 from .words import OUTPUT
 
@@ -21,14 +20,9 @@ YES = {True: "yes", False: "no"}
 
 def add(commands: Any) -> None:
     """Adds the subparsers."""
-    found = commands.add_parser("known", **described("known"))
+    found = command_parser(commands, "known", Task(known, is_question=True))
     found.add_argument("output", metavar="O", nargs="?", type=OUTPUT, help="one output, from 0; all if left out")
-    found.set_defaults(task=Task(known, is_question=True))
-    bus_options(found)
-    found = commands.add_parser("band", **described("band"))
-    output_word(found)
-    found.set_defaults(task=Task(band, is_question=True))
-    bus_options(found)
+    output_word(command_parser(commands, "band", Task(band, is_question=True)))
 
 
 def known(call: Call, command: Command) -> int:

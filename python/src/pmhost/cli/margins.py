@@ -23,13 +23,12 @@ from ..step_run import StepRun, look_at
 from ..survey import TRIES, Commanded, commanded, only_word, read, survey, why_not_off, why_unread
 from ..transfers import Transfers
 from ..zeros import NotBelieved, believed
-from .about import described
 from .again import RESTARTED, status_of
 from .answer import Answer, between, commanded_of, delivery_of, table
 from .back import words_of
 from .call import Call
 from .command import Command, Task
-from .options import IGNORE, bus_options, file_word, shared
+from .options import IGNORE, command_parser, file_word, shared
 from .outcome import IGNORED, cell_words, limit_words, why_not, why_refused, with_advice
 
 # A margin isn't to be selected at the end, whatever came.
@@ -38,12 +37,10 @@ POINTS = ("nominal", "high", "low", "nominal")
 
 def add(commands: Any) -> None:
     """Adds the subparser."""
-    found = commands.add_parser("margin-test", **described("margin-test"))
+    found = command_parser(commands, "margin-test", Task(margin_test))
     file_word(found)
     found.add_argument("names", metavar="RAIL", nargs="*", help="rails of the file; all that are to be on if left out")
-    found.set_defaults(task=Task(margin_test))
     shared(found, IGNORE)
-    bus_options(found)
 
 
 @dataclass

@@ -89,20 +89,20 @@ def expanded(part: list[str], has_value: set[str]) -> list[tuple[list[str], Name
 def attached(command: Command, named: Named) -> Command:
     """A command is about a rail of a file, or about all of them."""
     words, name = command.said.split(), shown(named.file) if named.rail is None else named.rail.name
-    return replace(command, file=named.file, found=named.found, named=named.rail, goes_on=named.is_one_of_all, said=" ".join([words[0], name, *words[2:]]))
+    return replace(command, file=named.file, of_file=named.found, named=named.rail, goes_on=named.is_one_of_all, said=" ".join([words[0], name, *words[2:]]))
 
 
 def with_rails(call: Call, command: Command) -> Command:
     """The same command with the rails of its file, if it has one: their outputs and limits are those of the call. BadCall."""
     if command.file is None:
         return command
-    found = command.found or read(command.file)
+    found = command.of_file or read(command.file)
     call.take_rails(command, found)
     there = [rail.name for rail in found.rails]
     for name in command.names:
         if name not in there:
             raise BadCall(f"{command.name}: {shown(name)}: there is no such rail in {shown(command.file)}, which has {', '.join(there)}")
-    return replace(command, found=found)
+    return replace(command, of_file=found)
 
 
 def read(file: str) -> Rails:

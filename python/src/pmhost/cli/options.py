@@ -6,6 +6,7 @@ from typing import Any
 
 from ..parts import MODEL_BUS
 from ..values import LACKABLE
+from .about import described
 from .completion import FILES, completed_by
 from .words import LIMIT_EXAMPLE, OUTPUT, accept_of, address_of, bus_of, file_of, lacks_of, limit_of, output_of, percent_of, ready_of, time_of, whole
 
@@ -114,6 +115,14 @@ SHARED: dict[str, dict[str, Any]] = {
                 "help": "stores with every output off, so that none comes up by itself at power-up: nothing is ordered or stored unless "
                         "OPERATION has each output of the part off and STATUS_WORD says so"},
 }
+
+
+def command_parser(commands: Any, name: str, task: object) -> argparse.ArgumentParser:
+    """The parser of a command that uses a bus, and its task."""
+    found: argparse.ArgumentParser = commands.add_parser(name, **described(name))
+    found.set_defaults(task=task)
+    bus_options(found)
+    return found
 
 
 def shared(parser: argparse.ArgumentParser, flag: str, words: str | None = None) -> None:

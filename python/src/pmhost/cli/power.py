@@ -12,12 +12,11 @@ from ..operation import ANOTHER, MARGINS, OFF, ON, margin_byte
 from ..sequence import SequenceStep
 from ..survey import survey, why_unread
 from . import way
-from .about import described
 from .answer import Answer
 from .call import Call
 from .command import Command, Task
 from .completion import completed_by
-from .options import BACK, DEADLINE, IGNORE, LEAVE_ON, PICTURE, bus_options, output_word, shared
+from .options import BACK, DEADLINE, IGNORE, LEAVE_ON, PICTURE, command_parser, output_word, shared
 from .outcome import answer_of, why_not
 from .step import turn
 from .words import side_of
@@ -25,26 +24,19 @@ from .words import side_of
 
 def add(commands: Any) -> None:
     """Adds the subparsers."""
-    found = commands.add_parser("on", **described("on"))
-    found.set_defaults(task=Task(turn_on, judge))
+    found = command_parser(commands, "on", Task(turn_on, judge))
     output_word(found)
-    shared(found, PICTURE)
-    shared(found, LEAVE_ON)
-    shared(found, DEADLINE)
-    bus_options(found)
-    found = commands.add_parser("off", **described("off"))
-    found.set_defaults(task=Task(turn_off, judge))
+    for flag in PICTURE, LEAVE_ON, DEADLINE:
+        shared(found, flag)
+    found = command_parser(commands, "off", Task(turn_off, judge))
     output_word(found)
     shared(found, PICTURE, "draws as `on` does")
     found.add_argument("--now", action="store_true", dest="is_now",
                        help="of a board file: turns every rail off in reverse order and waits for none; for READ_VOUT of those that have to "
                             "deliver before another one if left out")
-    bus_options(found)
-    found = commands.add_parser("margin", **described("margin"))
-    found.set_defaults(task=Task(margin, Call.judge_order))
+    found = command_parser(commands, "margin", Task(margin, Call.judge_order))
     output_word(found)
     completed_by(found.add_argument("side", metavar="high|low", type=side_of, help="VOUT_MARGIN_HIGH or VOUT_MARGIN_LOW"), tuple(MARGINS))
-    bus_options(found)
     shared(found, IGNORE)
     found.add_argument(BACK, action="store_true", help="brings OPERATION back as it was as the last act of the call, whatever ends it; the commands "
                                                        "after this run on the margin; stays on the margin if left out")
@@ -53,7 +45,10 @@ def add(commands: Any) -> None:
 def judge(call: Call, command: Command) -> None:
     """An order of one output, which has no option of a board. To turn it off needs no limits."""
     way.judge_none(command)
-    call.judge_order(command) if command.name == "on" else call.judge_write(command)
+    if command.name == "on":
+        call.judge_order(command)
+    else:
+        call.judge_write(command)
 
 
 def turn_on(call: Call, command: Command) -> int:

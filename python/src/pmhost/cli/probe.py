@@ -10,11 +10,10 @@ from ..reads import Read
 from ..scan import LEFT_OUT, Seen, bus_or_why, scan
 from ..texts import in_hex
 from ..values import LACKABLE, REGISTERS
-from .about import described
 from .answer import Answer, in_digits
 from .call import MODEL_ADDRESS, Call, complain
 from .command import Command, Task
-from .options import bus_options
+from .options import command_parser
 from .parser import BadCall
 
 MAY_NOTE = "the part may note in STATUS_CML that it was asked for what it lacks, and pull SMBALERT#"
@@ -35,14 +34,12 @@ class Probed(Command):
 
 def add(commands: Any) -> None:
     """Adds the subparser."""
-    found = commands.add_parser("probe", **described("probe"))
+    found = command_parser(commands, "probe", Task(run, judge, Probed, can_scan=True))
     found.add_argument("--writes", action="store_true", help="also sends CLEAR_FAULTS without its PEC, and with a wrong one, "
                        "each after a right one: STATUS_CML has to be 00 before, and shows by its bits 5 and 1 that the part refused. A part that "
                        "takes a wrong PEC can't be driven. This clears latched faults; only reads if left out")
     found.add_argument("--all-addresses", action="store_true", help="without -a: also sends a command byte to 70 to 77, at which multiplexers "
                        "sit, which take it for their channels; these are passed over if left out")
-    found.set_defaults(task=Task(run, judge, Probed, can_scan=True))
-    bus_options(found)
 
 
 def judge(call: Call, command: Probed) -> None:
@@ -59,7 +56,7 @@ def run(call: Call, command: Probed) -> int:
     if call.address is None and call.bus != MODEL_BUS:
         return look_around(call, command)
     # Its own tries wait for a busy part. A question behind a write could change STATUS_CML, which it reads.
-    bus = call.patient(0)
+    bus = call.only().patient(0)
     complain(f"{command.said}: {MAY_NOTE}{f'; {CLEARS}' if command.writes else ''}")
     probe = Probe(bus, call.address or MODEL_ADDRESS, call.outputs, call.one_part.lacks)
     found = probe.run()

@@ -11,13 +11,12 @@ from ..settings import AS_WANTED, Setting, Stopped
 from ..stores import cml, stood_before, too_hot, why_failed
 from ..survey import Commanded
 from . import way
-from .about import described
 from .again import status_of
 from .answer import Answer, commanded_of, delivery_of, in_digits, number, table
 from .back import words_of
 from .call import Call
 from .command import Command, Task
-from .options import ACCEPT, CLEAR_FIRST, PICTURE, SHARED, STORE_OFF, bus_options, file_word, shared
+from .options import ACCEPT, CLEAR_FIRST, PICTURE, SHARED, STORE_OFF, command_parser, file_word, shared
 from .outcome import rail_words
 from .readings import read_notes
 from .stores import STORES
@@ -30,9 +29,8 @@ STORE_ALL = "--store-always"
 def add(commands: Any) -> None:
     """Adds the subparsers."""
     for name, run in ("apply", apply), ("verify", verify):
-        found = commands.add_parser(name, **described(name))
+        found = command_parser(commands, name, Task(run, way.judge, is_order=name == "apply"))
         file_word(found)
-        found.set_defaults(task=Task(run, way.judge, is_order=name == "apply"))
         if name == "apply":
             found.add_argument("--dry-run", action="store_true", help="reads, and only says what would be ordered")
             found.add_argument("--store", action="store_true", dest="wants_store",
@@ -48,7 +46,6 @@ def add(commands: Any) -> None:
             shared(found, PICTURE, "draws into this file (SVG) what each rail commands, order by order, by what the host knows; with --dry-run what the "
                                    "plan would order")
         shared(found, ACCEPT)
-        bus_options(found)
 
 
 def apply(call: Call, command: Command) -> int:

@@ -10,24 +10,18 @@ from ..probe import PROTECT, text_of
 from ..readings import KINDS
 from ..reads import Reads
 from ..status import BITS
+from ..survey import learned_format
 from ..values import LACKABLE
 from .answer import Answer, in_digits
 from .call import Call
 from .command import Command
 
 
-
 def tell(call: Call, command: Command) -> int:
     """A reading with its unit, or a status register with the names of its bits. The host hears of nothing but the format of the
     output's voltages, which is learned if a reading's unit rests on it."""
     part, name, output = call.part(), command.register, command.output
-    form = None
-    if name not in BITS:
-        form = part.host.format(output or 0)
-        if form is None:
-            part.host.learn(output or 0)
-            part.run()
-            form = part.host.format(output or 0)
+    form = None if name in BITS else learned_format(part, output or 0)
     found = readings.read(part.bus, part.host.address, output, name, form)
     is_good = found.word is not None
     return call.say(Answer(command.said, "done" if is_good else "unknown", found.words, 0 if is_good else 1, found.why, output, name,

@@ -8,14 +8,13 @@ from .. import on_off, probe
 from ..codes import CODES
 from ..readings import KINDS
 from ..sequence import SequenceStep
-from ..survey import looked_at
+from ..survey import learned_format, looked_at
 from ..values import DEVICE, REGISTERS, VOLTAGES
 from . import readings
-from .about import described
 from .call import Call
 from .command import Command, Task
 from .completion import completed_by
-from .options import bus_options, output_word
+from .options import command_parser, output_word
 from .outcome import answer_of, deliver, rail_words, read_notes_behind, why_not
 from .registers import judge_device
 from .step import job_answer
@@ -35,13 +34,11 @@ READS = (f"{', '.join(REGISTERS)}, or {DEVICE} with - in the place of O. A readi
 def add(commands: Any) -> None:
     """Adds the subparsers."""
     for name, task in ("learn", Task(learn)), ("read", Task(read, judge_read)), ("survey", Task(survey)):
-        found = commands.add_parser(name, **described(name))
-        found.set_defaults(task=task)
+        found = command_parser(commands, name, task)
         output_word(found, name == "read")
         if name == "read":
             completed_by(found.add_argument("register", metavar="REG", nargs="?", type=read_register_of, help=READS),
                          tuple(dict.fromkeys((*REGISTERS, DEVICE, *KINDS, *CODES))))
-        bus_options(found)
 
 
 def judge_read(_: Call, command: Command) -> Command:
@@ -74,9 +71,8 @@ def read(call: Call, command: Command) -> int:
         return readings.tell(call, command)
     if register not in REGISTERS and register != DEVICE:
         return readings.tell_code(call, command)
-    if register in VOLTAGES and part.host.format(command.at) is None:
-        part.host.learn(command.at)
-        part.run()
+    if register in VOLTAGES:
+        learned_format(part, command.at)
     return call.say(job_answer(call, command, register, lambda: part.host.check(output or 0, register)))
 
 

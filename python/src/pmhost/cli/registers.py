@@ -7,12 +7,11 @@ from .. import voltages
 from ..sequence import SequenceStep
 from ..step_run import StepRun
 from ..values import DEVICE, REGISTERS, VOLTAGES
-from .about import described
 from .answer import in_digits
 from .call import Call
 from .command import Command, Task
 from .completion import completed_by
-from .options import ACCEPT, bus_options, output_word, shared
+from .options import ACCEPT, command_parser, output_word, shared
 from .parser import BadCall
 from .step import order_alone, run, told, turn
 from .words import digits_of, register_of, wanted_of
@@ -20,22 +19,18 @@ from .words import digits_of, register_of, wanted_of
 
 def add(commands: Any) -> None:
     """Adds the subparsers."""
-    found = commands.add_parser("set", **described("set"))
-    found.set_defaults(task=Task(set_voltage, Call.judge_order))
+    found = command_parser(commands, "set", Task(set_voltage, Call.judge_order))
     output_word(found)
     found.add_argument("microvolts", type=wanted_of, metavar="VOLTAGE", help="with its unit, as 3.3V, 3300mV or 3300000uV")
     completed_by(found.add_argument("register", metavar="REG", nargs="?", type=register_of(VOLTAGES), default="VOUT_COMMAND",
                                     help=f"one of {', '.join(VOLTAGES)}; VOUT_COMMAND if left out"), VOLTAGES)
-    bus_options(found)
     shared(found, ACCEPT)
-    found = commands.add_parser("word", **described("word"))
-    found.set_defaults(task=Task(order_word, judge_word))
+    found = command_parser(commands, "word", Task(order_word, judge_word))
     output_word(found, True)
     completed_by(found.add_argument("register", metavar="REG", type=register_of((*REGISTERS, DEVICE)),
                                     help=f"one of {', '.join(REGISTERS)}; with - {DEVICE}"), (*REGISTERS, DEVICE))
     found.add_argument("digits", metavar="WORD", type=digits_of, help="two hexadecimal digits of a byte, four of a word, as 80 or 34CD")
     shared(found, ACCEPT)
-    bus_options(found)
 
 
 def judge_device(command: Command, more: str = " only") -> None:

@@ -7,10 +7,9 @@ from ..device import Device
 from ..stores import cml, has_failed, stood_before, too_hot, why_failed, why_on
 from ..values import REGISTERS
 from . import readings
-from .about import described
 from .call import Call
 from .command import Command, Task
-from .options import CLEAR_FIRST, STORE_OFF, bus_options, output_word, shared
+from .options import CLEAR_FIRST, STORE_OFF, command_parser, output_word, shared
 from .outcome import answer_of
 from .parser import BadCall
 
@@ -23,8 +22,7 @@ GO_OFF, MAY_GO_OFF = "--outputs-may-go-off", "on some parts it is a reset, and t
 def add(commands: Any) -> None:
     """Adds the subparsers."""
     for name in "clear", "store", "restore":
-        found = commands.add_parser(name, **described(name))
-        found.set_defaults(task=Task(send, judge, is_order=True))
+        found = command_parser(commands, name, Task(send, judge, is_order=True))
         if name == "clear":
             output_word(found)
         if name == "store":
@@ -32,7 +30,6 @@ def add(commands: Any) -> None:
             shared(found, STORE_OFF)
         if name == "restore":
             found.add_argument(GO_OFF, action="store_true", help="says that the board tolerates it if the outputs go off; needed")
-        bus_options(found)
 
 
 def judge(call: Call, command: Command) -> None:

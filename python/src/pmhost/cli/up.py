@@ -8,12 +8,11 @@ from ..apply import Board
 from ..rails import Rail
 from ..settings import Setting, Stopped
 from . import way
-from .about import described
 from .again import status_of
 from .answer import Answer
 from .call import Call
 from .command import Command, Task
-from .options import ACCEPT, DEADLINE, LEAVE_ON, PICTURE, bus_options, file_word, shared
+from .options import ACCEPT, DEADLINE, LEAVE_ON, PICTURE, command_parser, file_word, shared
 from .rails import board_of, told_of
 from .way import StairsFile
 from .way_up import WayUp
@@ -21,13 +20,11 @@ from .way_up import WayUp
 
 def add(commands: Any) -> None:
     """Adds the subparser."""
-    found = commands.add_parser("up", **described("up"))
-    found.set_defaults(task=Task(up, way.judge, is_order=True))
+    found = command_parser(commands, "up", Task(up, way.judge, is_order=True))
     file_word(found)
     shared(found, PICTURE, "draws as `on` does")
     for flag in LEAVE_ON, DEADLINE, ACCEPT:
         shared(found, flag)
-    bus_options(found)
 
 
 def up(call: Call, command: Command) -> int:

@@ -70,9 +70,7 @@ class WayUp:
 
     def of_rail(self, rail: Rail) -> Command:
         """The same command about one rail, which has begun."""
-        one = self.command.of_rail(rail)
-        self.call.begin(one)
-        return one
+        return self.call.begin(self.command.of_rail(rail))
 
     def run(self) -> int:
         """The status."""

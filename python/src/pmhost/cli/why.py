@@ -6,21 +6,17 @@ from typing import Any
 
 from ..values import DEVICE
 from ..why import BESIDE, Findings, TIMES, Place, cause, findings
-from .about import described
 from .answer import Answer
 from .call import Call
 from .command import Command, Task
-from .options import bus_options, output_word
+from .options import command_parser, output_word
 from .outcome import rail_words
 from .readings import row_of
 
 
 def add(commands: Any) -> None:
     """Adds the subparser."""
-    found = commands.add_parser("why", **described("why"))
-    output_word(found)
-    found.set_defaults(task=Task(why))
-    bus_options(found)
+    output_word(command_parser(commands, "why", Task(why)))
 
 
 def why(call: Call, command: Command) -> int:
