@@ -21,7 +21,7 @@ from . import capture, faults, known, margins, names, power, probe, rails, reads
 from .about import WHOLE
 from .again import are_several
 from .answer import Answer
-from .completion import bash
+from .completion import bash, flags_of
 from .call import Call, complain
 from .command import Command, command_of
 from .options import OF_A_BUS, bus_options, flag_of, own_options, usage_of
@@ -53,14 +53,10 @@ def parser() -> tuple[Parser, dict[str, argparse.ArgumentParser]]:
 
 
 @functools.cache
-def options_of(found: argparse.ArgumentParser) -> set[str]:
-    """The options of a parser, and of those below it."""
-    options: set[str] = set()
-    for action in found._actions:
-        options.update(action.option_strings)
-        if isinstance(action, argparse._SubParsersAction):
-            options.update(*(options_of(each) for each in action.choices.values()))
-    return options
+def all_options() -> set[str]:
+    """The options of all commands."""
+    whole, commands = parser()
+    return {flag for each in (whole, *commands.values()) for flag in flags_of(each)}
 
 
 def parts_of(words: list[str]) -> list[list[str]]:
@@ -76,7 +72,7 @@ def parts_of(words: list[str]) -> list[list[str]]:
 
 def commands_of(words: list[str]) -> list[Command]:
     """The commands of a command line."""
-    options, found = options_of(parser()[0]), list[Command]()
+    options, found = all_options(), list[Command]()
     # argparse would take the file behind a bare --store for its value.
     whole = parts_of([rails.STORE_ALL if word == "--store=always" else word for word in words])
     for part in [each for part in whole for each in names.parted(part, all_valued())]:

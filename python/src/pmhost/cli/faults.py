@@ -143,7 +143,7 @@ class JobsCall(Call):
     @functools.cached_property
     def bench(self) -> faults.Bench:
         """The part, its bus and the hosts, once the call is judged."""
-        return faults.Bench(self.counted(), self.passes, indented)
+        return faults.Bench(self.counted(), self.passes, lambda transfer: streams.write(f"  {transfer.line}"))
 
     def take_rails(self, command: Command, found: rails.Rails) -> None:
         if self.is_counted:
@@ -232,15 +232,6 @@ def run(_: Call, command: Judged) -> int:
         return streams.INTERRUPTED
 
 
-def silent(transfer: faults.Struck) -> None:
-    """Prints nothing of a transfer."""
-
-
-def indented(transfer: faults.Struck) -> None:
-    """Prints a transfer below its job."""
-    streams.write(f"  {transfer.line}")
-
-
 def rate_of(command: Faults) -> int:
     """How many of a hundred transfers a random fault strikes."""
     return RATE if command.rate is None else command.rate
@@ -248,7 +239,7 @@ def rate_of(command: Faults) -> int:
 
 def count_runs(command: Judged, runs: int) -> int:
     """The figures of both hosts."""
-    command.call.bench.bus.tell = silent
+    command.call.bench.bus.tell = lambda _: None
     for line in faults.figures(command.call.bench, runs, command.seed or 0, rate_of(command)):
         streams.write(line)
     return 0

@@ -30,6 +30,7 @@ from .call import Call
 from .command import Command, Task
 from .options import IGNORE, command_parser, file_word, shared
 from .outcome import IGNORED, cell_words, limit_words, why_not, why_refused, with_advice
+from .rails import board_of
 
 # A margin isn't to be selected at the end, whatever came.
 POINTS = ("nominal", "high", "low", "nominal")
@@ -277,31 +278,28 @@ def judge_board(board: Board) -> None:
 
 def margin_test(call: Call, command: Command) -> int:
     """Tests the rails: all of the file are read and judged before the first order, and the first that fails ends the test. The status."""
-    places, file, rows, begun = call.places(), command.rails, list[Row](), list[RailTest]()
-    board = Board({name: place.pmbus() for name, place in places.items()}, file.rails, file.parts if file.is_board else {},
-                  lambda name: places[name].ask_operation(), looks=call.looks)
-    why, status = "", 0
+    board, rows, begun, why, status = board_of(call, command), list[Row](), list[RailTest](), "", 0
     try:
         judge_board(board)
         befores = {name: Heard(1, found.status) for name, found in board.delivered.items() if found.status is not None}
-        tests = [RailTest(call, board, rail, call.looks, befores, rows, command.ignore_faults) for rail in file.rails
+        tests = [RailTest(call, board, rail, call.looks, befores, rows, command.ignore_faults) for rail in board.rails
                  if (rail.name in command.names if command.names else rail.is_on)]
         for each in tests:
             each.judge()
         for each in tests:
             begun.append(each)
             each.run()
-        for rail in file.rails:
+        for rail in board.rails:
             board.look_at(rail)
     except Stopped as stopped:
         why, status = str(stopped) if begun else f"{stopped}: nothing was ordered", status_of(stopped)
     for held, fault in call.back.go():
         begun[-1].is_back, status = not fault, 1 if fault else status
         why += f"; {words_of(held, fault, bool(rows) and rows[-1].rail is begun[-1].rail and rows[-1].delivered.has_tripped)}"
-    return tell(call, command, begun, rows, why, status)
+    return tell(call, command, board, begun, rows, why, status)
 
 
-def tell(call: Call, command: Command, begun: list[RailTest], rows: list[Row], why: str, status: int) -> int:
+def tell(call: Call, command: Command, board: Board, begun: list[RailTest], rows: list[Row], why: str, status: int) -> int:
     """Says it: the table, and which rails are back. The status."""
     call.maybe = ""
     if not call.is_json and rows:
@@ -310,4 +308,4 @@ def tell(call: Call, command: Command, begun: list[RailTest], rows: list[Row], w
     backs = [{"rail": each.rail.name, "point": "back", "confirmed": each.is_back} for each in begun]
     end = "restarted" if status == RESTARTED else "stopped" if why else "done"
     return call.say(Answer(command.said, end, "", status, why, rows=[*(row.by_names() for row in rows), *backs],
-                           restart_seen=any(place.pmbus().restart_seen for place in call.places().values())))
+                           restart_seen=any(part.restart_seen for part in board.parts.values())))

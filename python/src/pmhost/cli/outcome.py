@@ -4,7 +4,6 @@ from __future__ import annotations
 from typing import Any
 
 from .. import voltages
-from ..course import in_hexadecimal
 from ..delivered import Delivered, beyond_of
 from ..device import FORMAT_UNKNOWN, Device
 from ..errors import SAYINGS, ChangedRefused, PlanRefused, RailRefused, Refused, TrimRefused, refusal
@@ -106,18 +105,18 @@ def tell_bad_end(command: Command, part: Device, register: str, step: Step) -> A
     """An order that differs, or a job without a good answer."""
     found = answer_of(command, part, register, step.kind, status=1)
     if step.kind == "differs" and step.word is not None:
-        found.text = f"{cell_words(part, command.output, register, step.word)} differs"
-        found.why = (f"the part holds {in_digits(register, step.word)}: the write was lost, refused, limited or rounded"
-                     f"{with_why(part)}{read_protect(part)}")
+        found.text, found.why = differing(command, part, register, step.word)
     else:
         found.text, found.why = possible_words(found), part.transfers.why() or "no good answer"
     found.why += read_notes(part, command.output)
     return found
 
 
-def with_why(part: Device) -> str:
+def differing(command: Command, part: Device, register: str, word: int) -> tuple[str, str]:
+    """What is said of a word that differs from the ordered one, and why that may be."""
     why = part.transfers.why()
-    return f"; {why}" if why else ""
+    return (f"{cell_words(part, command.output, register, word)} differs",
+            f"the part holds {in_digits(register, word)}: the write was lost, refused, limited or rounded{'; ' * bool(why)}{why}{read_protect(part)}")
 
 
 def commanded_words(found: Commanded, register: str, microvolts: int | None) -> str:
@@ -193,9 +192,8 @@ def step_answer(command: Command, part: Device, register: str, run: StepRun) -> 
     if end.kind in WHY:
         found.status, found.text, found.why = RESTARTED if end.kind == "restarted" else 1, possible_words(found), WHY[end.kind]
     elif end.kind == "differs" and end.word is not None:
-        found.text = f"{cell_words(part, command.output, end.register or register, end.word)} differs"
-        found.why = (f"{end.register}: the part holds {in_hexadecimal(end.register, end.word)}: the write was lost, refused, limited or "
-                     f"rounded{with_why(part)}{read_protect(part)}")
+        found.text, why = differing(command, part, end.register or register, end.word)
+        found.why = f"{end.register}: {why}"
     elif end.kind == "source" and end.word is not None:
         found.text = f"OPERATION {end.word:02X} may leave the voltage to another source{avsbus(end.word)}{unordered(has_written)}"
         found.why = "order OPERATION first, as by `on`"
