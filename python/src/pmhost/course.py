@@ -4,7 +4,7 @@ from __future__ import annotations
 import ctypes
 import functools
 from dataclasses import dataclass
-from typing import TYPE_CHECKING, Any, Callable, Mapping, Optional, Union
+from typing import TYPE_CHECKING, Callable, Mapping, Optional, Union
 
 from . import _library as at
 from ._library import library
@@ -153,11 +153,6 @@ class Course:
         nothing changes."""
         near = whole(given_microvolts(voltage, "accept"), 0, 0xFFFF_FFFF, "accept", "microvolts")
         accepted(library.pm_course_accept(REFERENCE(self._image), host.reference, near))
-
-    @property
-    def reference(self) -> Any:
-        """Its memory, for the calls of the library."""
-        return REFERENCE(self._image)
 
     # ---- Frames ----
 

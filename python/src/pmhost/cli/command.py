@@ -101,7 +101,7 @@ class Command:
         return self.of_file
 
     @property
-    def at(self) -> int:
+    def output_number(self) -> int:
         """Its output, of a command that has one."""
         assert self.output is not None
         return self.output

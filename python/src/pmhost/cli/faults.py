@@ -278,7 +278,7 @@ def one(call: JobsCall, job: Job, is_plain_host: bool) -> int:
 def by_page(bench: faults.Bench, job: Command) -> int:
     """An order of a word by the plain host."""
     word = int(job.digits, 16)
-    is_reported = bench.plain.order(job.at, job.register, word)
+    is_reported = bench.plain.order(job.output_number, job.register, word)
     end = "acknowledged" if is_reported else "not acknowledged"
     streams.write(f"word {job.output}: {job.register} {in_digits(job.register, word)} {end}")
     return int(not is_reported)

@@ -63,7 +63,7 @@ def row_of(part: Device, it: Known) -> dict[str, object]:
 def band(call: Call, command: Command) -> int:
     """Which voltages an output may be commanded to, by what is known."""
     part = call.part()
-    found = commanded(part, command.at)
+    found = commanded(part, command.output_number)
     words = "not known: its format wasn't learned"
     if found.least is not None and found.greatest is not None:
         words = f"commands {between(found.least, found.greatest)}{limit_words(found)}"

@@ -53,7 +53,7 @@ def judge(call: Call, command: Command) -> None:
 
 def turn_on(call: Call, command: Command) -> int:
     """Turns an output on, if its part heeds OPERATION."""
-    if why := on_off.why_unheeded(call.part(), command.at):
+    if why := on_off.why_unheeded(call.part(), command.output_number):
         return call.say(answer_of(command, call.part(), "OPERATION", "refused", status=1, text="refused, OPERATION wasn't ordered", why=why))
     return turn(call, command, ON)
 
@@ -63,7 +63,7 @@ def turn_off(call: Call, command: Command) -> int:
     line after it says so."""
     why = "" if call.named is None else why_other_model(call.part(), call.only().part, False)
     if why:
-        if silent := why_unread(call.part(), command.at, "OPERATION"):
+        if silent := why_unread(call.part(), command.output_number, "OPERATION"):
             return call.say(answer_of(command, call.part(), "OPERATION", "unknown", status=1, text="not known to be off, and nothing was ordered",
                                       why=f"{why}; OPERATION: {silent}"))
     status = turn(call, command, OFF if call.named is None else call.named.off_byte(command.ways.is_now))
@@ -77,7 +77,7 @@ def margin(call: Call, command: Command) -> int:
 
 def note_way_back(call: Call, command: Command) -> int:
     """Reads OPERATION of an output, which the way back of the call brings back. 0, or the status if nothing may be ordered."""
-    part, output = call.part(), command.at
+    part, output = call.part(), command.output_number
     if call.back.has(call.part_name, output):
         return 0
     state = survey(part, output)

@@ -51,7 +51,7 @@ def judge_read(_: Call, command: Command) -> Command:
 
 def learn(call: Call, command: Command) -> int:
     """The format of an output."""
-    part, output = call.part(), command.at
+    part, output = call.part(), command.output_number
     part.host.learn(output)
     step = part.run()
     found = answer_of(command, part, None, step.kind)
@@ -72,13 +72,13 @@ def read(call: Call, command: Command) -> int:
     if register not in REGISTERS and register != DEVICE:
         return readings.tell_code(call, command)
     if register in VOLTAGES:
-        learned_format(part, command.at)
+        learned_format(part, command.output_number)
     return call.say(job_answer(call, command, register, lambda: part.host.check(output or 0, register)))
 
 
 def survey(call: Call, command: Command) -> int:
     """What an output commands. The status is 0 if that is known, and lies within its limits."""
-    part, output = call.part(), command.at
+    part, output = call.part(), command.output_number
     state, delivered = looked_at(part, output, call.looks_of(call.named))
     found = answer_of(command, part, None, "told", text=rail_words(state))
     found.commanded = state

@@ -54,7 +54,7 @@ def judge_word(call: Call, command: Command) -> None:
 
 def set_voltage(call: Call, command: Command) -> int:
     """Orders a voltage of a register."""
-    step = SequenceStep.sets(0, command.at, {command.register: voltages.of_microvolts(command.microvolts)})
+    step = SequenceStep.sets(0, command.output_number, {command.register: voltages.of_microvolts(command.microvolts)})
     return told(call, command, command.register, run(call, command, command.register, step))
 
 
@@ -65,8 +65,8 @@ def order_word(call: Call, command: Command) -> int:
         return call.no_part(command) or order_alone(call, command, register, word)
     if register == "OPERATION":
         return turn(call, command, word)
-    ran = run(call, command, register, SequenceStep.sets(0, command.at, {register: word}))
-    if isinstance(ran, StepRun) and ran.end.kind == "format" and call.part().host.limits(command.at) is None:
+    ran = run(call, command, register, SequenceStep.sets(0, command.output_number, {register: word}))
+    if isinstance(ran, StepRun) and ran.end.kind == "format" and call.part().host.limits(command.output_number) is None:
         # Its words are no voltages that this host knows of: the order goes alone.
         return order_alone(call, command, register, word)
     return told(call, command, register, ran)

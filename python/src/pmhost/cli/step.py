@@ -140,7 +140,7 @@ def turn(call: Call, command: Command, byte: int) -> int:
     """Brings OPERATION to a byte. One that turns the output off is the first frame. PutOff."""
     bus = call.part().bus if command.step.puts_off else None
     heard = bus.heard if isinstance(bus, PatientBus) else None
-    ran = run(call, command, "OPERATION", SequenceStep.turns(0, command.at, byte))
+    ran = run(call, command, "OPERATION", SequenceStep.turns(0, command.output_number, byte))
     if isinstance(bus, PatientBus) and isinstance(ran, StepRun) and bus.heard == heard and not ran.end.is_well:
         raise PutOff
     return told(call, command, "OPERATION", ran)

@@ -56,7 +56,7 @@ def kinds_of(word: str) -> list[str]:
 
 def again_of(word: str) -> tuple[Fault, ...]:
     """N:FAULT,..: transfers, each with its fault."""
-    found = []
+    found = list[Fault]()
     for each in word.split(","):
         number, _, fault = each.partition(":")
         try:

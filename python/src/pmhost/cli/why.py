@@ -21,7 +21,7 @@ def add(commands: Any) -> None:
 
 def why(call: Call, command: Command) -> int:
     """Says what the registers say, and the cause. The status is 0 if the rail does what its file says, or without a file what it is commanded."""
-    seen = findings(call.part(), command.at, call.looks_of(call.named), place_of(command))
+    seen = findings(call.part(), command.output_number, call.looks_of(call.named), place_of(command))
     because = cause(seen)
     found = Answer(command.said, "fault" if because else "told", because or well(seen), 1 if because else 0, output=command.output,
                    commanded=seen.state, rows=[row_of(it) for it in seen.found.values()], restart_seen=call.part().host.restart_seen)
