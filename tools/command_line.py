@@ -5,7 +5,7 @@
     tools/command_line.py --manual   prints the manual page
     tools/command_line.py --write    writes both
 
-The help stands in python/src/pmhost/cli/, above all in about.py and parser.py, the messages in messages.py. A test fails if a page isn't up to
+The help stands in python/src/pmhost/cli/, above all in about.py and options.py, the messages in messages.py. A test fails if a page isn't up to
 date. No library is needed.
 """
 import os
@@ -21,14 +21,14 @@ NAMED, sys.argv[0] = sys.argv[0], "pmhost"
 from pmhost import cli  # noqa: E402
 from pmhost.cli.about import COMMANDS, WHOLE  # noqa: E402
 from pmhost.cli.messages import GROUPS  # noqa: E402
-from pmhost.cli.parser import flag_of, own_options, usage_of  # noqa: E402
+from pmhost.cli.options import flag_of, own_options, usage_of  # noqa: E402
 
 sys.argv[0] = NAMED
 PAGE, MANUAL = "docs/command-line.md", "docs/pmhost.1"
 # Commands that have pages of their own.
 PAGES = {"apply": "board-file.md", "verify": "board-file.md", "faults": "simulation.md#both-ends-over-a-bad-bus", "torture": "torture.md",
          "capture": "captures.md", **dict.fromkeys(("on", "off", "up"), "sequences.md"), "margin-test": "sequences.md#margin-tests"}
-MADE = "<!-- Made by tools/command_line.py: change python/src/pmhost/cli/about.py, parser.py or messages.py, and call it with --write. -->"
+MADE = "<!-- Made by tools/command_line.py: change python/src/pmhost/cli/about.py, options.py or messages.py, and call it with --write. -->"
 WIDTH = 140
 # The examples of the whole help, and what stands below them.
 EXAMPLE = r"\n\n((?: {4}[^\n]*\n)+)\n(.*)"

@@ -13,8 +13,8 @@ from pmhost import cli
 from pmhost.cli.about import COMMANDS
 from pmhost.cli.again import RESTARTED
 from pmhost.cli.messages import GROUPS
+from pmhost.cli.options import OPTIONS
 from pmhost.cli.outcome import commanded_words, is_well
-from pmhost.cli.parser import OPTIONS
 from pmhost.survey import Commanded
 from pmhost.values import CODES
 
@@ -115,7 +115,7 @@ class CommandLine(unittest.TestCase):
             with self.subTest(name):
                 # What names a file or a program is only read.
                 found = cli.commands_of(words) if name in ("apply", "verify", "up", "margin-test", "torture") else cli.judged(words, None).commands
-                self.assertEqual([it.command for it in found][-1:], [name])
+                self.assertEqual([it.name for it in found][-1:], [name])
 
     def test_each_word_and_option_has_its_help(self):
         for parser in (self.parser, *self.commands.values()):

@@ -62,6 +62,16 @@ class Frames(unittest.TestCase):
         self.assertIsNone(host.frame())
         self.assertNotEqual(part.word(0, "VOUT_COMMAND"), another.word(0, "VOUT_COMMAND"))
 
+    def test_a_copy_knows_that_a_restart_was_seen(self):
+        host, bus = free(Host(0x58)), pmhost.ModelBus(0x58)
+        for word in 0x1000, 0x1100:
+            host.order(0, "VOUT_COMMAND", word)
+            host.run(bus)
+        bus.part.restart()
+        host.check(0, "VOUT_COMMAND")
+        host.run(bus)
+        self.assertEqual((host.restart_seen, host.copy().restart_seen), (True, True))
+
     def test_errors_go_to_other_processes_whole(self):
         for fault in (refusal(7), refusal(0x67), pmhost.Differs("text", "differs", 0x1234, (1, 2)), pmhost.Unknown("text", "unknown"),
                       pmhost.NoBus("the bus", 16), pmhost.NoTransfer("the transfer", 121)):

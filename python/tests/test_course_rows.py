@@ -10,7 +10,7 @@ from unittest import mock
 
 from pmhost import Course, Device, Host, Looks, ModelBus, ModelPart, Output, Packet, Voltage, cli, pec
 from pmhost._library import CALLS, library
-from pmhost.cli import orders
+from pmhost.cli import step
 from pmhost.cli.again import Ordered
 from pmhost.cli.place import Place
 from pmhost.cli.protection import Protection
@@ -244,7 +244,7 @@ class Rows(unittest.TestCase):
                 host, course, bus = self.begun(row)
                 orders_told = []
                 hooks = (orders_told.append, lambda order, step: orders_told.append(step.kind)) if has_hooks else ()
-                end = end_by(course, lambda: host.run_course(course, bus, None, *hooks))
+                end = end_by(course, lambda: course.run(host, bus, None, *hooks))
                 self.assertEqual((end, bus.tokens), (row.end, []))
                 if has_hooks:
                     self.assertEqual(len(orders_told) % 2, 0)
@@ -273,8 +273,8 @@ class Rows(unittest.TestCase):
                               mock.patch("pmhost.cli.outcome.read_protect", lambda *_: ""), mock.patch.object(Place, "is_there", lambda _: False),
                               mock.patch.object(Ordered, "look", lambda *_: 0), mock.patch.object(Protection, "force", lambda *_: False),
                               mock.patch("pmhost.zeros.ask_operation", lambda *_: ""),
-                              mock.patch("pmhost.survey.SURVEY_TRIES", row.tries), mock.patch.object(orders, "TRIES", row.tries),
-                              mock.patch.object(orders, "OFF_TRIES", row.tries), mock.patch.object(orders, "StepRun", keep),
+                              mock.patch("pmhost.survey.SURVEY_TRIES", row.tries), mock.patch.object(step, "TRIES", row.tries),
+                              mock.patch.object(step, "OFF_TRIES", row.tries), mock.patch.object(step, "StepRun", keep),
                               mock.patch("pmhost.survey.StepRun", keep), mock.patch("pmhost.turn_on.judge", lambda *_: None),
                               contextlib.redirect_stdout(out), contextlib.redirect_stderr(out)):
                     stack.enter_context(patch)

@@ -56,7 +56,7 @@ class Faults(unittest.TestCase):
                 bus, host = ModelPartBus(ModelPart(ADDRESS, [Output(operation=other)])), free(Host(ADDRESS, 1, 3))
                 with self.subTest(byte=byte, is_course=is_course), mock.patch.object(bus, "write", return_value=False) as write:
                     if is_course:
-                        host.run_course(Course.power(0, byte, tries), bus)
+                        Course.power(0, byte, tries).run(host, bus)
                     else:
                         host.order(0, "OPERATION", byte)
                         host.run(bus)

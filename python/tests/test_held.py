@@ -5,7 +5,7 @@ from unittest import mock
 
 from pmhost import Looks, Verdict, back, clock, held
 from pmhost.delivered import Delivered
-from pmhost.rail_run import Stopped
+from pmhost.settings import Stopped
 
 
 def rail(name, **more):

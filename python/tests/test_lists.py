@@ -284,7 +284,7 @@ class Runs(unittest.TestCase):
             steps = [(part, SequenceStep.turns(0, 0, byte, Looks())) for part in parts]
             lists = StepLists(steps, 40, rules)
             runs = [StepRun(*step, 40, lists=lists, place=place) for place, step in enumerate(steps)]
-            self.assertEqual(([run.carry_out().kind for run in runs], lists.first), (["does"] * 9, MOST_HOSTS))
+            self.assertEqual(([run.run().kind for run in runs], lists.first), (["does"] * 9, MOST_HOSTS))
             self.assertEqual([part.bus.part.word(0, "OPERATION") for part in parts], [byte] * 9)
             self.assertEqual({run.delivered.verdict.kind for run in runs}, {"delivers" if byte & ON else "went off"})
 
@@ -296,11 +296,11 @@ class Runs(unittest.TestCase):
             first, second = (StepRun(*step, 4, lists=lists, place=place) for place, step in enumerate(steps))
             if fault is None:
                 parts[0].bus.read = parts[0].bus.write = mock.Mock(side_effect=OSError(6, "gone"))
-                self.assertEqual((first.carry_out().kind, first.end.is_end, first.delivered), ("spent", False, None))
+                self.assertEqual((first.run().kind, first.end.is_end, first.delivered), ("spent", False, None))
             else:
                 first.before_order = mock.Mock(side_effect=fault)
-                self.assertRaises(fault, first.carry_out)
-            self.assertEqual((second.carry_out().kind, lists.first), ("does", 1 if fault else 0))
+                self.assertRaises(fault, first.run)
+            self.assertEqual((second.run().kind, lists.first), ("does", 1 if fault else 0))
             self.assertEqual([part.bus.part.word(0, "OPERATION") for part in parts], [0x80, 0])
 
     def test_a_word_that_is_near_is_taken_at_once_and_once(self):
@@ -315,7 +315,7 @@ class Runs(unittest.TestCase):
 
             part.bus.write = rounded
             run = StepRun(part, SequenceStep.sets(0, 0, {"VOUT_COMMAND": 0x1010}), 40)
-            run.carry_out(accept=accept)
+            run.run(accept=accept)
             with self.subTest(accept=accept):
                 self.assertEqual((run.end.kind, run.held.get("VOUT_COMMAND"), len(ordered)), (kind, word, writes))
 
@@ -324,7 +324,7 @@ class Runs(unittest.TestCase):
         for why in ("", "no answer at 40h"):
             part, asked = device(0x40, ["deaf"] * 3), []
             run = StepRun(part, SequenceStep.turns(0, 0, 0xA4), 40)
-            end = run.carry_out(ask=lambda why=why, asked=asked: asked.append(why) or why)
+            end = run.run(ask=lambda why=why, asked=asked: asked.append(why) or why)
             with self.subTest(why=why):
                 self.assertEqual((end.kind, end.fault, asked), ("nobody" if why else "reached", why, [why]))
                 self.assertEqual(part.bus.part.word(0, "OPERATION"), 0x80 if why else 0xA4)
@@ -360,7 +360,7 @@ class Page(unittest.TestCase):
                 return bytes([frame[0] | 1]) + self.bus.read(frame, count)
 
         made = Sequence([core.host, io.host], STEPS[:4])
-        self.assertTrue(asyncio.run(names["carried_out"](made, [Over(core), Over(io)])).is_well)
+        self.assertTrue(asyncio.run(names["run"](made, [Over(core), Over(io)])).is_well)
         self.assertEqual((core.voltage(0).microvolts, io.rail(0).is_on), (1_050_048, True))
 
 

@@ -1,5 +1,4 @@
 """A call looks again at what it ordered, and what it answers: numbers, causes and codes, with no part there."""
-import argparse
 import json
 import unittest
 from decimal import Decimal
@@ -9,6 +8,7 @@ from unittest import mock
 from pmhost.cli import readings, why
 from pmhost.cli.again import RESTARTED, Ordered, are_several
 from pmhost.cli.answer import Answer, between, in_digits, number
+from pmhost.cli.command import Command
 from pmhost.delivered import Delivered
 from pmhost.looks import Looks
 from pmhost.readings import Reading
@@ -68,7 +68,7 @@ class Again(unittest.TestCase):
         self.assertEqual((ordered.look(call), call.asked), (0, []))
 
     def test_a_chain_has_two_commands_that_send_something(self):
-        sends, asks = argparse.Namespace(), argparse.Namespace(is_question=True)
+        sends, asks = (SimpleNamespace(task=SimpleNamespace(is_question=it)) for it in (False, True))
         self.assertEqual([are_several(each) for each in ([], [sends], [sends, asks], [asks, asks], [sends, sends], [sends, asks, sends])],
                          [False, False, False, False, True, True])
 
@@ -106,7 +106,7 @@ class Causes(unittest.TestCase):
         part = SimpleNamespace(host=SimpleNamespace(restart_seen=False))
         call = SimpleNamespace(part=lambda: part, is_json=False, named=None, looks_of=lambda _: None, say_lines=lines.extend, say=lambda it: said.append(it) or it.status)
         with mock.patch.multiple(why, findings=lambda *_: Findings(Place("1"), state, found), cause=lambda _: because):
-            ended = why.why(argparse.Namespace(call=call, output=1, command="why", said="why 1"))
+            ended = why.why(call, Command(name="why", said="why 1", task=None, given={}, uses_bus=True, output=1))
         return ended, said[0], lines
 
     def test_a_cause_is_status_1(self):
@@ -145,7 +145,7 @@ class Codes(unittest.TestCase):
         host = SimpleNamespace(address=0x58, restart_seen=False)
         call = SimpleNamespace(part=lambda: SimpleNamespace(host=host, bus=None), say=lambda it: said.append(it) or it.status)
         with mock.patch.object(readings, "Reads", Asked):
-            status = readings.tell_code(argparse.Namespace(call=call, output=output, register=register, command="read"))
+            status = readings.tell_code(call, Command(name="read", said="read", task=None, given={}, uses_bus=True, output=output, register=register))
         return asked, status, said[0].end, said[0].text, said[0].rows[0]["bytes"], said[0].rows[0]["text"]
 
     def test_each_kind_of_code(self):

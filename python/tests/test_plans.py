@@ -165,7 +165,7 @@ class Plans(unittest.TestCase):
         self.assertEqual(seen, [(Job("order", "VOUT_COMMAND", 0x3500), (0x34CD,))] * 2)
         self.assertEqual(pmbus.host.possible_words(0, "VOUT_COMMAND"), (0x34CD,), "an order that hasn't begun makes no word possible")
         course = Course.words(0, VOLTS)
-        pmbus.host.run_course(course, pmbus.bus, before_order=lambda order: seen.append((order, None)))
+        course.run(pmbus.host, pmbus.bus, before_order=lambda order: seen.append((order, None)))
         self.assertEqual((seen[-1], course.ended.kind), ((Job("order", "VOUT_COMMAND", 0x3500), None), "reached"))
         self.assertEqual(rails().apply(0, {0x21: 0x34CD}), AT_3V3)
 
@@ -204,7 +204,7 @@ class Plans(unittest.TestCase):
         self.assertEqual((codes(pmbus.bus.frames), pmbus.bus.part.voltage(0)), ([0x24, 0x21], Decimal("3.5625")))
         course = Course.voltage(0, "3.5625V", "VOUT_MAX")
         course.want("VOUT_MAX", "3.6V")
-        pmbus.host.run_course(course, pmbus.bus)
+        course.run(pmbus.host, pmbus.bus)
         self.assertEqual(pmbus.bus.part.word(0, "VOUT_MAX"), 0x3999)
 
 
@@ -254,17 +254,17 @@ class Applies(unittest.TestCase):
             calls = [*[mock.DEFAULT] * place, KeyboardInterrupt, *[mock.DEFAULT] * 40]
             with mock.patch.object(pmbus.bus.part, "hear", wraps=pmbus.bus.part.hear, side_effect=calls):
                 with self.subTest(place=place), self.assertRaises(KeyboardInterrupt):
-                    pmbus.host.run_course(course, pmbus.bus)
+                    course.run(pmbus.host, pmbus.bus)
                 self.assertEqual((pmbus.host.frame(), course.job(), course.ended), (None, None, None))
-                pmbus.host.run_course(course, pmbus.bus)
+                course.run(pmbus.host, pmbus.bus)
             self.assertEqual((course.ended.kind, pmbus.bus.part.word(0, "VOUT_COMMAND")), ("reached", 0x3500))
 
     def test_what_a_hook_raises_behind_an_order_goes_on_to_the_caller(self):
         pmbus, course = recorded(), Course.words(0, VOLTS)
         with self.assertRaises(EOFError):
-            pmbus.host.run_course(course, pmbus.bus, after_order=mock.Mock(side_effect=EOFError))
+            course.run(pmbus.host, pmbus.bus, after_order=mock.Mock(side_effect=EOFError))
         self.assertEqual((pmbus.host.frame(), pmbus.host.confirmed_word(0, "VOUT_COMMAND"), course.ended), (None, 0x3500, None))
-        pmbus.host.run_course(course, pmbus.bus)
+        course.run(pmbus.host, pmbus.bus)
         self.assertEqual((pmbus.rail(0).is_on, course.ended), (True, CourseEnd("reached")))
 
     def test_a_job_that_is_interrupted_before_its_first_frame_has_ended(self):
@@ -375,7 +375,7 @@ class Kinds(unittest.TestCase):
         for side, ignored, byte in (("high", False, 0xA8), ("low", False, 0x98), ("high", True, 0xA4), ("low", True, 0x94)):
             device = pmhost.Device(pmhost.ModelPartBus(pmhost.ModelPart(0x58, [pmhost.Output()])), 0x58, limits={0: None})
             course = Course.margin(0, side, 40, ignored)
-            device.host.run_course(course, device.bus)
+            course.run(device.host, device.bus)
             self.assertEqual((device.bus.part.word(0, "OPERATION"), course.tries, course.ended.kind), (byte, 40, "reached"))
 
     def test_a_job_has_a_word_where_it_is_an_order(self):
@@ -437,7 +437,7 @@ class Bounds(unittest.TestCase):
         host.run(bus)
         course = Course.voltage(0, Voltage(f"{host.format(0).told(word)}uV"), register)
         course.accept(host, "1uV")
-        host.run_course(course, bus, None, lambda order: self.fail(f"{order} is sent"))
+        course.run(host, bus, None, lambda order: self.fail(f"{order} is sent"))
         return course.ended.kind, part.word(0, register)
 
     def test_numbers_are_of_64_bits(self):

@@ -208,7 +208,7 @@ class Api(unittest.TestCase):
         again.check(0, "VOUT_COMMAND")
         again.run(FieldBus(part))
         course.accept(again, Voltage("1172uV"))
-        again.run_course(course, FieldBus(part))
+        course.run(again, FieldBus(part))
         self.assertEqual((course.ended.kind, writes(part)), ("reached", 0))
 
 

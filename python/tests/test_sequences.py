@@ -9,7 +9,8 @@ from unittest import mock
 from pmhost import clock, sequence
 from pmhost.cli import streams
 from pmhost.rails import Rail
-from pmhost.rail_order import in_order, milliseconds
+from pmhost.rail_order import in_order
+from pmhost.times import milliseconds
 from pmhost.values import CODES
 
 from . import kernel

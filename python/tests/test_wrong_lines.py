@@ -6,7 +6,7 @@ import shlex
 import tempfile
 import unittest
 
-from pmhost.cli.parser import bus_of, lacks_of, limit_of, percent_of, time_of, whole
+from pmhost.cli.words import bus_of, lacks_of, limit_of, percent_of, time_of, whole
 
 from . import kernel
 from .runs import DATA, called

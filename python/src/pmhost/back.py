@@ -12,7 +12,7 @@ from .errors import SAYINGS, ChangedRefused, refusal
 from .operation import same_command
 from .sequence import WHY, Said, SequenceStep, Wishes
 from .step_run import StepRun
-from .survey import only_word
+from .survey import only_word, why_unread
 from .transfers import Transfers
 from .values import Format
 from .zeros import NotBelieved
@@ -57,9 +57,10 @@ def bring_back(part: Device, held: Held, lift: Callable[[], bool] = lambda: Fals
 def try_back(part: Device, held: Held, lift: Callable[[], bool]) -> str:
     """The same, once."""
     try:
-        why = read_first(part, held) or carried_out(part, held)
+        # What was known before may be of a time before a restart.
+        why = next((f"{each}: {why}" for each in held.words if (why := why_unread(part, held.output, each))), "") or run(part, held)
         if why and lift():
-            why = carried_out(part, held)
+            why = run(part, held)
     except NotBelieved as doubt:
         part.restart()
         return str(doubt)
@@ -68,21 +69,12 @@ def try_back(part: Device, held: Held, lift: Callable[[], bool]) -> str:
     return why
 
 
-def read_first(part: Device, held: Held) -> str:
-    """Reads what is to be brought back, since what was known before may be of a time before a restart: why that isn't known."""
-    for register in held.words:
-        part.host.check(held.output, register)
-        if part.run().kind != "done":
-            return f"{register}: {part.transfers.why() or 'no good answer'}"
-    return ""
-
-
-def carried_out(part: Device, held: Held) -> str:
+def run(part: Device, held: Held) -> str:
     """Carries the step back out: why it isn't reached."""
-    part.transfers, run = Transfers(), StepRun(part, held.step(), TRIES)
+    part.transfers, step = Transfers(), StepRun(part, held.step(), TRIES)
     # What was held before isn't judged: it comes back, whatever the trim.
-    run.trims = None
-    end, form = run.carry_out(), part.host.format(held.output)
+    step.trims = None
+    end, form = step.run(), part.host.format(held.output)
     if held.form is not None and form != held.form:
         return "its voltages have another format now"
     if end.is_well and all(is_held(part, held.output, register, word) for register, word in held.words.items()):

@@ -4,18 +4,19 @@ from __future__ import annotations
 import ctypes
 import functools
 from dataclasses import dataclass
-from typing import TYPE_CHECKING, Any, Mapping, Optional, Union
+from typing import TYPE_CHECKING, Callable, Mapping, Optional, Union
 
 from . import _library as at
 from ._library import library
-from .errors import Differs, NoFormat, OtherSource, PmhostError, Spent, accepted, name_of, refusal
+from .errors import Differs, NoFormat, OtherSource, PmhostError, Refused, Spent, accepted, name_of, refusal
 from .operation import avsbus, margin_byte
-from .values import NAMES, code_of, frame_bytes, whole
-from .voltages import GivenVoltage, given_microvolts
+from .states import Bus, Sending, Step
+from .transfers import Transfers
+from .values import BYTES, NAMES, code_of, frame_bytes, is_true, whole
+from .voltages import GivenVoltage, given_microvolts, of_microvolts
 
 if TYPE_CHECKING:
     from .host import Host
-    from .states import Sending, Step
 
 REFERENCE = ctypes.byref
 # How many jobs a course begins at most, where a caller says nothing.
@@ -93,12 +94,12 @@ class Course:
     >>> course = Course.words(0, {"VOUT_COMMAND": 0x34CD, "VOUT_MAX": 0x3770})
     >>> host = Host(0x58)
     >>> host.no_limits(0)
-    >>> host.run_course(course, ModelBus(0x58))
+    >>> course.run(host, ModelBus(0x58))
     >>> course.ended.kind
     'reached'
 
     While `frame` hands out a frame, send it and say by `write_ended` or `read_ended` what became of it; `end` says then how the course
-    ended. `Host.run_course` does it over a bus. Between two frames of a job the host does nothing else; meanwhile nothing else is ordered of
+    ended. `run` does it over a bus. Between two frames of a job the host does nothing else; meanwhile nothing else is ordered of
     the output, and nothing restored.
     """
 
@@ -153,11 +154,6 @@ class Course:
         near = whole(given_microvolts(voltage, "accept"), 0, 0xFFFF_FFFF, "accept", "microvolts")
         accepted(library.pm_course_accept(REFERENCE(self._image), host.reference, near))
 
-    @property
-    def reference(self) -> Any:
-        """Its memory, for the calls of the library."""
-        return REFERENCE(self._image)
-
     # ---- Frames ----
 
     def next(self, host: Host) -> Optional[Job]:
@@ -186,9 +182,7 @@ class Course:
 
     def write_ended(self, host: Host, acked: bool) -> Step:
         """A write was sent, and acknowledged or not."""
-        if not isinstance(acked, bool):
-            raise TypeError(f"acked: True or False is wanted, and not {acked!r}")
-        return host.step_of(library.pm_course_write_ended(REFERENCE(self._image), host.reference, acked))
+        return host.step_of(library.pm_course_write_ended(REFERENCE(self._image), host.reference, is_true(acked, "acked")))
 
     def read_ended(self, host: Host, answer: bytes) -> Step:
         """A request was sent, and these bytes came back, the read address first; none if there was no answer."""
@@ -198,10 +192,8 @@ class Course:
     def after_write(self, host: Host, acked: bool, stops: bool = False) -> tuple[Step, Optional[Sending]]:
         """A write was sent, and acknowledged or not; and what to send next, by one call. That is None once the course has ended, and,
         if it `stops`, before an order, which `frame` begins."""
-        if not isinstance(acked, bool):
-            raise TypeError(f"acked: True or False is wanted, and not {acked!r}")
-        found = at.SendingImage()
-        step = host.step_of(library.pm_course_after_write(REFERENCE(self._image), host.reference, acked, bool(stops), REFERENCE(found)))
+        found, ended = at.SendingImage(), is_true(acked, "acked")
+        step = host.step_of(library.pm_course_after_write(REFERENCE(self._image), host.reference, ended, bool(stops), REFERENCE(found)))
         return step, host.sending_of(found)
 
     def after_read(self, host: Host, answer: bytes, stops: bool = False) -> tuple[Step, Optional[Sending]]:
@@ -214,6 +206,62 @@ class Course:
     def after(self, host: Host, came: bytes | bool, stops: bool = False) -> tuple[Step, Optional[Sending]]:
         """What came of a frame, an answer or whether a write was acknowledged; and what to send next."""
         return self.after_write(host, came, stops) if isinstance(came, bool) else self.after_read(host, came, stops)
+
+    def run(self, host: Host, bus: Bus, transfers: Optional[Transfers] = None, before_order: Optional[Callable[[Job], None]] = None,
+            after_order: Optional[Callable[[Job, Step], None]] = None) -> None:
+        """Carries the course out over a bus, frame after frame; `end` says how it ended.
+
+        `before_order` hears of each order before its first frame: if it raises, the order hasn't begun, and the host is free. `after_order` hears
+        how it ended. Whatever is raised meanwhile goes on to the caller, with the job that was under way ended as unknown; another call goes on
+        from there. `transfers` has those of the last job."""
+        kept, order, is_open, has_hooks = Transfers() if transfers is None else transfers, None, False, before_order or after_order
+
+        def saved(came: bytes | bool | None = None) -> tuple[bytes, bytes, bytes | bool | None]:
+            """What `before_order` goes back to: both memories, and what they are to hear of the frame that was sent."""
+            return (host.save(), self.save(), came) if before_order else (b"", b"", None)
+
+        try:
+            memory, sending = saved(), self.frame(host)
+            while sending is not None:
+                if not is_open:
+                    kept.begin()
+                    order = None if sending.is_request or not has_hooks else self.job()
+                    if order and before_order:
+                        self._tell(before_order, order, host, *memory)
+                came = host.came(bus, sending, kept)
+                is_last = order is not None and after_order is not None and sending.is_request
+                if is_last:
+                    # Nothing begins before the hook has heard how the order ended: a read may be its last frame.
+                    step = self._hear(host, sending, came)
+                else:
+                    memory = saved(came)
+                    host.tell(sending, came)
+                    step, sending = self.after(host, came)
+                is_open = not step.is_over
+                if step.is_over and order and after_order:
+                    after_order(order, step)
+                if is_last:
+                    memory, sending = saved(), self.frame(host)
+        except BaseException:
+            if self.job() is not None:
+                host.give_up(functools.partial(self._hear, host))
+            raise
+
+    def _tell(self, before_order: Callable[[Job], None], order: Job, host: Host, memory: bytes, way: bytes, came: bytes | bool | None) -> None:
+        """Says of an order that has begun; if that raises, host and course hold what they did before it."""
+        try:
+            before_order(order)
+        except BaseException:
+            host.load(memory)
+            self.load(way)
+            if came is not None:
+                self.after(host, came, True)
+            raise
+
+    def _hear(self, host: Host, sending: Sending, came: bytes | bool) -> Step:
+        """Host and course hear what came of a frame."""
+        host.tell(sending, came)
+        return self.write_ended(host, came) if isinstance(came, bool) else self.read_ended(host, came)
 
     # ---- Its memory ----
 
@@ -248,6 +296,19 @@ class Course:
             raise end_fault(found, self.tries)
 
 
+def near_word(host: Host, output: int, register: str | int, wanted: int | GivenVoltage, accept: int) -> int | None:
+    """The word that a register is known to hold, of a part that rounds, if its value is that near to a word's, or to a voltage, and within the
+    limits, as a course of this register only says; otherwise None."""
+    course = Course.words(output, {register: wanted}) if isinstance(wanted, int) else Course.voltage(output, wanted, register)
+    try:
+        course.accept(host, of_microvolts(accept))
+    except Refused:
+        return None
+    found = host.possible_words(output, register)
+    assert found is not None and len(found) == 1
+    return found[0]
+
+
 def end_fault(found: CourseEnd, tries: int) -> PmhostError:
     """The exception of a course that came to another end than `reached`, after at most so many jobs."""
     register, word = found.register, found.word or 0
@@ -277,9 +338,14 @@ def end_in(memory: bytes) -> Optional[CourseEnd]:
     kind, number = ENDS[found.kind], found.fault
     register = {"format": "VOUT_MODE", "source": "OPERATION"}.get(kind, REGISTERS.get(found.code))
     word = found.word if kind in ("differs", "format", "source") else None
-    return CourseEnd(kind, register, found.number, word, FAULTS.get(number) or (name_of(number) if number else ""))
+    return CourseEnd(kind, register, found.number, word, fault_words(number))
+
+
+def fault_words(number: int) -> str:
+    """What was wrong with an answer."""
+    return FAULTS.get(number) or (name_of(number) if number else "")
 
 
 def in_hexadecimal(register: Optional[str], word: int) -> str:
     """A word in two digits if its register has one byte, otherwise in four."""
-    return f"{word:02X}" if register in ("OPERATION", "WRITE_PROTECT") else f"{word:04X}"
+    return f"{word:02X}" if register in BYTES else f"{word:04X}"

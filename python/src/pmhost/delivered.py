@@ -12,7 +12,7 @@ from .looks import Looks
 from .operation import selected_by
 from .sequence import RailHeard, Said, SequenceStep, Verdict
 from .status import BITS, names_of
-from .values import CODES, LOOKED_AT, Format
+from .values import LOOKED_AT, NAMES, Format, code_of
 
 # The status registers that STATUS_WORD may point to.
 STATUS = ("STATUS_VOUT", "STATUS_IOUT", "STATUS_INPUT", "STATUS_TEMPERATURE")
@@ -247,12 +247,10 @@ def goals_of(step: SequenceStep, host: Host) -> dict[str, int]:
         selected = selected_by(step.byte) if not step.turns_off else None
         known = None if selected not in GOALS else host.possible_words(step.output, selected)
         return {selected: known[0]} if selected is not None and known is not None and len(known) == 1 else {}
-    found = dict[str, int]()
-    for register, wanted in step.wishes.items():
-        name = register if isinstance(register, str) else {code: each for each, code in CODES.items()}[register]
-        if name in GOALS and (isinstance(wanted, int) or form is not None):
-            found[name] = wanted if isinstance(wanted, int) else form.word(wanted)  # type: ignore[union-attr]
-    return found
+    wishes = {NAMES[code_of(register)]: wanted for register, wanted in step.wishes.items()}
+    words = {name: wanted if isinstance(wanted, int) else None if form is None else form.word(wanted)
+             for name, wanted in wishes.items() if name in GOALS}
+    return {name: word for name, word in words.items() if word is not None}
 
 
 def limit_notes(step: SequenceStep, judge: Callable[[int], dict[str, int]], host: Host) -> list[str]:

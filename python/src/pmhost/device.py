@@ -1,4 +1,4 @@
-"""Supply voltages over a bus: jobs that are carried out, and voltages with their unit."""
+"""`Device`, a part on a bus: it is ordered, read and surveyed, in voltages with their unit."""
 from __future__ import annotations
 
 import functools
@@ -18,7 +18,7 @@ from .states import Bus, Known, RailState, Step
 from .step_run import StepRun
 from .transfers import Transfers
 from .trims import Trims
-from .values import CODES, LACKABLE, MISSABLE, NAMES, code_of
+from .values import BYTES, CODES, LACKABLE, MISSABLE, NAMES, REGISTERS, code_of
 from .voltages import GivenVoltage, Voltage, given_microvolts
 
 # H5 and H7.
@@ -135,7 +135,7 @@ class Device:
     def voltage(self, output: int, register: str | int = "VOUT_COMMAND") -> Voltage | None:
         """The voltage of a register whose word is confirmed, rounded down to microvolts; None if none is. A ValueError of a
         register that is no voltage."""
-        if NAMES[code_of(register)] in ("OPERATION", "WRITE_PROTECT"):
+        if NAMES[code_of(register)] in BYTES:
             raise ValueError(f"register: {NAMES[code_of(register)]} is no voltage")
         word, form = self.host.confirmed_word(output, register), self.host.format(output)
         return None if word is None or form is None else form.voltage(word)
@@ -211,8 +211,8 @@ class Device:
     def check_all(self, outputs: Iterable[int] | None = None) -> None:
         """Reads every register that these outputs have back, or those of all."""
         for output in range(self.host.outputs) if outputs is None else outputs:
-            for register in NAMES.values():
-                if register != "WRITE_PROTECT" and register not in self.lacks:
+            for register in REGISTERS:
+                if register not in self.lacks:
                     self.check(output, register)
 
     # ---- Steps ----
@@ -234,7 +234,7 @@ class Device:
         step = replace(step, host=0, looks=step.looks or self.looks)
         run = StepRun(self, step, tries, before_order)
         run.guarded = run.guarded if is_guarded else None
-        end = run.carry_out(after_order, None, None if accept is None else given_microvolts(accept, "accept"))
+        end = run.run(after_order, None, None if accept is None else given_microvolts(accept, "accept"))
         self.delivered = run.delivered
         on_off.look(self, run.step, run.delivered)
         if not end.is_well or run.delivered is not None and run.delivered.is_bad:
@@ -266,7 +266,7 @@ class Device:
         bound. Says what the output commands then. With `accept="3mV"` a part may round: if the order differs, a held word whose value is
         this near is taken."""
         wanted, name = Voltage(voltage), NAMES[code_of(register)]
-        if name in ("OPERATION", "WRITE_PROTECT"):
+        if name in BYTES:
             raise HostRefused(NO_VOLTAGE, None)
         return self.deliver(SequenceStep.sets(0, output, {name: wanted}), tries, job=f"set {output} {wanted}", accept=accept)
 

@@ -9,9 +9,9 @@ from .back import Held
 from .course import Course
 from .delivered import why_not_before
 from .errors import SAYINGS, refusal
-from .rail_run import Stopped
 from .rails import Rail
 from .rehearsal import is_reached, modelled
+from .settings import Stopped
 from .step_run import look_at
 from .survey import TRIES, only_word, why_not_off
 

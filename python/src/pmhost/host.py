@@ -8,19 +8,17 @@ from . import _library as at
 from ._library import library
 from .errors import accepted, refusal
 from .operation import turns_on
-from .states import Band, Bus, Known, Limits, Listener, RailState, Sending, Step
+from .states import Band, Bus, Known, Limits, RailState, Sending, Step
 from .transfers import Transfers
-from .values import NAMES, Format, code_of, frame_bytes, whole
+from .values import DEVICE, NAMES, Format, code_of, frame_bytes, is_true, whole
 from .voltages import GivenVoltage, given_microvolts, of_microvolts
 
 if TYPE_CHECKING:
-    from .course import Course, Job
+    from .log import HostLog
 
 REFERENCE = ctypes.byref
 ENDS = ("next", "done", "differs", "unknown", "learned")
 STORE_USER_ALL = b"\x15"
-
-
 NO_LIMITS = 0xE6
 LIMITS_STATES = {0x91: "within", 0x92: "outside", 0x93: "not known", NO_LIMITS: "no limits"}
 POWER = {0: None, 1: True, 2: False}
@@ -57,7 +55,7 @@ class Host:
 
     >>> host, course = Host(0x58), Course.voltage(0, "3.3V")
     >>> host.set_limits(0, "3.135V", "3.465V")
-    >>> host.run_course(course, ModelBus(0x58))
+    >>> course.run(host, ModelBus(0x58))
     >>> course.end()                                # raises unless the course has reached what is wanted
     >>> host.confirmed_word(0, "VOUT_COMMAND") == 0x34CD
     True
@@ -66,8 +64,8 @@ class Host:
     Copies share nothing. It isn't for several threads at once.
     """
 
-    # Told of what `run` and `run_course` tell the host, and of restarts; a copy has none.
-    listener: Listener | None = None
+    # Told of what the host hears, as by `run`, and of restarts; a copy has none.
+    listener: HostLog | None = None
 
     def __init__(self, address: int, outputs: int = 1, passes: int = 3, lacks: Iterable[str | int] = ()) -> None:
         self._image = at.HostImage()
@@ -207,9 +205,7 @@ class Host:
 
     def write_ended(self, acked: bool) -> Step:
         """A write was sent, and acknowledged or not."""
-        if not isinstance(acked, bool):
-            raise TypeError(f"acked: True or False is wanted, and not {acked!r}")
-        return self.step_of(library.pm_host_write_ended(REFERENCE(self._image), acked))
+        return self.step_of(library.pm_host_write_ended(REFERENCE(self._image), is_true(acked, "acked")))
 
     def read_ended(self, answer: bytes) -> Step:
         """A request was sent, and these bytes came back, the read address first; none if there was no answer."""
@@ -241,74 +237,20 @@ class Host:
             raise ValueError("run: no job is open")
         return step
 
-    def run_course(self, course: Course, bus: Bus, transfers: Transfers | None = None, before_order: Callable[[Job], None] | None = None,
-                   after_order: Callable[[Job, Step], None] | None = None) -> None:
-        """Carries a course out over a bus, frame after frame, as `run` does a job; `course.end()` says how it ended.
-
-        `before_order` hears of each order before its first frame: if it raises, the order hasn't begun, and the host is free.
-        `after_order` hears how it ended. Whatever is raised meanwhile goes on to the caller, with the job that was under way ended as
-        unknown; another call goes on from there. `transfers` has those of the last job."""
-        kept, order, is_open, has_hooks = Transfers() if transfers is None else transfers, None, False, before_order or after_order
-
-        def saved(came: bytes | bool | None = None) -> tuple[bytes, bytes, bytes | bool | None]:
-            """What `before_order` goes back to: both memories, and what they are to hear of the frame that was sent."""
-            return (self.save(), course.save(), came) if before_order else (b"", b"", None)
-
-        try:
-            memory, sending = saved(), course.frame(self)
-            while sending is not None:
-                if not is_open:
-                    kept.begin()
-                    order = None if sending.is_request or not has_hooks else course.job()
-                    if order and before_order:
-                        self._tell(before_order, order, course, *memory)
-                came = self.came(bus, sending, kept)
-                is_last = order is not None and after_order is not None and sending.is_request
-                if is_last:
-                    # Nothing begins before the hook has heard how the order ended: a read may be its last frame.
-                    step = self._hear(sending, came, course)
-                else:
-                    memory = saved(came)
-                    step, sending = self._hear_on(sending, came, course)
-                is_open = not step.is_over
-                if step.is_over and order and after_order:
-                    after_order(order, step)
-                if is_last:
-                    memory, sending = saved(), course.frame(self)
-        except BaseException:
-            if course.job() is not None:
-                self.give_up(course)
-            raise
-
-    def _tell(self, before_order: Callable[[Job], None], order: Job, course: Course, host: bytes, way: bytes, came: bytes | bool | None) -> None:
-        """Says of an order that has begun; if that raises, host and course hold what they did before it."""
-        try:
-            before_order(order)
-        except BaseException:
-            self.load(host)
-            course.load(way)
-            if came is not None:
-                course.after(self, came, True)
-            raise
-
-    def give_up(self, course: Course | None = None) -> None:
-        """Ends the open job, which may be a course's: its frames that are left aren't sent, and count as failed."""
+    def give_up(self, hear: Callable[[Sending, bytes | bool], object] | None = None) -> None:
+        """Ends the open job: its frames that are left aren't sent, and count as failed. `hear` is that of the course or the list whose job it is."""
         while (sending := self.frame()) is not None:
-            self._hear(sending, b"" if sending.is_request else False, course)
+            (hear or self._hear)(sending, b"" if sending.is_request else False)
 
-    def _hear(self, sending: Sending, came: bytes | bool, course: Course | None = None) -> Step:
-        """The host, and the course that it carries out, hear what came of a frame."""
+    def tell(self, sending: Sending, came: bytes | bool) -> None:
+        """The listener hears what came of a frame."""
         if self.listener is not None:
             self.listener.told(sending, came)
-        if isinstance(came, bool):
-            return self.write_ended(came) if course is None else course.write_ended(self, came)
-        return self.read_ended(came) if course is None else course.read_ended(self, came)
 
-    def _hear_on(self, sending: Sending, came: bytes | bool, course: Course) -> tuple[Step, Sending | None]:
-        """The same, and what to send next."""
-        if self.listener is not None:
-            self.listener.told(sending, came)
-        return course.after(self, came)
+    def _hear(self, sending: Sending, came: bytes | bool) -> Step:
+        """The host hears what came of a frame."""
+        self.tell(sending, came)
+        return self.write_ended(came) if isinstance(came, bool) else self.read_ended(came)
 
     def came(self, bus: Bus, sending: Sending, transfers: Transfers) -> bytes | bool:
         """What came of a frame: the answer to a request, or whether a write was acknowledged."""
@@ -332,9 +274,7 @@ class Host:
         except OSError as fault:
             transfers.fault(fault)
             return False
-        if not isinstance(acked, bool):
-            raise TypeError(f"write: True or False is wanted, and not {acked!r}")
-        if not acked:
+        if not is_true(acked, "write"):
             transfers.unheard("no acknowledgement")
         return acked
 
@@ -377,7 +317,7 @@ class Host:
         """What is known of every register."""
         found = at.KnownImage()
         accepted(library.pm_host_known_cells(REFERENCE(self._image), REFERENCE(found)))
-        return [Known(None if NAMES[cell.code] == "WRITE_PROTECT" else cell.output, NAMES[cell.code],
+        return [Known(None if NAMES[cell.code] == DEVICE else cell.output, NAMES[cell.code],
                       word_of(cell.standing), words_of(cell.words)) for cell in found.cells[: found.count]]
 
     @property
@@ -403,7 +343,7 @@ class Host:
         """Another host that knows the same."""
         other = object.__new__(type(self))
         other._image = at.HostImage.from_buffer_copy(self._image)
-        other._address, other._outputs, other._passes = self._address, self._outputs, self._passes
+        other.address, other.outputs, other.passes, other.is_restart_denied = self._address, self._outputs, self._passes, self.is_restart_denied
         return other
 
     def __copy__(self) -> Host:

@@ -8,15 +8,16 @@ from __future__ import annotations
 from typing import Callable
 
 from .began import head_of
-from .bus.linux import Trace, in_hex
+from .bus.linux import Trace
+from .course import in_hexadecimal
 from .errors import PmhostError
 from .host import Host
 from .states import Sending
+from .texts import in_hex
 from .values import MISSABLE
 
 # The bytes of a line of a note: the rest of a long one is left out.
 MOST_NOTE = 1000
-ONE_BYTE = ("OPERATION", "WRITE_PROTECT")
 
 
 def note_of(words: str) -> str:
@@ -34,7 +35,8 @@ class HostLog:
         host.listener = self
 
     def told(self, sending: Sending, came: bytes | bool) -> None:
-        """What came of a frame, or of one that was given up unsent."""
+        """What came of a frame: of a write whether it was acknowledged, of a request the answer, the read address first, or nothing. A frame that was
+        given up unsent counts as one that failed."""
         self._has_news = True
         if isinstance(came, bool):
             self._note(f"{'' if came else '#failed '}{in_hex(sending.frame)}")
@@ -53,8 +55,7 @@ class HostLog:
         self._has_news = False
         for it in self._host.known_cells():
             if it.possible is not None and len(it.possible) == 1:
-                digits = 2 if it.register in ONE_BYTE else 4
-                self._note(f"#holds {'-' if it.output is None else it.output} {it.register} {it.possible[0]:0{digits}X}")
+                self._note(f"#holds {'-' if it.output is None else it.output} {it.register} {in_hexadecimal(it.register, it.possible[0])}")
         for output in range(self._host.outputs):
             self._claim_band(output)
 

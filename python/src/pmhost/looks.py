@@ -1,4 +1,4 @@
-"""How rails are looked at."""
+"""`Looks`: how rails are looked at after an order, and for how long."""
 from __future__ import annotations
 
 from dataclasses import dataclass

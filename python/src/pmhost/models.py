@@ -7,18 +7,9 @@ from .parts import BoardPart
 from .reads import Reads
 
 
-def why_other_model(device: Device, part: BoardPart) -> str:
-    """Why a part isn't the model that a board file says: nothing if it is, or the file doesn't say."""
-    return why_not_model(device, part, True)
-
-
-def why_another_model(device: Device, part: BoardPart) -> str:
-    """The same, by a good answer only: one that gives none may be the part."""
-    return why_not_model(device, part, False)
-
-
-def why_not_model(device: Device, part: BoardPart, has_to_answer: bool) -> str:
-    """Why a part isn't the model that a board file says."""
+def why_other_model(device: Device, part: BoardPart, has_to_answer: bool = True) -> str:
+    """Why a part isn't the model that a board file says: nothing if it is, or the file doesn't say. One that gives no good answer may be the part
+    unless it has to answer."""
     if not part.model:
         return ""
     read = Reads(device.bus, part.address).block(probe.MFR_BLOCKS["MFR_MODEL"])

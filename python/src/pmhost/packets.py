@@ -3,6 +3,7 @@ from __future__ import annotations
 
 import ctypes
 from dataclasses import dataclass
+from typing import Callable
 
 from ._library import BlockImage, PacketImage, PayloadImage, SendingImage, library
 from .errors import accepted
@@ -30,8 +31,11 @@ class Packet:
             whole(getattr(self, name), 0, most, name)
 
     @classmethod
-    def _read(cls, image: PacketImage) -> Packet:
-        return cls(KINDS[image.kind], image.code, image.page, image.count, image.word)
+    def _read(cls, call: Callable[..., int], address: int, data: bytes) -> Packet:
+        """What a call of the library reads of bytes."""
+        taken, found = frame_bytes(data, MOST), PacketImage()
+        accepted(call(whole(address, 0, 255, "address"), taken, len(taken), ctypes.byref(found)))
+        return cls(KINDS[found.kind], found.code, found.page, found.count, found.word)
 
     def _image(self) -> PacketImage:
         return PacketImage(KINDS.index(self.kind), self.page, self.code, self.count, self.word)
@@ -64,18 +68,12 @@ def pec(data: bytes) -> int:
 
 def read_write(address: int, data: bytes) -> Packet:
     """What the bytes of a write say. F1 to F8."""
-    taken, found = frame_bytes(data, MOST), PacketImage()
-    address = whole(address, 0, 255, "address")
-    accepted(library.pm_packet_read_write(address, taken, len(taken), ctypes.byref(found)))
-    return Packet._read(found)
+    return Packet._read(library.pm_packet_read_write, address, data)
 
 
 def read_request(address: int, data: bytes) -> Packet:
     """What the bytes of a request say. F1 to F8."""
-    taken, found = frame_bytes(data, MOST), PacketImage()
-    address = whole(address, 0, 255, "address")
-    accepted(library.pm_packet_read_request(address, taken, len(taken), ctypes.byref(found)))
-    return Packet._read(found)
+    return Packet._read(library.pm_packet_read_request, address, data)
 
 
 def read_answer(address: int, request: Packet, data: bytes) -> bytes:
@@ -102,25 +100,24 @@ def paged_request(address: int, page: int, code: int, size: int) -> tuple[bytes,
     return bytes(found.bytes[: found.length]), found.answer - 1
 
 
+def payload(call: Callable[..., int], data: bytes, *numbers: int) -> bytes:
+    """What a call of the library takes out of an answer to a read of these numbers: the address, the page, the code and the size."""
+    taken, found = frame_bytes(data, MOST), BlockImage()
+    accepted(call(*numbers, taken, len(taken), ctypes.byref(found)))
+    return bytes(found.bytes[: found.length])
+
+
 def read_paged(address: int, page: int, code: int, size: int, data: bytes) -> bytes:
     """The payload of what came back for it, the read address first, then the count. F1 to F5."""
-    taken, found = frame_bytes(data, MOST), BlockImage()
-    accepted(library.pm_read_paged(whole(address, 0, 255, "address"), whole(page, 0, 255, "page"), whole(code, 0, 255, "code"),
-                                   whole(size, 0, 32, "size"), taken, len(taken), ctypes.byref(found)))
-    return bytes(found.bytes[: found.length])
+    return payload(library.pm_read_paged, data, whole(address, 0, 255, "address"), whole(page, 0, 255, "page"), whole(code, 0, 255, "code"),
+                   whole(size, 0, 32, "size"))
 
 
 def read_block(address: int, code: int, data: bytes) -> bytes:
     """The payload of what came back for a block of any code, the read address first, then the count, at most 32. F1 to F5."""
-    taken, found = frame_bytes(data, MOST), BlockImage()
-    address, code = whole(address, 0, 255, "address"), whole(code, 0, 255, "code")
-    accepted(library.pm_read_block(address, code, taken, len(taken), ctypes.byref(found)))
-    return bytes(found.bytes[: found.length])
+    return payload(library.pm_read_block, data, whole(address, 0, 255, "address"), whole(code, 0, 255, "code"))
 
 
 def read_plain(address: int, code: int, size: int, data: bytes) -> bytes:
     """The payload of what came back for so many bytes of any code, at most 32, the read address first. F1 to F3, F5."""
-    taken, found = frame_bytes(data, MOST), BlockImage()
-    address, code, size = whole(address, 0, 255, "address"), whole(code, 0, 255, "code"), whole(size, 0, 32, "size")
-    accepted(library.pm_read_plain(address, code, size, taken, len(taken), ctypes.byref(found)))
-    return bytes(found.bytes[: found.length])
+    return payload(library.pm_read_plain, data, whole(address, 0, 255, "address"), whole(code, 0, 255, "code"), whole(size, 0, 32, "size"))

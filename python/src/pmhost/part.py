@@ -55,8 +55,8 @@ class ModelPart:
     def __init__(self, address: int, outputs: tuple[Output, ...] | list[Output] = (Output(),),
                  coefficients: tuple[int, int, int] = (1, 0, 3), protect: int = 0) -> None:
         config, self._image = ConfigImage(), PartImage()
-        config.address = self._address = whole(address, 0, 255, "address")
-        config.outputs = self._outputs = whole(len(outputs), 0, 255, "outputs")
+        config.address = self.address = whole(address, 0, 255, "address")
+        config.outputs = self.outputs = whole(len(outputs), 0, 255, "outputs")
         if not isinstance(coefficients, (tuple, list)) or len(coefficients) != 3:
             raise TypeError(f"coefficients: give m, b and R, and not {coefficients!r}")
         config.m = whole(coefficients[0], -(2**15), 2**15 - 1, "m")
@@ -75,19 +75,11 @@ class ModelPart:
         # The outputs whose READ_VOUT `set_reading` gave a word.
         self.has_reading: set[int] = set()
 
-    @property
-    def outputs(self) -> int:
-        return self._outputs
-
-    @property
-    def address(self) -> int:
-        return self._address
-
     def copy(self) -> ModelPart:
         """Another part, which holds the same."""
         other = object.__new__(ModelPart)
         other._image = PartImage.from_buffer_copy(self._image)
-        other._address, other._outputs = self._address, self._outputs
+        other.address, other.outputs = self.address, self.outputs
         other.formats, other.has_reading = self.formats, set(self.has_reading)
         return other
 

@@ -17,7 +17,7 @@ from __future__ import annotations
 
 import re
 from dataclasses import dataclass
-from typing import TypeGuard
+from typing import Any, Iterable, TypeGuard
 
 from .reserved import why_reserved
 from .times import milliseconds
@@ -30,7 +30,7 @@ KEYS = ("bus", "address", "outputs", "model", "lacks", "trims", "ready", "protec
 READY = re.compile("([0-9A-Fa-f]{2}):([0-9A-Fa-f]{2})")
 PROTECTIONS = ("80", "40", "20")
 MODEL = re.compile(r"[ -~]{1,32}\Z")
-MOST_BUS, MOST_OUTPUTS, MOST_STORE_TIME = 10**9 - 1, 8, 60_000
+MOST_BUS, MOST_OUTPUTS, MOST_TIME = 10**9 - 1, 8, 60_000
 
 
 class BadRails(Exception):
@@ -97,19 +97,44 @@ def lacks_of(at: str, names: object) -> tuple[str, ...]:
     return tuple(names)
 
 
-def part_of(name: str, table: object) -> BoardPart:
-    """A part of its table. BadRails."""
-    at = f"parts.{name}"
+def table_of(at: str, name: str, table: object) -> dict[str, Any]:
+    """The table of a part or of a rail. BadRails."""
     if not NAME.match(name):
         raise BadRails(f"{at!r}: a name has letters, digits and _ . + -, at most 32")
     if not isinstance(table, dict):
         raise BadRails(f"{at}: give a table, as [{at}]")
+    return table
+
+
+def judge_keys(at: str, table: dict[str, Any], keys: Iterable[str], needed: Iterable[str]) -> None:
+    """It has the keys that it needs, and no others. BadRails."""
     for key in table:
-        if key not in KEYS:
-            raise BadRails(f"{at}.{key}: there are {', '.join(KEYS)}")
-    for key in ("bus", "address", "outputs"):
+        if key not in keys:
+            raise BadRails(f"{at}.{key}: there are {', '.join(keys)}")
+    for key in needed:
         if key not in table:
             raise BadRails(f"{at}: {key} is missing")
+
+
+def time_of(at: str, text: object, example: str) -> int | None:
+    """The milliseconds of a time of at most a minute, None if there is none. BadRails."""
+    found = milliseconds(text)
+    if text is not None and (found is None or found > MOST_TIME):
+        raise BadRails(f'{at}: give a time of at most 60s with its unit, as "{example}"')
+    return found
+
+
+def truth_of(at: str, value: object) -> bool:
+    """True or false. BadRails."""
+    if not isinstance(value, bool):
+        raise BadRails(f"{at}: give true or false")
+    return value
+
+
+def part_of(name: str, table: object) -> BoardPart:
+    """A part of its table. BadRails."""
+    at, table = f"parts.{name}", table_of(f"parts.{name}", name, table)
+    judge_keys(at, table, KEYS, ("bus", "address", "outputs"))
     bus, address, outputs, model = table["bus"], table["address"], table["outputs"], table.get("model", "")
     if bus != MODEL_BUS and not (is_whole(bus) and 0 <= bus <= MOST_BUS):
         raise BadRails(f'{at}.bus: give the number of /dev/i2c-N, as 1, or "{MODEL_BUS}"')
@@ -126,23 +151,8 @@ def part_of(name: str, table: object) -> BoardPart:
     if "model" in table and (not isinstance(model, str) or not MODEL.match(model)):
         raise BadRails(f'{at}.model: give what MFR_MODEL begins with, as "LTC3880"')
     return BoardPart(name, str(bus), found, outputs, model, lacks_of(f"{at}.lacks", table.get("lacks", [])), ready_in(at, table),
-                     protect_of(f"{at}.protect", table.get("protect")), trims_of(f"{at}.trims", table.get("trims", False)),
-                     store_time_of(f"{at}.store_time", table.get("store_time")))
-
-
-def trims_of(at: str, has_trims: object) -> bool:
-    """Whether a part's outputs have VOUT_TRIM and VOUT_CAL_OFFSET."""
-    if not isinstance(has_trims, bool):
-        raise BadRails(f"{at}: give true or false")
-    return has_trims
-
-
-def store_time_of(at: str, text: object) -> int | None:
-    """How many milliseconds a store may take, if a file has it."""
-    found = milliseconds(text)
-    if text is not None and (found is None or found > MOST_STORE_TIME):
-        raise BadRails(f'{at}: give a time of at most 60s with its unit, as "5s"')
-    return found
+                     protect_of(f"{at}.protect", table.get("protect")), truth_of(f"{at}.trims", table.get("trims", False)),
+                     time_of(f"{at}.store_time", table.get("store_time"), "5s"))
 
 
 def protect_of(at: str, byte: object) -> int | None:

@@ -8,9 +8,10 @@ from .packets import Packet
 from .device import Device
 from .reads import TRIES, Read, Reads
 from .states import Bus
+from .texts import in_hex
 from .transfers import Transfers
 from .trims import REGISTERS as TRIMS
-from .values import CODES, Format
+from .values import CODES, DEVICE, REGISTERS, Format
 from .zeros import NotBelieved, guard
 
 MOST_OUTPUTS = 8
@@ -20,11 +21,10 @@ VOUT_MODE, COEFFICIENTS, DIRECT = 0x20, 0x30, 0x40
 ON_OFF_CONFIG, MFR_BLOCKS = 0x02, {"MFR_ID": 0x99, "MFR_MODEL": 0x9A, "MFR_REVISION": 0x9B}
 # Blocks that say which unit a part is, where it has them.
 UNIT_BLOCKS = {"MFR_SERIAL": 0x9E, "IC_DEVICE_ID": 0xAD}
-REVISION, PROTECT, STATUS_CML = Packet("read", 0x98), Packet("read", CODES["WRITE_PROTECT"]), Packet("read", 0x7E)
+REVISION, PROTECT, STATUS_CML = Packet("read", 0x98), Packet("read", CODES[DEVICE]), Packet("read", 0x7E)
 CLEAR = Packet("send byte", 0x03)
 # The bits of STATUS_CML of a wrong packet error code, and of another fault of the bus, as a byte too few.
 NOT_TAKEN = 0x22
-REGISTERS = tuple(name for name in CODES if name != "WRITE_PROTECT")
 SPOKEN = "this host speaks ULINEAR16 and DIRECT"
 BLIND = "the part doesn't look at the page"
 UNFIT = "this host can't drive the part"
@@ -100,7 +100,7 @@ class Probe:
             found.identity = {name: reads.block(code) for name, code in MFR_BLOCKS.items()}
             found.protect = self._protect()
             if no_page.has_answer:
-                found.outputs, found.verdict = [], f"PEC yes, {BLIND} (page 1F answers {spaced(no_page.came)}): {UNFIT}"
+                found.outputs, found.verdict = [], f"PEC yes, {BLIND} (page 1F answers {in_hex(no_page.came)}): {UNFIT}"
         elif no_page.has_answer:
             found.verdict = unfit_words(reads, revision, Transfers())
         found.late, found.high = reads.late, reads.high
@@ -120,7 +120,7 @@ class Probe:
             return read.payload != b"\0" or self.reads.packet(PROTECT).payload == b"\0"
 
         try:
-            return guard(self.address, "WRITE_PROTECT", lambda: self._word(0, "OPERATION")[1], lambda: self.reads.packet(PROTECT),
+            return guard(self.address, DEVICE, lambda: self._word(0, "OPERATION")[1], lambda: self.reads.packet(PROTECT),
                            is_held)
         except NotBelieved as doubt:
             self.found.doubt = self.found.doubt or "WRITE_PROTECT gave no answer that can be believed: probe again"
@@ -264,14 +264,10 @@ def unfit_words(reads: Reads, revision: Read, first: Transfers) -> str:
         return f"PEC yes, no PAGE_PLUS ({why}): {UNFIT}"
     if revision.came:
         wanted = reads.with_pec(REVISION.frame(reads.address), revision.came)
-        return f"no PEC (PMBUS_REVISION gave {spaced(revision.came)}, with PEC it is {spaced(wanted)}): {UNFIT}"
+        return f"no PEC (PMBUS_REVISION gave {in_hex(revision.came)}, with PEC it is {in_hex(wanted)}): {UNFIT}"
     if first.faults:
         return f"no PMBUS_REVISION ({revision.why}), no PAGE_PLUS ({why}): {UNFIT}"
     return f"nobody answers at {reads.address:02X} ({why}): {UNFIT}"
-
-
-def spaced(data: bytes) -> str:
-    return data.hex(" ").upper()
 
 
 def text_of(payload: bytes) -> str | None:
@@ -283,7 +279,7 @@ def text_of(payload: bytes) -> str | None:
 def block_words(payload: bytes) -> str:
     """A block in words: as a text if it is one."""
     text = text_of(payload)
-    return f'"{text}"' if text else spaced(payload) or "empty"
+    return f'"{text}"' if text else in_hex(payload) or "empty"
 
 
 def format_words(form: Format) -> str:

@@ -11,13 +11,11 @@ from __future__ import annotations
 
 from typing import TYPE_CHECKING
 
-from .parts import BadRails
-from .times import milliseconds
+from .parts import BadRails, time_of, truth_of
 
 if TYPE_CHECKING:
     from .rails import Rail
 
-MOST_WAIT = 60_000
 # The keys of a rail that say its place; and those of how long it takes to come up and to go down.
 KEYS, TIMES = ("after", "wait", "delivers"), ("settle", "settle_off")
 
@@ -28,27 +26,17 @@ def place_of(at: str, table: dict[str, object]) -> tuple[tuple[str, ...], int, b
     after, wait, delivers = table.get("after", []), table.get("wait"), table.get("delivers", False)
     if not isinstance(after, list) or any(not isinstance(name, str) for name in after):
         raise BadRails(f'{at}.after: give a list of rails, as ["core"]')
-    if not isinstance(delivers, bool):
-        raise BadRails(f"{at}.delivers: give true or false")
-    found = 0 if wait is None else milliseconds(wait)
-    if found is None or found > MOST_WAIT:
-        raise BadRails(f'{at}.wait: give a time of at most 60s with its unit, as "5ms"')
+    truth_of(f"{at}.delivers", delivers)
+    found = time_of(f"{at}.wait", wait, "5ms") or 0
     for key in ("wait", "delivers"):
         if table.get(key) and not after:
             raise BadRails(f'{at}.{key}: after which rails? give `after`, too, as ["core"]')
-    return tuple(after), found, delivers
+    return tuple(after), found, bool(delivers)
 
 
 def times_of(at: str, table: dict[str, object]) -> list[int | None]:
     """How many milliseconds a rail takes to come up and to go down, None of what its table doesn't say. BadRails."""
-    found: list[int | None] = []
-    for key in TIMES:
-        text = table.get(key)
-        time = milliseconds(text)
-        if text is not None and (time is None or time > MOST_WAIT):
-            raise BadRails(f'{at}.{key}: give a time of at most 60s with its unit, as "3s"')
-        found.append(time)
-    return found
+    return [time_of(f"{at}.{key}", table.get(key), "3s") for key in TIMES]
 
 
 def in_order(rails: list[Rail], faults: list[str]) -> list[Rail]:

@@ -1,63 +1,29 @@
 """A rail's step under `apply`: it goes up to its first order, or on to its end, and its settings hear what becomes of them."""
 from __future__ import annotations
 
-from dataclasses import dataclass, replace
+from dataclasses import replace
 from typing import TYPE_CHECKING
 
-from .course import Job
+from .course import Job, near_word
 from .delivered import beyond_of
 from .device import FORMAT_UNKNOWN
 from .errors import SAYINGS, PlanRefused, Refused, TrimRefused, refusal
 from .rails import SETTINGS, Rail
-from .rounded import near_word
 from .sequence import Said, SequenceStep
+from .settings import OUTSIDE, Setting, Stopped
 from .states import Step
 from .step_run import StepRun, look_at
 from .survey import FORMAT, TRIES, behind, commanded, only_word, why_not_off
 from .transfers import Transfers
+from .values import DEVICE
 from .voltages import of_microvolts
 from .zeros import NotBelieved
 
 if TYPE_CHECKING:
     from .apply import Board
 
-PROTECT = "WRITE_PROTECT"
 # How often a step begins anew since held words were taken.
 ROUNDS = 3 * len(SETTINGS)
-OUTSIDE = "the output commands a voltage outside its limits"
-
-
-class Stopped(Exception):
-    """Why no further frame is sent; after a job that ended badly with the part, and the output if the job was about one."""
-
-    def __init__(self, why: str, part: str | None = None, output: int | None = None) -> None:
-        super().__init__(why)
-        self.part, self.output = part, output
-
-
-class Restarted(Stopped):
-    """A part restarted meanwhile, which is all that went wrong: the same call again may end well."""
-
-
-@dataclass(eq=False)
-class Setting:
-    """A register of a rail: the word of the file, the one that is wanted of the plan, and what was known of it last."""
-
-    rail: Rail
-    key: str
-    asked: int
-    wanted: int
-    last: int | None = None
-    state: str = "not read"
-    is_ordered: bool = False
-
-    @property
-    def register(self) -> str:
-        return SETTINGS[self.key]
-
-    @property
-    def name(self) -> str:
-        return f"{self.rail.name}.{self.key}"
 
 
 class RailRun:
@@ -67,8 +33,8 @@ class RailRun:
         self.board, self.rail, self.part = board, rail, board.on(rail)
         self.may_order, self.is_judged = False, self.accept is None
         step = SequenceStep.sets(0, rail.output, board.wanted(rail), board.looks_of(rail) if board.may_write and board.looks else None)
-        self.run = StepRun(self.part, replace(step, before=board.before(rail)), TRIES, self.before)
-        self.run.judged = board.may_write
+        self.steps = StepRun(self.part, replace(step, before=board.before(rail)), TRIES, self.before)
+        self.steps.judged = board.may_write
         self.end: Said | None = None
 
     @property
@@ -86,17 +52,17 @@ class RailRun:
         """What it was refused for, if it was."""
         return refusal(self.end.number, self.end.register) if self.end is not None and self.end.kind == "refused" else None
 
-    def go(self, may_order: bool) -> None:
+    def run(self, may_order: bool) -> None:
         """Goes on, to its end or, if nothing may be ordered, up to its first order. Stops if a register gives no good answer, or a
         restart was seen, or it ended otherwise. What it refuses is said by the board, since one that orders nothing reads on."""
         self.may_order = may_order
         board, rail = self.board, self.rail
         self.part.transfers = Transfers()
         try:
-            end = self.carried_out()
+            end = self._run()
         except NotBelieved as doubt:
             self.part.restart()
-            raise self.unheard(PROTECT, str(doubt)) from None
+            raise self.unheard(DEVICE, str(doubt)) from None
         except TrimRefused as fault:
             board.surveys[rail.name] = commanded(self.part, rail.output)
             board.seen(rail, None, None)
@@ -104,7 +70,7 @@ class RailRun:
         if end.kind == "nobody":
             raise self.unheard("VOUT_MODE", end.fault)
         self.end = end
-        board.keep(rail, self.run)
+        board.keep(rail, self.steps)
         board.surveys[rail.name], board.read_at[rail.name] = behind(self.part, rail.output, end), board.orders
         if end.kind in ("beyond", "unjudged"):
             raise self.beyond(end)
@@ -112,14 +78,14 @@ class RailRun:
         board.look(rail)
         self.judge()
 
-    def carried_out(self) -> Said:
+    def _run(self) -> Said:
         """To its end, or to an order that isn't to begin yet. Held words that are near enough are taken before the first order, and after each
         that differs."""
         for _ in range(ROUNDS):
-            end = self.run.carry_out(self.after, lambda: self.part.transfers.why())
+            end = self.steps.run(self.after, lambda: self.part.transfers.why())
             was_judged, self.is_judged = self.is_judged, True
             if self.accept is not None and (end.kind == "stopped" or (end.is_end or not was_judged) and self.takes()):
-                self.run.want(self.board.wanted(self.rail))
+                self.steps.want(self.board.wanted(self.rail))
                 self.is_judged = False
             elif end.is_end or was_judged or not self.may_order:
                 break
@@ -182,7 +148,7 @@ class RailRun:
 
     def beyond(self, end: Said) -> Stopped:
         """Its goal is at or beyond a fault limit, or can't be judged."""
-        fault = beyond_of(end, self.run.step, self.part.host) if end.kind == "beyond" else refusal(FORMAT_UNKNOWN)
+        fault = beyond_of(end, self.steps.step, self.part.host) if end.kind == "beyond" else refusal(FORMAT_UNKNOWN)
         said = fault.said if isinstance(fault, PlanRefused) else SAYINGS[fault.letter]
         return Stopped(f"{self.rail.name}: {said}: {fault.letter} {fault.name}")
 

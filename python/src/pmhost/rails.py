@@ -30,7 +30,8 @@ from typing import Callable, TypeVar
 from . import rail_order, voltages
 from .looks import Looks
 from .operation import OFF, SOFT_OFF
-from .parts import MOST_OUTPUTS, NAME, BadRails, BoardPart, is_whole, lacks_of, part_of, protect_of, store_time_of, trims_of
+from .parts import (MOST_OUTPUTS, BadRails, BoardPart, is_whole, judge_keys, lacks_of, part_of, protect_of, table_of, time_of,
+                    truth_of)
 from .times import milliseconds
 
 # The settings of a rail, by their registers.
@@ -184,8 +185,8 @@ def only_part(found: dict[str, object], rails: list[Rail], faults: list[str]) ->
         return {}
     try:
         return {ONLY: BoardPart(ONLY, "", 0, outputs, "", lacks_of("lacks", found.get("lacks", [])), None,
-                                protect_of("protect", found.get("protect")), trims_of("trims", found.get("trims", False)),
-                                store_time_of("store_time", found.get("store_time")))}
+                                protect_of("protect", found.get("protect")), truth_of("trims", found.get("trims", False)),
+                                time_of("store_time", found.get("store_time"), "5s"))}
     except BadRails as fault:
         faults.append(str(fault))
         return {}
@@ -225,12 +226,11 @@ def outputs_of(rails: list[Rail], parts: dict[str, BoardPart], named: set[str]) 
 
 def rail_of(name: str, table: object, has_parts: bool) -> Rail:
     """A rail of its table. BadRails."""
-    at = f"rails.{name}"
-    if not NAME.match(name):
-        raise BadRails(f"{at!r}: a name has letters, digits and _ . + -, at most 32")
-    if not isinstance(table, dict):
-        raise BadRails(f"{at}: give a table, as [{at}]")
-    judge_keys(at, table, has_parts)
+    at, table = f"rails.{name}", table_of(f"rails.{name}", name, table)
+    wanted = ("part",) * has_parts
+    if "part" in table and not has_parts:
+        raise BadRails(f"{at}.part: the file has no [parts.NAME]")
+    judge_keys(at, table, (*wanted, *KEYS), (*wanted, "output", "volts", "limits"))
     output, pair, part, is_on = table["output"], table["limits"], table.get("part", ONLY), table.get("on", True)
     if has_parts and not isinstance(part, str):
         raise BadRails(f'{at}.part: give the name of a part, as "u12"')
@@ -238,8 +238,7 @@ def rail_of(name: str, table: object, has_parts: bool) -> Rail:
         raise BadRails(f"{at}.output: give a whole number from 0 to {MOST_OUTPUTS - 1}")
     if not isinstance(pair, list) or len(pair) != 2:
         raise BadRails(f"{at}.limits: give the least and the most, as {LIMITS_EXAMPLE}")
-    if not isinstance(is_on, bool):
-        raise BadRails(f"{at}.on: give true or false")
+    truth_of(f"{at}.on", is_on)
     if table.get("off", "soft") != "soft":
         raise BadRails(f'{at}.off: give "soft", or leave it out: the rail goes off at once then')
     least, most = (microvolts(f"{at}.limits", each) for each in pair)
@@ -251,19 +250,6 @@ def rail_of(name: str, table: object, has_parts: bool) -> Rail:
                 *rail_order.times_of(at, table), "off" in table)
     judge(at, rail)
     return rail
-
-
-def judge_keys(at: str, table: dict[str, object], has_parts: bool) -> None:
-    """A rail has the keys that it needs, and no others."""
-    wanted = ("part",) * has_parts
-    for key in table:
-        if key == "part" and not has_parts:
-            raise BadRails(f"{at}.part: the file has no [parts.NAME]")
-        if key not in (*wanted, *KEYS):
-            raise BadRails(f"{at}.{key}: there are {', '.join((*wanted, *KEYS))}")
-    for key in (*wanted, "output", "volts", "limits"):
-        if key not in table:
-            raise BadRails(f"{at}: {key} is missing")
 
 
 def microvolts(at: str, text: object) -> int:

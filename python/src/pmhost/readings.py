@@ -55,10 +55,6 @@ class Reading:
     why: str = ""
 
     @property
-    def is_status(self) -> bool:
-        return self.name in BITS
-
-    @property
     def words(self) -> str:
         """The register and its word, with its value and unit, or the names of its bits."""
         if self.word is None:

@@ -8,19 +8,18 @@ from .device import Device
 from .packets import pec
 from .part import ModelPart, ModelPartBus, Output
 from .states import Bus
-from .values import CODES, NAMES
+from .values import CODES, DEVICE, NAMES
 
-PROTECT = "WRITE_PROTECT"
 # The words with which an output of a model starts.
 REGISTERS = {"operation": "OPERATION", "command": "VOUT_COMMAND", "max": "VOUT_MAX", "high": "VOUT_MARGIN_HIGH", "low": "VOUT_MARGIN_LOW",
              "min": "VOUT_MIN"}
 
 
 class Unprotected:
-    """The bus of a part, over which WRITE_PROTECT reads as 00."""
+    """The bus of a part, over which WRITE_DEVICE reads as 00."""
 
     def __init__(self, bus: Bus, address: int) -> None:
-        self.bus, self.request = bus, bytes([address << 1, CODES[PROTECT]])
+        self.bus, self.request = bus, bytes([address << 1, CODES[DEVICE]])
 
     def write(self, frame: bytes) -> bool:
         return self.bus.write(frame)
@@ -32,7 +31,7 @@ class Unprotected:
 
 
 def unprotected(part: Device) -> Device:
-    """A part as if its WRITE_PROTECT were 00, by a copy of its host that reads all anew. It is for what orders nothing."""
+    """A part as if its WRITE_DEVICE were 00, by a copy of its host that reads all anew. It is for what orders nothing."""
     found = Device(Unprotected(part.bus, part.host.address), part.host.address, 8, lacks=part.lacks, looks=part.looks)
     found.host = part.host.copy()
     found.trims = part.trims
@@ -42,29 +41,29 @@ def unprotected(part: Device) -> Device:
 
 def modelled(part: Device, output: int, is_lifted: bool = False) -> Device:
     """A device whose host knows what that of a part does, over a model part whose output holds what is known of this one; what isn't known is
-    as a model starts. With `is_lifted` WRITE_PROTECT is 00. A Refused if no model starts so."""
+    as a model starts. With `is_lifted` WRITE_DEVICE is 00. A Refused if no model starts so."""
     host, form = part.host, part.host.format(output)
-    known = {register: held[0] for register in NAMES.values() if (held := host.possible_words(0 if register == PROTECT else output, register))}
+    known = {register: held[0] for register in NAMES.values() if (held := host.possible_words(0 if register == DEVICE else output, register))}
     words = {name: known[register] for name, register in REGISTERS.items() if register in known}
     is_direct = form is not None and form.kind == "DIRECT"
     mode = 0x40 if is_direct or form is None else form.exponent & 0x1F
     starts = [Output()] * host.outputs
     starts[output] = Output(mode, **words)
     coefficients = (form.m, form.b, form.exponent) if is_direct and form else (1, 0, 3)
-    found = Device(ModelPartBus(ModelPart(host.address, starts, coefficients, 0 if is_lifted else known.get(PROTECT, 0))), host.address, 8)
+    found = Device(ModelPartBus(ModelPart(host.address, starts, coefficients, 0 if is_lifted else known.get(DEVICE, 0))), host.address, 8)
     found.host = host.copy()
     return found
 
 
 def is_reached(part: Device, course: Course) -> bool:
     """Whether a course over a model reaches what is wanted: `ended` says how it came to another end."""
-    part.host.run_course(course, part.bus)
+    course.run(part.host, part.bus)
     return course.ended is not None and course.ended.kind == "reached"
 
 
 def first_not_reached(part: Device, output: int, words: Iterable[int], is_lifted: bool = False) -> tuple[int, CourseEnd] | None:
     """Bytes of OPERATION one after another, over a model: the first that wouldn't be reached, and how it would end. None if all would be.
-    With `is_lifted` WRITE_PROTECT is 00 first."""
+    With `is_lifted` WRITE_DEVICE is 00 first."""
     model = modelled(part, output, is_lifted)
     for byte in words:
         course = Course.power(output, byte)

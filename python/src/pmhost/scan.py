@@ -11,16 +11,15 @@ from collections.abc import Callable, Iterator
 from dataclasses import dataclass, field
 
 from .bus import LinuxBus, NoBus
-from .packets import Packet
 from .probe import MFR_BLOCKS, REVISION
 from .reads import Read, Reads
 from .reserved import RESERVED
+from .survey import CAPABILITY
 
 # Addresses that a part may have.
 FIRST, LAST = 0x08, 0x77
 MULTIPLEXERS = range(0x70, 0x78)
 LEFT_OUT = "left out: below 08, 0C, 28, 37, 61, above 77"
-CAPABILITY = Packet("read", 0x19)
 
 
 @dataclass

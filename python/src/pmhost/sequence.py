@@ -10,15 +10,15 @@ from . import _library as at
 from . import clock
 from ._library import library
 from .bus.ones import is_ones
-from .course import FAULTS, REGISTERS, TRIES, CourseEnd, Job
-from .errors import accepted, name_of
+from .course import REGISTERS, TRIES, CourseEnd, Job, fault_words
+from .errors import accepted
 from .host import Host
 from .looks import FAULT_LIMITS, Looks
 from .operation import ON, same_command
 from .packets import read_write
 from .states import Bus, Sending, Step
 from .transfers import Transfers
-from .values import CODES, LOOKED_AT, NAMES, code_of, frame_bytes, whole
+from .values import CODES, LOOKED_AT, NAMES, code_of, frame_bytes, is_true, whole
 from .voltages import MOST_WISH, GivenVoltage, given_microvolts
 
 REFERENCE = ctypes.byref
@@ -314,9 +314,7 @@ class Sequence:
 
     def write_ended(self, acked: bool) -> Step:
         """A write was sent, and acknowledged or not."""
-        if not isinstance(acked, bool):
-            raise TypeError(f"acked: True or False is wanted, and not {acked!r}")
-        return self.host.step_of(library.pm_sequence_write_ended(REFERENCE(self._image), self.host.reference, acked))
+        return self.host.step_of(library.pm_sequence_write_ended(REFERENCE(self._image), self.host.reference, is_true(acked, "acked")))
 
     def read_ended(self, answer: bytes) -> Step:
         """A request was sent, and these bytes came back, the read address first; none if there was no answer. Of a read of a rail the step is
@@ -369,7 +367,7 @@ class Sequence:
                     if ask is not None and not kept.has_written and not kept.is_answered and (why := ask()):
                         return Said("nobody", self.begun, True, fault=why)
         except BaseException:
-            self.give_up()
+            self.host.give_up(self._hear)
             raise
 
     def _wait(self, said: Said) -> int:
@@ -379,14 +377,8 @@ class Sequence:
 
     def _hear(self, sending: Sending, came: bytes | bool) -> Step:
         """The list hears what came of a job's frame."""
-        if self.host.listener is not None:
-            self.host.listener.told(sending, came)
+        self.host.tell(sending, came)
         return self.write_ended(came) if isinstance(came, bool) else self.read_ended(came)
-
-    def give_up(self) -> None:
-        """Ends the open job: its frames that are left aren't sent, and count as failed."""
-        while (sending := self.host.frame()) is not None:
-            self._hear(sending, b"" if sending.is_request else False)
 
 
 def read_of_rail(bus: Bus, host: Host, sending: Sending) -> bytes:
@@ -412,11 +404,6 @@ def ordered(host: Host, sending: Sending) -> Job:
     """The order that a write begins."""
     found = read_write(host.address, sending.frame)
     return Job("order", NAMES[found.code], found.word)
-
-
-def fault_words(number: int) -> str:
-    """What was wrong with an answer."""
-    return FAULTS.get(number) or (name_of(number) if number else "")
 
 
 def said_of(image: at.SaidImage, is_end: bool) -> Said:

@@ -40,17 +40,6 @@ class Step:
         return self.kind != "next"
 
 
-class Listener(Protocol):
-    """What hears all that a host hears, as for a log."""
-
-    def told(self, sending: Sending, came: bytes | bool) -> None:
-        """What came of a frame: of a write whether it was acknowledged, of a request the answer, the read address first, or nothing.
-        A frame that was given up unsent counts as one that failed."""
-
-    def restarted(self) -> None:
-        """The host forgets all."""
-
-
 @dataclass(frozen=True)
 class Known:
     """What is known of a register: its word, if that is confirmed, and the words that it may hold, None for any."""

@@ -6,11 +6,10 @@ from dataclasses import replace
 from typing import TYPE_CHECKING, Callable, Optional
 
 from . import turn_on
-from .course import Job
+from .course import Job, near_word
 from .delivered import Delivered, delivered_of, judge_margin, limit_notes, silence_words, silent_limits
 from .looks import Looks
 from .operation import MARGINS, ON, selected_by
-from .rounded import near_word
 from .sequence import Heard, RailHeard, Rules, Said, Sequence, SequenceStep, Wishes
 from .states import Bus, Step
 from .zeros import believed
@@ -100,8 +99,8 @@ class StepRun:
         """What was heard of its rail."""
         return self.list.heard(self.place - self.lists.first)
 
-    def carry_out(self, after_order: Optional[Callable[[Job, Step], object]] = None, ask: Optional[Callable[[], str]] = None,
-                  accept: Optional[int] = None) -> Said:
+    def run(self, after_order: Optional[Callable[[Job, Step], object]] = None, ask: Optional[Callable[[], str]] = None,
+            accept: Optional[int] = None) -> Said:
         """Goes on to its end, or until `before_order` stops it. If an order differs and the held word is `accept` microvolts near, and within
         the limits, the step begins anew to that word, once a register. `ask` is that of `Sequence.run`. MarginRefused, TrimRefused, ChangedRefused, and
         NotBelieved if zeros of WRITE_PROTECT aren't believed."""
@@ -113,10 +112,10 @@ class StepRun:
             return None if after_order is None else after_order(order, step)
 
         count = len(self.held)
-        self._go(after, ask)
+        self._run(after, ask)
         while len(self.held) > count:
             count = len(self.held)
-            self.want({**self.step.wishes, **self.held})._go(after, ask)
+            self.want({**self.step.wishes, **self.held})._run(after, ask)
         return self.end
 
     def _is_known_on(self) -> bool:
@@ -129,7 +128,7 @@ class StepRun:
             return None
         return near_word(self.part.host, self.step.output, register, self.step.wishes[register], accept)
 
-    def _go(self, after_order: Callable[[Job, Step], object], ask: Optional[Callable[[], str]]) -> None:
+    def _run(self, after_order: Callable[[Job, Step], object], ask: Optional[Callable[[], str]]) -> None:
         """The same, up to an order that differs and is near."""
         if self.trims is not None:
             self.trims.ask(self.step.output, self._due is None)
@@ -184,7 +183,7 @@ class StepRun:
 
 def look_at(part: Device, output: int, looks: Looks, before: Heard = Heard(), must: bool = False) -> Delivered:
     """What a rail does now, by what its host knows. `before` is STATUS_WORD before the first order; it has to deliver if it `must`."""
-    run = StepRun(part, replace(SequenceStep.rests(0, output, looks), before=before, must=must), 1)
-    run.carry_out()
-    assert run.delivered is not None
-    return run.delivered
+    look = StepRun(part, replace(SequenceStep.rests(0, output, looks), before=before, must=must), 1)
+    look.run()
+    assert look.delivered is not None
+    return look.delivered

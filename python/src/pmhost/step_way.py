@@ -9,7 +9,8 @@ from . import clock
 from .device import Device
 from .operation import ON
 from .rails import Rail
-from .way import Knowledge
+from .values import MISSABLE
+from .way import Knowledge, known_of
 
 UNKNOWN = Knowledge(None, None, {})
 
@@ -28,14 +29,6 @@ class Column:
     has_ordered: bool = False
 
 
-def known_of(part: Device | None, output: int) -> Knowledge:
-    """What is known of an output of a part, nothing if its bus wasn't opened."""
-    if part is None:
-        return UNKNOWN
-    state = part.host.rail(output)
-    return Knowledge(state.is_on, None if state.band is None else (state.band.least.microvolts, state.band.greatest.microvolts), {})
-
-
 class StepWay:
     """Of these rails, in the order of their steps; `part_of` has the part of a rail, None if its bus wasn't opened."""
 
@@ -45,7 +38,9 @@ class StepWay:
         self.end()
 
     def known(self, rail: Rail) -> Knowledge:
-        return known_of(self.part_of(rail), rail.output)
+        """What is known of a rail but for its bounds, nothing if its part's bus wasn't opened."""
+        part = self.part_of(rail)
+        return UNKNOWN if part is None else known_of(part, rail.output, MISSABLE)
 
     def begin(self, words: str, rail: Rail) -> None:
         """The step of a rail begins."""

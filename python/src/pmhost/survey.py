@@ -68,7 +68,6 @@ class Commanded:
         found = self.cells[register].possible
         return found[0] if found is not None and len(found) == 1 else None
 
-
     def would(self, operation: int) -> int | None:
         """What it would command by a byte of OPERATION, if that is known."""
         selected = selected_by(operation)
@@ -111,7 +110,7 @@ def looked_at(part: Device, output: int, looks: Looks | None) -> tuple[Commanded
     """The same, and what its rail does: also if the survey comes to no end, since another source may decide or a register is missing."""
     part.transfers = Transfers()
     run = StepRun(part, SequenceStep.surveys(0, output, looks), SURVEY_TRIES)
-    found = behind(part, output, run.carry_out(ask=lambda: part.transfers.why()))
+    found = behind(part, output, run.run(ask=lambda: part.transfers.why()))
     return found, look_at(part, output, looks) if looks is not None and found.unended else run.delivered
 
 
@@ -140,19 +139,31 @@ def answers(part: Device) -> bool:
     return Reads(part.bus, part.host.address).packet(CAPABILITY).has_answer
 
 
+def learned_format(part: Device, output: int) -> Format | None:
+    """The format of an output, which is learned if it isn't known; None if that gives none."""
+    if part.host.format(output) is None:
+        part.host.learn(output)
+        part.run()
+    return part.host.format(output)
+
+
 def holds_zeros(part: Device) -> bool:
     """No zeros are known of WRITE_PROTECT, or a second check gives them too."""
     if only_word(part, 0, REGISTER) != 0:
         return True
-    part.host.check(0, REGISTER)
-    return part.run().kind == "done" and only_word(part, 0, REGISTER) == 0
+    return not why_unread(part, 0, REGISTER) and only_word(part, 0, REGISTER) == 0
+
+
+def why_unread(part: Device, output: int, register: str) -> str:
+    """Reads a register: why it gave no good answer, nothing if it gave one."""
+    part.host.check(output, register)
+    return "" if part.run().kind == "done" else part.transfers.why() or "no good answer"
 
 
 def read(part: Device, output: int, register: str) -> None:
     """Reads a register, whatever comes. One that the part doesn't have is left out (L7)."""
     with contextlib.suppress(LimitRefused):
-        part.host.check(output, register)
-        part.run()
+        why_unread(part, output, register)
 
 
 def why_not_off(part: Device, output: int) -> str:

@@ -1,4 +1,4 @@
-"""Texts of lines, as the programs read them."""
+"""Texts: their lines, as the programs read them, and bytes as pairs of digits."""
 from __future__ import annotations
 
 
@@ -15,6 +15,6 @@ def numbered(text: bytes) -> list[tuple[int, bytes]]:
     return [(number, line) for number, line in enumerate(lines_of(text), 1) if line.strip(b" ") and not line.startswith(b"#")]
 
 
-def in_hexadecimal(frame: bytes) -> str:
+def in_hex(frame: bytes) -> str:
     """Bytes as pairs of digits."""
     return " ".join(f"{byte:02X}" for byte in frame)

@@ -12,14 +12,13 @@ class Transfers:
     the good ones. What answers say is read once somebody asks for it."""
 
     def __init__(self) -> None:
-        self.failed: list[str] = []
-        self.error: OSError | None = None
-        self.has_written = self.has_stored = self.has_turned_on = False
-        self._answers: list[tuple[int, bytes, bytes]] = []
+        self.has_written = self.has_stored = False
+        self.begin()
 
     def begin(self) -> None:
         """A course's next job begins: nothing is said of the transfers before but whether there was a write."""
-        self.failed, self.error, self._answers, self.has_turned_on = [], None, [], False
+        self.failed, self._answers, self.has_turned_on = list[str](), list[tuple[int, bytes, bytes]](), False
+        self.error: OSError | None = None
 
     def fault(self, error: OSError) -> None:
         """A transfer failed with an error."""

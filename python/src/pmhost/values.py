@@ -11,16 +11,14 @@ from .errors import NumberRefused, accepted
 from .voltages import GivenVoltage, Voltage, given_microvolts, of_microvolts
 
 # The cells of a host, by their names in PMBus 1.3 Part II.
-CODES = {
-    "OPERATION": 0x01,
-    "VOUT_COMMAND": 0x21,
-    "VOUT_MAX": 0x24,
-    "VOUT_MARGIN_HIGH": 0x25,
-    "VOUT_MARGIN_LOW": 0x26,
-    "VOUT_MIN": 0x2B,
-    "WRITE_PROTECT": 0x10,
-}
+CODES = {"OPERATION": 0x01, "VOUT_COMMAND": 0x21, "VOUT_MAX": 0x24, "VOUT_MARGIN_HIGH": 0x25, "VOUT_MARGIN_LOW": 0x26, "VOUT_MIN": 0x2B,
+         "WRITE_PROTECT": 0x10}
 NAMES = {code: name for name, code in CODES.items()}
+# The device's own, those of an output, and of these the voltages; and those of one byte.
+DEVICE = "WRITE_PROTECT"
+REGISTERS = tuple(name for name in CODES if name != DEVICE)
+VOLTAGES = tuple(name for name in REGISTERS if name.startswith("VOUT_"))
+BYTES = ("OPERATION", DEVICE)
 # The registers of an output that a part may lack: those of a host, and those by which a rail is judged.
 MISSABLE = ("VOUT_MAX", "VOUT_MARGIN_HIGH", "VOUT_MARGIN_LOW", "VOUT_MIN")
 LOOKED_AT = ("STATUS_WORD", "READ_VOUT")
@@ -47,6 +45,13 @@ def code_of(register: object) -> int:
     if code not in NAMES:
         raise ValueError(f"register: {code:02X}h isn't one of {', '.join(CODES)}")
     return code
+
+
+def is_true(answer: object, what: str) -> bool:
+    """An answer of True or False."""
+    if not isinstance(answer, bool):
+        raise TypeError(f"{what}: True or False is wanted, and not {answer!r}")
+    return answer
 
 
 def decimal_of(millionths: int) -> Decimal:

@@ -9,9 +9,9 @@ from .apply import Board
 from .course import Course, Job
 from .device import Device
 from .parts import BoardPart
-from .rail_run import Setting
 from .rails import SETTINGS, Rail
 from .rehearsal import modelled
+from .settings import Setting
 from .states import Step
 from .survey import only_word
 
@@ -89,7 +89,7 @@ class Way:
         def after(order: Job, _: Step) -> None:
             self.rows[rail.name].append(WayRow(self.order_words(self.board.setting(rail, order.register)), "", PLANNED, self.known(rail, model)))
 
-        model.host.run_course(Course.words(rail.output, self.board.wanted(rail)), model.bus, after_order=after)
+        Course.words(rail.output, self.board.wanted(rail)).run(model.host, model.bus, after_order=after)
 
     def known(self, rail: Rail, part: Device) -> Knowledge:
         return known_of(part, rail.output, self.parts[rail.part].lacks)

@@ -5,7 +5,7 @@ from __future__ import annotations
 from dataclasses import dataclass, field
 
 from . import voltages
-from .apply import word_of
+from .course import near_word
 from .delivered import Delivered
 from .device import Device
 from .errors import Refused
@@ -13,10 +13,10 @@ from .looks import Looks
 from .on_off import BY_COMMAND, BY_PIN, unheeded
 from .rails import SETTINGS, Rail
 from .readings import KINDS, Reading, read
-from .rounded import near_word
+from .settings import word_of
 from .status import BITS
 from .survey import Commanded, commanded, looked_at
-from .values import LOOKED_AT
+from .values import DEVICE, LOOKED_AT
 from .voltages import of_microvolts
 
 # The register that a bit of STATUS_WORD points to; those of the device are read without a page.
@@ -92,7 +92,7 @@ def findings(part: Device, output: int, looks: Looks | None = None, place: Place
     if is_late(seen) and take(TIMES[0]).word is not None:
         for name in TIMES[1:]:
             take(name)
-    part.host.check(0, "WRITE_PROTECT")
+    part.host.check(0, DEVICE)
     part.run()
     missing, unended = seen.state.missing, seen.state.unended
     seen.state = commanded(part, output)
@@ -139,8 +139,9 @@ def of_rail(seen: Findings) -> str:
         return (f"it is on though OPERATION turns it off: ON_OFF_CONFIG is {config:02X}, by which OPERATION isn't listened to: write it, "
                 "or use the CONTROL pin")
     is_bad = seen.delivered is None or seen.delivered.is_bad
+    undelivered = seen.delivered.said if seen.delivered is not None and is_bad else ""
     return (fault(seen) or ("" if "OFF" not in status else why_off(seen, config)) or unlike_limits(seen)
-            or (why_not_good(seen) if "POWER_GOOD#" in status and is_bad else "") or undelivered(seen) or unlike_file(seen))
+            or (why_not_good(seen) if "POWER_GOOD#" in status and is_bad else "") or undelivered or unlike_file(seen))
 
 
 def fault(seen: Findings) -> str:
@@ -205,11 +206,6 @@ def unlike_limits(seen: Findings) -> str:
     moves = f"{'; '.join(seen.trims)}: `off {place}`, then mend that, or look at its sense lines" if seen.trims else (
         f"`off {place}`, then look at what else moves it, as VOUT_TRIM, VOUT_CAL_OFFSET or its sense lines")
     return f"{seen.value('READ_VOUT')}, OUTSIDE {least} to {most}, though the output commands {seen.goal}: {moves}"
-
-
-def undelivered(seen: Findings) -> str:
-    """What a look says of a rail that doesn't deliver what it is commanded."""
-    return seen.delivered.said if seen.delivered is not None and seen.delivered.is_bad else ""
 
 
 def unlike_file(seen: Findings) -> str:

@@ -12,9 +12,9 @@ from typing import Callable, TypeVar
 from .host import Host
 from .states import Bus
 from .transfers import Transfers
-from .values import CODES
+from .values import CODES, DEVICE
 
-ADDRESS, REGISTER = 0x48, "WRITE_PROTECT"
+ADDRESS, REGISTER = 0x48, DEVICE
 REQUEST, ZEROS = bytes([ADDRESS << 1, CODES[REGISTER]]), b"\0\0"
 T = TypeVar("T")
 

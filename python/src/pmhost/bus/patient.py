@@ -10,12 +10,12 @@ A read that may have been heard is never repeated.
 from __future__ import annotations
 
 import errno
-from typing import Protocol
 
 from .. import clock
 from ..errors import FrameRefused
 from ..operation import turns_on
 from ..packets import read_plain
+from ..states import Bus
 
 CAPABILITY, STORE_USER_ALL, RESTORE_USER_ALL = 0x19, 0x15, 0x16
 # Seconds before the first question; each further wait is twice as long.
@@ -55,23 +55,13 @@ def is_command(frame: bytes, code: int) -> bool:
     return len(frame) == 3 and frame[1] == code
 
 
-class Bare(Protocol):
-    """A bus below."""
-
-    def write(self, frame: bytes) -> bool:
-        """As that of Bus."""
-
-    def read(self, request: bytes, count: int) -> bytes:
-        """As that of Bus."""
-
-
 class PatientBus:
     """A bus over another one. `delay` is the wait before each transfer and `busy_timeout` how long it waits for a busy part after
     each write, both in milliseconds; without `busy_timeout` 200, 1,000 after a restore and 5,000 after a store. `ready` is a command code
     and bits: the part is ready if a plain read of this byte has all of these bits, by a right packet error code. `store_time` stands in the place of
     the 5,000 after a store."""
 
-    def __init__(self, bus: Bare, delay: int = 0, busy_timeout: int | None = None, ready: tuple[int, int] | None = None,
+    def __init__(self, bus: Bus, delay: int = 0, busy_timeout: int | None = None, ready: tuple[int, int] | None = None,
                  store_time: int | None = None) -> None:
         self.bus, self.delay, self._busy_timeout, self.ready, self.store_time = bus, delay, busy_timeout, ready, store_time
         # Whether a part that acknowledged nothing for its time isn't waited for again before it does, and how many transfers were acknowledged.
@@ -110,7 +100,7 @@ class PatientBus:
         """Whether a transfer was acknowledged. If it wasn't, some adapters don't say whether its address was."""
         self.heard, self.is_silent = self.heard + is_heard, not is_heard
 
-    def _settled(self) -> Bare:
+    def _settled(self) -> Bus:
         """The bus below, after the wait before a transfer."""
         if self.delay:
             clock.wait(self.delay / 1000)

@@ -1,11 +1,11 @@
-"""A bus of the package smbus2."""
+"""`Smbus2Bus`: a bus that the package smbus2 has opened."""
 from __future__ import annotations
 
 import errno
 import os
 from typing import Any
 
-from .linux import Calls, Kernel, NoTransfer, lock_address
+from .linux import Kernel, NoTransfer, lock_address
 from .ones import given
 
 
@@ -19,13 +19,13 @@ class Smbus2Bus:
     `share` is given. `close` frees the addresses, and leaves the bus that was handed in open. A bus that has no number of an
     open file as `fd` isn't one of this machine, and nothing is locked."""
 
-    def __init__(self, bus: Any, share: bool = False, kernel: Calls | None = None) -> None:
+    def __init__(self, bus: Any, share: bool = False, kernel: Kernel | None = None) -> None:
         if not callable(getattr(bus, "i2c_rdwr", None)):
             raise TypeError(f"bus: an open smbus2.SMBus is wanted, and not {bus!r}")
         import smbus2  # type: ignore[import]
 
         self._bus, self._message = bus, smbus2.i2c_msg
-        self._kernel: Calls = kernel or Kernel()
+        self._kernel = kernel or Kernel()
         self._locked: set[int] = set()
         self._is_closed = False
         self._file: int | None = None

@@ -12,10 +12,10 @@ import shutil
 import subprocess
 from collections.abc import Iterator
 
-from ..bus.linux import Calls, Kernel, lock_address
+from ..bus.linux import Kernel, lock_address
 from ..errors import FrameRefused
 from ..packets import read_request
-from ..texts import in_hexadecimal, numbered
+from ..texts import in_hex, numbered
 
 # Debian puts i2ctransfer outside of an ordinary user's PATH.
 MORE_PLACES = "/usr/sbin", "/sbin"
@@ -59,14 +59,14 @@ class Transfer:
         """Runs the command: the line of the trace, and whether it went well. i2ctransfer has status 0 if an adapter
         shows a failure only by a number of messages: any word on standard error is a failure, as is a byte that is missing."""
         ran = subprocess.run([tool, *self.words(bus)[1:]], capture_output=True, text=True)
-        sent, back = in_hexadecimal(self.frame), BYTES.findall(ran.stdout)
+        sent, back = in_hex(self.frame), BYTES.findall(ran.stdout)
         wanted = self.answer or 0
         if ran.returncode or ran.stderr or len(back) != wanted or BYTES.sub("", ran.stdout).strip():
             said = " ".join((ran.stderr or ran.stdout).split())
             return f"# failed: {sent}: {said or f'{len(back)} of {wanted} bytes came back'}", False
         if self.answer is None:
             return sent, True
-        return f"{sent} / {in_hexadecimal(bytes([self.frame[0] + 1, *(int(byte, 16) for byte in back)]))}", True
+        return f"{sent} / {in_hex(bytes([self.frame[0] + 1, *(int(byte, 16) for byte in back)]))}", True
 
 
 def transfers(text: bytes) -> list[Transfer | None]:
@@ -81,7 +81,7 @@ def frame_of(number: int, line: str) -> str:
     frame = [int(byte, 16) for byte in data.split()]
     if not found or int(count) != len(frame) or int(address, 16) > 0x7F:
         raise Refused(f"line {number}: no command as i2ctransfer -y 7 w1@0x58 0x20 r2")
-    return in_hexadecimal(bytes([int(address, 16) << 1, *frame])) + (" /" if read else "")
+    return in_hex(bytes([int(address, 16) << 1, *frame])) + (" /" if read else "")
 
 
 def frames(text: bytes) -> list[str]:
@@ -95,7 +95,7 @@ def commands(text: bytes, bus: str) -> list[str]:
 
 
 @contextlib.contextmanager
-def locked(kernel: Calls, bus: str, addresses: set[int]) -> Iterator[None]:
+def locked(kernel: Kernel, bus: str, addresses: set[int]) -> Iterator[None]:
     """The addresses are this program's meanwhile. NoBus if another one drives one of them. If a bus can't be opened,
     i2ctransfer itself says so."""
     path = f"/dev/i2c-{bus}"
@@ -112,7 +112,7 @@ def locked(kernel: Calls, bus: str, addresses: set[int]) -> Iterator[None]:
         kernel.close(file)
 
 
-def run(text: bytes, bus: str, share: bool = False, kernel: Calls | None = None) -> Iterator[tuple[str, bool]]:
+def run(text: bytes, bus: str, share: bool = False, kernel: Kernel | None = None) -> Iterator[tuple[str, bool]]:
     """Runs the command of each frame: the lines of the trace, and whether each went well. i2ctransfer is looked for in PATH,
     /usr/sbin and /sbin. A faulty line is refused before any command is run, and an address that another program drives
     (NoBus), unless `share` is given."""

@@ -47,7 +47,8 @@ class Transfer:
         firsts = [part[0][0] for part in self.parts if part]
         if address is not None and self.address() not in (address, None):
             return "another device"
-        if self.is_unheard():
+        if len(self.parts) == 1 and [is_acknowledged for _, is_acknowledged in self.parts[0]] == [False]:
+            # Only the address was sent: no frame, so no fault of one.
             return "no device acknowledged the address"
         if self.ending:
             return self.ending
@@ -60,10 +61,6 @@ class Transfer:
         if firsts[0] & 1:
             return "a read alone"
         return "the second part is no read of the device" if firsts[1:] not in ([], [firsts[0] + 1]) else None
-
-    def is_unheard(self) -> bool:
-        """Only the address was sent, and wasn't acknowledged: no frame, so no fault of one."""
-        return len(self.parts) == 1 and [is_acknowledged for _, is_acknowledged in self.parts[0]] == [False]
 
     def unacknowledged(self) -> Iterator[str]:
         """The first byte of each part that wasn't acknowledged; a host doesn't acknowledge the last one it reads."""

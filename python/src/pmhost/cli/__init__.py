@@ -1,9 +1,7 @@
 """The command `pmhost`: each module of `MODULES` has a command or a group of them.
 
-`add(commands)` of a module adds its subparsers, and sets `run` of each by `set_defaults`. `run(arguments)` carries the
-command out and answers the status; `arguments.call` is what all commands of a call share. A module may set `judge_file` and
-`judge`, too, which raise `BadCall` before any command of the call is carried out: `judge_file` gives the call outputs and
-limits, `judge` looks at what the whole call has. A command that uses a bus adds `bus_options`.
+`add(commands)` of a module adds its subparsers, and sets the `Task` of each by `set_defaults`. A command that uses a bus adds `bus_options`. What
+the parser answers becomes a `Command`; what all commands of a call share is a `Call`.
 """
 from __future__ import annotations
 
@@ -17,23 +15,25 @@ from types import ModuleType
 from .._started import take_interruptions
 from .._version import __version__
 from ..bus import NoBus
-from ..bus.linux import Calls
+from ..bus.linux import Kernel
 from ..errors import PmhostError
-from . import capture, faults, known, margins, names, orders, probe, rails, sequence, streams, torture, up, why
+from . import capture, faults, known, margins, names, power, probe, rails, reads, registers, stores, streams, torture, up, way_up, why
 from .about import WHOLE
 from .again import are_several
 from .answer import Answer
-from .completion import bash
+from .completion import bash, flags_of
 from .call import Call, complain
-from .parser import OF_A_BUS, BadCall, Parser, bus_options, flag_of, own_options, shown, usage_of
+from .command import Command, command_of
+from .options import OF_A_BUS, bus_options, flag_of, own_options, usage_of
+from .parser import BadCall, Parser, shown
 from .signals import Interrupted, interruptible
 
 # The modules of the commands, in the order of the help.
-MODULES: list[ModuleType] = [probe, orders, why, known, rails, up, margins, faults, torture, capture]
+MODULES: list[ModuleType] = [probe, reads, registers, power, stores, why, known, rails, up, margins, faults, torture, capture]
 # The commands that have jobs of their own, between which a + stands: the call has no other command.
 OWN_JOBS = ("faults", "torture")
 
-BAD_CALL, INTERRUPTED = 2, 130
+BAD_CALL = 2
 
 
 @functools.cache
@@ -53,14 +53,10 @@ def parser() -> tuple[Parser, dict[str, argparse.ArgumentParser]]:
 
 
 @functools.cache
-def options_of(found: argparse.ArgumentParser) -> set[str]:
-    """The options of a parser, and of those below it."""
-    options: set[str] = set()
-    for action in found._actions:
-        options.update(action.option_strings)
-        if isinstance(action, argparse._SubParsersAction):
-            options.update(*(options_of(each) for each in action.choices.values()))
-    return options
+def all_options() -> set[str]:
+    """The options of all commands."""
+    whole, commands = parser()
+    return {flag for each in (whole, *commands.values()) for flag in flags_of(each)}
 
 
 def parts_of(words: list[str]) -> list[list[str]]:
@@ -68,20 +64,15 @@ def parts_of(words: list[str]) -> list[list[str]]:
     takes one after a blank for what it is."""
     if words[:1] and words[0] in OWN_JOBS:
         return [words]
-    parts: list[list[str]] = [[]]
-    for word in words:
-        if word == "+":
-            parts.append([])
-        else:
-            parts[-1].append(f" {word}" if re.match(r"-[.0-9]", word) else word)
+    parts = names.split([f" {word}" if re.match(r"-[.0-9]", word) else word for word in words])
     if len(parts) > 1 and not all(parts):
         raise BadCall("+: a command stands before it and after it, as learn 0 + clear 0")
     return parts
 
 
-def commands_of(words: list[str]) -> list[argparse.Namespace]:
-    """The commands of a command line, each with its own words as `said`."""
-    options, found = options_of(parser()[0]), list[argparse.Namespace]()
+def commands_of(words: list[str]) -> list[Command]:
+    """The commands of a command line."""
+    options, found = all_options(), list[Command]()
     # argparse would take the file behind a bare --store for its value.
     whole = parts_of([rails.STORE_ALL if word == "--store=always" else word for word in words])
     for part in [each for part in whole for each in names.parted(part, all_valued())]:
@@ -92,17 +83,16 @@ def commands_of(words: list[str]) -> list[argparse.Namespace]:
     return found
 
 
-def read_command(part: list[str], named: names.Named | None) -> argparse.Namespace:
+def read_command(part: list[str], named: names.Named | None) -> Command:
     """A command by its own words, which may be about a rail of a file."""
     whole, commands = parser()
-    arguments = whole.parse_args(part)
-    has_value = valued(whole) | valued(commands[arguments.command])
-    arguments.said = " ".join([arguments.command, *words_behind(arguments.command, part, has_value)])
-    if named is not None:
-        names.attach(arguments, named)
-        if named.rail is None:
-            sequence.attach(arguments, named.file)
-    return arguments
+    found = whole.parse_args(part)
+    has_value = valued(whole) | valued(commands[found.command])
+    command = command_of(found, " ".join(shown(part[at].removeprefix(" ")) for at in names.places_of(part, has_value)))
+    if named is None:
+        return command
+    command = names.attached(command, named)
+    return way_up.attached(command) if named.rail is None else command
 
 
 @functools.cache
@@ -117,32 +107,14 @@ def valued(found: argparse.ArgumentParser) -> set[str]:
     return {flag for action in found._actions if action.nargs != 0 for flag in action.option_strings}
 
 
-def words_behind(command: str, part: list[str], has_value: set[str]) -> list[str]:
-    """The words of a command without its options, of which these have a value."""
-    found, words = [], iter(part)
-    for word in words:
-        if word in has_value:
-            next(words, None)
-        elif not re.match("-.*[A-Za-z]", word):
-            found.append(shown(word.removeprefix(" ")))
-    return found[found.index(command) + 1:]
-
-
-def completion() -> int:
-    """Prints the completion for bash."""
-    streams.write(bash(*parser()).rstrip("\n"))
-    return 0
-
-
 def run_commands(call: Call) -> int:
     """The status of a call's commands."""
     status = 0
-    for arguments in call.commands:
-        if status and not getattr(arguments, "is_question", False) and not getattr(arguments, "goes_on", False):
+    for command in call.commands:
+        if status and not command.task.is_question and not command.goes_on:
             continue
-        call.begin(arguments)
-        is_order = getattr(arguments, "is_order", False)
-        status = max(status, call.other_model(arguments) or is_order and call.no_part(arguments) or int(arguments.run(arguments)))
+        call.begin(command)
+        status = max(status, call.other_model(command) or command.task.is_order and call.no_part(command) or command.task.run(call, command))
         call.claim()
     return status or (call.ordered.look(call) if are_several(call.commands) else 0)
 
@@ -163,7 +135,7 @@ def run_to_the_end(call: Call) -> int:
     return status
 
 
-def judged(words: list[str], kernel: Calls | None) -> Call:
+def judged(words: list[str], kernel: Kernel | None) -> Call:
     """The call of a command line, judged whole before anything is opened."""
     call = Call(commands_of(words), kernel)
     judge(call)
@@ -171,15 +143,10 @@ def judged(words: list[str], kernel: Calls | None) -> Call:
 
 
 def judge(call: Call) -> None:
-    """Judges each command of a call, and what they have in common. BadCall."""
-    for arguments in call.commands:
-        arguments.call = call
-        if hasattr(arguments, "judge_file"):
-            arguments.judge_file(arguments)
+    """Judges each command of a call, and what they have in common: first the files, which give the call outputs and limits. BadCall."""
+    call.commands = [names.with_rails(call, each) for each in call.commands]
     call.judge()
-    for arguments in call.commands:
-        if hasattr(arguments, "judge"):
-            arguments.judge(arguments)
+    call.commands = [each.task.judge(call, each) or each for each in call.commands]
 
 
 def fail(words: list[str], why: str, end: str, status: int, call: Call | None = None) -> int:
@@ -194,7 +161,7 @@ def fail(words: list[str], why: str, end: str, status: int, call: Call | None = 
     return status
 
 
-def main(words: list[str] | None = None, kernel: Calls | None = None) -> int:
+def main(words: list[str] | None = None, kernel: Kernel | None = None) -> int:
     """The status of the command line, over the calls of a kernel. The last line says what is left unprotected."""
     calls: list[Call] = []
     status = run(list(sys.argv[1:] if words is None else words), kernel, calls)
@@ -205,7 +172,7 @@ def main(words: list[str] | None = None, kernel: Calls | None = None) -> int:
     return status
 
 
-def run(given: list[str], kernel: Calls | None, calls: list[Call]) -> int:
+def run(given: list[str], kernel: Kernel | None, calls: list[Call]) -> int:
     """The same, with the call that is made put into a list."""
     closed, call = streams.open_missing(), None
     try:
@@ -213,7 +180,8 @@ def run(given: list[str], kernel: Calls | None, calls: list[Call]) -> int:
         if 1 in closed:
             raise BadCall("standard output is closed: nothing was sent")
         if given == ["--completion"]:
-            return completion()
+            streams.write(bash(*parser()).rstrip("\n"))
+            return 0
         call = judged(given, kernel)
         call.words = shlex.join(given)
         calls.append(call)
@@ -226,9 +194,9 @@ def run(given: list[str], kernel: Calls | None, calls: list[Call]) -> int:
     except Interrupted:
         during = f" during {call.under_way}" if call and call.under_way else ""
         unsure = f"{call.unsure()}{call.unsaid}" if call and call.under_way else "no command was begun"
-        return fail(given, f"interrupted{during}: {unsure}", "interrupted", INTERRUPTED, call)
+        return fail(given, f"interrupted{during}: {unsure}", "interrupted", streams.INTERRUPTED, call)
     except KeyboardInterrupt:
-        return fail(given, "interrupted", "interrupted", INTERRUPTED, call)
+        return fail(given, "interrupted", "interrupted", streams.INTERRUPTED, call)
     except streams.NoStream as fault:
         return fail(given, f"{fault}{call.unsaid if call else ''}", "stream", BAD_CALL)
     except NoBus as fault:

@@ -2,17 +2,24 @@
 middle of a call brings its stored words back."""
 from __future__ import annotations
 
-import argparse
 from typing import TYPE_CHECKING
 
+from ..settings import Restarted, Stopped
+from ..survey import why_unread
 from .answer import Answer, in_digits
 
 if TYPE_CHECKING:
     from .call import Call
+    from .command import Command
 
 
 # The status where a part restarted, and nothing else went wrong.
 RESTARTED = 3
+
+
+def status_of(stopped: Stopped) -> int:
+    """The status of what stopped, or is stopped by."""
+    return RESTARTED if isinstance(stopped, Restarted) else 1
 
 
 class Ordered:
@@ -34,9 +41,7 @@ class Ordered:
         for (name, output, register), (word, command) in self._words.items():
             part, where = call.places()[name].pmbus(), register if output is None else f"{register} of output {output}"
             whose = f" of {name}" * bool(name)
-            part.host.check(output or 0, register)
-            if part.run().kind != "done":
-                why = part.transfers.why() or "no good answer"
+            if why := why_unread(part, output or 0, register):
                 return self._told(call, command, "unknown", 1, f"whether {where}{whose} still holds its word isn't known: {why}")
             held = part.host.confirmed_word(output or 0, register)
             if held != word:
@@ -52,6 +57,6 @@ class Ordered:
         return call.say(Answer(command, end, status=status, why=why))
 
 
-def are_several(commands: list[argparse.Namespace]) -> bool:
+def are_several(commands: list[Command]) -> bool:
     """Whether a call has several commands that send something."""
-    return sum(not getattr(each, "is_question", False) for each in commands) > 1
+    return sum(not each.task.is_question for each in commands) > 1

@@ -14,6 +14,7 @@ from ..began import now
 from ..delivered import Delivered
 from ..readings import KINDS
 from ..survey import Commanded
+from ..values import BYTES
 
 GREEN, RED, PLAIN = "\033[32m", "\033[31m", "\033[0m"
 # The part of an answer that is about none, or about several.
@@ -23,7 +24,7 @@ GOOD = re.compile(r"\b(confirmed|acknowledged|learned|within)\b")
 BAD = re.compile(r"\b(CUT|OUTSIDE|differs|unknown|refused|restart seen: yes)\b")
 
 # The registers of one byte.
-ONE_BYTE = {"OPERATION", "WRITE_PROTECT", *(name for name, kind in KINDS.items() if kind.size == 1)}
+ONE_BYTE = {*BYTES, *(name for name, kind in KINDS.items() if kind.size == 1)}
 
 
 @dataclass
@@ -61,11 +62,15 @@ class Answer:
             "output": self.output, "register": self.register, "word": in_digits(self.register, self.word),
             "volts": number(self.microvolts),
             "possible": None if self.possible is None else [in_digits(self.register, word) for word in self.possible],
-            "selected": found.selected, "faults_ignored": found.ignores_faults, "on": found.is_on,
-            "commands": None if found.least is None else [number(found.least), number(found.greatest)],
-            "limits": None if found.limits is None else [number(each) for each in found.limits],
+            **commanded_of(found), "limits": None if found.limits is None else [number(each) for each in found.limits],
             "within": found.is_within, **delivery_of(self.delivered), "missing": sorted(found.missing), "restart_seen": self.restart_seen, "rows": self.rows,
             "time": now(), **(where or NOWHERE)})
+
+
+def commanded_of(found: Commanded) -> dict[str, object]:
+    """What an output commands, in volts."""
+    return {"selected": found.selected, "faults_ignored": found.ignores_faults, "on": found.is_on,
+            "commands": None if found.least is None else [number(found.least), number(found.greatest)]}
 
 
 def delivery_of(found: Delivered | None) -> dict[str, object]:
@@ -91,12 +96,14 @@ def between(least: int, greatest: int) -> str:
     return voltages.shown(least) if greatest - least <= 1 else f"{voltages.shown(least)} to {voltages.shown(greatest)}"
 
 
-def has_colours() -> bool:
-    return sys.stdout.isatty() and not os.environ.get("NO_COLOR")
+def table(lines: list[tuple[str, ...]]) -> list[str]:
+    """The lines of a table, whose columns but for the last are as wide as their widest word."""
+    wide = [max(map(len, column)) for column in zip(*lines)][:-1]
+    return ["  ".join([*(word.ljust(width) for word, width in zip(line, wide)), line[-1]]).rstrip() for line in lines]
 
 
 def coloured(line: str) -> str:
     """The line in colours, if standard output is a terminal and NO_COLOR isn't set."""
-    if not has_colours():
+    if not sys.stdout.isatty() or os.environ.get("NO_COLOR"):
         return line
     return BAD.sub(rf"{RED}\1{PLAIN}", GOOD.sub(rf"{GREEN}\1{PLAIN}", line))

@@ -1,15 +1,14 @@
 """What the commands of one call share: its options, and its parts, each on its bus with a host that knows of it."""
 from __future__ import annotations
 
-import argparse
 import contextlib
 import sys
+from dataclasses import replace
 from typing import Any, Callable, Iterator
 
 from ..began import head_of
-from ..bus import LinuxBus, NoBus, PatientBus, Trace
-from ..bus.linux import BusTrace, Calls
-from ..part import ModelPartBus
+from ..bus import LinuxBus, NoBus, Trace
+from ..bus.linux import BusTrace, Kernel
 from ..parts import MODEL_BUS, BoardPart
 from ..device import Device
 from ..log import Log
@@ -21,8 +20,10 @@ from . import streams
 from .again import Ordered
 from .answer import NOWHERE, Answer, coloured
 from .back import WayBack
-from .parser import BEHIND, OPTIONS, BadCall
-from .place import Options, Place
+from .command import Command
+from .options import OPTIONS
+from .parser import BadCall
+from .place import Place
 from .protection import Protection
 
 MODEL_ADDRESS, MODEL_OUTPUTS, PASSES = 0x58, 2, 3
@@ -49,7 +50,7 @@ class Call:
     `maybe` says what the part may hold if the job under way is broken off once it has written, and `settled` what is certain
     of the command all the same."""
 
-    def __init__(self, commands: list[argparse.Namespace], kernel: Calls | None = None) -> None:
+    def __init__(self, commands: list[Command], kernel: Kernel | None = None) -> None:
         self.commands, self.kernel, self.words = commands, kernel, ""
         self._places: dict[str, Place] = {}
         self._trace: Trace | None = None
@@ -64,14 +65,12 @@ class Call:
         self.has_answered, self.identified, self.ordered = set[str](), set[str](), Ordered()
         self.named: Rail | None = None
         self.protection, self.back = Protection(self), WayBack(self)
-        self.protect: int | None = None
-        self.store_time: int | None = None
         self.bus: str | None = self._one("bus")
         self.address: int | None = self._one("address")
         self.outputs: int | None = self._one("outputs")
         self.passes: int = self._one("passes") or PASSES
-        self.lacks: tuple[str, ...] = self._one("lacks") or ()
-        self.has_trims = bool(self._all("trims"))
+        # What the one part has, wherever it is.
+        self.one_part = BoardPart(ONLY, "", 0, 0, lacks=self._one("lacks") or (), trims=bool(self._all("trims")))
         self.trace_path: str | None = self._one("trace")
         self._log_path: str | None = self._one("log")
         self.delay: int = self._one("delay") or 0
@@ -95,13 +94,8 @@ class Call:
     # ---- Options ----
 
     def _all(self, name: str) -> list[Any]:
-        found: list[Any] = []
-        for each in self.commands:
-            if not hasattr(each, name + BEHIND):
-                # A command without a bus refuses what stands in front of it by itself.
-                continue
-            found += getattr(each, name) + getattr(each, name + BEHIND)
-        return found
+        # A command without a bus refuses what stands in front of it by itself.
+        return [it for each in self.commands if each.uses_bus for it in each.given[name]]
 
     def _one(self, name: str) -> Any:
         found = self._all(name)
@@ -110,94 +104,89 @@ class Call:
         return found[0] if found else None
 
     @property
+    def board(self) -> Rails | None:
+        """The file of a board, which has the places of its parts."""
+        return self._rails if self._rails is not None and self._rails.is_board else None
+
+    @property
     def has_bus(self) -> bool:
         """Whether a command of the call uses a bus."""
-        return any(hasattr(each, "bus" + BEHIND) for each in self.commands)
+        return any(each.uses_bus for each in self.commands)
 
     def judge(self) -> None:
         """The options agree with one another. BadCall."""
         if self.is_timed and self.trace_path is None:
             raise BadCall("--trace-times: give --trace FILE, too")
-        if not self.has_bus or self._rails is not None and self._rails.is_board:
+        if not self.has_bus or self.board is not None:
             return
         if self.bus is None:
             raise BadCall("give a bus, as -b 1 for /dev/i2c-1, or -b model for a model part")
-        if self.bus != MODEL_BUS and self.address is None and not self._scans():
+        scans = len(self.commands) == 1 and self.commands[0].task.can_scan
+        if self.bus != MODEL_BUS and self.address is None and not scans:
             raise BadCall("give the part's address, as -a 58")
         for output in self.limits:
             if self.outputs is not None and output >= self.outputs:
                 raise BadCall(f"--limit: there is no output {output}, with --outputs {self.outputs}")
         for each in self.commands:
-            named = getattr(each, "output", None)
-            if named is not None and self.outputs is not None and named >= self.outputs:
+            if each.output is not None and self.outputs is not None and each.output >= self.outputs:
                 counted = f"0 to {self.outputs - 1}" if self.outputs > 1 else "0"
-                raise BadCall(f"{said(each)}: output {named}: give {counted}, with --outputs {self.outputs}")
+                raise BadCall(f"{each.said}: output {each.output}: give {counted}, with --outputs {self.outputs}")
 
-    def _scans(self) -> bool:
-        """Whether the only command looks for parts at all addresses."""
-        return len(self.commands) == 1 and getattr(self.commands[0], "can_scan", False)
-
-    def take_rails(self, arguments: argparse.Namespace, found: Rails) -> None:
+    def take_rails(self, command: Command, found: Rails) -> None:
         """What the parts have, and the limits, by a file of rails, counts for the whole call; a board file has their places,
         too. BadCall."""
         for name in OF_ONE_PART if found.is_board else OF_ONE_PART[2:]:
             if self._all(name) and (name != "ready" or found.is_board):
                 what = {"bus": "buses and addresses stand", "address": "buses and addresses stand", "lacks": "it stands", "trims": "it stands",
                         "ready": "it stands"}.get(name, "outputs and limits stand")
-                raise BadCall(f"{OPTIONS[name][0][-1]}: {what} in the file of {arguments.command}")
+                raise BadCall(f"{OPTIONS[name][0][-1]}: {what} in the file of {command.name}")
         if self._rails is not None and found.made_for() != self._rails.made_for():
-            raise BadCall(f"{said(arguments)}: another file of this call has other {'parts, ' * found.is_board}outputs or limits")
+            raise BadCall(f"{command.said}: another file of this call has other {'parts, ' * found.is_board}outputs or limits")
         if found.is_board:
             for each in self.commands:
-                if not hasattr(each, "judge_file"):
-                    raise BadCall(f"{said(each)}: it is for one part, and {arguments.command} has a file of a board: give it in a "
+                if each.file is None:
+                    raise BadCall(f"{each.said}: it is for one part, and {command.name} has a file of a board: give it in a "
                                   "call of its own")
         else:
-            self.outputs, self.limits, self.lacks = found.parts[ONLY].outputs, found.limits(ONLY), found.parts[ONLY].lacks
-            self.protect, self.has_trims, self.store_time = found.parts[ONLY].protect, found.parts[ONLY].trims, found.parts[ONLY].store_time
+            self.one_part, self.outputs, self.limits = found.parts[ONLY], found.parts[ONLY].outputs, found.limits(ONLY)
         self._rails = found
 
-    def judge_write(self, arguments: argparse.Namespace, more: str = "") -> None:
+    def judge_write(self, command: Command, more: str = "") -> None:
         """What is written goes to a part of a known number of outputs, at an address that a part may have. `more` is asked for beside it. A file
         has both."""
-        if self._rails is not None and self._rails.is_board:
+        if self.board is not None:
             return
         if self.address is not None and (why := why_reserved(self.address)):
-            raise BadCall(f"{said(arguments)}: {why}")
+            raise BadCall(f"{command.said}: {why}")
         if self.outputs is None:
-            raise BadCall(f"{said(arguments)}: give --outputs N, the number that `probe` counts{more}")
+            raise BadCall(f"{command.said}: give --outputs N, the number that `probe` counts{more}")
 
-    def judge_order(self, arguments: argparse.Namespace) -> None:
+    def judge_order(self, command: Command) -> None:
         """An order that may change a voltage has limits, or is meant to have none."""
-        self.judge_write(arguments, ", and a --limit O:LEAST:MOST for the output, or --no-limit")
-        output = arguments.output
-        is_named = getattr(arguments, "named", None) is not None
-        if output is not None and not is_named and output not in self.limits and not self.is_unlimited:
-            raise BadCall(f"{said(arguments)}: give --limit {output}:LEAST:MOST, what the load tolerates, as "
+        self.judge_write(command, ", and a --limit O:LEAST:MOST for the output, or --no-limit")
+        output = command.output
+        if output is not None and command.named is None and output not in self.limits and not self.is_unlimited:
+            raise BadCall(f"{command.said}: give --limit {output}:LEAST:MOST, what the load tolerates, as "
                           f"--limit {output}:3.135V:3.465V, or --no-limit; `probe` counts the outputs for --outputs")
 
     # ---- The parts ----
 
     def counted(self) -> int:
         """How many outputs the host is made for: what was given, or those up to the highest that is named."""
-        named = [getattr(each, "output", None) or 0 for each in self.commands]
+        named = [each.output or 0 for each in self.commands]
         return self.outputs or max([*named, *self.limits]) + 1
 
     def places(self) -> dict[str, Place]:
         """The parts of the call by their names, none of which was opened before its first use."""
         if not self._places:
-            options = Options(self.passes, self.delay, self.busy_timeout, self.is_forced, self.is_shared, self.kernel, self.is_unlimited)
             self._trace = Trace(self.trace_path, head_of(self.words), self.is_timed)
-            is_board = self._rails is not None and self._rails.is_board
-            self._log = Log(self._log_path, self.words, not is_board)
-            if self._rails is not None and is_board:
-                self._places = {part.name: Place(part, limits, options, BusTrace(self._trace, part.bus), log=self._log)
-                                for part, limits in self._rails.made_for()}
+            self._log = Log(self._log_path, self.words, self.board is None)
+            if self.board is not None:
+                self._places = {part.name: Place(self, part, limits, BusTrace(self._trace, part.bus), log=self._log)
+                                for part, limits in self.board.made_for()}
             else:
-                only = BoardPart(ONLY, self.bus or "", self.address or MODEL_ADDRESS, self.counted(), "", self.lacks, self._one("ready"), self.protect,
-                                 self.has_trims, self.store_time)
-                self._places = {ONLY: Place(only, self.limits, options, self._trace, self.outputs or max(MODEL_OUTPUTS, self.counted()),
-                                            self._log)}
+                only = replace(self.one_part, bus=self.bus or "", address=self.address or MODEL_ADDRESS, outputs=self.counted(), ready=self._one("ready"))
+                self._places = {ONLY: Place(self, only, self.limits, self._trace, self.outputs or max(MODEL_OUTPUTS, self.counted()), self._log)}
         return self._places
 
     @property
@@ -217,37 +206,32 @@ class Call:
         """The same, through the one host of the call."""
         return self.only().pmbus()
 
-    def patient(self, busy_timeout: int | None = None) -> ModelPartBus | PatientBus:
-        """The bus of the one part, which waits for it if it is busy."""
-        return self.only().patient(busy_timeout)
-
-    def no_part(self, arguments: argparse.Namespace) -> int:
+    def no_part(self, command: Command) -> int:
         """Before the first command that writes something without a course the part has to answer. 0, or the status if it doesn't:
         nothing was ordered. Those of a board file are looked for by its own command."""
-        is_board = self._rails is not None and self._rails.is_board and self.named is None
-        if is_board or self.part_name in self.has_answered or getattr(arguments, "dry_run", False):
+        if self.board is not None and self.named is None or self.part_name in self.has_answered or command.dry_run:
             return 0
         why = self.only().ask_operation()
         if why:
-            return self.say(self.nobody(arguments, why))
+            return self.say(self.nobody(command, why))
         self.has_answered.add(self.part_name)
         return 0
 
-    def other_model(self, arguments: argparse.Namespace) -> int:
+    def other_model(self, command: Command, more: str = ": nothing was ordered") -> int:
         """Before the first command about a rail of a part that a file has, this has to be the model that the file says. 0, or the status."""
         place = None if self.named is None else self.only()
-        if place is None or self.part_name in self.identified or getattr(arguments, "is_question", False) or arguments.command == "off":
+        if place is None or self.part_name in self.identified or command.task.is_question or command.name == "off":
             # (what turns an output off asks by itself)
             return 0
         why = why_other_model(place.pmbus(), place.part)
         if why:
-            return self.say(Answer(said(arguments), "other part", "", 1, f"{why}: nothing was ordered", getattr(arguments, "output", None)))
+            return self.say(Answer(command.said, "other part", "", 1, why + more, command.output))
         self.identified.add(self.part_name)
         return 0
 
-    def nobody(self, arguments: argparse.Namespace, why: str) -> Answer:
+    def nobody(self, command: Command, why: str) -> Answer:
         """No part answers; or one answers, and not what was asked."""
-        found = Answer(said(arguments), "no part", "no part answers, nothing was ordered", 1, why, getattr(arguments, "output", None))
+        found = Answer(command.said, "no part", "no part answers, nothing was ordered", 1, why, command.output)
         if self.only().is_there():
             found.end, found.text = "no good answer", "OPERATION of output 0 gave no good answer, nothing was ordered"
             found.why += PROBE_TELLS
@@ -268,10 +252,11 @@ class Call:
 
     # ---- What is said ----
 
-    def begin(self, arguments: argparse.Namespace) -> None:
+    def begin(self, command: Command) -> Command:
         """A command is under way, of which nothing was sent."""
-        self.under_way, self.maybe, self.settled = said(arguments), "", NOTHING
-        self.named = getattr(arguments, "named", None)
+        self.under_way, self.maybe, self.settled = command.said, "", NOTHING
+        self.named = command.named
+        return command
 
     def say(self, answer: Answer) -> int:
         """Prints an answer, and on standard error why it is a bad one. Its status."""
@@ -311,10 +296,10 @@ class Call:
 
     def where(self) -> dict[str, object]:
         """The bus, the address and the name of the part that the command under way is about, None of each if these are several."""
-        if self._rails is not None and self._rails.is_board:
+        if self.board is not None:
             if self.named is None:
                 return NOWHERE
-            part = self._rails.parts[self.named.part]
+            part = self.board.parts[self.named.part]
             return {"bus": part.bus, "address": f"{part.address:02X}", "part": part.name}
         address = MODEL_ADDRESS if self.address is None and self.bus == MODEL_BUS else self.address
         return {"bus": self.bus, "address": None if address is None else f"{address:02X}", "part": None}
@@ -331,8 +316,3 @@ class Call:
         if self.maybe and has_written:
             return self.maybe
         return self.settled() if callable(self.settled) else self.settled
-
-
-def said(arguments: argparse.Namespace) -> str:
-    """A command as it was given, without options."""
-    return str(getattr(arguments, "said", arguments.command))

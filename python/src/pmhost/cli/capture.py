@@ -3,15 +3,19 @@ from __future__ import annotations
 
 import argparse
 import re
+from dataclasses import dataclass
 from typing import Any
 
 from .. import capture
+from ..bus.linux import NUMBER
 from ..capture import i2ctransfer, vcd
 from . import streams
 from .about import COMMANDS
 from .call import Call, complain
-from .parser import BUS, BadCall, address_of, shown
+from .command import Command, Task
+from .parser import BadCall, shown
 from .texts import standard_input, told, without_a_bus
+from .words import address_of
 
 ABOUT = """Turns a capture of a bus on standard input into a trace for `pmb decode`, packet by packet as they end.
 
@@ -34,7 +38,21 @@ KINDS = {
     "saleae": "Logic 2's table of an I2C analyser as CSV",
 }
 UNITS = {"": 1, "Hz": 1, "kHz": 10**3, "MHz": 10**6, "GHz": 10**9}
-BAD_LINE, INTERRUPTED = 1, 130
+BAD_LINE = 1
+
+
+@dataclass(frozen=True, kw_only=True)
+class Capture(Command):
+    """A capture of a kind, or frames, and the number of a bus. Of a capture the packets of a device are wanted, with their times."""
+
+    kind: str
+    wanted: int | None = None
+    device: int | None = None
+    times: bool = False
+    samplerate: int | None = None
+    is_run: bool = False
+    is_shared: bool = False
+    is_back: bool = False
 
 
 def samplerate_of(word: str) -> int:
@@ -48,7 +66,7 @@ def samplerate_of(word: str) -> int:
 
 def bus_number(word: str) -> int:
     """The number of a bus of Linux: a model part has none."""
-    found = BUS.match(word)
+    found = NUMBER.match(word)
     if not found:
         raise argparse.ArgumentTypeError(f"bus {shown(word)}: give the number of /dev/i2c-N, as 1")
     return int(found[1])
@@ -76,17 +94,17 @@ def add(commands: Any) -> None:
             one.add_argument("--bus", "-b", type=bus_number, metavar="N", action=Once, dest="wanted",
                              help="only the events of /dev/i2c-N; those of all if left out. An adapter over another leaves events of both")
         one.add_argument("file", type=no_file, nargs="?", help=argparse.SUPPRESS)
-        one.set_defaults(run=run, judge=judge)
+        one.set_defaults(task=Task(run, judge, Capture))
     frames = kinds.add_parser("i2ctransfer", help="frames of `pmb hear` as commands of i2ctransfer", description=ABOUT_FRAMES)
     frames.add_argument("wanted", type=bus_number, metavar="BUS", nargs="?", help="the number of /dev/i2c-BUS, as 1; needed but with --back")
     frames.add_argument("--run", action=Once, nargs=0, const=True, dest="is_run", help="runs the commands, and writes a trace; they are only printed if left out")
     frames.add_argument("--share-bus", action=Once, nargs=0, const=True, dest="is_shared",
                         help="with --run: goes on beside another program that drives the address; refused if left out")
-    frames.add_argument("--back", action=Once, nargs=0, const=True, help="turns such commands into frames; frames into commands if left out")
-    frames.set_defaults(run=run_frames, judge=judge_frames)
+    frames.add_argument("--back", action=Once, nargs=0, const=True, dest="is_back", help="turns such commands into frames; frames into commands if left out")
+    frames.set_defaults(task=Task(run_frames, judge_frames, Capture))
     drawn = kinds.add_parser("waveform", help="a trace as a waveform (VCD)", description=vcd.__doc__)
     drawn.add_argument("file", type=no_file, nargs="?", help=argparse.SUPPRESS)
-    drawn.set_defaults(run=run_waveform, judge=without_a_bus)
+    drawn.set_defaults(task=Task(run_waveform, without_a_bus))
 
 
 class Once(argparse.Action):
@@ -99,52 +117,50 @@ class Once(argparse.Action):
         setattr(namespace, self.dest, self.const if self.nargs == 0 else values)
 
 
-def judge(arguments: argparse.Namespace) -> None:
-    for option, own in ("address", "device"), ("bus", "wanted"):
-        if getattr(arguments, option, None) and hasattr(arguments, own):
+def judge(call: Call, command: Capture) -> None:
+    for option in ("address", "bus")[: 2 if command.kind == "linux" else 1]:
+        if command.given[option]:
             raise BadCall(f"capture: --{option} in front of it is an option of a bus: give it after the kind, as "
-                          f"capture {arguments.kind} --{option}={'58' if option == 'address' else '1'}")
-    without_a_bus(arguments)
-    rate = getattr(arguments, "samplerate", None)
-    if arguments.kind == "sigrok" and arguments.times and not rate:
+                          f"capture {command.kind} --{option}={'58' if option == 'address' else '1'}")
+    without_a_bus(call, command)
+    rate = command.samplerate
+    if command.kind == "sigrok" and command.times and not rate:
         raise BadCall("capture sigrok: the times of sigrok are numbers of samples: give --samplerate=RATE, as `sigrok-cli -i FILE "
                       "--show` has it")
-    if rate and not arguments.times:
+    if rate and not command.times:
         raise BadCall("capture sigrok: --samplerate is of --times, which isn't given")
 
 
-def run(arguments: argparse.Namespace) -> int:
+def run(_: Call, command: Capture) -> int:
     """Writes the trace of a capture."""
-    clock = None
-    if arguments.times:
-        clock = capture.clock_of(arguments.kind, getattr(arguments, "samplerate", None))
+    clock = capture.clock_of(command.kind, command.samplerate) if command.times else None
     lines = capture.lines_of(standard_input())
     try:
-        return told(capture.trace(arguments.kind, lines, arguments.device, getattr(arguments, "wanted", None), clock))
+        return told(capture.trace(command.kind, lines, command.device, command.wanted, clock))
     except capture.NoCapture as fault:
-        complain(f"no {arguments.kind} capture: {fault}")
+        complain(f"no {command.kind} capture: {fault}")
     except OSError as fault:
         complain(f"standard input: {fault.strerror}")
     return BAD_LINE
 
 
-def judge_frames(arguments: argparse.Namespace) -> None:
-    without_a_bus(arguments)
-    if arguments.back and (arguments.is_run or arguments.wanted is not None):
+def judge_frames(call: Call, command: Capture) -> None:
+    without_a_bus(call, command)
+    if command.is_back and (command.is_run or command.wanted is not None):
         raise BadCall("capture i2ctransfer: --back stands by itself: it needs no bus, and runs nothing")
-    if arguments.is_shared and not arguments.is_run:
+    if command.is_shared and not command.is_run:
         raise BadCall("capture i2ctransfer: --share-bus is of --run, which isn't given")
-    if not arguments.back and arguments.wanted is None:
+    if not command.is_back and command.wanted is None:
         raise BadCall("capture i2ctransfer: give a bus, as 1, with --run after it to run the commands; or --back")
 
 
-def run_frames(arguments: argparse.Namespace) -> int:
+def run_frames(call: Call, command: Capture) -> int:
     """Writes the commands of frames, or runs them, or writes the frames of commands."""
-    text, bus = standard_input().read(), str(arguments.wanted)
+    text, bus = standard_input().read(), str(command.wanted)
     try:
-        if arguments.is_run:
-            return run_commands(text, bus, bool(arguments.is_shared), arguments.call)
-        lines = i2ctransfer.frames(text) if arguments.back else i2ctransfer.commands(text, bus)
+        if command.is_run:
+            return run_commands(text, bus, command.is_shared, call)
+        lines = i2ctransfer.frames(text) if command.is_back else i2ctransfer.commands(text, bus)
     except i2ctransfer.Refused as refused:
         complain(f"capture i2ctransfer: {refused}")
         return BAD_LINE
@@ -161,11 +177,11 @@ def run_commands(text: bytes, bus: str, is_shared: bool, call: Call) -> int:
             streams.write(line)
     except KeyboardInterrupt:
         complain("capture i2ctransfer: interrupted: the last frame may have been taken")
-        return INTERRUPTED
+        return streams.INTERRUPTED
     return 0 if is_well else 1
 
 
-def run_waveform(arguments: argparse.Namespace) -> int:
+def run_waveform(*_: object) -> int:
     text = standard_input().read().decode("utf-8", "replace")
     fault = vcd.fault_of(text)
     if fault:

@@ -13,17 +13,21 @@ from .. import faults, rails
 from ..bus import Trace
 from ..faults import bus as faulty_bus
 from ..part import ModelPartBus
-from ..parts import MODEL_BUS, BadRails, BoardPart
+from ..parts import MODEL_BUS, BoardPart
 from ..rails import ONLY
+from ..values import DEVICE
 from . import streams
 from .about import COMMANDS
 from .answer import in_digits
-from .call import MODEL_OUTPUTS, PASSES, Call, complain, said
+from .call import MODEL_OUTPUTS, PASSES, Call, complain
+from .command import Command, Task
 from .completion import FILES, completed_by
-from .outcome import DEVICE
-from .parser import BEHIND, OPTIONS, BadCall, file_of, shown, whole
-from .place import Options, Place
+from .names import read, split
+from .options import OPTIONS
+from .parser import BadCall, shown
+from .place import Place
 from .texts import without_a_bus
+from .words import file_of, whole
 
 EXAMPLE = "word 1 VOUT_COMMAND 34CD"
 ABOUT = f"""Carries commands out on a model part, over a bus that loses, cuts, damages and repeats frames. It prints each frame as it
@@ -48,12 +52,35 @@ FRAME = re.compile(r"((?:[0-9A-Fa-f]{2} ?)+?)( ?/)?")
 class PartJob:
     """What is done to the part: a restart, if there is no frame."""
 
-    words: str
+    said: str
     frame: bytes
     is_request: bool
 
 
-Job = argparse.Namespace | PartJob
+Job = Command | PartJob
+
+
+@dataclass(frozen=True, kw_only=True)
+class Faults(Command):
+    """What is carried out, and under which faults."""
+
+    strike: list[str]
+    seed: int | None = None
+    rate: int | None = None
+    tries: int | None = None
+    count: int | None = None
+    rails_file: str | None = None
+    plain_host: bool
+    runs: int | None = None
+    jobs: list[str]
+
+
+@dataclass(frozen=True, kw_only=True)
+class Judged(Faults):
+    """The same, with its jobs, and what they share."""
+
+    parsed: Sequence[Job]
+    call: JobsCall
 
 
 def faults_of(word: str) -> list[str]:
@@ -83,7 +110,7 @@ def add(commands: Any) -> None:
                         help="how often a job is tried at most, 1 to 15; 3 if left out")
     parser.add_argument("--outputs", type=whole(1, 8, "outputs"), metavar="N", dest="count",
                         help="how many outputs the part has, 1 to 8; 2 if left out")
-    completed_by(parser.add_argument("--rails", type=file_of, metavar="FILE",
+    completed_by(parser.add_argument("--rails", type=file_of, metavar="FILE", dest="rails_file",
                                      help="a file of rails, whose outputs and limits are those of the jobs; none if left out"), FILES)
     parser.add_argument("--plain-host", action="store_true",
                         help="takes in the place of the proved host one that selects by PAGE and believes acknowledgements; its jobs are orders of "
@@ -91,7 +118,7 @@ def add(commands: Any) -> None:
     parser.add_argument("--runs", type=whole(1, 10**9 - 1, "runs"), metavar="N",
                         help="has both hosts order a word at two outputs under each of N lists of random faults; no job is given then")
     parser.add_argument("jobs", nargs=argparse.REMAINDER, metavar="JOB [+ JOB ..]", help=f"what is carried out, as {EXAMPLE}")
-    parser.set_defaults(run=run, judge=judge)
+    parser.set_defaults(task=Task(run, judge, Faults))
 
 
 # ---- What is asked for ----
@@ -99,7 +126,7 @@ def add(commands: Any) -> None:
 class JobsCall(Call):
     """What the jobs share: a host of one model part, on a bus with faults."""
 
-    def __init__(self, jobs: Sequence[Job], asked: argparse.Namespace) -> None:
+    def __init__(self, jobs: Sequence[Job], asked: Faults) -> None:
         super().__init__([job for job in jobs if not isinstance(job, PartJob)])
         for name in OF_A_BUS:
             if self._all(name):
@@ -116,45 +143,29 @@ class JobsCall(Call):
     @functools.cached_property
     def bench(self) -> faults.Bench:
         """The part, its bus and the hosts, once the call is judged."""
-        return faults.Bench(self.counted(), self.passes, indented)
+        return faults.Bench(self.counted(), self.passes, lambda transfer: streams.write(f"  {transfer.line}"))
 
-    def take_rails(self, arguments: argparse.Namespace, found: rails.Rails) -> None:
+    def take_rails(self, command: Command, found: rails.Rails) -> None:
         if self.is_counted:
-            raise BadCall(f"faults: --outputs: outputs and limits stand in the file of {arguments.command}")
+            raise BadCall(f"faults: --outputs: outputs and limits stand in the file of {command.name}")
         if found.is_board:
-            raise BadCall(f"faults: the file of {arguments.command} is of a board: give one of one part")
-        super().take_rails(arguments, found)
+            raise BadCall(f"faults: the file of {command.name} is of a board: give one of one part")
+        super().take_rails(command, found)
 
     def places(self) -> dict[str, Place]:
         if not self._places:
-            part = BoardPart(ONLY, MODEL_BUS, faults.ADDRESS, self.counted(), "", self.lacks)
-            options = Options(self.passes, 0, None, False, False, None, self.is_unlimited)
-            self._places = {ONLY: FaultyPlace(part, self.limits, options, self.bench.bus)}
+            part = BoardPart(ONLY, MODEL_BUS, faults.ADDRESS, self.counted(), "", self.one_part.lacks)
+            self._places = {ONLY: FaultyPlace(self, part, self.limits, Trace(None))}
         return self._places
 
 
 class FaultyPlace(Place):
     """The model part, on the bus with faults."""
 
-    def __init__(self, part: BoardPart, limits: dict[int, tuple[int, int]], options: Options, faulty: ModelPartBus) -> None:
-        super().__init__(part, limits, options, Trace(None))
-        self._faulty = faulty
+    call: JobsCall
 
     def _made(self) -> ModelPartBus:
-        return self._faulty
-
-
-def read_jobs(words: list[str]) -> list[list[str]]:
-    """The words of each job; a + stands between two."""
-    jobs: list[list[str]] = [[]] if words else []
-    for word in words:
-        if word == "+":
-            jobs.append([])
-        else:
-            jobs[-1].append(word)
-    if not all(jobs):
-        raise BadCall("faults: a job is missing beside a +")
-    return jobs
+        return self.call.bench.bus
 
 
 def job_of(words: list[str]) -> Job:
@@ -165,8 +176,8 @@ def job_of(words: list[str]) -> Job:
     if words[0] in OWN_JOBS:
         raise BadCall(f"faults: {words[0]}: it is no job")
     found, = commands_of(words)
-    if not hasattr(found, "bus" + BEHIND):
-        raise BadCall(f"faults: {said(found)}: it uses no bus, and is no job")
+    if not found.uses_bus:
+        raise BadCall(f"faults: {found.said}: it uses no bus, and is no job")
     return found
 
 
@@ -181,85 +192,75 @@ def part_job(words: list[str]) -> PartJob:
 
 def is_plain(job: Job) -> bool:
     """Whether both hosts can carry a job out: one at the part, or an order of a word."""
-    return isinstance(job, PartJob) or job.command == "word" and job.register != DEVICE
+    return isinstance(job, PartJob) or job.name == "word" and job.register != DEVICE
 
 
-def judge(arguments: argparse.Namespace) -> None:
+def judge(whole_call: Call, command: Faults) -> Judged:
+    """Judges each job, and what they share."""
     from . import judge as judge_jobs
-    without_a_bus(arguments)
-    jobs: list[Job] = [job_of(words) for words in read_jobs(arguments.jobs)]
-    if bool(jobs) == (arguments.runs is not None):
+    without_a_bus(whole_call, command)
+    parts = split(command.jobs) if command.jobs else []
+    if not all(parts):
+        raise BadCall("faults: a job is missing beside a +")
+    jobs: list[Job] = [job_of(words) for words in parts]
+    if bool(jobs) == (command.runs is not None):
         raise BadCall(f"faults: give a job, as {EXAMPLE}, or --runs")
-    if arguments.runs is not None and (arguments.plain_host or arguments.strike):
+    if command.runs is not None and (command.plain_host or command.strike):
         raise BadCall("faults: --runs draws faults and tries both hosts: leave --plain-host and --strike out")
-    if arguments.rate is not None and arguments.runs is None and arguments.seed is None:
+    if command.rate is not None and command.runs is None and command.seed is None:
         raise BadCall("faults: --rate is of --seed and --runs, and neither is given")
-    call = JobsCall(jobs, arguments)
-    if arguments.rails is not None:
-        try:
-            call.take_rails(arguments, rails.read(arguments.rails))
-        except BadRails as bad:
-            raise BadCall(str(bad)) from bad
+    call = JobsCall(jobs, command)
+    if command.rails_file is not None:
+        call.take_rails(command, read(command.rails_file))
     judge_jobs(call)
+    judged = iter(call.commands)
+    jobs = [job if isinstance(job, PartJob) else next(judged) for job in jobs]
     for job in jobs:
-        if arguments.plain_host and not is_plain(job):
-            raise BadCall(f"faults: {said_of(job)}: the plain host takes only orders of words, as {EXAMPLE}")
-    arguments.jobs, arguments.jobs_call = jobs, call
+        if command.plain_host and not is_plain(job):
+            raise BadCall(f"faults: {job.said}: the plain host takes only orders of words, as {EXAMPLE}")
+    return Judged(**vars(command), parsed=jobs, call=call)
 
 
 # ---- What is done ----
 
-def run(arguments: argparse.Namespace) -> int:
+def run(_: Call, command: Judged) -> int:
     """Carries the jobs out, or counts over many runs."""
     try:
-        return count_runs(arguments) if arguments.runs else run_jobs(arguments)
+        return count_runs(command, command.runs) if command.runs else run_jobs(command)
     except KeyboardInterrupt:
         complain("faults: interrupted")
         return streams.INTERRUPTED
 
 
-def silent(transfer: faults.Struck) -> None:
-    """Prints nothing of a transfer."""
-
-
-def indented(transfer: faults.Struck) -> None:
-    """Prints a transfer below its job."""
-    streams.write(f"  {transfer.line}")
-
-
-def rate_of(arguments: argparse.Namespace) -> int:
+def rate_of(command: Faults) -> int:
     """How many of a hundred transfers a random fault strikes."""
-    return RATE if arguments.rate is None else int(arguments.rate)
+    return RATE if command.rate is None else command.rate
 
 
-def count_runs(arguments: argparse.Namespace) -> int:
-    bench: faults.Bench = arguments.jobs_call.bench
-    bench.bus.tell = silent
-    for line in faults.figures(bench, arguments.runs, arguments.seed or 0, rate_of(arguments)):
+def count_runs(command: Judged, runs: int) -> int:
+    """The figures of both hosts."""
+    command.call.bench.bus.tell = lambda _: None
+    for line in faults.figures(command.call.bench, runs, command.seed or 0, rate_of(command)):
         streams.write(line)
     return 0
 
 
-def run_jobs(arguments: argparse.Namespace) -> int:
+def run_jobs(command: Judged) -> int:
     """The status: whether each job went well."""
-    bench: faults.Bench = arguments.jobs_call.bench
-    random_ones = [] if arguments.seed is None else faults.draw_faults(random.Random(arguments.seed), rate_of(arguments))
-    bench.bus.faults = [*arguments.strike, *random_ones]
+    bench = command.call.bench
+    random_ones = [] if command.seed is None else faults.draw_faults(random.Random(command.seed), rate_of(command))
+    bench.bus.faults = [*command.strike, *random_ones]
     status = 0
-    for job in arguments.jobs:
-        streams.write(said_of(job))
-        status = max(status, one(arguments, bench, job))
+    for job in command.parsed:
+        streams.write(job.said)
+        status = max(status, one(command.call, job, command.plain_host))
     streams.write("; ".join(f"output {output} holds {word:04X}" for output, word in enumerate(bench.words())))
     return status
 
 
-def said_of(job: Job) -> str:
-    """A job as it was given, without options."""
-    return job.words if isinstance(job, PartJob) else said(job)
-
-
-def one(arguments: argparse.Namespace, bench: faults.Bench, job: Job) -> int:
+def one(call: JobsCall, job: Job, is_plain_host: bool) -> int:
     """Carries a job out, and says what became of it. Its status."""
+    bench = call.bench
     if isinstance(job, PartJob):
         heard = "restarted"
         if job.frame:
@@ -268,17 +269,16 @@ def one(arguments: argparse.Namespace, bench: faults.Bench, job: Job) -> int:
             bench.part.restart()
         streams.write(heard)
         return int(heard.startswith("refused "))
-    if arguments.plain_host:
+    if is_plain_host:
         return by_page(bench, job)
-    call: Call = arguments.jobs_call
     call.begin(job)
-    return int(job.run(job))
+    return job.task.run(call, job)
 
 
-def by_page(bench: faults.Bench, job: argparse.Namespace) -> int:
+def by_page(bench: faults.Bench, job: Command) -> int:
     """An order of a word by the plain host."""
     word = int(job.digits, 16)
-    is_reported = bench.plain.order(job.output, job.register, word)
+    is_reported = bench.plain.order(job.output_number, job.register, word)
     end = "acknowledged" if is_reported else "not acknowledged"
     streams.write(f"word {job.output}: {job.register} {in_digits(job.register, word)} {end}")
     return int(not is_reported)

@@ -1,41 +1,36 @@
 """The questions, for which nothing is sent: known and band."""
 from __future__ import annotations
 
-import argparse
 from typing import Any
 
 from .. import voltages
 from ..device import Device
 from ..states import Known
 from ..survey import commanded
-from .about import described
+from ..values import VOLTAGES
 from .answer import Answer, between, in_digits, number
-from .call import Call, said
-from .outcome import VOLTAGES, limit_words
-from .parser import bus_options, whole
+from .call import Call
+from .command import Command, Task
+from .options import command_parser, output_word
+from .outcome import limit_words
+from .words import OUTPUT
 
 YES = {True: "yes", False: "no"}
 
 
 def add(commands: Any) -> None:
     """Adds the subparsers."""
-    found = commands.add_parser("known", **described("known"))
-    found.add_argument("output", metavar="O", nargs="?", type=whole(0, 7, "output"), help="one output, from 0; all if left out")
-    found.set_defaults(run=known, is_question=True)
-    bus_options(found)
-    found = commands.add_parser("band", **described("band"))
-    found.add_argument("output", metavar="O", type=whole(0, 7, "output"), help="the output, from 0")
-    found.set_defaults(run=band, is_question=True)
-    bus_options(found)
+    found = command_parser(commands, "known", Task(known, is_question=True))
+    found.add_argument("output", metavar="O", nargs="?", type=OUTPUT, help="one output, from 0; all if left out")
+    output_word(command_parser(commands, "band", Task(band, is_question=True)))
 
 
-def known(arguments: argparse.Namespace) -> int:
+def known(call: Call, command: Command) -> int:
     """What is known, register by register."""
-    call: Call = arguments.call
     part = call.part()
-    cells = [it for it in part.known_cells() if arguments.output is None or it.output in (None, arguments.output)]
+    cells = [it for it in part.known_cells() if command.output is None or it.output in (None, command.output)]
     if call.is_json:
-        return call.say(Answer(said(arguments), "told", output=arguments.output, restart_seen=part.host.restart_seen,
+        return call.say(Answer(command.said, "told", output=command.output, restart_seen=part.host.restart_seen,
                                rows=[row_of(part, it) for it in cells]))
     lines = [" ".join(["-" if it.output is None else str(it.output), it.register, words_of(part, it)]) for it in cells]
     call.say_lines([*lines, f"restart seen: {YES[part.host.restart_seen]}"])
@@ -65,13 +60,12 @@ def row_of(part: Device, it: Known) -> dict[str, object]:
             "possible": None if it.possible is None else [in_digits(it.register, word) for word in it.possible]}
 
 
-def band(arguments: argparse.Namespace) -> int:
+def band(call: Call, command: Command) -> int:
     """Which voltages an output may be commanded to, by what is known."""
-    call: Call = arguments.call
     part = call.part()
-    found = commanded(part, arguments.output)
+    found = commanded(part, command.output_number)
     words = "not known: its format wasn't learned"
     if found.least is not None and found.greatest is not None:
         words = f"commands {between(found.least, found.greatest)}{limit_words(found)}"
-    return call.say(Answer(said(arguments), "told", words, output=arguments.output, commanded=found,
+    return call.say(Answer(command.said, "told", words, output=command.output, commanded=found,
                            restart_seen=part.host.restart_seen))

@@ -2,40 +2,35 @@
 while all others are looked at, and back at its voltage."""
 from __future__ import annotations
 
-import argparse
 import contextlib
 from dataclasses import dataclass, replace
 from typing import Any, Iterator
 
-from .. import rails, turn_on, voltages
-from ..apply import AS_WANTED, Board
+from .. import turn_on, voltages
+from ..apply import Board
 from ..back import OPERATION, Held
 from ..course import CourseEnd, in_hexadecimal
-from ..cuts import cuts
 from ..delivered import Delivered, beyond_of, register_words
 from ..device import Device
 from ..errors import SAYINGS, ChangedRefused, RailRefused, refusal
 from ..looks import Looks
 from ..operation import MARGINS, ON, margin_byte, same_command, selected_by, uncounted
-from ..parts import BadRails
-from ..rail_run import Restarted, Stopped
 from ..rails import Rail
 from ..rehearsal import first_not_reached, unprotected
 from ..sequence import UP, WHY, Heard, Said, Sequence, SequenceStep
+from ..settings import AS_WANTED, Restarted, Stopped
 from ..step_run import StepRun, look_at
-from ..survey import TRIES, Commanded, commanded, only_word, read, survey, why_not_off
+from ..survey import TRIES, Commanded, commanded, only_word, read, survey, why_not_off, why_unread
 from ..transfers import Transfers
 from ..zeros import NotBelieved, believed
-from .about import described
-from .again import RESTARTED
-from .answer import Answer, between, delivery_of, number
+from .again import RESTARTED, status_of
+from .answer import Answer, between, commanded_of, delivery_of, table
 from .back import words_of
-from .call import Call, said
-from .completion import FILES, completed_by
-from .names import IGNORE
-from .orders import IGNORING
+from .call import Call
+from .command import Command, Task
+from .options import IGNORE, command_parser, file_word, shared
 from .outcome import IGNORED, cell_words, limit_words, why_not, why_refused, with_advice
-from .parser import BadCall, bus_options, file_of, shown
+from .rails import board_of
 
 # A margin isn't to be selected at the end, whatever came.
 POINTS = ("nominal", "high", "low", "nominal")
@@ -43,27 +38,10 @@ POINTS = ("nominal", "high", "low", "nominal")
 
 def add(commands: Any) -> None:
     """Adds the subparser."""
-    found = commands.add_parser("margin-test", **described("margin-test"))
-    completed_by(found.add_argument("file", metavar="FILE", type=file_of, help="settings of a board's rails, in TOML"), FILES)
+    found = command_parser(commands, "margin-test", Task(margin_test))
+    file_word(found)
     found.add_argument("names", metavar="RAIL", nargs="*", help="rails of the file; all that are to be on if left out")
-    found.set_defaults(run=margin_test, judge_file=judge_file)
-    found.add_argument(IGNORE, **IGNORING)
-    bus_options(found)
-
-
-def judge_file(arguments: argparse.Namespace) -> None:
-    """The file is judged whole, and the named rails are among its own. BadCall."""
-    call: Call = arguments.call
-    try:
-        found = arguments.rails = rails.read(arguments.file)
-    except BadRails as bad:
-        raise BadCall(str(bad)) from bad
-    call.take_rails(arguments, found)
-    named = {rail.name: rail for rail in found.rails}
-    for name in arguments.names:
-        if name not in named:
-            raise BadCall(f"margin-test: {shown(name)}: there is no such rail in {shown(arguments.file)}, which has {', '.join(named)}")
-    arguments.chosen = [rail for rail in found.rails if (rail.name in arguments.names if arguments.names else rail.is_on)]
+    shared(found, IGNORE)
 
 
 @dataclass
@@ -86,10 +64,9 @@ class Row:
 
     def by_names(self) -> dict[str, object]:
         """The same by names and numbers."""
-        state = self.state
+        told = commanded_of(self.state)
         return {"rail": self.rail.name, "part": self.rail.part or None, "output": self.rail.output, "point": self.point,
-                "faults_ignored": state.ignores_faults,
-                "commands": None if state.least is None else [number(state.least), number(state.greatest)], **delivery_of(self.delivered)}
+                "faults_ignored": told["faults_ignored"], "commands": told["commands"], **delivery_of(self.delivered)}
 
 
 @dataclass
@@ -123,8 +100,7 @@ class RailTest:
         refused = first_not_reached(self.part, self.rail.output, map(self.byte_at, POINTS), self.call.protection.is_in_the_way(self.rail.part))
         if refused is not None:
             raise self.stopped(self.why_ended(*refused))
-        form, words = found.form, {each: only_word(self.part, self.rail.output, each) for each in (*rails.MARGINS, *rails.BOUNDS)}
-        for it in cuts(form, {each: words[each] for each in rails.MARGINS}, *(words[each] for each in rails.BOUNDS)) if form else ():
+        for it in self.board.cuts(self.rail, False):
             raise Stopped(f"{name}: {it.register} {voltages.shown(it.value)} is cut to {voltages.shown(it.to)}: order it within VOUT_MIN and VOUT_MAX")
 
     def byte_at(self, point: str) -> int:
@@ -151,7 +127,7 @@ class RailTest:
         run = StepRun(part, self.step_to(point), TRIES, lambda _: False)
         with self.stopping():
             part.transfers = Transfers()
-            end = run.carry_out(ask=self.call.places()[self.rail.part].ask_operation)
+            end = run.run(ask=self.call.places()[self.rail.part].ask_operation)
         self.befores.setdefault(self.rail.name, run.before)
         return end
 
@@ -197,9 +173,9 @@ class RailTest:
         for point in left:
             self.measure(point)
 
-    def looked(self) -> Delivered:
-        """What the rail does."""
-        return look_at(self.part, self.rail.output, self.rail.looks(self.how), self.befores.get(self.rail.name, Heard()))
+    def look(self, rail: Rail) -> Delivered:
+        """What a rail does."""
+        return look_at(self.board.on(rail), rail.output, rail.looks(self.how), self.befores.get(rail.name, Heard()))
 
     def ended(self, point: str, end: Said, at: str = "") -> Stopped:
         """Why the rail isn't at a point."""
@@ -213,7 +189,7 @@ class RailTest:
 
     def measure(self, point: str) -> None:
         """Looks at the rail and at all others, which stay as they are. Restarted, or Stopped if one doesn't do what it is to."""
-        found = self.looked()
+        found = self.look(self.rail)
         others = [(rail, self.why_other(rail)) for rail in self.board.rails if rail is not self.rail]
         silent = self.read_again(point, self.byte_at(point))
         self.rows.append(Row(self.rail, point, commanded(self.part, self.rail.output), found))
@@ -232,19 +208,17 @@ class RailTest:
 
     def why_other(self, rail: Rail) -> str:
         """Why another rail doesn't do what it is to, nothing if it does."""
-        part = self.board.on(rail)
         if not rail.is_on:
-            return why_not_off(part, rail.output)
-        found = look_at(part, rail.output, rail.looks(self.how), self.befores.get(rail.name, Heard()))
+            return why_not_off(self.board.on(rail), rail.output)
+        found = self.look(rail)
         return found.why_told if found.is_bad else ""
 
     def read_again(self, point: str, byte: int) -> str:
         """Reads OPERATION and the register that it selects after a look: a restart before that may pass for a margin that is near. Why one
         gave no good answer. Restarted."""
         for register in (OPERATION, selected_by(byte) or ""):
-            self.part.host.check(self.rail.output, register)
-            if self.part.run().kind != "done":
-                return f"{register}: {self.part.transfers.why() or 'no good answer'}"
+            if why := why_unread(self.part, self.rail.output, register):
+                return f"{register}: {why}"
             if self.board.has_restarted(self.rail):
                 word = only_word(self.part, self.rail.output, register)
                 is_held = "isn't known" if word is None else f"is {in_hexadecimal(register, word)}"
@@ -275,7 +249,7 @@ class RailTest:
         said = f"{OPERATION} {byte:02X}"
         if end.kind == "refused":
             fault = refusal(end.number, end.register)
-            why = why_refused(argparse.Namespace(byte=byte), commanded(self.part, self.rail.output), fault.letter)
+            why = why_refused(commanded(self.part, self.rail.output), fault.letter, byte)
             return f"{said}: {why or SAYINGS.get(fault.letter, fault.name)}: {fault.letter} {fault.name}"
         if end.word is not None:
             return f"{said}: {end.register} is {in_hexadecimal(end.register, end.word)}"
@@ -292,7 +266,7 @@ def judge_board(board: Board) -> None:
     for rail in board.rails:
         byte = only_word(board.on(rail), rail.output, OPERATION)
         if rail.is_on and byte is not None and not same_command(ON, byte):
-            said = cell_words(argparse.Namespace(output=rail.output), board.on(rail), OPERATION, byte)
+            said = cell_words(board.on(rail), rail.output, OPERATION, byte)
             raise Stopped(f"{rail.name}: {said}: `on` first")
     board.take()
     wrong = [f"{it.name} is {board.shown(it, it.last)}, and the file says {board.shown(it, it.asked)}" for it in board.settings
@@ -302,42 +276,36 @@ def judge_board(board: Board) -> None:
     board.finish()
 
 
-def margin_test(arguments: argparse.Namespace) -> int:
+def margin_test(call: Call, command: Command) -> int:
     """Tests the rails: all of the file are read and judged before the first order, and the first that fails ends the test. The status."""
-    call: Call = arguments.call
-    places, file, rows, begun = call.places(), arguments.rails, list[Row](), list[RailTest]()
-    board = Board({name: place.pmbus() for name, place in places.items()}, file.rails, file.parts if file.is_board else {},
-                  lambda name: places[name].ask_operation(), looks=call.looks)
-    why, status = "", 0
+    board, rows, begun, why, status = board_of(call, command), list[Row](), list[RailTest](), "", 0
     try:
         judge_board(board)
         befores = {name: Heard(1, found.status) for name, found in board.delivered.items() if found.status is not None}
-        tests = [RailTest(call, board, rail, call.looks, befores, rows, arguments.ignore_faults) for rail in arguments.chosen]
+        tests = [RailTest(call, board, rail, call.looks, befores, rows, command.ignore_faults) for rail in board.rails
+                 if (rail.name in command.names if command.names else rail.is_on)]
         for each in tests:
             each.judge()
         for each in tests:
             begun.append(each)
             each.run()
-        for rail in file.rails:
+        for rail in board.rails:
             board.look_at(rail)
     except Stopped as stopped:
-        why, status = str(stopped) if begun else f"{stopped}: nothing was ordered", RESTARTED if isinstance(stopped, Restarted) else 1
+        why, status = str(stopped) if begun else f"{stopped}: nothing was ordered", status_of(stopped)
     for held, fault in call.back.go():
         begun[-1].is_back, status = not fault, 1 if fault else status
         why += f"; {words_of(held, fault, bool(rows) and rows[-1].rail is begun[-1].rail and rows[-1].delivered.has_tripped)}"
-    return tell(arguments, begun, rows, why, status)
+    return tell(call, command, board, begun, rows, why, status)
 
 
-def tell(arguments: argparse.Namespace, begun: list[RailTest], rows: list[Row], why: str, status: int) -> int:
+def tell(call: Call, command: Command, board: Board, begun: list[RailTest], rows: list[Row], why: str, status: int) -> int:
     """Says it: the table, and which rails are back. The status."""
-    call: Call = arguments.call
     call.maybe = ""
     if not call.is_json and rows:
-        lines = [("rail", "point", "commands", "READ_VOUT", "STATUS_WORD"), *(row.columns() for row in rows)]
-        wide = [max(len(line[at]) for line in lines) for at in range(4)]
-        call.say_lines(["  ".join([*(line[at].ljust(wide[at]) for at in range(4)), line[4]]).rstrip() for line in lines])
+        call.say_lines(table([("rail", "point", "commands", "READ_VOUT", "STATUS_WORD"), *(row.columns() for row in rows)]))
         call.say_lines([f"{each.rail.name}: back, {OPERATION} {ON:02X}{each.held_back()}" for each in begun if each.is_back])
     backs = [{"rail": each.rail.name, "point": "back", "confirmed": each.is_back} for each in begun]
     end = "restarted" if status == RESTARTED else "stopped" if why else "done"
-    return call.say(Answer(said(arguments), end, "", status, why, rows=[*(row.by_names() for row in rows), *backs],
-                           restart_seen=any(place.pmbus().restart_seen for place in call.places().values())))
+    return call.say(Answer(command.said, end, "", status, why, rows=[*(row.by_names() for row in rows), *backs],
+                           restart_seen=any(part.restart_seen for part in board.parts.values())))

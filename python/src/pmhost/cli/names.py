@@ -2,14 +2,15 @@
 file. `on board.toml` and `off board.toml` are about all of its rails."""
 from __future__ import annotations
 
-import argparse
 import re
-from dataclasses import dataclass
+from dataclasses import dataclass, replace
 from typing import TYPE_CHECKING
 
 from .. import rails
 from ..parts import BadRails
 from ..rails import Rail, Rails
+from .command import Command
+from .options import BACK, IGNORE
 from .parser import BadCall, shown
 
 if TYPE_CHECKING:
@@ -20,7 +21,6 @@ OF_A_RAIL = ("learn", "read", "survey", "set", "word", "on", "off", "margin", "c
 OF_ALL = ("survey", "why", "known", "band")
 # Those that go from rail to rail in the order of the file, which is a command of its own.
 IN_ORDER = ("on", "off")
-BACK, IGNORE, TELL_TRIM = "--back", "--ignore-faults", "--trim=tell"
 ENDING = ".toml"
 
 
@@ -34,35 +34,43 @@ class Named:
     is_one_of_all: bool
 
 
+def split(words: list[str]) -> list[list[str]]:
+    """The words of each command: a + stands between two."""
+    parts: list[list[str]] = [[]]
+    for word in words:
+        if word == "+":
+            parts.append([])
+        else:
+            parts[-1].append(word)
+    return parts
+
+
 def parted(part: list[str], has_value: set[str]) -> list[list[str]]:
     """The words of a command, and those of the one after its --back, which needs no + between them."""
     at = part.index(BACK) + 1 if BACK in part else 0
     at += at > 0 and part[at:at + 1] == [IGNORE]
-    command, behind = place_of(part, has_value)[0], place_of(part[at:], has_value)[0]
-    return [part[:at], part[at:]] if at and command == "margin" and behind else [part]
+    places = places_of(part, has_value)
+    return [part[:at], part[at:]] if at and places and part[places[0]] == "margin" and places_of(part[at:], has_value) else [part]
 
 
-def place_of(part: list[str], has_value: set[str]) -> tuple[str, int | None]:
-    """The command of a call's words, and the place of the word after it that is no option: these options have a value."""
+def places_of(part: list[str], has_value: set[str]) -> list[int]:
+    """The places of the words that are no options, first that of the command: these options have a value."""
     places, words = list[int](), iter(enumerate(part))
     for at, word in words:
         if word in has_value:
             next(words, None)
         elif not re.match("-.*[A-Za-z]", word):
             places.append(at)
-    return part[places[0]] if places else "", places[1] if len(places) > 1 else None
+    return places
 
 
 def expanded(part: list[str], has_value: set[str]) -> list[tuple[list[str], Named | None]]:
     """The words of a command with an output, and the rail that these had in its place: several if it goes over all rails of a file."""
-    command, at = place_of(part, has_value)
-    if command not in OF_A_RAIL or at is None or not part[at].endswith(ENDING):
+    places = places_of(part, has_value)
+    if len(places) < 2 or part[places[0]] not in OF_A_RAIL or not part[places[1]].endswith(ENDING):
         return [(part, None)]
-    file = part[at]
-    try:
-        found = rails.read(file)
-    except BadRails as bad:
-        raise BadCall(str(bad)) from bad
+    command, at, file = part[places[0]], places[1], part[places[1]]
+    found = read(file)
     behind = [word for word in part[at + 1:at + 2] if not word.startswith("-")]
     names = {rail.name: rail for rail in found.rails}
     if behind and behind[0] in names:
@@ -78,16 +86,28 @@ def expanded(part: list[str], has_value: set[str]) -> list[tuple[list[str], Name
     raise BadCall(f"{command}: {said} {shown(file)}, which has {', '.join(names)}")
 
 
-def attach(arguments: argparse.Namespace, named: Named) -> None:
-    """A command is about a rail of a file, or about all of them, which the call hears of as it is judged."""
-    arguments.rails, arguments.named, arguments.goes_on, arguments.of_file = named.found, named.rail, named.is_one_of_all, named.file
-    words = arguments.said.split()
-    name = shown(named.file) if named.rail is None else named.rail.name
-    arguments.said = " ".join([words[0], name, *words[2:]])
-    arguments.judge_file = judge_file
+def attached(command: Command, named: Named) -> Command:
+    """A command is about a rail of a file, or about all of them."""
+    words, name = command.said.split(), shown(named.file) if named.rail is None else named.rail.name
+    return replace(command, file=named.file, of_file=named.found, named=named.rail, goes_on=named.is_one_of_all, said=" ".join([words[0], name, *words[2:]]))
 
 
-def judge_file(arguments: argparse.Namespace) -> None:
-    """The outputs and the limits of the file are those of the call."""
-    call: Call = arguments.call
-    call.take_rails(arguments, arguments.rails)
+def with_rails(call: Call, command: Command) -> Command:
+    """The same command with the rails of its file, if it has one: their outputs and limits are those of the call. BadCall."""
+    if command.file is None:
+        return command
+    found = command.of_file or read(command.file)
+    call.take_rails(command, found)
+    there = [rail.name for rail in found.rails]
+    for name in command.names:
+        if name not in there:
+            raise BadCall(f"{command.name}: {shown(name)}: there is no such rail in {shown(command.file)}, which has {', '.join(there)}")
+    return replace(command, of_file=found)
+
+
+def read(file: str) -> Rails:
+    """The rails of a file. BadCall."""
+    try:
+        return rails.read(file)
+    except BadRails as bad:
+        raise BadCall(str(bad)) from bad

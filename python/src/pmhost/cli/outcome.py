@@ -1,56 +1,52 @@
 """What is said of a job: a register's word with its volts, how a job ended badly, and what an output commands after an order."""
 from __future__ import annotations
 
-import argparse
 from typing import Any
 
 from .. import voltages
-from ..course import CourseEnd, in_hexadecimal
 from ..delivered import Delivered, beyond_of
 from ..device import FORMAT_UNKNOWN, Device
 from ..errors import SAYINGS, ChangedRefused, PlanRefused, RailRefused, Refused, TrimRefused, refusal
 from ..operation import avsbus, ignores_faults, uncounted
-from ..rail_run import OUTSIDE
 from ..sequence import WHY
+from ..settings import OUTSIDE
 from ..states import Step
 from ..step_run import StepRun
 from ..survey import FORMAT, Commanded, behind, commanded
-from ..values import CODES, Format
+from ..values import DEVICE, VOLTAGES, Format
 from .again import RESTARTED
 from .answer import Answer, between, in_digits
-from .call import PROBE_TELLS, said
-from .names import IGNORE, TELL_TRIM
+from .call import PROBE_TELLS
+from .command import Command
+from .options import IGNORE
 from .readings import read_notes, read_protect
 
-DEVICE = "WRITE_PROTECT"
-REGISTERS = tuple(name for name in CODES if name != DEVICE)
-VOLTAGES = tuple(name for name in REGISTERS if name.startswith("VOUT_"))
+TELL_TRIM = "--trim=tell"
 # What is said of a margin at which the part ignores faults.
 IGNORED = ", faults ignored"
 
 
-def cell_words(arguments: argparse.Namespace, part: Device, register: str, word: int, form: Format | None = None) -> str:
+def cell_words(part: Device, output: int | None, register: str, word: int, form: Format | None = None) -> str:
     """A register with its word, and its volts or meaning; `form` is the format of the output, if the caller has it."""
-    output = arguments.output
     words = f"{register} {in_digits(register, word)}"
     if register == "OPERATION":
-        state = part.host.rail(output)
+        state = part.host.rail(output or 0)
         margin = {"VOUT_MARGIN_HIGH": ", margin high", "VOUT_MARGIN_LOW": ", margin low"}.get(state.selected or "", "")
         words += {True: f" on{margin}{IGNORED * ignores_faults(word)}", False: " off", None: ""}[state.is_on]
     elif register != DEVICE:
-        form = form or part.host.format(output)
+        form = form or part.host.format(output or 0)
         if form is not None:
             words += f" {voltages.shown(form.told(word))}"
     return words
 
 
-def answer_of(arguments: argparse.Namespace, part: Device, register: str | None, end: str, known: Commanded | None = None,
+def answer_of(command: Command, part: Device, register: str | None, end: str, known: Commanded | None = None,
               **named: Any) -> Answer:
     """An answer with what is known of a register."""
-    found = Answer(said(arguments), end, output=arguments.output, register=register,
+    found = Answer(command.said, end, output=command.output, register=register,
                    restart_seen=part.host.restart_seen, **named)
-    state = known or commanded(part, arguments.output or 0)
-    if arguments.output is not None:
+    state = known or commanded(part, command.output or 0)
+    if command.output is not None:
         found.commanded = state
     if register is not None:
         found.word, found.possible = state.cells[register].confirmed, state.cells[register].possible
@@ -59,20 +55,20 @@ def answer_of(arguments: argparse.Namespace, part: Device, register: str | None,
     return found
 
 
-def refused(arguments: argparse.Namespace, part: Device, register: str | None, fault: Refused) -> Answer:
-    """The host or a course refused a job: nothing more was sent."""
+def refused(command: Command, part: Device, register: str | None, fault: Refused, byte: int | None = None) -> Answer:
+    """The host or a course refused a job, as of a byte of OPERATION: nothing more was sent."""
     refusal, why = f"{fault.letter} {fault.name}", SAYINGS.get(fault.letter, fault.name)
     if isinstance(fault, PlanRefused) and fault.said:
         why = f"{fault.said}: {SAYINGS['P8'].rpartition(': ')[2]}"
     elif fault.register:
-        why = f"{fault.register}: {why_refused(arguments, commanded(part, arguments.output or 0), fault.letter) or why}"
-    return answer_of(arguments, part, register, "refused", status=1, text=f"refused {refusal}", refusal=refusal, why=why)
+        why = f"{fault.register}: {why_refused(commanded(part, command.output or 0), fault.letter, byte) or why}"
+    return answer_of(command, part, register, "refused", status=1, text=f"refused {refusal}", refusal=refusal, why=why)
 
 
-def unordered_rail(arguments: argparse.Namespace, part: Device, register: str, fault: RailRefused) -> Answer:
+def unordered_rail(command: Command, part: Device, register: str, fault: RailRefused) -> Answer:
     """An order wasn't begun, since its rail might trip or leave its limits."""
     status = RESTARTED if isinstance(fault, ChangedRefused) and fault.is_restart else 1
-    return answer_of(arguments, part, register, "refused", status=status, why=with_advice(fault),
+    return answer_of(command, part, register, "refused", status=status, why=with_advice(fault),
                      text=f"refused, {register} wasn't ordered{' again' * part.transfers.has_written}")
 
 
@@ -81,8 +77,8 @@ def with_advice(fault: RailRefused) -> str:
     return f"{fault.said}: {fault.do(TELL_TRIM if isinstance(fault, TrimRefused) else IGNORE)}"
 
 
-def why_refused(arguments: argparse.Namespace, state: Commanded, letter: str) -> str:
-    """Why, with the voltage that is known of it; nothing if none is."""
+def why_refused(state: Commanded, letter: str, byte: int | None) -> str:
+    """Why a job, as of a byte of OPERATION, is refused, with the voltage that is known of it; nothing if none is."""
     protect = state.only_word(DEVICE)
     if letter == "P7" and protect is not None:
         return f"{DEVICE} is {protect:02X}, and the part refuses the order: order {DEVICE} 00 first"
@@ -91,7 +87,6 @@ def why_refused(arguments: argparse.Namespace, state: Commanded, letter: str) ->
     if word is not None and state.form is not None:
         side = "below" if bound == "VOUT_MIN" else "above"
         return f"it would be {side} {bound}, which is {voltages.shown(state.form.told(word))}: order {bound} first"
-    byte = getattr(arguments, "byte", None)
     would = None if letter != "L5" or byte is None else state.would(byte)
     if would is None or state.limits is None:
         return ""
@@ -106,22 +101,22 @@ def possible_words(answer: Answer) -> str:
     return f"{answer.register} unknown, possible {words}"
 
 
-def tell_bad_end(arguments: argparse.Namespace, part: Device, register: str, step: Step) -> Answer:
+def tell_bad_end(command: Command, part: Device, register: str, step: Step) -> Answer:
     """An order that differs, or a job without a good answer."""
-    found = answer_of(arguments, part, register, step.kind, status=1)
+    found = answer_of(command, part, register, step.kind, status=1)
     if step.kind == "differs" and step.word is not None:
-        found.text = f"{cell_words(arguments, part, register, step.word)} differs"
-        found.why = (f"the part holds {in_digits(register, step.word)}: the write was lost, refused, limited or rounded"
-                     f"{with_why(part)}{read_protect(part)}")
+        found.text, found.why = differing(command, part, register, step.word)
     else:
         found.text, found.why = possible_words(found), part.transfers.why() or "no good answer"
-    found.why += read_notes(part, arguments.output)
+    found.why += read_notes(part, command.output)
     return found
 
 
-def with_why(part: Device) -> str:
+def differing(command: Command, part: Device, register: str, word: int) -> tuple[str, str]:
+    """What is said of a word that differs from the ordered one, and why that may be."""
     why = part.transfers.why()
-    return f"; {why}" if why else ""
+    return (f"{cell_words(part, command.output, register, word)} differs",
+            f"the part holds {in_digits(register, word)}: the write was lost, refused, limited or rounded{'; ' * bool(why)}{why}{read_protect(part)}")
 
 
 def commanded_words(found: Commanded, register: str, microvolts: int | None) -> str:
@@ -180,47 +175,42 @@ def is_well(found: Commanded, register: str, microvolts: int | None) -> bool:
 ENDS = {"differs": "differs", "format": "no format", "source": "other source", "spent": "spent", "changed": "changed", "restarted": "restarted"}
 
 
-def step_answer(arguments: argparse.Namespace, part: Device, register: str, run: StepRun) -> Answer:
+def step_answer(command: Command, part: Device, register: str, run: StepRun) -> Answer:
     """The answer to a step that orders a register, whose word may have been taken because it is near enough."""
+    byte = run.step.byte if run.step.act == "turns" else None
     if run.end.kind == "beyond":
-        return refused(arguments, part, register, beyond_of(run.end, run.step, part.host))
+        return refused(command, part, register, beyond_of(run.end, run.step, part.host), byte)
     if run.end.kind == "unjudged":
-        return refused(arguments, part, register, refusal(FORMAT_UNKNOWN))
+        return refused(command, part, register, refusal(FORMAT_UNKNOWN), byte)
     end, state = run.end.course, behind(part, run.step.output, run.end)
     if end.kind == "refused":
-        return refused(arguments, part, register, refusal(end.number, end.register))
+        return refused(command, part, register, refusal(end.number, end.register), byte)
     if end.kind == "reached":
-        return reached(arguments, part, register, state, run)
-    found = answer_of(arguments, part, register, ENDS[end.kind], state, status=1)
+        return reached(command, part, register, state, run)
+    found = answer_of(command, part, register, ENDS[end.kind], state, status=1)
     has_written, cell = part.transfers.has_written, state.cells.get(end.register or "")
     if end.kind in WHY:
         found.status, found.text, found.why = RESTARTED if end.kind == "restarted" else 1, possible_words(found), WHY[end.kind]
     elif end.kind == "differs" and end.word is not None:
-        found.text = f"{cell_words(arguments, part, end.register or register, end.word)} differs"
-        found.why = (f"{end.register}: the part holds {in_hexadecimal(end.register, end.word)}: the write was lost, refused, limited or "
-                     f"rounded{with_why(part)}{read_protect(part)}")
+        found.text, why = differing(command, part, end.register or register, end.word)
+        found.why = f"{end.register}: {why}"
     elif end.kind == "source" and end.word is not None:
         found.text = f"OPERATION {end.word:02X} may leave the voltage to another source{avsbus(end.word)}{unordered(has_written)}"
         found.why = "order OPERATION first, as by `on`"
     elif has_written and cell is not None and end.register == register:
-        found.text = possible_words(found) if found.word is None else f"{cell_words(arguments, part, register, found.word)} differs"
-        found.why = why_spent(part, end)
+        found.text = possible_words(found) if found.word is None else f"{cell_words(part, command.output, register, found.word)} differs"
+        found.why = part.transfers.why() or end.fault or "the part restarts again and again"
     elif has_written and found.word is not None:
-        found.text, found.why = f"{cell_words(arguments, part, register, found.word)} confirmed; {missed_words(state)}", why_not(state)
+        found.text, found.why = f"{cell_words(part, command.output, register, found.word)} confirmed; {missed_words(state)}", why_not(state)
     else:
         found.text, found.why = f"{missed_words(state)}{unordered(has_written)}", why_not(state)
         found.why += PROBE_TELLS * (not has_written and bool(part.transfers.faults))
-    found.why += read_notes(part, arguments.output, state.missing)
+    found.why += read_notes(part, command.output, state.missing)
     return found
 
 
 def unordered(has_written: bool) -> str:
     return "" if has_written else ", nothing was ordered"
-
-
-def why_spent(part: Device, end: CourseEnd) -> str:
-    """Why a course has no try left, as far as its last transfers say it."""
-    return part.transfers.why() or end.fault or "the part restarts again and again"
 
 
 def missed_words(found: Commanded) -> str:
@@ -239,23 +229,23 @@ def deliver(found: Answer, delivered: Delivered) -> None:
         found.why += f"{'; ' * bool(found.why)}{delivered.why_told}"
 
 
-def reached(arguments: argparse.Namespace, part: Device, register: str, state: Commanded, run: StepRun) -> Answer:
+def reached(command: Command, part: Device, register: str, state: Commanded, run: StepRun) -> Answer:
     """The answer to a step that has reached what is wanted: the register's word, and what the output commands."""
     is_accepted = register in run.held
-    found = answer_of(arguments, part, register, "accepted" if is_accepted else "done", state)
+    found = answer_of(command, part, register, "accepted" if is_accepted else "done", state)
     assert found.word is not None
-    cell = cell_words(arguments, part, register, found.word, state.form)
+    cell = cell_words(part, command.output, register, found.word, state.form)
     words = f"{register} accepted{cell.removeprefix(register)}" if is_accepted else f"{cell} confirmed"
     if register == "OPERATION" and found.word != run.step.byte:
-        if arguments.command == "word":
-            return differs_in_bits(arguments, part, found)
-        words = f"{cell_words(arguments, part, register, run.step.byte)}, held as {found.word:02X}: {uncounted(run.step.byte, found.word)}"
+        if command.name == "word":
+            return differs_in_bits(command, part, found, run.step.byte)
+        words = f"{cell_words(part, command.output, register, run.step.byte)}, held as {found.word:02X}: {uncounted(run.step.byte, found.word)}"
     if state.form is None:
         found.text = f"{words}; what the output commands isn't known, since its format wasn't learned"
     else:
         found.text = f"{words}; {commanded_words(state, register, found.microvolts)}"
     # One that is turned off is off, whatever it would command.
-    if state.form is not None and arguments.command != "off" and not is_well(state, register, found.microvolts):
+    if state.form is not None and command.name != "off" and not is_well(state, register, found.microvolts):
         found.status, found.end, found.why = 1, "cut" if state.is_well else "unsure", why_not(state)
     if run.delivered is not None:
         deliver(found, run.delivered)
@@ -265,22 +255,12 @@ def reached(arguments: argparse.Namespace, part: Device, register: str, state: C
     return found
 
 
-def differs_in_bits(arguments: argparse.Namespace, part: Device, found: Answer) -> Answer:
+def differs_in_bits(command: Command, part: Device, found: Answer, byte: int) -> Answer:
     """A byte was named as such, and the part holds its command with bits that don't count."""
     assert found.word is not None
     found.status, found.end = 1, "differs"
-    found.text = f"{cell_words(arguments, part, 'OPERATION', found.word)} differs"
-    found.why = f"OPERATION: the part holds {found.word:02X}, and {uncounted(arguments.byte, found.word)}: `on`, `off` and `margin` take that"
-    return found
-
-
-def confirmed_alone(arguments: argparse.Namespace, part: Device, register: str) -> Answer:
-    """The answer to an order that is confirmed, after which nothing else was read."""
-    found = answer_of(arguments, part, register, "done")
-    assert found.word is not None
-    found.text = f"{cell_words(arguments, part, register, found.word)} confirmed"
-    if arguments.output is not None:
-        found.text += "; what the output commands isn't known, since its format wasn't learned"
+    found.text = f"{cell_words(part, command.output, 'OPERATION', found.word)} differs"
+    found.why = f"OPERATION: the part holds {found.word:02X}, and {uncounted(byte, found.word)}: `on`, `off` and `margin` take that"
     return found
 
 

@@ -2,10 +2,10 @@
 from __future__ import annotations
 
 import contextlib
+from typing import TYPE_CHECKING
 
 from .. import clock
 from ..bus import LinuxBus, ModelBus, NoBus, PatientBus, Trace
-from ..bus.linux import Calls
 from ..bus.patient import Waits, timeout_of
 from ..part import ModelPartBus
 from ..parts import MODEL_BUS, BoardPart
@@ -16,25 +16,19 @@ from ..survey import answers
 from ..transfers import Transfers
 from ..voltages import of_microvolts
 
+if TYPE_CHECKING:
+    from .call import Call
+
 HELD_LOW = ("a line is held low: address 02, which no part may have, acknowledges: clock SCL nine times and send a stop, "
             "cycle the supply last")
 
 
-class Options:
-    """How the parts of a call are driven: its options but for the places of the parts."""
-
-    def __init__(self, passes: int, delay: int, busy_timeout: int | None, is_forced: bool, is_shared: bool, kernel: Calls | None,
-                 is_unlimited: bool) -> None:
-        self.passes, self.delay, self.busy_timeout = passes, delay, busy_timeout
-        self.is_forced, self.is_shared, self.kernel, self.is_unlimited = is_forced, is_shared, kernel, is_unlimited
-
-
 class Place:
-    """The part, with limits of its outputs. `outputs` is how many a model part has."""
+    """The part, with limits of its outputs, driven as the call says. `outputs` is how many a model part has."""
 
-    def __init__(self, part: BoardPart, limits: dict[int, tuple[int, int]], options: Options, trace: Trace,
+    def __init__(self, call: Call, part: BoardPart, limits: dict[int, tuple[int, int]], trace: Trace,
                  outputs: int | None = None, log: Log | None = None) -> None:
-        self.part, self.limits, self._options, self._trace, self._log = part, limits, options, trace, log
+        self.call, self.part, self.limits, self._trace, self._log = call, part, limits, trace, log
         self._outputs = outputs or part.outputs
         self._bus: ModelPartBus | LinuxBus | None = None
         self._pmbus: Device | None = None
@@ -50,10 +44,10 @@ class Place:
         return self._bus
 
     def _made(self) -> ModelPartBus | LinuxBus:
-        part, options = self.part, self._options
+        part, call = self.part, self.call
         if part.bus == MODEL_BUS:
             return ModelBus(part.address, self._outputs, self._trace)
-        return LinuxBus(part.bus, part.address, options.is_forced, self._trace, options.kernel, options.is_shared)
+        return LinuxBus(part.bus, part.address, call.is_forced, self._trace, call.kernel, call.is_shared)
 
     def is_held_low(self) -> bool:
         """Whether the open bus acknowledges an address that no part may have."""
@@ -61,10 +55,10 @@ class Place:
 
     def patient(self, busy_timeout: int | None = None) -> ModelPartBus | PatientBus:
         """The bus that waits for a busy part, which a model part never is; without a time that of the call."""
-        bus, options = self.open(), self._options
+        bus, call = self.open(), self.call
         if not isinstance(bus, LinuxBus):
             return bus
-        return PatientBus(bus, options.delay, options.busy_timeout if busy_timeout is None else busy_timeout, self.part.ready, self.part.store_time)
+        return PatientBus(bus, call.delay, call.busy_timeout if busy_timeout is None else busy_timeout, self.part.ready, self.part.store_time)
 
     def close(self) -> None:
         """Closes the bus, if it was opened."""
@@ -79,12 +73,12 @@ class Place:
         if self._pmbus is None:
             bus, part = self.patient(), self.part
             lacks = (*part.lacks, *[CONFIG] * (part.bus == MODEL_BUS))
-            self._pmbus = Device(bus, part.address, part.outputs, self._options.passes, lacks=lacks, looks=None, trims=part.trims)
+            self._pmbus = Device(bus, part.address, part.outputs, self.call.passes, lacks=lacks, looks=None, trims=part.trims)
             if self._log is not None:
                 self._log.listen(self._pmbus.host, f"{part.name} bus {part.bus} address {part.address:02X}".strip(), self._pmbus.lacks)
             for output, pair in self.limits.items():
                 self._pmbus.host.set_limits(output, *(of_microvolts(each) for each in pair))
-            if self._options.is_unlimited:
+            if self.call.is_unlimited:
                 for output in set(range(part.outputs)) - set(self.limits):
                     self._pmbus.host.no_limits(output)
         return self._pmbus
@@ -102,7 +96,7 @@ class Place:
     def ask_operation(self, behind: str = "") -> str:
         """A check of OPERATION of output 0, again and again within the time for a busy part, which is long after a `store` and a `restore`.
         Nothing if a good answer came, otherwise why none did. The transfers of the job before stay those of the part."""
-        part, waits = self.pmbus(), Waits(clock.until() + timeout_of(self._options.busy_timeout, behind, self.part.store_time) / 1000)
+        part, waits = self.pmbus(), Waits(clock.until() + timeout_of(self.call.busy_timeout, behind, self.part.store_time) / 1000)
         while True:
             transfers = Transfers()
             part.host.check(0, "OPERATION")

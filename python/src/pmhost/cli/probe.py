@@ -1,71 +1,76 @@
-"""The command probe."""
+"""The command probe: what a part has and whether the host can drive it, or which parts a bus has."""
 from __future__ import annotations
 
-import argparse
+from dataclasses import dataclass
 from typing import Any
 
 from ..parts import MODEL_BUS
-from ..probe import REGISTERS, UNFIT, WITHOUT_PEC_TAKEN, Found, FoundOutput, Probe, block_words, spaced, text_of
+from ..probe import UNFIT, WITHOUT_PEC_TAKEN, Found, FoundOutput, Probe, block_words, text_of
 from ..reads import Read
 from ..scan import LEFT_OUT, Seen, bus_or_why, scan
-from ..values import LACKABLE
-from .about import described
+from ..texts import in_hex
+from ..values import LACKABLE, REGISTERS
 from .answer import Answer, in_digits
-from .call import MODEL_ADDRESS, Call, complain, said
-from .parser import BadCall, bus_options
+from .call import MODEL_ADDRESS, Call, complain
+from .command import Command, Task
+from .options import command_parser
+from .parser import BadCall
 
 MAY_NOTE = "the part may note in STATUS_CML that it was asked for what it lacks, and pull SMBALERT#"
 CLEARS = "--writes sends CLEAR_FAULTS, which clears the part's latched faults"
 MAY_BE_TAKEN = "a device that isn't a PMBus part may take the command byte for a register's number"
 MAY_BE_CLEARED = "the part's latched faults may be cleared, and no setting was written"
 
-
 FITS, BUT = "the part fits", "for a frame that is both damaged and cut before its last byte, which is not proved"
+
+
+@dataclass(frozen=True, kw_only=True)
+class Probed(Command):
+    """A probe, which may write, and without an address ask all."""
+
+    writes: bool
+    all_addresses: bool
 
 
 def add(commands: Any) -> None:
     """Adds the subparser."""
-    found = commands.add_parser("probe", **described("probe"))
+    found = command_parser(commands, "probe", Task(run, judge, Probed, can_scan=True))
     found.add_argument("--writes", action="store_true", help="also sends CLEAR_FAULTS without its PEC, and with a wrong one, "
                        "each after a right one: STATUS_CML has to be 00 before, and shows by its bits 5 and 1 that the part refused. A part that "
                        "takes a wrong PEC can't be driven. This clears latched faults; only reads if left out")
     found.add_argument("--all-addresses", action="store_true", help="without -a: also sends a command byte to 70 to 77, at which multiplexers "
                        "sit, which take it for their channels; these are passed over if left out")
-    found.set_defaults(run=run, judge=judge, can_scan=True)
-    bus_options(found)
 
 
-def judge(arguments: argparse.Namespace) -> None:
-    call: Call = arguments.call
+def judge(call: Call, command: Probed) -> None:
     is_scan = call.address is None and call.bus != MODEL_BUS
-    if arguments.all_addresses and not is_scan:
+    if command.all_addresses and not is_scan:
         raise BadCall("probe: --all-addresses is for a look at a whole bus: leave the address out")
-    for name, is_given in (("--writes", arguments.writes), ("--trace", call.trace_path is not None)):
+    for name, is_given in (("--writes", command.writes), ("--trace", call.trace_path is not None)):
         if is_given and is_scan:
             raise BadCall(f"probe: {name}: give the part's address, as -a 58; probe without both finds the parts")
 
 
-def run(arguments: argparse.Namespace) -> int:
+def run(call: Call, command: Probed) -> int:
     """What the part has, and in the last line what to give to `pmhost` for it, or why it can't be driven."""
-    call: Call = arguments.call
     if call.address is None and call.bus != MODEL_BUS:
-        return look_around(arguments, call)
+        return look_around(call, command)
     # Its own tries wait for a busy part. A question behind a write could change STATUS_CML, which it reads.
-    bus = call.patient(0)
-    complain(f"{said(arguments)}: {MAY_NOTE}{f'; {CLEARS}' if arguments.writes else ''}")
-    probe = Probe(bus, call.address or MODEL_ADDRESS, call.outputs, call.lacks)
+    bus = call.only().patient(0)
+    complain(f"{command.said}: {MAY_NOTE}{f'; {CLEARS}' if command.writes else ''}")
+    probe = Probe(bus, call.address or MODEL_ADDRESS, call.outputs, call.one_part.lacks)
     found = probe.run()
-    if arguments.writes and found.outputs:
+    if command.writes and found.outputs:
         call.settled = MAY_BE_CLEARED
         probe.write()
-    lines, give = lines_of(found, arguments.writes), give_of(call, found) if found.is_fit else None
+    lines, give = lines_of(found, command.writes), give_of(call, found) if found.is_fit else None
     if found.is_fit and found.is_pec_optional:
         lines.append(next_words(call))
     if not call.is_json:
         call.say_lines([*(f"probe: {line}" for line in lines), *([give] if give else [])])
     told = [*(row_of(each) for each in found.outputs), device_row(found, lines, give)]
     end = "unfit" if not found.is_fit else "fit but" if found.is_pec_optional else "fit"
-    return call.say(Answer(said(arguments), end, status=0 if found.is_fit else 1, rows=told))
+    return call.say(Answer(command.said, end, status=0 if found.is_fit else 1, rows=told))
 
 
 def next_words(call: Call) -> str:
@@ -75,14 +80,14 @@ def next_words(call: Call) -> str:
             f"0x{call.address or MODEL_ADDRESS:02X} 0xD1 0xNN bp writes that byte. Then probe --writes again")
 
 
-def look_around(arguments: argparse.Namespace, call: Call) -> int:
+def look_around(call: Call, command: Probed) -> int:
     """Which addresses of the bus answer, a line each, and the command line that probes each PMBus part. The status is 1 if there is none."""
     bus = bus_or_why(call.bus_at)
     if not isinstance(bus, str):
         bus.close()
-    complain(f"{said(arguments)}: {MAY_BE_TAKEN}; {MAY_NOTE}")
+    complain(f"{command.said}: {MAY_BE_TAKEN}; {MAY_NOTE}")
     rows, lines = [], []
-    for seen in scan(call.bus_at, arguments.all_addresses):
+    for seen in scan(call.bus_at, command.all_addresses):
         line = seen_words(seen)
         rows.append({"address": f"{seen.address:02X}", "part": seen.is_part, "asked": seen.is_asked, "says": line})
         if not call.is_json:
@@ -92,7 +97,7 @@ def look_around(arguments: argparse.Namespace, call: Call) -> int:
     if not call.is_json:
         call.say_lines([f"probe: {LEFT_OUT}", *lines])
     why = "" if lines else "no PMBus part answers on this bus"
-    return call.say(Answer(said(arguments), "parts" if lines else "no part", status=0 if lines else 1, why=why, rows=rows))
+    return call.say(Answer(command.said, "parts" if lines else "no part", status=0 if lines else 1, why=why, rows=rows))
 
 
 def seen_words(seen: Seen) -> str:
@@ -112,7 +117,7 @@ def give_of(call: Call, found: Found) -> str:
     """The command line for this part, but for its commands and the limits of its outputs."""
     place = [MODEL_BUS] if call.bus == MODEL_BUS else [str(call.bus), "-a", f"{call.address:02X}"]
     limits = (f"--limit {each.number}:LEAST:MOST" for each in found.outputs)
-    lacked = ",".join(name for name in LACKABLE if name in call.lacks or all(name in each.missing for each in found.outputs))
+    lacked = ",".join(name for name in LACKABLE if name in call.one_part.lacks or all(name in each.missing for each in found.outputs))
     reached = [*(["--force"] if call.is_forced else []), *(["--share-bus"] if call.is_shared else []),
                *(["--delay", f"{call.delay}ms"] if call.delay else []),
                *([] if call.busy_timeout is None else ["--busy-timeout", f"{call.busy_timeout}ms"])]
@@ -163,16 +168,13 @@ def revision_words(revision: int | None) -> str:
 
 def text_words(name: str, read: Read) -> str:
     """A block, as a text if it is one."""
-    if read.payload is None:
-        return f"no good {name} ({read.why})"
-    return f"{name} {block_words(read.payload)}"
+    return f"no good {name} ({read.why})" if read.payload is None else f"{name} {block_words(read.payload)}"
 
 
 def protect_words(read: Read) -> str:
     """WRITE_PROTECT."""
-    if read.payload is None:
-        return f"no good WRITE_PROTECT ({read.why})"
-    return f"WRITE_PROTECT {read.payload[0]:02X}{': it refuses writes' if read.payload[0] else ''}"
+    return (f"no good WRITE_PROTECT ({read.why})" if read.payload is None else
+            f"WRITE_PROTECT {read.payload[0]:02X}{': it refuses writes' if read.payload[0] else ''}")
 
 
 def registers_words(output: FoundOutput) -> str:
@@ -215,9 +217,9 @@ def row_of(output: FoundOutput) -> dict[str, object]:
 
 def device_row(found: Found, lines: list[str], give: str | None) -> dict[str, object]:
     """The same of the device, with what is said of it and the command line for it."""
-    texts = {name.lower(): None if read.payload is None else text_of(read.payload) or spaced(read.payload)
+    texts = {name.lower(): None if read.payload is None else text_of(read.payload) or in_hex(read.payload)
              for name, read in found.identity.items()}
-    texts.update({name.lower(): text_of(block) or spaced(block) for name, block in found.unit.items()})
+    texts.update({name.lower(): text_of(block) or in_hex(block) for name, block in found.unit.items()})
     protect = found.protect.payload
     return {"output": None, "pmbus_revision": None if found.revision is None else f"{found.revision:02X}", **texts,
             "write_protect": None if protect is None else f"{protect[0]:02X}", "writes": found.writes,

@@ -7,7 +7,8 @@ from typing import TYPE_CHECKING
 
 from ..errors import Refused
 from ..states import Step
-from ..survey import holds_zeros, only_word
+from ..survey import holds_zeros, only_word, why_unread
+from ..values import DEVICE
 from ..zeros import NotBelieved, guard
 from . import streams
 from .answer import Answer
@@ -16,7 +17,7 @@ if TYPE_CHECKING:
     from .call import Call
 
 # 80h forbids OPERATION, too.
-PROTECT, OFF, ALL = "WRITE_PROTECT", 0, 0x80
+OFF, ALL = 0, 0x80
 
 
 class Protection:
@@ -37,14 +38,18 @@ class Protection:
 
     def is_in_the_way(self, name: str) -> bool:
         """Whether a part is known to hold just the byte of its file."""
-        return self.of(name) not in (None, OFF) and only_word(self.call.places()[name].pmbus(), 0, PROTECT) == self.of(name)
+        return self.of(name) not in (None, OFF) and only_word(self.call.places()[name].pmbus(), 0, DEVICE) == self.of(name)
 
     def read(self, name: str) -> None:
         """Reads it, if a byte is to be written last."""
         if self.of(name) is not None or name in self._forced:
-            part = self.call.places()[name].pmbus()
-            part.host.check(0, PROTECT)
-            part.run()
+            self._check(name)
+
+    def _check(self, name: str) -> int | None:
+        """Reads it: the byte, if that is known then."""
+        part = self.call.places()[name].pmbus()
+        why_unread(part, 0, DEVICE)
+        return only_word(part, 0, DEVICE)
 
     def lift(self, name: str) -> bool:
         """Lifts it if that byte is in the way: whether the part takes orders now. The line says so."""
@@ -52,10 +57,7 @@ class Protection:
 
     def force(self, name: str) -> bool:
         """Lifts it if it keeps an output on that is to go off, whatever the file says: whether the part takes orders now. The line says so."""
-        part = self.call.places()[name].pmbus()
-        part.host.check(0, PROTECT)
-        part.run()
-        if only_word(part, 0, PROTECT) != ALL:
+        if self._check(name) != ALL:
             return False
         self._forced.add(name)
         return self._lift(name)
@@ -66,7 +68,7 @@ class Protection:
         self._lifted.add(name)
         if self._order(name, OFF):
             return False
-        self._say(name, "lifted", f"{PROTECT} {OFF:02X} confirmed, and was {self._last(name):02X}")
+        self._say(name, "lifted", f"{DEVICE} {OFF:02X} confirmed, and was {self._last(name):02X}")
         return True
 
     def _last(self, name: str) -> int:
@@ -77,14 +79,14 @@ class Protection:
         """Writes the byte of each part that was touched, if it holds 00 and answers. The status: 1 if that isn't confirmed."""
         for name in sorted(each for each in self._touched if self.call.places()[each].is_begun):
             self.read(name)
-            held = only_word(self.call.places()[name].pmbus(), 0, PROTECT)
+            held = only_word(self.call.places()[name].pmbus(), 0, DEVICE)
             why = "no good answer" if held is None and name in self._lifted else ""
             if held == OFF and self._last(name) != OFF:
                 why = self._order(name, self._last(name))
                 if not why:
-                    self._say(name, "protected", f"{PROTECT} {self._last(name):02X} confirmed")
+                    self._say(name, "protected", f"{DEVICE} {self._last(name):02X} confirmed")
             if why:
-                self.left += f"{'; ' * bool(self.left)}{name}{': ' * bool(name)}{PROTECT} is {OFF:02X}: {why}: order {self._last(name):02X} by word"
+                self.left += f"{'; ' * bool(self.left)}{name}{': ' * bool(name)}{DEVICE} is {OFF:02X}: {why}: order {self._last(name):02X} by word"
         return int(bool(self.left))
 
     def _order(self, name: str, byte: int) -> str:
@@ -93,11 +95,11 @@ class Protection:
         part = place.pmbus()
 
         def order() -> Step:
-            part.host.order(0, PROTECT, byte)
+            part.host.order(0, DEVICE, byte)
             return part.run()
 
         try:
-            step = guard(part.host.address, PROTECT, place.ask_operation, order, lambda _: holds_zeros(part))
+            step = guard(part.host.address, DEVICE, place.ask_operation, order, lambda _: holds_zeros(part))
         except (Refused, NotBelieved) as fault:
             return str(fault)
         return "" if step.kind == "done" else part.transfers.why() or "no good answer"

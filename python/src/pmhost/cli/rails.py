@@ -1,27 +1,25 @@
-"""The commands apply and verify: a file of rails."""
+"""The commands apply and verify, which bring the parts of a board to a file of rails, and compare them with it."""
 from __future__ import annotations
 
-import argparse
 from dataclasses import replace
-from typing import Any
+from typing import Any, Callable
 
-from .. import rails, voltages
-from ..apply import AS_WANTED, Board
-from ..parts import BadRails
-from ..rail_run import Restarted, Setting, Stopped
+from .. import voltages
+from ..apply import Board
 from ..rails import Rail
+from ..settings import AS_WANTED, Setting, Stopped
 from ..stores import cml, stood_before, too_hot, why_failed
+from ..survey import Commanded
 from . import way
-from .about import described
-from .again import RESTARTED
-from .answer import Answer, delivery_of, in_digits, number
+from .again import status_of
+from .answer import Answer, commanded_of, delivery_of, in_digits, number, table
 from .back import words_of
-from .call import Call, said
-from .completion import FILES, completed_by
-from .orders import ACCEPT, CLEAR_FIRST, CLEARING, OFF_STORED, STORE_OFF, STORES
+from .call import Call
+from .command import Command, Task
+from .options import ACCEPT, CLEAR_FIRST, PICTURE, SHARED, STORE_OFF, command_parser, file_word, shared
 from .outcome import rail_words
-from .parser import BadCall, bus_options, file_of
 from .readings import read_notes
+from .stores import STORES
 from .way import WayFile, output_of
 
 
@@ -31,55 +29,44 @@ STORE_ALL = "--store-always"
 def add(commands: Any) -> None:
     """Adds the subparsers."""
     for name, run in ("apply", apply), ("verify", verify):
-        found = commands.add_parser(name, **described(name))
-        completed_by(found.add_argument("file", metavar="FILE", type=file_of, help="settings of a board's rails, in TOML"), FILES)
-        found.set_defaults(run=run, judge_file=judge_file, judge=way.judge, dry_run=False, picture=None, goes_back=False, is_order=name == "apply")
+        found = command_parser(commands, name, Task(run, way.judge, is_order=name == "apply"))
+        file_word(found)
         if name == "apply":
             found.add_argument("--dry-run", action="store_true", help="reads, and only says what would be ordered")
             found.add_argument("--store", action="store_true", dest="wants_store",
                                help="has each part of which something was ordered store its settings, once all rails are as the file has them. One above "
                                     "85 C, or with a rail that is cut, isn't stored; none is if left out")
-            found.add_argument(CLEAR_FIRST, **CLEARING)
-            found.add_argument(STORE_OFF, **{**OFF_STORED, "help": f"`--store` of a board whose rails are off, and stay off: {OFF_STORED['help']}"})
+            shared(found, CLEAR_FIRST)
+            shared(found, STORE_OFF, f"`--store` of a board whose rails are off, and stay off: {SHARED[STORE_OFF]['help']}")
             found.add_argument(STORE_ALL, action="store_true", dest="stores_all",
                                help="the same of all parts, ordered or not; --store=always is the same")
             found.add_argument("--back-on-failure", action="store_true", dest="goes_back",
                                help="brings every rail back to what it held if the call fails, and refuses before any order if no way back would "
                                     "be accepted; leaves them as they are if left out")
-            way.add(found)
-        found.add_argument("--accept", **ACCEPT)
-        bus_options(found)
+            shared(found, PICTURE, "draws into this file (SVG) what each rail commands, order by order, by what the host knows; with --dry-run what the "
+                                   "plan would order")
+        shared(found, ACCEPT)
 
 
-def judge_file(arguments: argparse.Namespace) -> None:
-    """The file, judged whole: its outputs and its limits are those of the call."""
-    call: Call = arguments.call
-    try:
-        found = arguments.rails = rails.read(arguments.file)
-    except BadRails as bad:
-        raise BadCall(str(bad)) from bad
-    call.take_rails(arguments, found)
-
-
-def apply(arguments: argparse.Namespace) -> int:
+def apply(call: Call, command: Command) -> int:
     """Applies a file, or says what would be ordered."""
-    board = board_of(arguments)
-    board.wants_store = arguments.wants_store or arguments.stores_all or arguments.stores_off
-    board.clears, board.stores_off = arguments.clear_first, arguments.stores_off
+    board, storing = board_of(call, command), command.storing
+    board.wants_store = storing.wants_store or storing.stores_all or storing.stores_off
+    board.clears, board.stores_off = storing.clear_first, storing.stores_off
     if board.stores_off:
         board.rails = [replace(rail, is_on=False, after=(), wait=0, delivers=False) for rail in board.rails]
-    return run_board(arguments, board, board.prepare if arguments.dry_run else board.apply)
+    return run_board(call, command, board, board.prepare if command.dry_run else board.apply)
 
 
-def verify(arguments: argparse.Namespace) -> int:
+def verify(call: Call, command: Command) -> int:
     """Verifies a file."""
-    board = board_of(arguments)
-    return run_board(arguments, board, board.verify)
+    board = board_of(call, command)
+    return run_board(call, command, board, board.verify)
 
 
-def board_of(arguments: argparse.Namespace) -> Board:
-    call: Call = arguments.call
-    places, file = call.places(), arguments.rails
+def board_of(call: Call, command: Command) -> Board:
+    """The board of a file, over the parts of a call."""
+    places, file = call.places(), command.rails
     parts = {name: place.pmbus() for name, place in places.items()}
     board = Board(parts, file.rails, file.parts if file.is_board else {}, lambda name: places[name].ask_operation())
 
@@ -89,27 +76,26 @@ def board_of(arguments: argparse.Namespace) -> Board:
     def after(it: Setting, is_confirmed: bool) -> None:
         call.settled = f"written and confirmed: {', '.join(board.changed())}" if is_confirmed else call.maybe
         if is_confirmed:
-            call.ordered.note(it.rail.part, it.rail.output, it.register, it.wanted, said(arguments))
+            call.ordered.note(it.rail.part, it.rail.output, it.register, it.wanted, command.said)
         call.maybe = ""
 
     def written(it: Setting) -> str:
         others = [name for name in board.changed() if name != it.name]
         return f"; written before: {', '.join(others)}" if others else ""
 
-    board.before_order, board.after_order, board.looks, board.accept = before, after, call.looks, arguments.accept
+    board.before_order, board.after_order, board.looks, board.accept = before, after, call.looks, command.accept
     board.is_in_the_way, board.lift = call.protection.is_in_the_way, call.protection.lift
-    board.is_dry, board.note = arguments.dry_run, call.back.note if arguments.goes_back else None
+    board.is_dry, board.note = command.dry_run, call.back.note if command.goes_back else None
     return board
 
 
-def run_board(arguments: argparse.Namespace, board: Board, run: Any) -> int:
+def run_board(call: Call, command: Command, board: Board, run: Callable[[], None]) -> int:
     """Carries it out, and says what became of it; the picture that is wanted comes after that."""
-    call: Call = arguments.call
-    is_dry: bool = arguments.dry_run
-    if arguments.command == "apply" and not is_dry:
+    is_dry = command.dry_run
+    if command.name == "apply" and not is_dry:
         for name in board.having_rails():
             call.protection.touch(name)
-    file = WayFile(arguments, board, lambda rail: end_of(board, rail, is_dry))
+    file = WayFile(call, command, board, lambda rail: end_of(board, rail, is_dry))
     try:
         why, status = stop_of(board, run)
     except BaseException as fault:
@@ -120,13 +106,13 @@ def run_board(arguments: argparse.Namespace, board: Board, run: Any) -> int:
     gone, is_back = went_back(call, board, bool(why))
     board.take()
     # Where no plan is carried on, what is held decides.
-    are_wanted = arguments.command == "apply" and not why
-    if why and arguments.command == "apply" and not is_dry:
+    are_wanted = command.name == "apply" and not why
+    if why and command.name == "apply" and not is_dry:
         why += gone or after_a_stop(board)
-    found = Answer(said(arguments), "back" if is_back else "stopped" if why else "would order" if is_dry else "done", status=status, why=why,
+    found = Answer(command.said, "back" if is_back else "stopped" if why else "would order" if is_dry else "done", status=status, why=why,
                    rows=rows(board, is_dry and not why, are_wanted))
     with file.written(found.end, why):
-        return answer(call, board, found, is_dry, are_wanted, getattr(arguments, "stores_all", False))
+        return answer(call, board, found, is_dry, are_wanted, command.storing.stores_all)
 
 
 def went_back(call: Call, board: Board, is_bad: bool) -> tuple[str, bool]:
@@ -145,7 +131,7 @@ def went_back(call: Call, board: Board, is_bad: bool) -> tuple[str, bool]:
 def answer(call: Call, board: Board, found: Answer, is_dry: bool, are_wanted: bool, stores_all: bool) -> int:
     """Says it, and has the parts store if that is wanted."""
     if not call.is_json and board.settings:
-        call.say_lines([*table(board, is_dry and not found.status),
+        call.say_lines([*table_of(board, is_dry and not found.status),
                         *(line for rail in board.rails for line in rail_lines(board, rail, are_wanted))])
     if board.wants_store and not found.status and not is_dry:
         store(call, board, found, stores_all)
@@ -165,7 +151,7 @@ def store(call: Call, board: Board, found: Answer, stores_all: bool) -> None:
     stored, stood = list[str](), ""
     parts = [name for name in board.having_rails() if stores_all or any(it.is_ordered and it.rail.part == name for it in board.settings)]
     if not parts:
-        found.end, found.text = "done", f"nothing was ordered, and nothing is stored: --store=always stores all the same"
+        found.end, found.text = "done", "nothing was ordered, and nothing is stored: --store=always stores all the same"
         return
     for name in parts:
         if why := why_not_stored(call, board, name):
@@ -201,12 +187,12 @@ def stored_on(board: Board, parts: list[str]) -> str:
             if on and any(rail.after for rail in board.rails) else "")
 
 
-def stop_of(board: Board, run: Any) -> tuple[str, int]:
+def stop_of(board: Board, run: Callable[[], None]) -> tuple[str, int]:
     """Carries it out. Why it stopped, or nothing, and the status: that of a restart if it is no more than one."""
     try:
         run()
     except Stopped as stopped:
-        return told_of(board, stopped), RESTARTED if isinstance(stopped, Restarted) else 1
+        return told_of(board, stopped), status_of(stopped)
     return "", 0
 
 
@@ -244,14 +230,12 @@ def end_of(board: Board, rail: Rail, is_dry: bool) -> tuple[str, str]:
     return "fault" if wrong or board.why_not_well(rail) else "good", "; ".join([words, *wrong])
 
 
-def table(board: Board, is_dry: bool) -> list[str]:
+def table_of(board: Board, is_dry: bool) -> list[str]:
     """The lines: the part of a board, rail, setting, wanted, read back, and confirmed or what else."""
-    lines = [("part", "rail", "setting", "wanted", "read back", "")]
+    lines: list[tuple[str, ...]] = [("part", "rail", "setting", "wanted", "read back", "")]
     lines += [(it.rail.part, it.rail.name, it.register, board.shown(it, it.asked), board.shown(it, it.last), state_of(board, it, is_dry))
               for it in board.settings]
-    columns = range(0 if board.described else 1, 5)
-    wide = {at: max(len(line[at]) for line in lines) for at in columns}
-    return ["  ".join([*(line[at].ljust(wide[at]) for at in columns), line[5]]).rstrip() for line in lines]
+    return table([line[0 if board.described else 1:] for line in lines])
 
 
 def rail_lines(board: Board, rail: Rail, are_wanted: bool) -> list[str]:
@@ -268,28 +252,20 @@ def delivered_words(board: Board, rail: Rail) -> str:
     return board.delivered[rail.name].words if rail.name in board.delivered else ""
 
 
-def volts(board: Board, it: Setting, word: int | None) -> float | None:
-    """A word's volts, if the library says them."""
-    micro = board.format(it.rail).told(word)
-    return None if micro is None else number(micro)
-
-
 def rows(board: Board, is_dry: bool, are_wanted: bool) -> list[dict[str, object]]:
     """The same by names and numbers."""
     found: list[dict[str, object]] = []
     for rail in board.rails:
-        known = board.state(rail) if rail.name in board.surveys else None
+        is_known = rail.name in board.surveys
+        known = board.state(rail) if is_known else Commanded()
         found.append({
             "rail": rail.name, "part": rail.part or None, "output": rail.output, "limits": [number(each) for each in rail.limits],
-            "selected": known and known.selected, "faults_ignored": known and known.ignores_faults,
-            "on": None if known is None else known.is_on,
-            "commands": None if known is None or known.least is None else [number(known.least), number(known.greatest)],
-            "within": None if known is None else known.is_within, **delivery_of(board.delivered.get(rail.name)),
+            **commanded_of(known), "within": known.is_within, **delivery_of(board.delivered.get(rail.name)),
             "cut": [{"register": it.register, "word": in_digits(it.register, it.word), "volts": number(it.value), "to": number(it.to)}
-                    for it in (board.cuts(rail, are_wanted) if known else [])],
+                    for it in (board.cuts(rail, are_wanted) if is_known else [])],
             "settings": [{
-                "register": it.register, "wanted": in_digits(it.register, it.asked), "wanted_volts": volts(board, it, it.asked),
-                "word": in_digits(it.register, it.last), "volts": volts(board, it, it.last),
+                "register": it.register, "wanted": in_digits(it.register, it.asked), "wanted_volts": number(board.format(rail).told(it.asked)),
+                "word": in_digits(it.register, it.last), "volts": number(board.format(rail).told(it.last)),
                 "state": "would be ordered" if is_dry and it.state == "differs" else it.state, "ordered": it.is_ordered,
             } for it in board.of(rail)]})
     return found

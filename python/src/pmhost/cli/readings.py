@@ -1,47 +1,37 @@
 """What `read` says of readings and status registers, and what the part noted after a job that ended badly."""
 from __future__ import annotations
 
-import argparse
 from typing import Iterable
 
 from .. import readings
 from ..codes import BLOCK, SIZES, code_of
 from ..device import Device
-from ..packets import Packet
+from ..probe import PROTECT, text_of
 from ..readings import KINDS
 from ..reads import Reads
 from ..status import BITS
+from ..survey import learned_format
 from ..values import LACKABLE
-from .answer import Answer
-from .call import Call, said
+from .answer import Answer, in_digits
+from .call import Call
+from .command import Command
 
 
-PROTECT = Packet("read", 0x10)
-
-
-def tell(arguments: argparse.Namespace) -> int:
+def tell(call: Call, command: Command) -> int:
     """A reading with its unit, or a status register with the names of its bits. The host hears of nothing but the format of the
     output's voltages, which is learned if a reading's unit rests on it."""
-    call: Call = arguments.call
-    part, name, output = call.part(), arguments.register, arguments.output
-    form = None
-    if name not in BITS:
-        form = part.host.format(output or 0)
-        if form is None:
-            part.host.learn(output or 0)
-            part.run()
-            form = part.host.format(output or 0)
+    part, name, output = call.part(), command.register, command.output
+    form = None if name in BITS else learned_format(part, output or 0)
     found = readings.read(part.bus, part.host.address, output, name, form)
     is_good = found.word is not None
-    return call.say(Answer(said(arguments), "done" if is_good else "unknown", found.words, 0 if is_good else 1, found.why, output, name,
+    return call.say(Answer(command.said, "done" if is_good else "unknown", found.words, 0 if is_good else 1, found.why, output, name,
                            found.word, rows=[row_of(found)], restart_seen=part.host.restart_seen))
 
 
-def tell_code(arguments: argparse.Namespace) -> int:
+def tell_code(call: Call, command: Command) -> int:
     """The bytes of any command code, of an output by PAGE_PLUS or of the device: a byte or a word in hexadecimal digits, a block with its
     text if it is text."""
-    call: Call = arguments.call
-    part, name, output, asked = call.part(), arguments.register, arguments.output, code_of(arguments.register)
+    part, name, output, asked = call.part(), command.register, command.output, code_of(command.register)
     assert asked is not None
     reads, size = Reads(part.bus, part.host.address), SIZES[asked.kind]
     if size:
@@ -49,32 +39,21 @@ def tell_code(arguments: argparse.Namespace) -> int:
     else:
         found = reads.block(asked.code) if output is None else reads.of_page(output, asked.code, 0)
     row: dict[str, object] = {"register": name, "code": f"{asked.code:02X}", "bytes": None, "text": None}
-    answer = Answer(said(arguments), "unknown", f"no good {name}", 1, found.why or "no good answer", output, name,
+    answer = Answer(command.said, "unknown", f"no good {name}", 1, found.why or "no good answer", output, name,
                     rows=[row], restart_seen=part.host.restart_seen)
     if found.payload is not None:
-        text = block_text(found.payload) if asked.kind == BLOCK else ""
+        text = text_of(found.payload) if asked.kind == BLOCK else None
         held = found.payload.hex(" ") if asked.kind == BLOCK else found.payload[::-1].hex()
-        row["bytes"], row["text"] = found.payload.hex().upper(), text or None
+        row["bytes"], row["text"] = found.payload.hex().upper(), text
         answer.end, answer.status, answer.why = "done", 0, ""
         answer.text = " ".join([name, held.upper() or "no bytes", *([f'"{text}"'] if text else [])])
     return call.say(answer)
 
 
-def block_text(payload: bytes) -> str:
-    """The text of a block of printable ASCII, without zeros and blanks after it; nothing if it is none."""
-    text = payload.rstrip(b"\0 ")
-    return text.decode("ascii") if text and all(0x20 <= byte < 0x7F for byte in text) else ""
-
-
 def row_of(found: readings.Reading) -> dict[str, object]:
     """The same by names and numbers."""
-    return {"register": found.name, "word": digits_of(found), "value": None if found.value is None else float(found.value),
-            "unit": KINDS[found.name].unit or None, "bits": found.bits if found.is_status else None}
-
-
-def digits_of(found: readings.Reading) -> str | None:
-    """The word in two or four hexadecimal digits."""
-    return None if found.word is None else f"{found.word:0{2 * KINDS[found.name].size}X}"
+    return {"register": found.name, "word": in_digits(found.name, found.word), "value": None if found.value is None else float(found.value),
+            "unit": KINDS[found.name].unit or None, "bits": found.bits if found.name in BITS else None}
 
 
 def read_protect(part: Device) -> str:

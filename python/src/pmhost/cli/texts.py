@@ -1,21 +1,22 @@
 """What the commands without a bus share: lines that are written as they come, and no options of a bus."""
 from __future__ import annotations
 
-import argparse
 import sys
 from collections.abc import Iterable
 from typing import BinaryIO
 
 from . import streams
-from .call import complain
-from .parser import OPTIONS, BadCall
+from .call import Call, complain
+from .command import Command
+from .options import OPTIONS
+from .parser import BadCall
 
 
-def without_a_bus(arguments: argparse.Namespace) -> None:
+def without_a_bus(_call: Call, command: Command) -> None:
     """Refuses options of a bus in front of a command that uses none."""
     for name, (flags, _) in OPTIONS.items():
-        if getattr(arguments, name, None):
-            raise BadCall(f"{arguments.command}: {flags[-1]} in front of it is an option of a bus, and it uses none")
+        if command.given[name]:
+            raise BadCall(f"{command.name}: {flags[-1]} in front of it is an option of a bus, and it uses none")
 
 
 def standard_input() -> BinaryIO:

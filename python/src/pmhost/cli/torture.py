@@ -1,4 +1,4 @@
-"""`pmhost torture`: a bench for anybody's host."""
+"""`pmhost torture`: a bench for anybody's host, over the proved converter with one fault in each run."""
 from __future__ import annotations
 
 import argparse
@@ -7,6 +7,7 @@ import random
 import re
 import shlex
 from contextlib import AbstractContextManager
+from dataclasses import dataclass
 from typing import Any
 
 from .. import torture
@@ -20,9 +21,11 @@ from ..torture.verdict import Judge, Unjudged, Verdict
 from ..torture.watched import ADDRESS, Cell, read_meant
 from . import streams
 from .about import COMMANDS
-from .call import complain
-from .parser import BadCall, shown, whole
+from .call import Call, complain
+from .command import Command, Task
+from .parser import BadCall, shown
 from .texts import without_a_bus
+from .words import whole
 
 ABOUT = f"""Runs a program again and again over a bus with the proved converter on it. In each run one fault strikes one transfer.
 The program opens /dev/i2c-N, any N, as ever. The converter is at {ADDRESS:02X}h, speaks PAGE, PAGE_PLUS and packet error codes, and its
@@ -53,7 +56,7 @@ def kinds_of(word: str) -> list[str]:
 
 def again_of(word: str) -> tuple[Fault, ...]:
     """N:FAULT,..: transfers, each with its fault."""
-    found = []
+    found = list[Fault]()
     for each in word.split(","):
         number, _, fault = each.partition(":")
         try:
@@ -64,6 +67,32 @@ def again_of(word: str) -> tuple[Fault, ...]:
             raise argparse.ArgumentTypeError(f"again {shown(word)}: give a transfer's number and its fault, as 7:cut:4")
         found.append((int(number), only))
     return tuple(sorted(found))
+
+
+@dataclass(frozen=True, kw_only=True)
+class Torture(Command):
+    """A program, and the runs that are asked for."""
+
+    strike: list[str]
+    runs: int | None = None
+    pairs: int | None = None
+    seed: int
+    seconds: int
+    count: int
+    meant: list[str]
+    finds: str | None = None
+    cuse: int | None = None
+    again: tuple[Fault, ...] | None = None
+    is_json: bool
+    words: list[str]
+
+
+@dataclass(frozen=True, kw_only=True)
+class Bench(Torture):
+    """The same, with the program as it runs and what each register is meant to hold."""
+
+    program: torture.Program
+    cells: list[tuple[Cell, int]]
 
 
 def add(commands: Any) -> None:
@@ -89,30 +118,32 @@ def add(commands: Any) -> None:
     chosen_by.add_argument("--again", type=again_of, metavar="N:FAULT,..", help="only one run: each fault at the transfer of its number; all if left out")
     parser.add_argument("--json", action="store_true", dest="is_json", help="prints one object with all of it; lines if left out")
     parser.add_argument("words", nargs=argparse.REMAINDER, metavar="-- PROGRAM ..", help="the program and its words")
-    parser.set_defaults(run=run, judge=judge)
+    parser.set_defaults(task=Task(run, judge, Torture))
 
 
-def judge(arguments: argparse.Namespace) -> None:
-    without_a_bus(arguments)
-    words = arguments.words[1:] if arguments.words[:1] == ["--"] else arguments.words
+def judge(call: Call, command: Torture) -> Bench:
+    """The program is there, and what is meant can be read."""
+    without_a_bus(call, command)
+    words = command.words[1:] if command.words[:1] == ["--"] else command.words
     if not words:
         raise BadCall("torture: give a program after --, as pmhost torture -- ./your-host")
     try:
-        arguments.meant = [read_meant(each, arguments.count) for each in arguments.meant]
+        cells = [read_meant(each, command.count) for each in command.meant]
     except ValueError as fault:
         raise BadCall(f"torture: --meant {shown(str(fault))}: give an output, a register and its word, as 1:21=34CD") from None
     try:
-        arguments.program = torture.Program(words, arguments.count, arguments.seconds, arguments.finds)
+        return Bench(**vars(command), program=torture.Program(words, command.count, command.seconds, command.finds), cells=cells)
     except NoBench as fault:
         raise BadCall(f"torture: {fault}") from None
     except re.error as fault:
-        raise BadCall(f"torture: --said {shown(arguments.finds)}: {fault}") from None
+        raise BadCall(f"torture: --said {shown(command.finds or '')}: {fault}") from None
 
 
-def run(arguments: argparse.Namespace) -> int:
+def run(_: Call, bench: Bench) -> int:
+    """Carries the runs out. The status."""
     try:
-        with opened(arguments) as way:
-            return bench(arguments, way)
+        with opened(bench) as way:
+            return run_all(bench, way)
     except (NoBench, Unjudged) as fault:
         complain(f"torture: {fault}")
         return 2
@@ -121,49 +152,46 @@ def run(arguments: argparse.Namespace) -> int:
         return streams.INTERRUPTED
 
 
-def opened(arguments: argparse.Namespace) -> AbstractContextManager[Way]:
+def opened(command: Torture) -> AbstractContextManager[Way]:
     """How the program reaches the bench."""
-    if arguments.cuse is None:
-        return preload()
-    return cuse(arguments.cuse)
+    return preload() if command.cuse is None else cuse(command.cuse)
 
 
-def bench(arguments: argparse.Namespace, way: Way) -> int:
-    program: torture.Program = arguments.program
-    plain = program.run(way)
-    meant: list[tuple[Cell, int]] = arguments.meant
-    verdicts, judged = list[Verdict](), Judge(plain, meant)
-    if not arguments.is_json:
+def run_all(bench: Bench, way: Way) -> int:
+    """Runs the program without a fault, and then under each. The status."""
+    plain = bench.program.run(way)
+    verdicts, judged = list[Verdict](), Judge(plain, bench.cells)
+    if not bench.is_json:
         streams.write("meant: " + "; ".join(f"output {cell[0]} {cell[1]} {word:04X}" for cell, word in judged.last.items()))
     try:
-        for faults in chosen(arguments, plain):
-            verdicts.append(judged.judge(program.run(way, faults)))
+        for faults in chosen(bench, plain):
+            verdicts.append(judged.judge(bench.program.run(way, faults)))
     finally:
         # (an interrupted bench tells what it has found)
         found, total = torture.causes(verdicts), Total(verdicts)
-        if arguments.is_json:
+        if bench.is_json:
             streams.write(json.dumps({**total.facts(), "meant": {place(cell): f"{word:04X}" for cell, word in judged.last.items()},
-                                      "bad": [facts(arguments, cause, each) for cause in found for each in cause.runs]}))
+                                      "bad": [facts(bench, cause, each) for cause in found for each in cause.runs]}))
         else:
-            tell(arguments, found, verdicts)
+            tell(bench, found, verdicts)
             streams.write(total.line())
     return int(total.is_bad)
 
 
-def chosen(arguments: argparse.Namespace, plain: Run) -> list[tuple[Fault, ...]]:
+def chosen(command: Torture, plain: Run) -> list[tuple[Fault, ...]]:
     """The faults of each run: one run only, or all, or as many as were asked for of all of them again and again, or of pairs."""
-    if arguments.again:
-        return [arguments.again]
-    if arguments.pairs is not None:
-        return torture.drawn_pairs(plain.transfers, arguments.strike, arguments.seed, arguments.pairs)
-    if arguments.runs is None:
-        return [(each,) for each in torture.drawn_faults(plain.transfers, arguments.strike, arguments.seed)]
+    if command.again:
+        return [command.again]
+    if command.pairs is not None:
+        return torture.drawn_pairs(plain.transfers, command.strike, command.seed, command.pairs)
+    if command.runs is None:
+        return [(each,) for each in torture.drawn_faults(plain.transfers, command.strike, command.seed)]
     found: list[tuple[Fault, ...]] = []
-    for turn in range(arguments.runs):
-        some = torture.drawn_faults(plain.transfers, arguments.strike, arguments.seed * 1_000_003 + turn)
+    for turn in range(command.runs):
+        some = torture.drawn_faults(plain.transfers, command.strike, command.seed * 1_000_003 + turn)
         if not some:
             break
-        found.append((random.Random(f"{arguments.seed} {turn}").choice(some),))
+        found.append((random.Random(f"{command.seed} {turn}").choice(some),))
     return found
 
 
@@ -171,44 +199,44 @@ def place(cell: Cell) -> str:
     return f"{cell[0]}:{cell[1]}"
 
 
-def again(arguments: argparse.Namespace, found: Verdict) -> str:
+def again(bench: Bench, found: Verdict) -> str:
     """The line that repeats a run."""
-    more = [] if arguments.cuse is None else ["--cuse", str(arguments.cuse)]
-    more += ["--outputs", str(arguments.count)] * (arguments.count != 2) + ["--said", arguments.finds or ""] * (arguments.finds is not None)
-    more += ["--seconds", str(arguments.seconds)] * (arguments.seconds != SECONDS)
-    more += [word for (output, register), meant in arguments.meant for word in ("--meant", f"{output}:{register}={meant:04X}")]
-    return shlex.join(["pmhost", "torture", *more, "--again", faults_of(found.run.faults), "--", *arguments.program.words])
+    more = [] if bench.cuse is None else ["--cuse", str(bench.cuse)]
+    more += ["--outputs", str(bench.count)] * (bench.count != 2) + ["--said", bench.finds or ""] * (bench.finds is not None)
+    more += ["--seconds", str(bench.seconds)] * (bench.seconds != SECONDS)
+    more += [word for (output, register), meant in bench.cells for word in ("--meant", f"{output}:{register}={meant:04X}")]
+    return shlex.join(["pmhost", "torture", *more, "--again", faults_of(found.run.faults), "--", *bench.program.words])
 
 
-def tell(arguments: argparse.Namespace, found: list[torture.Cause], verdicts: list[Verdict]) -> None:
+def tell(bench: Bench, found: list[torture.Cause], verdicts: list[Verdict]) -> None:
     """A paragraph for each cause: how many runs it has, which, and its first one; of one run that was asked for whatever it is."""
     for cause in found:
         streams.write(cause.line)
         for words, faults in cause.lost.items():
             streams.write(f"  {words}: {', '.join(faults)}")
-        tell_run(arguments, cause.runs[0])
-    if not found and arguments.again:
-        tell_run(arguments, *verdicts)
+        tell_run(bench, cause.runs[0])
+    if not found and bench.again:
+        tell_run(bench, *verdicts)
 
 
-def tell_run(arguments: argparse.Namespace, found: Verdict) -> None:
+def tell_run(bench: Bench, found: Verdict) -> None:
     """A run: what is wrong, its transfers, and the line that repeats it."""
     run = found.run
     ended = "not ended" if not run.is_ended else "said so, well" if run.status is None else f"status {run.status}, {'well' if run.is_success else 'badly'}"
     streams.write(f"  {'; '.join(f'transfer {number} {fault}' for number, fault in run.faults)}: {ended}: {found.words}")
     for number, transfer in enumerate(run.transfers, 1):
         streams.write(f"  {line(transfer, number, run.pages.get(number))}")
-    streams.write(f"  {again(arguments, found)}")
+    streams.write(f"  {again(bench, found)}")
 
 
-def facts(arguments: argparse.Namespace, cause: torture.Cause, found: Verdict) -> dict[str, Any]:
+def facts(bench: Bench, cause: torture.Cause, found: Verdict) -> dict[str, Any]:
     """A run that isn't good, for programs."""
     return {"faults": [{"transfer": number, "fault": fault} for number, fault in found.run.faults], "cause": cause.words,
             "status": found.run.status, "well": found.run.is_success, "ended": found.run.is_ended,
             "wrong": [{"cell": place(each.cell), "word": f"{each.word:04X}", "meant_for": other, "by": each.transfer} for each, other in found.wrong],
             "strange": [{"cell": place(each.cell), "word": f"{each.word:04X}", "by": each.transfer} for each in found.strange],
             "false": [{"cell": place(cell), "holds": f"{held:04X}", "meant": f"{word:04X}"} for cell, held, word in found.lost],
-            "trace": [each.line for each in found.run.transfers], "again": again(arguments, found)}
+            "trace": [each.line for each in found.run.transfers], "again": again(bench, found)}
 
 
 class Total:

@@ -2,52 +2,44 @@
 it, too."""
 from __future__ import annotations
 
-import argparse
 from typing import Any
 
 from ..apply import Board
-from ..operation import ON
-from ..rail_run import Restarted, Setting, Stopped
 from ..rails import Rail
+from ..settings import Setting, Stopped
 from . import way
-from .about import described
-from .again import RESTARTED
+from .again import status_of
 from .answer import Answer
-from .call import said
-from .completion import FILES, completed_by
-from .orders import ACCEPT, DEADLINE, LATE, LEAVE_ON, LEAVING
-from .parser import bus_options, file_of
-from .rails import board_of, judge_file, told_of
-from .sequence import turn_off
+from .call import Call
+from .command import Command, Task
+from .options import ACCEPT, DEADLINE, LEAVE_ON, PICTURE, command_parser, file_word, shared
+from .rails import board_of, told_of
 from .way import StairsFile
 from .way_up import WayUp
 
 
 def add(commands: Any) -> None:
     """Adds the subparser."""
-    found = commands.add_parser("up", **described("up"))
-    completed_by(found.add_argument("file", metavar="FILE", type=file_of, help="settings of a board's rails, in TOML"), FILES)
-    found.set_defaults(run=up, judge_file=judge_file, judge=way.judge, dry_run=False, goes_back=False, is_order=True, byte=ON, output=None)
-    way.add(found, way.STAIRS["up"])
-    found.add_argument(LEAVE_ON, **LEAVING)
-    found.add_argument(DEADLINE, **LATE)
-    found.add_argument("--accept", **ACCEPT)
-    bus_options(found)
+    found = command_parser(commands, "up", Task(up, way.judge, is_order=True))
+    file_word(found)
+    shared(found, PICTURE, "draws as `on` does")
+    for flag in LEAVE_ON, DEADLINE, ACCEPT:
+        shared(found, flag)
 
 
-def up(arguments: argparse.Namespace) -> int:
+def up(call: Call, command: Command) -> int:
     """Brings a board up. The status."""
-    call, rails = arguments.call, [rail for rail in arguments.rails.rails if rail.is_on]
-    file = StairsFile(arguments, rails)
+    rails = [rail for rail in command.rails.rails if rail.is_on]
+    file = StairsFile(call, command, rails)
     with call.going_on(), file.drawn():
-        return BoardUp(arguments, rails, file, board_of(arguments)).go()
+        return BoardUp(call, command, rails, file, board_of(call, command)).run()
 
 
 class BoardUp(WayUp):
     """The rails of a file that are to be on, and the board whose words they get."""
 
-    def __init__(self, arguments: argparse.Namespace, rails: list[Rail], file: StairsFile, board: Board) -> None:
-        super().__init__(arguments, rails, file, turn_off)
+    def __init__(self, call: Call, command: Command, rails: list[Rail], file: StairsFile, board: Board) -> None:
+        super().__init__(call, command, rails, file)
         self.board, note = board, board.after_order
         board.after_order = lambda it, is_confirmed: self.moved(it, is_confirmed, note)
 
@@ -63,16 +55,13 @@ class BoardUp(WayUp):
                 if not rail.is_on and self.is_on(rail) is not False:
                     raise Stopped(f"{rail.name}: the output is to be off, and isn't known to be: order `off` first")
         except Stopped as stopped:
-            status = RESTARTED if isinstance(stopped, Restarted) else 1
-            return call.say(Answer(said(self.arguments), "refused", "", status, f"{told_of(board, stopped)}: nothing was ordered"))
+            return self.refused(status_of(stopped), told_of(board, stopped))
         self.befores = {**board.befores}
         for rail in self.rails:
             # A rail that holds its words already is judged as `on` judges it.
             one = self.of_rail(rail)
-            status = (0 if board.runs[rail.name].is_due else self.judge_rail(one, rail)) or self.judge_config(one, rail)
-            if status:
-                call.begin(self.arguments)
-                return max(status, call.say(Answer(said(self.arguments), "refused", "", status, "nothing was ordered")))
+            if status := (0 if board.runs[rail.name].is_due else self.judge_rail(one, rail)) or self.judge_config(one, rail):
+                return self.refused(status)
         self.was_on = [rail for rail in self.rails if self.is_on(rail)]
         return 0
 
@@ -83,18 +72,17 @@ class BoardUp(WayUp):
                 return status
         return super().climb()
 
-    def move(self, one: argparse.Namespace, rail: Rail) -> int:
+    def move(self, one: Command, rail: Rail) -> int:
         """Orders the words of a rail that differ."""
         call, board, run = self.call, self.board, self.board.runs[rail.name]
         try:
             if run.is_due:
-                run.go(True)
+                run.run(True)
                 board.judge_refused(rail)
             if why := board.why_dead(rail) if self.is_on(rail) else "":
                 raise Stopped(why)
         except Stopped as stopped:
-            status = RESTARTED if isinstance(stopped, Restarted) else 1
-            return call.say(Answer(one.said, "stopped", "", status, told_of(board, stopped), rail.output))
+            return call.say(Answer(one.said, "stopped", "", status_of(stopped), told_of(board, stopped), rail.output))
         call.begin(one)
         return 0
 

@@ -1,11 +1,10 @@
 """The picture of a way, in the file that `--picture` of `apply`, `on` and `off` names."""
 from __future__ import annotations
 
-import argparse
 import contextlib
 import os
 import stat
-from typing import Any, Callable, Iterator
+from typing import Callable, Iterator
 
 from ..apply import Board
 from ..device import Device
@@ -13,18 +12,14 @@ from ..picture.drawing import FAULT, INK, PALE
 from ..picture.stairs import RailStairs, StairsPicture
 from ..picture.way import COMMANDED, RailWay, WayPicture
 from ..rails import Rail
-from ..step_run import StepRun
 from ..step_way import StepWay
 from ..way import Way
 from . import streams
 from .call import Call
-from .completion import FILES, completed_by
-from .parser import BadCall, file_of, shown
+from .command import Command, RailStep
+from .parser import BadCall, shown
 from .signals import Interrupted
 
-HELP = ("draws into this file (SVG) what each rail commands, order by order, by what the host knows; with --dry-run what the plan would "
-        "order")
-STAIRS = {"on": "draws into this file (SVG) step by step what the rails of a board file command, and READ_VOUT", "off": "draws as `on` does", "up": "draws as `on` does"}
 MEASURED = f"Nothing is measured: it is {COMMANDED}."
 UNWRITTEN = "Nothing was written: these are the plan's orders, if each is confirmed."
 
@@ -32,24 +27,20 @@ UNWRITTEN = "Nothing was written: these are the plan's orders, if each is confir
 End = tuple[str, str]
 
 
-def add(parser: argparse.ArgumentParser, words: str = HELP) -> None:
-    """Adds the option."""
-    added: Any = parser.add_argument("--picture", type=file_of, metavar="SVG", help=words)
-    completed_by(added, FILES)
-
-
-def judge(arguments: argparse.Namespace) -> None:
+def judge(call: Call, command: Command) -> None:
     """The file can be written: it is opened once, before anything is sent, and stays as it was. BadCall."""
-    judge_trace(arguments)
-    path = arguments.picture
+    path = command.ways.picture
+    for other, what in (command.file, "the rails stand in this file"), (path, "the picture goes into this file"):
+        if call.trace_path is not None and other is not None and is_same(call.trace_path, other):
+            raise BadCall(f"--trace {shown(call.trace_path)}: {what}")
     if path is None:
         return
     real = os.path.realpath(path)
     was_there = os.path.exists(real)
     try:
-        if is_same(path, arguments.file):
+        if is_same(path, command.path):
             raise BadCall(f"--picture {shown(path)}: the rails stand in this file")
-        if any(is_same(path, other) for other in pictures_beside(arguments)):
+        if any(each is not command and each.ways.picture is not None and is_same(path, each.ways.picture) for each in call.commands):
             raise BadCall(f"--picture {shown(path)}: another command of this call draws into this file")
         if was_there and stat.S_ISFIFO(os.stat(real).st_mode):
             raise BadCall(f"--picture {shown(path)}: it is a pipe: give a file")
@@ -61,29 +52,13 @@ def judge(arguments: argparse.Namespace) -> None:
         raise BadCall(f"--picture {shown(path)}: {fault.strerror}") from None
 
 
-def judge_none(arguments: argparse.Namespace) -> None:
+def judge_none(command: Command) -> None:
     """No picture of one output is drawn, and none is left on. BadCall."""
-    if getattr(arguments, "is_now", False):
-        raise BadCall(f"{arguments.said}: --now is for the rails of a board file: give one, without the name of a rail")
-    if getattr(arguments, "leave_on", False):
-        raise BadCall(f"{arguments.said}: --leave-on is for the rails of a board file: give one, without the name of a rail")
-    if getattr(arguments, "deadline", None) is not None:
-        raise BadCall(f"{arguments.said}: --deadline is for the rails of a board file: give one, without the name of a rail")
-    if getattr(arguments, "picture", None) is not None:
-        raise BadCall(f"{arguments.said}: --picture draws the rails of a board file: give one, without the name of a rail")
-
-
-def judge_trace(arguments: argparse.Namespace) -> None:
-    """The frames go into no file that the command reads or draws. BadCall."""
-    trace: str | None = arguments.call.trace_path
-    for path, what in (arguments.file, "the rails stand in this file"), (arguments.picture, "the picture goes into this file"):
-        if trace is not None and path is not None and is_same(trace, path):
-            raise BadCall(f"--trace {shown(trace)}: {what}")
-
-
-def pictures_beside(arguments: argparse.Namespace) -> list[str]:
-    """What the other commands of the call draw into."""
-    return [each.picture for each in arguments.call.commands if each is not arguments and getattr(each, "picture", None) is not None]
+    ways = command.ways
+    for words, is_given in (("--now is for", ways.is_now), ("--leave-on is for", ways.leave_on), ("--deadline is for", ways.deadline is not None),
+                            ("--picture draws", ways.picture is not None)):
+        if is_given:
+            raise BadCall(f"{command.said}: {words} the rails of a board file: give one, without the name of a rail")
 
 
 def is_same(path: str, other: str) -> bool:
@@ -97,10 +72,10 @@ class WayFile:
     """What a command draws, if it draws: begun before its board is read, and written after what it says, whatever came. `end_of` says
     how a rail ended. A fault of the file ends the picture and not the job: `raise_fault` raises it."""
 
-    def __init__(self, arguments: argparse.Namespace, board: Board, end_of: Callable[[Rail], End]) -> None:
-        self.arguments, self.board, self.end_of = arguments, board, end_of
+    def __init__(self, call: Call, command: Command, board: Board, end_of: Callable[[Rail], End]) -> None:
+        self.call, self.command, self.board, self.end_of = call, command, board, end_of
         self.fault = ""
-        self.way = None if arguments.picture is None else Way(board, arguments.rails.parts)
+        self.way = None if command.ways.picture is None else Way(board, command.rails.parts)
 
     @contextlib.contextmanager
     def written(self, end: str, why: str) -> Iterator[None]:
@@ -117,12 +92,11 @@ class WayFile:
             return
         for rail in self.board.rails:
             self.way.look(rail, "at the end")
-            if self.arguments.dry_run and not why:
+            if self.command.dry_run and not why:
                 self.way.rehearse(rail)
-        said = [(MEASURED, PALE), *([(UNWRITTEN, INK)] if self.arguments.dry_run else []), *([(why, FAULT)] if why else [])]
-        title = f"{self.arguments.command} {shown(os.path.basename(self.arguments.file))}: {end}"
-        svg = WayPicture(title, said, [self.drawn(self.way, rail) for rail in self.board.rails]).svg()
-        self.fault = put(self.arguments.picture, svg)
+        said = [(MEASURED, PALE), *([(UNWRITTEN, INK)] if self.command.dry_run else []), *([(why, FAULT)] if why else [])]
+        svg = WayPicture(title_of(self.command, end), said, [self.drawn(self.way, rail) for rail in self.board.rails]).svg()
+        self.fault = put(self.command, svg)
 
     def drawn(self, way: Way, rail: Rail) -> RailWay:
         """A rail, with its wanted voltage as the format has it, if that is known."""
@@ -133,12 +107,11 @@ class WayFile:
 
     def broken_off(self, fault: BaseException) -> None:
         """Draws how far it came if a signal or a fault ended the call."""
-        call: Call = self.arguments.call
         is_interrupted = isinstance(fault, Interrupted)
         # Whatever becomes of the picture, the call ends by its own fault, which says what is unknown now.
         with contextlib.suppress(Exception):
             self.board.take()
-            self.write("interrupted" if is_interrupted else "broken off", call.unsure() if is_interrupted else str(fault))
+            self.write("interrupted" if is_interrupted else "broken off", self.call.unsure() if is_interrupted else str(fault))
 
     def raise_fault(self) -> None:
         """A NoStream if the file has failed."""
@@ -146,8 +119,14 @@ class WayFile:
             raise streams.NoStream(self.fault)
 
 
-def put(path: str, svg: str) -> str:
-    """Writes a picture: why that failed, nothing if it didn't."""
+def title_of(command: Command, end: str) -> str:
+    """What stands above a picture."""
+    return f"{command.name} {shown(os.path.basename(command.path))}: {end}"
+
+
+def put(command: Command, svg: str) -> str:
+    """Writes the picture of a command: why that failed, nothing if it didn't."""
+    path = command.ways.picture or ""
     try:
         with open(path, "w", encoding="utf-8") as file:
             file.write(svg)
@@ -159,14 +138,13 @@ def put(path: str, svg: str) -> str:
 class StairsFile:
     """What `on` or `off` of a board file draws, if it draws: written after what it says, whatever came."""
 
-    def __init__(self, arguments: argparse.Namespace, rails: list[Rail]) -> None:
-        self.arguments, self.rails, self.status, self.failed = arguments, rails, dict[str, int](), set[str]()
-        self.way = None if arguments.picture is None else StepWay(rails, self.part_of)
+    def __init__(self, call: Call, command: Command, rails: list[Rail]) -> None:
+        self.call, self.command, self.rails, self.status, self.failed = call, command, rails, dict[str, int](), set[str]()
+        self.way = None if command.ways.picture is None else StepWay(rails, self.part_of)
 
     def part_of(self, rail: Rail) -> Device | None:
         """The part of a rail whose bus was opened."""
-        call: Call = self.arguments.call
-        place = call.places()[rail.part]
+        place = self.call.places()[rail.part]
         return place.pmbus() if place.is_begun else None
 
     @contextlib.contextmanager
@@ -185,20 +163,20 @@ class StairsFile:
             raise streams.NoStream(fault)
 
     @contextlib.contextmanager
-    def step(self, one: argparse.Namespace, rail: Rail) -> Iterator[None]:
+    def step(self, words: str, rail: Rail, step: RailStep) -> Iterator[None]:
         """Within it the step of a rail is under way, by the words of its own command."""
         way = self.way
         if way is None:
             yield
             return
-        way.begin(one.said, rail)
-        one.ordered = lambda order: way.order(rail, order.word)
+        way.begin(words, rail)
+        drawn = way.order
+        step.ordered = lambda order: drawn(rail, order.word)
         try:
             yield
         finally:
-            run: StepRun | None = getattr(one, "begun", None)
-            if run is not None and run.delivered is not None:
-                way.measure(rail, run.delivered.verdict.microvolts)
+            if step.run is not None and step.run.delivered is not None:
+                way.measure(rail, step.run.delivered.verdict.microvolts)
             way.end()
 
     def ended(self, rail: Rail, status: int) -> None:
@@ -216,10 +194,9 @@ class StairsFile:
         """Draws it: why the file failed, nothing if it didn't."""
         marks = {rail.name: "fault" if rail.name in self.failed else "good" if rail.name in self.status else "none" for rail in self.rails}
         rails = [RailStairs(rail.name, output_of(rail), rail.limits, marks[rail.name]) for rail in self.rails]
-        title = f"{self.arguments.command} {shown(os.path.basename(self.arguments.file))}: {end}"
         bad = [name for name, mark in marks.items() if mark == "fault"]
         said = [(f"not as wanted: {', '.join(bad)}", FAULT)] * bool(bad)
-        return put(self.arguments.picture, StairsPicture(title, said, rails, way.columns).svg())
+        return put(self.command, StairsPicture(title_of(self.command, end), said, rails, way.columns).svg())
 
 
 def output_of(rail: Rail) -> str:

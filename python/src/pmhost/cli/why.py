@@ -1,48 +1,41 @@
 """The command why: what an output's registers say, and one sentence with the likeliest cause and what to do."""
 from __future__ import annotations
 
-import argparse
 import shlex
 from typing import Any
 
+from ..values import DEVICE
 from ..why import BESIDE, Findings, TIMES, Place, cause, findings
-from .about import described
 from .answer import Answer
-from .call import Call, said
-from .orders import OUTPUT
+from .call import Call
+from .command import Command, Task
+from .options import command_parser, output_word
 from .outcome import rail_words
-from .parser import bus_options
 from .readings import row_of
-
-DEVICE = "WRITE_PROTECT"
 
 
 def add(commands: Any) -> None:
     """Adds the subparser."""
-    found = commands.add_parser("why", **described("why"))
-    found.add_argument("output", metavar="O", type=OUTPUT, help="the output, from 0")
-    found.set_defaults(run=why)
-    bus_options(found)
+    output_word(command_parser(commands, "why", Task(why)))
 
 
-def why(arguments: argparse.Namespace) -> int:
+def why(call: Call, command: Command) -> int:
     """Says what the registers say, and the cause. The status is 0 if the rail does what its file says, or without a file what it is commanded."""
-    call: Call = arguments.call
-    seen = findings(call.part(), arguments.output, call.looks_of(call.named), place_of(arguments))
+    seen = findings(call.part(), command.output_number, call.looks_of(call.named), place_of(command))
     because = cause(seen)
-    found = Answer(said(arguments), "fault" if because else "told", because or well(seen), 1 if because else 0, output=arguments.output,
+    found = Answer(command.said, "fault" if because else "told", because or well(seen), 1 if because else 0, output=command.output,
                    commanded=seen.state, rows=[row_of(it) for it in seen.found.values()], restart_seen=call.part().host.restart_seen)
     if not call.is_json:
-        where = arguments.output if call.named is None else call.named.name
+        where = command.output if call.named is None else call.named.name
         call.say_lines([f"why {where}: {line}" for line in lines_of(seen)])
     return call.say(found)
 
 
-def place_of(arguments: argparse.Namespace) -> Place:
+def place_of(command: Command) -> Place:
     """What a command calls the rail."""
-    rail = arguments.call.named
-    file = "" if rail is None else shlex.quote(arguments.of_file)
-    return Place(str(arguments.output) if rail is None else f"{file} {rail.name}", file, rail)
+    rail = command.named
+    file = "" if rail is None else shlex.quote(command.path)
+    return Place(str(command.output) if rail is None else f"{file} {rail.name}", file, rail)
 
 
 def well(seen: Findings) -> str:

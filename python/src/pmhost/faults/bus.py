@@ -27,7 +27,7 @@ from dataclasses import dataclass
 
 from ..errors import PartRefused
 from ..part import ModelPart, ModelPartBus
-from ..texts import in_hexadecimal
+from ..texts import in_hex
 
 FAULT = re.compile(r"(ok|lost|twice|mute|false|restart|restarted|ones|late)|(cut|short|restart):(\d{1,3})|(damaged|garbled):(\d{1,3}):([0-7])")
 # What is drawn at random: what any bus does to any part. The others are for lists.
@@ -56,8 +56,13 @@ def draw_faults(dice: random.Random, rate: int, count: int = 64) -> list[str]:
 
 
 def drawn(dice: random.Random) -> str:
-    kind, place, bit = dice.choice(DRAWN), dice.randrange(16), dice.randrange(8)
-    return {"cut": f"cut:{place}", "short": f"short:{place}", "damaged": f"damaged:{place}:{bit}",
+    return fault_of(dice.choice(DRAWN), dice, 16)
+
+
+def fault_of(kind: str, dice: random.Random, places: int = 12) -> str:
+    """A fault of a kind, with a place of so many and a bit if it has them."""
+    place, bit = dice.randrange(places), dice.randrange(8)
+    return {"cut": f"cut:{place}", "short": f"short:{place}", "restarting": f"restart:{place}", "damaged": f"damaged:{place}:{bit}",
             "garbled": f"garbled:{place}:{bit}"}.get(kind, kind)
 
 
@@ -83,7 +88,7 @@ class Struck:
     def line(self) -> str:
         """The transfer in one line."""
         asked = "" if self.count is None else f" read {self.count}"
-        return f"{in_hexadecimal(self.frame)}{asked}  {self.fault}: part {self.heard}, {self.came}"
+        return f"{in_hex(self.frame)}{asked}  {self.fault}: part {self.heard}, {self.came}"
 
 
 def heard_by(part: ModelPart, frame: bytes, is_request: bool = False) -> tuple[str, bytes]:
@@ -95,7 +100,7 @@ def heard_by(part: ModelPart, frame: bytes, is_request: bool = False) -> tuple[s
     except PartRefused as fault:
         return f"refused {refused_words(fault, part, frame, is_request)}", b""
     if answer:
-        return f"answer {in_hexadecimal(answer)}", answer
+        return f"answer {in_hex(answer)}", answer
     return "taken" if frame[:1] == bytes([part.address << 1]) else SILENT, b""
 
 
@@ -149,7 +154,7 @@ class FaultyBus(ModelPartBus):
         heard, answer = self._heard(arriving(request, kind, numbers), kind not in ("cut", "restarting"), kind)
         back = self._before if kind == "late" else returning(answer, kind, numbers)
         self._before = answer
-        self.tell(Struck(request, count, fault, heard, f"back {in_hexadecimal(back) or 'nothing'}", back))
+        self.tell(Struck(request, count, fault, heard, f"back {in_hex(back) or 'nothing'}", back))
         return back[1:] if back[:1] == answer[:1] else b""
 
     def _heard(self, sent: bytes, is_request: bool, kind: str) -> tuple[str, bytes]:

@@ -1,29 +1,13 @@
 """The two hosts that are compared under faults: the proved one, and one that selects by PAGE."""
 from __future__ import annotations
 
-from typing import Protocol
-
 from ..errors import Refused
 from ..host import Host
 from ..packets import Packet
 from ..states import Bus
-from ..values import CODES
+from ..values import BYTES, CODES
 
 PAGE = 0x00
-# The registers of one byte; those of a voltage have a word.
-BYTES = ("OPERATION", "WRITE_PROTECT")
-
-
-class Orderer(Protocol):
-    """A host that takes orders of words."""
-
-    name: str
-
-    def restart(self) -> None:
-        """Forgets all."""
-
-    def order(self, output: int, register: str, word: int) -> bool:
-        """Whether it reports that the register has the word."""
 
 
 class ProvedHost:
@@ -37,9 +21,11 @@ class ProvedHost:
             self.host.no_limits(output)
 
     def restart(self) -> None:
+        """Forgets all."""
         self.host.restart()
 
     def order(self, output: int, register: str, word: int) -> bool:
+        """Whether it reports that the register has the word."""
         try:
             self.host.order(output, register, word)
         except Refused:
@@ -65,3 +51,7 @@ class PageHost:
 
     def order(self, output: int, register: str, word: int) -> bool:
         return self.write(PAGE, output, True) and self.write(CODES[register], word, register in BYTES)
+
+
+# A host that takes orders of words.
+Orderer = ProvedHost | PageHost

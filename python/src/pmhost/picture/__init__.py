@@ -1,1 +1,1 @@
-"""The way of rails under `apply` as a picture (SVG), made of what the host knows."""
+"""Pictures (SVG) of what rails command, by what the host knows: order by order under `apply`, step by step under `on`, `off` and `up`."""

@@ -11,12 +11,11 @@ import subprocess
 import tempfile
 import time
 from collections.abc import Callable, Sequence
-from contextlib import AbstractContextManager
 from dataclasses import dataclass, field
-from typing import Protocol
 
-from ..faults.bus import OF_ANSWERS, FaultyBus, Struck
-from .below import NoBench
+from ..faults.bus import OF_ANSWERS, FaultyBus, Struck, fault_of
+from .below import Connections, NoBench, Preload
+from .cuse import Cuse
 from .server import Server
 from .watched import Cell, Took, WatchedPart
 
@@ -28,25 +27,9 @@ TO_END = 2
 Fault = tuple[int, str]
 
 
-class Serving(Protocol):
-    """What is served while a program runs."""
-
-    def serve(self, seconds: float) -> None:
-        """What comes within these seconds."""
-
-
-class Way(Protocol):
-    """How a program reaches the bench: by LD_PRELOAD, or by a device of its own."""
-
-    def opened(self, server: Server) -> AbstractContextManager[tuple[Serving, dict[str, str]]]:
-        """For one run: what is served, and what stands in the program's environment."""
-
-
-def fault_of(kind: str, dice: random.Random) -> str:
-    """A fault of a kind, with a place and a bit if it has them."""
-    place, bit = dice.randrange(12), dice.randrange(8)
-    return {"cut": f"cut:{place}", "short": f"short:{place}", "restarting": f"restart:{place}", "damaged": f"damaged:{place}:{bit}",
-            "garbled": f"garbled:{place}:{bit}"}.get(kind, kind)
+# How a program reaches the bench: by LD_PRELOAD, or by a device of its own; and what is served while it runs.
+Way = Preload | Cuse
+Serving = Connections | Cuse
 
 
 def drawn_faults(transfers: Sequence[Struck], kinds: Sequence[str], seed: int) -> list[tuple[int, str]]:

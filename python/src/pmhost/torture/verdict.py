@@ -57,12 +57,8 @@ class Judge:
             self.meant.setdefault(cell, set()).add(word)
             self.last[cell] = word
         registers = {register for _, register in self.meant}
-        if not any(self._others(cell) - self.meant.get(cell, set()) for cell in self._cells(plain, registers)):
+        if not any(self._others(cell) - self.meant.get(cell, set()) for cell in plain.held if cell[1] in registers):
             raise Unjudged("the program means the same words for all outputs: give each its own, so that a word on a wrong output shows")
-
-    @staticmethod
-    def _cells(plain: Run, registers: set[str]) -> list[Cell]:
-        return [cell for cell in plain.held if cell[1] in registers]
 
     def _others(self, cell: Cell) -> set[int]:
         """The words that were meant for the same register of other outputs."""

@@ -1,53 +1,31 @@
-"""`off board.toml`, the way down: the rails of a file one after another in reverse, each a step of one list. `on board.toml` begins here, too."""
+"""`off board.toml`, the way down: the rails of a file one after another in reverse, each a step of one list."""
 from __future__ import annotations
-
-import argparse
 
 from .. import clock, readings
 from ..bus import NoBus, PatientBus
 from ..errors import PmhostError
 from ..looks import FIRST_WAIT
 from ..rails import Rail
-from ..step_run import StepRun
-from . import orders, way
+from . import power
 from .answer import Answer
-from .call import Call, said
+from .call import Call
+from .command import Command
 from .file_steps import FileSteps
+from .step import PutOff
 from .way import StairsFile
-from .way_up import WayUp
 
 
-def attach(arguments: argparse.Namespace, file: str) -> None:
-    """The command is about all rails of its file."""
-    arguments.run, arguments.judge, arguments.output, arguments.goes_on = turn_all, way.judge, None, False
-    arguments.file = file
-
-
-def turn_all(arguments: argparse.Namespace) -> int:
-    """Turns the rails of a file on, those that are to be on, or all of them off. The status."""
-    is_down, call = arguments.command == "off", arguments.call
-    rails = arguments.rails.rails[::-1] if is_down else [rail for rail in arguments.rails.rails if rail.is_on]
-    file = StairsFile(arguments, rails)
-    with call.going_on(), file.drawn():
-        if not is_down:
-            return WayUp(arguments, rails, file, turn_off).go()
-        status = turn_off(arguments, rails, file)
-        call.begin(arguments)
-        return status or call.ordered.look(call)
-
-
-def turn_off(arguments: argparse.Namespace, rails: list[Rail], file: StairsFile) -> int:
+def turn_off(call: Call, command: Command, rails: list[Rail], file: StairsFile) -> int:
     """In reverse. One that isn't known to be off is left, which its line says, and the next one is turned off all the same. One whose part
     acknowledges nothing is put off to the end, with the others of that part, so that it holds up no other part. The status."""
-    call: Call = arguments.call
     status, silent, last = 0, list[str](), list[Rail]()
-    steps = FileSteps(arguments, True)
+    steps = FileSteps(call, command, True)
     for place, rail in enumerate(rails):
         if is_open(call, rail):
             steps.add(rail, max([0, *(it.wait for it in rails[:place] if rail.name in it.after)]), [])
     for place, rail in enumerate(rails):
         above = [it for it in rails[:place] if it.delivers and rail.name in it.after and it.name not in silent]
-        silent += [it.name for it in above if not arguments.is_now and not is_low(call, it)]
+        silent += [it.name for it in above if not command.ways.is_now and not is_low(call, it)]
         is_dead = any(rail.part == it.part for it in last)
         found = None if is_dead else step_off(steps, rail, file, True)
         if found is None:
@@ -60,37 +38,33 @@ def turn_off(arguments: argparse.Namespace, rails: list[Rail], file: StairsFile)
         if found[1]:
             silent.remove(rail.name)
         status = max(status, found[0])
+    passed_by = [it for place, it in enumerate(rails) if it in last and any(each not in last for each in rails[place:])]
     named = [("not known to be off: {}", [it.name for it in rails if it.name in silent]),
-             ("off only at the end, since nothing was acknowledged before: {}", [it.name for it in passed_by(rails, last) if it.name not in silent])]
+             ("off only at the end, since nothing was acknowledged before: {}", [it.name for it in passed_by if it.name not in silent])]
     why = "; ".join(words.format(", ".join(names)) for words, names in named if names)
-    call.begin(arguments)
-    return call.say(Answer(said(arguments), "unknown", "", 1, why)) if why else status
-
-
-def passed_by(rails: list[Rail], last: list[Rail]) -> list[Rail]:
-    """The rails that were put off to the end, before others that weren't."""
-    return [it for place, it in enumerate(rails) if it in last and any(each not in last for each in rails[place:])]
+    call.begin(command)
+    return call.say(Answer(command.said, "unknown", "", 1, why)) if why else status
 
 
 def step_off(steps: FileSteps, rail: Rail, file: StairsFile, puts_off: bool) -> tuple[int, bool] | None:
     """Turns a rail of a list off: the status, and whether it is off; None if it is put off to the end. A part that acknowledges nothing is
     waited for once."""
-    one = steps.of_rail(rail)
-    one.puts_off = puts_off
-    bus = one.call.places()[rail.part].pmbus().bus if is_open(one.call, rail) else None
+    one, call = steps.of_rail(rail), steps.call
+    one.step.puts_off = puts_off
+    bus = call.places()[rail.part].pmbus().bus if is_open(call, rail) else None
     if isinstance(bus, PatientBus):
         bus.gives_up, bus.is_silent = True, bus.is_silent and puts_off
     try:
-        with file.step(one, rail):
-            status = turn_one_off(one.call, one)
-    except orders.PutOff:
+        with file.step(one.said, rail, one.step):
+            status = turn_one_off(call, one)
+    except PutOff:
         return None
     finally:
         if isinstance(bus, PatientBus):
             bus.gives_up = False
     file.ended(rail, status)
-    run: StepRun | None = getattr(one, "begun", None)
-    return status, status == 0 or run is not None and run.delivered is not None and run.delivered.verdict.kind == "went off"
+    delivered = None if one.step.run is None else one.step.run.delivered
+    return status, status == 0 or delivered is not None and delivered.verdict.kind == "went off"
 
 
 def is_low(call: Call, rail: Rail) -> bool:
@@ -125,12 +99,12 @@ def is_open(call: Call, rail: Rail) -> bool:
     return True
 
 
-def turn_one_off(call: Call, one: argparse.Namespace) -> int:
+def turn_one_off(call: Call, one: Command) -> int:
     """Turns a rail off, within the time that a way down after a deadline has: the status, also if its bus can't be opened."""
-    time: int | None = getattr(one, "off_time", None)
+    time = one.ways.off_time
     try:
         with clock.within(time):
-            return orders.operate(one)
+            return power.turn_off(call, one)
     except clock.Late:
         return call.say(Answer(one.said, "late", "not known to be off", 1, f"`deadline_off`, {(time or 0) / 1000:g}s, has passed", one.output))
     except (NoBus, PmhostError) as fault:
