@@ -343,7 +343,7 @@ class Host:
         """Another host that knows the same."""
         other = object.__new__(type(self))
         other._image = at.HostImage.from_buffer_copy(self._image)
-        other.address, other.outputs, other.passes, other.is_restart_denied = self._address, self._outputs, self._passes, self.is_restart_denied
+        other._address, other._outputs, other._passes, other.is_restart_denied = self._address, self._outputs, self._passes, self.is_restart_denied
         return other
 
     def __copy__(self) -> Host:
