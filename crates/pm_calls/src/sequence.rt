@@ -3,10 +3,11 @@
 ghost use Rattle.std.specs.Prelude.{◌≡◌, length, IfSome, None, Some};
 ghost use Rattle.std.specs.Result.{result_err, IfErr, IfOk, OnOk};
 ghost use Rattle.pm_host.specs.Told.{entry_told};
+ghost use Rattle.pm_sequence.specs.Frames.{heard_in};
 ghost use Rattle.pm_calls.specs.Sequence.{asked_fault, back_said as spec_back_said, backs_after, both_fault, is_look as spec_is_look, is_look_said as spec_is_look_said, lacks_room as spec_lacks_room, list_fault as spec_list_fault, looks_after, number_next as spec_number_next, records_after, rules_said, sequence_begun, step_at as spec_step_at, step_under as spec_step_under, whole_answer as spec_whole_answer, with_back, with_look, AreBoth, HearsIn, IsPutNext, NextIn, ReadIn};
 ghost use Rattle.pm_memory.specs.Guard.{guard_of};
 ghost use Rattle.pm_memory.specs.Hosted.{IsThere, guard_in};
-ghost use Rattle.pm_memory.specs.SequenceImage.{sequence_in, sequence_meant};
+ghost use Rattle.pm_memory.specs.SequenceImage.{sequence_image, sequence_in, sequence_meant};
 
 use crate::host_step::{HostStep, no_step, step_after};
 use crate::numbers::{ACCEPTED, NO_HOST, NO_ROOM, NO_SEQUENCE, NO_STEP, OTHER_FRAME};
@@ -14,7 +15,7 @@ use crate::sequence_said::{number_said, rail_said, said_after, step_said};
 use crate::sequence_step::{SequenceRecordImage, SequenceStepImage};
 use pm_host::{Stage, Told};
 use pm_memory::{DeliveryImage, GuardImage, SaidImage, SendingImage, SequenceImage};
-use pm_sequence::{Act, End, Phase, Rules, Sequence, Step};
+use pm_sequence::{Act, End, Rules, Sequence, Step};
 use pm_stairs::WordStep;
 
 // How many steps a list has at most.
@@ -291,26 +292,22 @@ fn number_next(at: Option<Stage>, act: Act) -> u8
 pub fn tell(sequence: &mut SequenceImage, host: &mut GuardImage, told: Told<'_>) -> HostStep
     ensures { HearsIn host.old sequence.old (entry_told told.entry) result host.new sequence.new }
 {
-    let stage = match read_both(sequence, host) {
-        Ok(stage) => stage,
-        Err(number) => return no_step(number),
-    };
-    let mut is = Sequence::new(0, rules_of(0));
-    sequence.hold(&mut is);
-    hear(sequence, host, &mut is, stage, told)
+    match read_both(sequence, host) {
+        Ok(stage) => hear(sequence, host, stage, told),
+        Err(number) => no_step(number),
+    }
 }
 
 // They hear it, if the host's open job stands at this stage and awaits it.
 fn hear(
     sequence: &mut SequenceImage,
     host: &mut GuardImage,
-    is: &mut Sequence,
     stage: Option<Stage>,
     told: Told<'_>,
 ) -> HostStep
     requires there { IsThere host.old }
     requires stage { stage ≡ (guard_in host.old).host.stage }
-    requires both { AreBoth host.old sequence.old (guard_in host.old) is.old }
+    requires both { AreBoth host.old sequence.old (guard_in host.old) (sequence_meant sequence.old) }
     ensures { HearsIn host.old sequence.old (entry_told told.entry) result host.new sequence.new }
 {
     let Some(at) = stage else {
@@ -319,25 +316,23 @@ fn hear(
     if !at.awaits(&told) {
         return no_step(OTHER_FRAME);
     }
-    if !is.list.has_course() {
+    if !sequence.has_course() {
         return no_step(OTHER_FRAME);
     }
     let address = host.host.state.address;
-    let heard = is.hear_by(host, at, told);
-    let said = sequence.said;
-    sequence.write(is, said);
+    let heard = sequence.hear_by(host, at, told);
     step_after(heard.step, address, at, told)
 }
 
 // Whether what is read is of a look: one is under way, and no job of the list is open.
-fn is_look(was: &Sequence, stage: Option<Stage>) -> bool
-    ensures { result ≡ spec_is_look was.now stage }
+fn is_look(was: &SequenceImage, stage: Option<Stage>) -> bool
+    ensures { result ≡ spec_is_look (sequence_meant was.now) stage }
 {
-    if was.phase == Phase::Steps {
+    if !was.looks() {
         return false;
     }
     match stage {
-        Some(at) => !was.list.is_job_at(at),
+        Some(at) => !was.is_job_at(at),
         None => true,
     }
 }
@@ -350,13 +345,21 @@ pub fn read_ended(sequence: &mut SequenceImage, host: &mut GuardImage, bytes: &[
         Ok(stage) => stage,
         Err(number) => return no_step(number),
     };
+    if !is_look(sequence, stage) {
+        return hear(sequence, host, stage, Told::Got(bytes));
+    }
+    look_hears(sequence, host, bytes);
+    no_step(ACCEPTED)
+}
+
+// A look hears what came back.
+fn look_hears(sequence: &mut SequenceImage, host: &GuardImage, bytes: &[u8])
+    requires there { IsThere host.now }
+    ensures { sequence.new ≡ sequence_image (heard_in (guard_in host.now) (sequence_meant sequence.old) bytes.now) sequence.old.said }
+{
     let mut is = Sequence::new(0, rules_of(0));
     sequence.hold(&mut is);
-    if !is_look(&is, stage) {
-        return hear(sequence, host, &mut is, stage, Told::Got(bytes));
-    }
     is.answered(host, bytes);
     let said = sequence.said;
     sequence.write(&is, said);
-    no_step(ACCEPTED)
 }

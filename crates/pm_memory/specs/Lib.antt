@@ -5,6 +5,7 @@ pub mod DeliveryImage
 pub mod Flag
 pub mod Format
 pub mod Guard
+pub mod Heard
 pub mod Hosted
 pub mod Memory
 pub mod Sending

@@ -10,6 +10,7 @@ mod course_image;
 mod delivery_image;
 mod format_numbers;
 mod guard_image;
+mod heard;
 mod hosted;
 mod laws;
 mod list_image;

@@ -1,6 +1,6 @@
 //! How far a list of steps has come, in a caller's memory: plain numbers, and what they mean.
 
-ghost use Rattle.std.specs.Prelude.{◌≡◌, option_map};
+ghost use Rattle.std.specs.Prelude.{◌≡◌, is_some, option_map};
 ghost use Rattle.pm_table.specs.Rules.{rule};
 ghost use Rattle.pm_memory.specs.ListImage.{course_written, list_image, list_in, list_meant, under_image, under_numbers, under_words};
 
@@ -200,6 +200,13 @@ impl UnderImage {
         self.byte = byte;
         self.unused = 0;
         self.words = WantedImage::of(wanted);
+    }
+
+    // Whether a step has begun.
+    pub(crate) fn has_step(&self) -> bool
+        ensures { result ≡ is_some (under_words self.now) }
+    {
+        0 < self.kind && self.kind < 4
     }
 
     // The step under way.
