@@ -1,10 +1,10 @@
 //! A sequence over hosts in a caller's memory: a list of steps is carried out, and what its rails do is looked at.
 
-ghost use Rattle.std.specs.Prelude.{◌≡◌, length, IfSome, None, Some};
+ghost use Rattle.std.specs.Prelude.{◌≡◌, length, IfSome, None, Ok, Some};
 ghost use Rattle.std.specs.Result.{result_err, IfErr, IfOk, OnOk};
 ghost use Rattle.pm_host.specs.Told.{entry_told};
 ghost use Rattle.pm_sequence.specs.Frames.{heard_in};
-ghost use Rattle.pm_calls.specs.Sequence.{asked_fault, back_said as spec_back_said, backs_after, both_fault, is_look as spec_is_look, is_look_said as spec_is_look_said, lacks_room as spec_lacks_room, list_fault as spec_list_fault, looks_after, number_next as spec_number_next, records_after, rules_said, sequence_begun, step_at as spec_step_at, step_under as spec_step_under, whole_answer as spec_whole_answer, with_back, with_look, AreBoth, HearsIn, IsPutNext, NextIn, ReadIn};
+ghost use Rattle.pm_calls.specs.Sequence.{asked_fault, back_said as spec_back_said, backs_after, both_fault, is_look as spec_is_look, is_look_said as spec_is_look_said, lacks_room as spec_lacks_room, list_fault as spec_list_fault, looks_after, number_next as spec_number_next, records_after, rules_said, sequence_begun, step_at as spec_step_at, step_under as spec_step_under, steps_fault as spec_steps_fault, whole_answer as spec_whole_answer, with_back, with_look, AreBoth, HearsIn, IsPutNext, NextIn, ReadIn};
 ghost use Rattle.pm_memory.specs.Guard.{guard_of};
 ghost use Rattle.pm_memory.specs.Hosted.{IsThere, guard_in};
 ghost use Rattle.pm_memory.specs.SequenceImage.{sequence_image, sequence_in, sequence_meant};
@@ -41,27 +41,47 @@ pub fn begun(tries: u16, rules: u8) -> SequenceImage
     SequenceImage::of(&Sequence::new(tries, rules_of(rules)), SaidImage::NOTHING)
 }
 
-// The step at a place of a list, none after its end; or the number of what is wrong with it.
-fn step_at(steps: &[SequenceStepImage], place: u16) -> Result<Option<Step>, u8>
-    ensures { result ≡ spec_step_at steps.now place }
+// The number of what is wrong with the step at a place of a list.
+fn fault_at(steps: &[SequenceStepImage], place: u16) -> Option<u8>
+    ensures { result ≡ result_err (spec_step_at steps.now place) }
 {
     match steps.get(usize::from(place)) {
-        Some(image) => match image.step() {
-            Ok(step) => Ok(Some(step)),
-            Err(number) => Err(number),
-        },
-        None => Ok(None),
+        Some(image) => image.fault(),
+        None => None,
+    }
+}
+
+// That of the newest of so many steps that have begun, or of the first one ahead.
+fn steps_fault(steps: &[SequenceStepImage], begun: u16) -> Option<u8>
+    ensures { result ≡ spec_steps_fault steps.now begun }
+{
+    if 0 < begun {
+        if let Some(number) = fault_at(steps, begun - 1) {
+            return Some(number);
+        }
+    }
+    fault_at(steps, begun)
+}
+
+// The step at a place of a list, none after its end.
+fn put_step(steps: &[SequenceStepImage], place: u16, step: &mut Option<Step>)
+    requires right { result_err (spec_step_at steps.now place) ≡ None }
+    requires none { step.old ≡ None }
+    ensures { spec_step_at steps.now place ≡ Ok step.new }
+{
+    if let Some(image) = steps.get(usize::from(place)) {
+        *step = Some(image.step());
     }
 }
 
 // The newest of so many steps that have begun.
-fn step_under(steps: &[SequenceStepImage], begun: u16) -> Result<Option<Step>, u8>
-    ensures { result ≡ spec_step_under steps.now begun }
+fn put_under(steps: &[SequenceStepImage], begun: u16, step: &mut Option<Step>)
+    requires right { result_err (spec_step_under steps.now begun) ≡ None }
+    requires none { step.old ≡ None }
+    ensures { spec_step_under steps.now begun ≡ Ok step.new }
 {
     if 0 < begun {
-        step_at(steps, begun - 1)
-    } else {
-        Ok(None)
+        put_step(steps, begun - 1, step);
     }
 }
 
@@ -183,10 +203,8 @@ fn is_look_said(act: Act) -> bool
 fn put_back(records: &mut [SequenceRecordImage], at: usize, back: SequenceStepImage)
     ensures { records.new ≡ with_back records.old at back }
 {
-    if let Some(record) = records.get(at) {
-        let mut kept = *record;
-        kept.back = back;
-        records[at] = kept;
+    if at < records.len() {
+        records[at].back = back;
     }
 }
 
@@ -194,10 +212,8 @@ fn put_back(records: &mut [SequenceRecordImage], at: usize, back: SequenceStepIm
 fn put_look(records: &mut [SequenceRecordImage], at: usize, look: DeliveryImage)
     ensures { records.new ≡ with_look records.old at look }
 {
-    if let Some(record) = records.get(at) {
-        let mut kept = *record;
-        kept.look = look;
-        records[at] = kept;
+    if at < records.len() {
+        records[at].look = look;
     }
 }
 
@@ -254,20 +270,15 @@ pub fn next(
             return number;
         }
     };
-    let under = match step_under(steps, sequence.list.begun) {
-        Ok(under) => under,
-        Err(number) => {
-            sending.clear();
-            return number;
-        }
-    };
-    let ahead = match step_at(steps, sequence.list.begun) {
-        Ok(ahead) => ahead,
-        Err(number) => {
-            sending.clear();
-            return number;
-        }
-    };
+    if let Some(number) = steps_fault(steps, sequence.list.begun) {
+        sending.clear();
+        return number;
+    }
+    let begun = sequence.list.begun;
+    let mut under = None;
+    put_under(steps, begun, &mut under);
+    let mut ahead = None;
+    put_step(steps, begun, &mut ahead);
     let mut is = Sequence::new(0, rules_of(0));
     sequence.hold(&mut is);
     let (at, act) = is.hand_out(host, stage, &under, &ahead);

@@ -241,7 +241,7 @@ impl SequenceImage {
         ensures { is.new ≡ sequence_meant self.now }
     {
         self.list.hold(&mut is.list);
-        is.look = self.look.look();
+        self.look.hold(&mut is.look);
         is.look_host = self.look_host;
         is.phase = phase_of(self.phase);
         is.is_read = self.is_read == 1;

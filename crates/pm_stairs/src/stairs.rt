@@ -1,6 +1,7 @@
 //! The machine that carries out steps, one after another.
 
 ghost use Rattle.std.specs.Prelude.{◌≡◌, ◌<◌, true};
+ghost use Rattle.std.specs.Option.{option_copied};
 ghost use Rattle.pm_limits.specs.Guard.{limits_at};
 ghost use Rattle.pm_stairs.specs.Due.{due_now, said_of as spec_said_of};
 ghost use Rattle.pm_stairs.specs.Sequence.{GoesApart};
@@ -67,8 +68,8 @@ impl Stairs {
     }
 
     /// What comes next, if this is the first step ahead, which gets so many tries.
-    pub fn next<S: Sight>(&mut self, guard: &S, ahead: &Option<Step>, tries: u16) -> Move
-        ensures { Goes (S.guarded guard.now) tries ahead.now self.old result self.new }
+    pub fn next<S: Sight>(&mut self, guard: &S, ahead: Option<&Step>, tries: u16) -> Move
+        ensures { Goes (S.guarded guard.now) tries (option_copied ahead.entry) self.old result self.new }
     {
         if self.restarted {
             return Move::Stops(StepEnd::Restarted);
@@ -296,7 +297,8 @@ fn trying(course: &FrameCourse, said: Said) -> Said
     }
 }
 
-// The course of a step, which was this before, once it said so.
+// The course of a step, which was this before, once it said so. Inlined, the course before is copied by parts, byte by byte.
+#[inline(never)]
 fn put_said(course: &mut FrameCourse, was: &FrameCourse, said: Said)
     ensures { course.new ≡ course_after was.now course.old said }
 {
