@@ -104,7 +104,8 @@ impl Stairs {
         if !are_there(guard, &under.step, &under.course) {
             return Some(Move::Stops(absent()));
         }
-        let said = ask(guard, true, &under.step, &mut under.course);
+        let was = under.course;
+        let said = ask(guard, true, &under.step, &was, &mut under.course);
         under_move(said)
     }
 
@@ -130,7 +131,8 @@ impl Stairs {
             self.reads_for(course);
             return Move::Stops(absent());
         }
-        let said = ask(guard, false, step, course);
+        let was = *course;
+        let said = ask(guard, false, step, &was, course);
         if begins_now(said) {
             self.begins(step, course);
         } else {
@@ -240,17 +242,23 @@ pub(crate) fn words_by<S: Sight>(guard: &S, course: &FrameCourse) -> Result<Want
     }
 }
 
-// What a step asks for, which has begun or begins now, and its course then.
-fn ask<S: Sight>(guard: &S, begun: bool, step: &WordStep, course: &mut FrameCourse) -> Said
+// What a step asks for, which has begun or begins now, and its course then, which was this before.
+fn ask<S: Sight>(
+    guard: &S,
+    begun: bool,
+    step: &WordStep,
+    was: &FrameCourse,
+    course: &mut FrameCourse,
+) -> Said
+    requires same { was.now ≡ course.old }
     requires step { step.now.output < (S.guarded guard.now).host.setup.outputs }
     requires course { course.old.course.survey.output < (S.guarded guard.now).host.setup.outputs }
     ensures { SaysStep (S.guarded guard.now) begun step.now course.old result course.new }
 {
-    let was = *course;
     let limits = guard.limits(course.course.survey.output);
     let next = course.next_in(guard.state(), guard.stage(), guard.registers(), &limits);
-    let said = trying(&was, said_by(guard, begun, step, &was.course, next));
-    put_said(course, &was, said);
+    let said = trying(was, said_by(guard, begun, step, &was.course, next));
+    put_said(course, was, said);
     said
 }
 
@@ -297,8 +305,7 @@ fn trying(course: &FrameCourse, said: Said) -> Said
     }
 }
 
-// The course of a step, which was this before, once it said so. Inlined, the course before is copied by parts, byte by byte.
-#[inline(never)]
+// The course of a step, which was this before, once it said so.
 fn put_said(course: &mut FrameCourse, was: &FrameCourse, said: Said)
     ensures { course.new ≡ course_after was.now course.old said }
 {
