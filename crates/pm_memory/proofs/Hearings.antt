@@ -145,9 +145,6 @@ coming-there step course coming true restarted true named opened reads = refl
 coming-there step course coming true restarted false named opened reads = cc
 coming-there step course coming false restarted has named opened reads = cc
 
-same-sequence : (x y : Sequence) → Some x ≡ Some y → x ≡ y
-same-sequence x y is = ap (λ (o : Option Sequence). unwrap_or o x) is
-
 -- memory that means a sequence
 record Read (was : SequenceImage) (b : Bool) (o : Option List) (q : Sequence) : Type 0 where
   marked : b ≡ true
@@ -157,7 +154,7 @@ record Read (was : SequenceImage) (b : Bool) (o : Option List) (q : Sequence) : 
 read-at : (was : SequenceImage) (b : Bool) (o : Option List) (q : Sequence)
     → (if b then option_map (sequence_read was) o else None) ≡ Some q → Read was b o q
 read-at was true (Some l) q is =
-    let same = same-sequence (sequence_read was l) q is in
+    let same = ap (λ (o : Option Sequence). unwrap_or o (sequence_read was l)) is in
     let list = ap (λ (x : Sequence). x.list) same in
     record {
       marked = refl;

@@ -28,7 +28,7 @@ stairs_heard i s = if s.reading
       course = course_written (option_map (λ under. under.course) s.under);
     }
 
--- and whose survey is fresh
+-- the whole memory: its list, and whose survey is fresh
 abbrev pub heard_image : SequenceImage → Sequence → SequenceImage
 heard_image was is = record was {
   list = stairs_heard was.list is.list.stairs;
