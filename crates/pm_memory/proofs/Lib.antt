@@ -1,3 +1,4 @@
+pub mod Hearings
 mod HeldImage
 mod Hosts
 mod Kept

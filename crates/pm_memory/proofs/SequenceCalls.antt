@@ -1,6 +1,8 @@
 -- What a sequence in memory hands out and hears.
 use Rattle.std.proofs.Common.{◌≡◌, ℕ, List, Bool, true, false, Option, Some, None, Ok, Err, refl, sym, subst}
-use Rattle.std.specs.Prelude.{is_none, is_some, length}
+use Rattle.std.specs.Prelude.{is_none, is_some, length, Result}
+use Rattle.std.specs.Option.{option_or}
+use Rattle.std.specs.Result.{result_err}
 use Rattle.pm_host.specs.declared.fault.Untold.{Untold}
 use Rattle.pm_host.specs.declared.fault.Untold.TheVariants.{NothingSent}
 use Rattle.pm_host.specs.declared.host.Told.{Told as Told_}
@@ -28,7 +30,7 @@ use Rattle.pm_memory.specs.declared.sequence_image.SequenceImage.{SequenceImage}
 use Rattle.pm_memory.specs.SequenceImage.{sequence_in, sequence_meant}
 use Rattle.pm_sequence.specs.declared.step.Step.{Step as ListStep}
 use Rattle.pm_memory.specs.declared.sequence_step.SequenceStepImage.{SequenceStepImage}
-use Rattle.pm_memory.specs.Sequence.{asked_fault, both_fault, list_fault, number_next, number_sent, step_at, step_under, AreBoth}
+use Rattle.pm_memory.specs.Sequence.{asked_fault, both_fault, list_fault, number_next, number_sent, one_step, steps_fault, AreBoth}
 use Rattle.pm_memory.proofs.Heard.{hears-by}
 
 pub numbered : (g : Guarded) (at : Option Stage) (sent : Option Sending) (said : Act) → IsSentAt g at sent → number_next at said ≡ number_sent sent said
@@ -43,18 +45,26 @@ fault-both None q steps room number is = is
 fault-both (Some g) None steps room number is = is
 fault-both (Some g) (Some q) steps room number is = cc
 
--- a call is refused by what is wrong with the newest step that has begun, and with the first one ahead
-pub fault-under : (host : GuardImage) (image : SequenceImage) (steps : List SequenceStepImage) (room number : ℕ)
+-- a call is refused by what is wrong with the newest step that has begun, or with the first one ahead
+pub fault-steps : (host : GuardImage) (image : SequenceImage) (steps : List SequenceStepImage) (room number : ℕ)
     → AreBoth host image (guard_in host) (sequence_meant image) → list_fault (sequence_meant image) (length steps) room ≡ None
-    → step_under steps (sequence_meant image).list.begun ≡ Err number
+    → steps_fault steps (sequence_meant image).list.begun ≡ Some number
     → asked_fault (guard_of host) (sequence_in image) steps room ≡ Some number
-fault-under host image steps room number both list wrong = rw (both.guard, both.held, list, wrong) refl
+fault-steps host image steps room number both list wrong = rw (both.guard, both.held, list) wrong
 
-pub fault-ahead : (host : GuardImage) (image : SequenceImage) (steps : List SequenceStepImage) (room : ℕ) (under : Option ListStep) (number : ℕ)
-    → AreBoth host image (guard_in host) (sequence_meant image) → list_fault (sequence_meant image) (length steps) room ≡ None
-    → step_under steps (sequence_meant image).list.begun ≡ Ok under → step_at steps (sequence_meant image).list.begun ≡ Err number
-    → asked_fault (guard_of host) (sequence_in image) steps room ≡ Some number
-fault-ahead host image steps room under number both list right wrong = rw (both.guard, both.held, list, right, wrong) refl
+-- a step is wrong as what is read at its place
+pub one-err : (r : Result ListStep ℕ) → result_err r ≡ result_err (one_step r)
+one-err (Ok step) = refl
+one-err (Err number) = refl
+
+-- nothing is wrong with either
+pub no-first : (a b : Option ℕ) → option_or a b ≡ None → a ≡ None
+no-first None b none = refl
+no-first (Some number) b none = cc
+
+pub no-second : (a b : Option ℕ) → option_or a b ≡ None → b ≡ None
+no-second None b none = none
+no-second (Some number) b none = cc
 
 -- what came back shows a restart, where it does of the stage at which the open job stands
 pub restart-at : (c : FrameCourse) (g : Guarded) (at : Stage) (told : Told_) → g.host.stage ≡ Some at →

@@ -58,7 +58,7 @@ lowers-kept phase.Before false = refl
 lowers-kept phase.After true = refl
 lowers-kept phase.After false = refl
 
-fresh-kept : (it : Fresh) → fresh_read (fresh_number it) ≡ it
+pub fresh-kept : (it : Fresh) → fresh_read (fresh_number it) ≡ it
 fresh-kept fresh.Nothing = refl
 fresh-kept fresh.Under = refl
 fresh-kept fresh.Ahead = refl

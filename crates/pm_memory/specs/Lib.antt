@@ -8,6 +8,7 @@ pub mod Flag
 pub mod Format
 pub mod Goal
 pub mod Guard
+pub mod Heard
 pub mod Host
 pub mod Hosted
 pub mod Known

@@ -32,6 +32,7 @@ use Rattle.pm_memory.specs.declared.sequence_image.SaidImage.{SaidImage}
 use Rattle.pm_memory.specs.declared.sequence_image.SequenceImage.{SequenceImage}
 use Rattle.pm_memory.specs.DeliveryImage.{delivery_image}
 use Rattle.pm_memory.specs.Guard.{guard_of}
+use Rattle.pm_memory.specs.Heard.{heard_image}
 use Rattle.pm_memory.specs.Sending.{request_kind, IsNothing}
 use Rattle.pm_memory.specs.SequenceImage.{sequence_image, sequence_in}
 use Rattle.pm_memory.specs.declared.host_step.HostStep.{HostStep}
@@ -223,14 +224,15 @@ pub record AreBoth (host : GuardImage) (image : SequenceImage) (g : Guarded) (q 
   pub guard : guard_of host ≡ Some g
   pub held : sequence_in image ≡ Some q
 
--- Memory is refused, or no frame of this kind is being sent, and nothing changes; or the host and the sequence hear it.
+-- Memory is refused, or no frame of this kind is being sent, and nothing changes; or the host and the sequence hear it, of whose memory no more is
+-- written than that changes.
 pub data HearsIn (old : GuardImage) (was : SequenceImage) (entry : Entry) : HostStep → GuardImage → SequenceImage → Type 0 where
   refused_told : (number : ℕ) → both_fault (guard_of old) (sequence_in was) ≡ Some number
       → HearsIn old was entry (refused_step number) old was
   unasked : (g : Guarded) (q is : Sequence) (fault : Untold) → AreBoth old was g q → Hears g q entry (Err fault) g is
       → HearsIn old was entry (refused_step other_frame) old was
   hears_it : (g next : Guarded) (q is : Sequence) (new : GuardImage) → AreBoth old was g q → Hears g q entry (Ok tt) next is
-      → IsAfter old new next → HearsIn old was entry (heard_step g entry) new (sequence_image is was.said)
+      → IsAfter old new next → HearsIn old was entry (heard_step g entry) new (heard_image was is)
 
 -- what is read is of a look: one is under way, and no job of the list is open
 abbrev pub is_open : Stairs → Option Stage → Bool

@@ -1,5 +1,5 @@
 -- A sequence as plain numbers in a caller's memory, and what they mean. This project's own choice.
-use Rattle.std.specs.Prelude.{◌≡◌, ℕ, Bool, ◌+◌, ◌&&◌, ◌||◌, ◌==◌, nat_lt, if◌then◌else◌, Option, Some, None, option_map, IfSome}
+use Rattle.std.specs.Prelude.{◌≡◌, ℕ, Bool, true, false, ◌+◌, ◌&&◌, ◌||◌, ◌==◌, nat_lt, if◌then◌else◌, Option, Some, None, option_map, IfSome}
 use Rattle.pm_table.specs.Cell.{cell_at, cell_code, output_of}
 use Rattle.pm_host.specs.declared.job.Job.{Job}
 use Rattle.pm_host.specs.declared.job.Job.TheVariants.{Order, OrderMicro, Check, Learn, Send}
@@ -71,6 +71,12 @@ phase_number phase.After = 2
 
 abbrev pub phase_read : ℕ → Phase
 phase_read n = if n == 1 || n == 5 then phase.Before else (if n == 2 || n == 6 then phase.After else phase.Steps)
+
+-- whether a rail is looked at
+abbrev pub is_looking : Phase → Bool
+is_looking phase.Steps = false
+is_looking phase.Before = true
+is_looking phase.After = true
 
 -- with 4 more if the step under way lowers its output
 abbrev pub phase_written : Phase → Bool → ℕ

@@ -1,6 +1,7 @@
 //! What is said of memory, and of the numbers of refusals: contracts of functions that do nothing.
 
 ghost use Rattle.pm_memory.specs.CourseImage.{CoursesAreKept};
+ghost use Rattle.pm_memory.specs.Heard.{HearingsAreKept};
 ghost use Rattle.pm_memory.specs.Memory.{MemoriesAreMeanings};
 ghost use Rattle.pm_memory.specs.Names.{RefusalsAreNamed};
 ghost use Rattle.pm_memory.specs.SequenceImage.{SequencesAreKept};
@@ -21,9 +22,11 @@ pub fn courses_are_kept()
     ensures { CoursesAreKept }
 {}
 
-/// What a call leaves in the memory of a sequence reads as the sequence that it speaks of, but for courses and ends that no memory keeps.
+/// What a call leaves in the memory of a sequence reads as the sequence that it speaks of, but for courses and ends that no memory keeps: where all
+/// of it is written (`written`), and where it heard what became of a frame (`heard`).
 pub fn sequences_are_kept()
-    ensures { SequencesAreKept }
+    ensures written { SequencesAreKept }
+    ensures heard { HearingsAreKept }
 {}
 
 /// No fault is without its name: each type's own words stand under its number.

@@ -14,6 +14,7 @@ mod delivery_image;
 mod format_numbers;
 pub mod goal;
 mod guard_image;
+mod heard;
 pub mod host;
 pub mod host_step;
 mod hosted;

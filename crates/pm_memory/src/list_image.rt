@@ -1,8 +1,9 @@
 //! How far a list of steps has come, in a caller's memory: plain numbers, and what they mean.
 
-ghost use Rattle.std.specs.Prelude.{◌≡◌, option_map};
+ghost use Rattle.std.specs.Prelude.{◌≡◌, ◌==◌, is_some, option_map};
 ghost use Rattle.pm_table.specs.Rules.{rule};
-ghost use Rattle.pm_memory.specs.ListImage.{course_written, list_image, list_in, list_meant, under_image, under_numbers, under_words};
+ghost use Rattle.pm_memory.specs.CourseImage.{course_held};
+ghost use Rattle.pm_memory.specs.ListImage.{course_written, list_image, list_in, list_meant, under_image, under_numbers, under_words, with_its_course};
 
 use crate::course_image::{CourseImage, flag};
 use crate::wanted_image::WantedImage;
@@ -121,18 +122,8 @@ impl ListImage {
     pub(crate) fn hold(&self, list: &mut Sequence)
         ensures { list.new ≡ list_meant self.now }
     {
-        list.stairs.under = match self.under.step() {
-            Some(step) => Some(Under {
-                step,
-                course: self.course.held(),
-            }),
-            None => None,
-        };
-        list.stairs.coming = if self.under.has_coming == 1 {
-            Some(self.coming.held())
-        } else {
-            None
-        };
+        self.hold_under(&mut list.stairs.under);
+        self.hold_coming(&mut list.stairs.coming);
         list.stairs.reading = self.under.is_reading == 1;
         list.stairs.restarted = self.under.is_restarted == 1;
         list.tries = self.tries;
@@ -143,6 +134,36 @@ impl ListImage {
         list.is_warned = self.under.is_warned == 1;
         list.keeps_back = self.keeps_back == 1;
         list.ends_at_restart = self.ends_at_restart == 1;
+    }
+
+    // The step under way.
+    fn hold_under(&self, under: &mut Option<Under>)
+        ensures { under.new ≡ option_map (with_its_course (course_held self.now.course)) (under_words self.now.under) }
+    {
+        match self.under.step() {
+            Some(step) => {
+                *under = Some(Under {
+                    step,
+                    course: self.course.held(),
+                });
+            }
+            None => {
+                if under.is_some() {
+                    *under = None;
+                }
+            }
+        }
+    }
+
+    // The course of the first step ahead, once it has read something.
+    fn hold_coming(&self, coming: &mut Option<FrameCourse>)
+        ensures { coming.new ≡ rule (self.now.under.has_coming == 1) (course_held self.now.coming) }
+    {
+        if self.under.has_coming == 1 {
+            *coming = Some(self.coming.held());
+        } else if coming.is_some() {
+            *coming = None;
+        }
     }
 }
 
@@ -200,6 +221,13 @@ impl UnderImage {
         self.byte = byte;
         self.unused = 0;
         self.words = WantedImage::of(wanted);
+    }
+
+    // Whether a step has begun.
+    pub(crate) fn has_step(&self) -> bool
+        ensures { result ≡ is_some (under_words self.now) }
+    {
+        0 < self.kind && self.kind < 4
     }
 
     // The step under way.

@@ -90,21 +90,17 @@ impl LookImage {
     }
 
     /// What the numbers mean.
-    pub fn look(&self) -> Look
-        ensures { result ≡ look_read self.now }
+    pub(crate) fn hold(&self, look: &mut Look)
+        ensures { look.new ≡ look_read self.now }
     {
-        Look {
-            delivery: self.delivery,
-            stood: self.stood,
-            status: self.status.silence(),
-            vout: self.vout.silence(),
-            probe: Probe {
-                asked: self.probed,
-                is_there: self.is_there == 1 || self.is_there == 3,
-                is_off: 1 < self.is_there,
-                is_over: self.is_over == 1,
-            },
-        }
+        look.delivery = self.delivery;
+        look.stood = self.stood;
+        look.status = self.status.silence();
+        look.vout = self.vout.silence();
+        look.probe.asked = self.probed;
+        look.probe.is_there = self.is_there == 1 || self.is_there == 3;
+        look.probe.is_off = 1 < self.is_there;
+        look.probe.is_over = self.is_over == 1;
     }
 }
 

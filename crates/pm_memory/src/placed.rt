@@ -1,6 +1,7 @@
 //! What a step of a list does, in a caller's memory: plain numbers, and what they mean.
 
-ghost use Rattle.std.specs.Prelude.{◌≡◌};
+ghost use Rattle.std.specs.Prelude.{◌≡◌, is_some, true, None, Ok, Some};
+ghost use Rattle.std.specs.Result.{result_err};
 ghost use Rattle.pm_memory.specs.Placed.{act_asked, are_wishes as spec_are_wishes, is_wish as spec_is_wish, placed_in, step_image, step_numbers, wish_asked, wishes_asked, word_image};
 
 use crate::numbers::NO_STEP;
@@ -96,38 +97,54 @@ impl StepWishImage {
 }
 
 impl PlacedImage {
-    /// The step that the numbers mean, or the number of what is wrong with them.
-    pub(crate) fn placed(&self) -> Result<Placed, u8>
-        ensures { result ≡ placed_in self.now }
+    /// The number of what is wrong with the numbers.
+    pub(crate) fn fault(&self) -> Option<u8>
+        ensures { result ≡ result_err (placed_in self.now) }
     {
         if 8 <= self.output {
-            return Err(HostFault::UnknownOutput.number());
+            return Some(HostFault::UnknownOutput.number());
         }
-        if 8 <= self.host {
-            return Err(NO_STEP);
+        if 8 <= self.host || !self.is_act() {
+            return Some(NO_STEP);
         }
-        match self.act() {
-            Some(act) => Ok(Placed {
-                host: self.host,
-                step: Step {
-                    output: self.output,
-                    act,
-                },
-            }),
-            None => Err(NO_STEP),
+        None
+    }
+
+    // Whether it does something.
+    fn is_act(&self) -> bool
+        ensures { result ≡ is_some (act_asked self.now) }
+    {
+        match self.kind {
+            SETS => self.are_wishes(),
+            TURNS | SURVEYS | RESTS => true,
+            _ => false,
         }
     }
 
-    // What it does.
-    fn act(&self) -> Option<Act>
-        ensures { result ≡ act_asked self.now }
+    /// The step that the numbers mean, where nothing is wrong with them.
+    pub(crate) fn placed(&self) -> Placed
+        requires { result_err (placed_in self.now) ≡ None }
+        ensures { placed_in self.now ≡ Ok result }
+    {
+        Placed {
+            host: self.host,
+            step: Step {
+                output: self.output,
+                act: self.act(),
+            },
+        }
+    }
+
+    // What it does, where it does something.
+    fn act(&self) -> Act
+        requires { is_some (act_asked self.now) ≡ true }
+        ensures { act_asked self.now ≡ Some result }
     {
         match self.kind {
-            SETS if self.are_wishes() => Some(Act::Sets(self.wishes())),
-            TURNS => Some(Act::Turns(u16::from(self.byte))),
-            SURVEYS => Some(Act::Surveys),
-            RESTS => Some(Act::Rests),
-            _ => None,
+            SETS => Act::Sets(self.wishes()),
+            TURNS => Act::Turns(u16::from(self.byte)),
+            SURVEYS => Act::Surveys,
+            _ => Act::Rests,
         }
     }
 

@@ -1,12 +1,13 @@
 //! A sequence over hosts in a caller's memory: a list of steps is carried out, and what its rails do is looked at.
 
-ghost use Rattle.std.specs.Prelude.{◌≡◌, length, IfSome, None, Some};
+ghost use Rattle.std.specs.Prelude.{◌≡◌, length, IfSome, None, Ok, Some};
 ghost use Rattle.std.specs.Result.{result_err, IfErr, IfOk, OnOk};
 ghost use Rattle.pm_host.specs.Told.{entry_told};
-ghost use Rattle.pm_memory.specs.Sequence.{asked_fault, back_said as spec_back_said, backs_after, both_fault, is_look as spec_is_look, is_look_said as spec_is_look_said, lacks_room as spec_lacks_room, list_fault as spec_list_fault, looks_after, number_next as spec_number_next, records_after, rules_said, sequence_begun, step_at as spec_step_at, step_under as spec_step_under, whole_answer as spec_whole_answer, with_back, with_look, AreBoth, HearsIn, IsPutNext, NextIn, ReadIn};
+ghost use Rattle.pm_sequence.specs.Frames.{heard_in};
+ghost use Rattle.pm_memory.specs.Sequence.{asked_fault, back_said as spec_back_said, backs_after, both_fault, is_look as spec_is_look, is_look_said as spec_is_look_said, lacks_room as spec_lacks_room, list_fault as spec_list_fault, looks_after, number_next as spec_number_next, records_after, rules_said, sequence_begun, step_at as spec_step_at, step_under as spec_step_under, steps_fault as spec_steps_fault, whole_answer as spec_whole_answer, with_back, with_look, AreBoth, HearsIn, IsPutNext, NextIn, ReadIn};
 ghost use Rattle.pm_memory.specs.Guard.{guard_of};
 ghost use Rattle.pm_memory.specs.Hosted.{IsThere, guard_in};
-ghost use Rattle.pm_memory.specs.SequenceImage.{sequence_in, sequence_meant};
+ghost use Rattle.pm_memory.specs.SequenceImage.{sequence_image, sequence_in, sequence_meant};
 
 use crate::host_step::{HostStep, no_step, step_after};
 use crate::numbers::{ACCEPTED, NO_HOST, NO_ROOM, NO_SEQUENCE, NO_STEP, OTHER_FRAME};
@@ -14,7 +15,7 @@ use crate::sequence_said::{number_said, rail_said, said_after, step_said};
 use crate::sequence_step::{SequenceRecordImage, SequenceStepImage};
 use crate::{DeliveryImage, GuardImage, SaidImage, SendingImage, SequenceImage};
 use pm_host::{Stage, Told};
-use pm_sequence::{Act, End, Phase, Rules, Sequence, Step};
+use pm_sequence::{Act, End, Rules, Sequence, Step};
 use pm_stairs::WordStep;
 
 // How many steps a list has at most.
@@ -40,27 +41,47 @@ pub fn begun(tries: u16, rules: u8) -> SequenceImage
     SequenceImage::of(&Sequence::new(tries, rules_of(rules)), SaidImage::NOTHING)
 }
 
-// The step at a place of a list, none after its end; or the number of what is wrong with it.
-fn step_at(steps: &[SequenceStepImage], place: u16) -> Result<Option<Step>, u8>
-    ensures { result ≡ spec_step_at steps.now place }
+// The number of what is wrong with the step at a place of a list.
+fn fault_at(steps: &[SequenceStepImage], place: u16) -> Option<u8>
+    ensures { result ≡ result_err (spec_step_at steps.now place) }
 {
     match steps.get(usize::from(place)) {
-        Some(image) => match image.step() {
-            Ok(step) => Ok(Some(step)),
-            Err(number) => Err(number),
-        },
-        None => Ok(None),
+        Some(image) => image.fault(),
+        None => None,
+    }
+}
+
+// That of the newest of so many steps that have begun, or of the first one ahead.
+fn steps_fault(steps: &[SequenceStepImage], begun: u16) -> Option<u8>
+    ensures { result ≡ spec_steps_fault steps.now begun }
+{
+    if 0 < begun {
+        if let Some(number) = fault_at(steps, begun - 1) {
+            return Some(number);
+        }
+    }
+    fault_at(steps, begun)
+}
+
+// The step at a place of a list, none after its end.
+fn put_step(steps: &[SequenceStepImage], place: u16, step: &mut Option<Step>)
+    requires right { result_err (spec_step_at steps.now place) ≡ None }
+    requires none { step.old ≡ None }
+    ensures { spec_step_at steps.now place ≡ Ok step.new }
+{
+    if let Some(image) = steps.get(usize::from(place)) {
+        *step = Some(image.step());
     }
 }
 
 // The newest of so many steps that have begun.
-fn step_under(steps: &[SequenceStepImage], begun: u16) -> Result<Option<Step>, u8>
-    ensures { result ≡ spec_step_under steps.now begun }
+fn put_under(steps: &[SequenceStepImage], begun: u16, step: &mut Option<Step>)
+    requires right { result_err (spec_step_under steps.now begun) ≡ None }
+    requires none { step.old ≡ None }
+    ensures { spec_step_under steps.now begun ≡ Ok step.new }
 {
     if 0 < begun {
-        step_at(steps, begun - 1)
-    } else {
-        Ok(None)
+        put_step(steps, begun - 1, step);
     }
 }
 
@@ -182,10 +203,8 @@ fn is_look_said(act: Act) -> bool
 fn put_back(records: &mut [SequenceRecordImage], at: usize, back: SequenceStepImage)
     ensures { records.new ≡ with_back records.old at back }
 {
-    if let Some(record) = records.get(at) {
-        let mut kept = *record;
-        kept.back = back;
-        records[at] = kept;
+    if at < records.len() {
+        records[at].back = back;
     }
 }
 
@@ -193,10 +212,8 @@ fn put_back(records: &mut [SequenceRecordImage], at: usize, back: SequenceStepIm
 fn put_look(records: &mut [SequenceRecordImage], at: usize, look: DeliveryImage)
     ensures { records.new ≡ with_look records.old at look }
 {
-    if let Some(record) = records.get(at) {
-        let mut kept = *record;
-        kept.look = look;
-        records[at] = kept;
+    if at < records.len() {
+        records[at].look = look;
     }
 }
 
@@ -253,20 +270,15 @@ pub fn next(
             return number;
         }
     };
-    let under = match step_under(steps, sequence.list.begun) {
-        Ok(under) => under,
-        Err(number) => {
-            sending.clear();
-            return number;
-        }
-    };
-    let ahead = match step_at(steps, sequence.list.begun) {
-        Ok(ahead) => ahead,
-        Err(number) => {
-            sending.clear();
-            return number;
-        }
-    };
+    if let Some(number) = steps_fault(steps, sequence.list.begun) {
+        sending.clear();
+        return number;
+    }
+    let begun = sequence.list.begun;
+    let mut under = None;
+    put_under(steps, begun, &mut under);
+    let mut ahead = None;
+    put_step(steps, begun, &mut ahead);
     let mut is = Sequence::new(0, rules_of(0));
     sequence.hold(&mut is);
     let (at, act) = is.hand_out(host, stage, &under, &ahead);
@@ -291,26 +303,22 @@ fn number_next(at: Option<Stage>, act: Act) -> u8
 pub fn tell(sequence: &mut SequenceImage, host: &mut GuardImage, told: Told<'_>) -> HostStep
     ensures { HearsIn host.old sequence.old (entry_told told.entry) result host.new sequence.new }
 {
-    let stage = match read_both(sequence, host) {
-        Ok(stage) => stage,
-        Err(number) => return no_step(number),
-    };
-    let mut is = Sequence::new(0, rules_of(0));
-    sequence.hold(&mut is);
-    hear(sequence, host, &mut is, stage, told)
+    match read_both(sequence, host) {
+        Ok(stage) => hear(sequence, host, stage, told),
+        Err(number) => no_step(number),
+    }
 }
 
 // They hear it, if the host's open job stands at this stage and awaits it.
 fn hear(
     sequence: &mut SequenceImage,
     host: &mut GuardImage,
-    is: &mut Sequence,
     stage: Option<Stage>,
     told: Told<'_>,
 ) -> HostStep
     requires there { IsThere host.old }
     requires stage { stage ≡ (guard_in host.old).host.stage }
-    requires both { AreBoth host.old sequence.old (guard_in host.old) is.old }
+    requires both { AreBoth host.old sequence.old (guard_in host.old) (sequence_meant sequence.old) }
     ensures { HearsIn host.old sequence.old (entry_told told.entry) result host.new sequence.new }
 {
     let Some(at) = stage else {
@@ -319,25 +327,23 @@ fn hear(
     if !at.awaits(&told) {
         return no_step(OTHER_FRAME);
     }
-    if !is.list.has_course() {
+    if !sequence.has_course() {
         return no_step(OTHER_FRAME);
     }
     let address = host.host.state.address;
-    let heard = is.hear_by(host, at, told);
-    let said = sequence.said;
-    sequence.write(is, said);
+    let heard = sequence.hear_by(host, at, told);
     step_after(heard.step, address, at, told)
 }
 
 // Whether what is read is of a look: one is under way, and no job of the list is open.
-fn is_look(was: &Sequence, stage: Option<Stage>) -> bool
-    ensures { result ≡ spec_is_look was.now stage }
+fn is_look(was: &SequenceImage, stage: Option<Stage>) -> bool
+    ensures { result ≡ spec_is_look (sequence_meant was.now) stage }
 {
-    if was.phase == Phase::Steps {
+    if !was.looks() {
         return false;
     }
     match stage {
-        Some(at) => !was.list.is_job_at(at),
+        Some(at) => !was.is_job_at(at),
         None => true,
     }
 }
@@ -350,13 +356,21 @@ pub fn read_ended(sequence: &mut SequenceImage, host: &mut GuardImage, bytes: &[
         Ok(stage) => stage,
         Err(number) => return no_step(number),
     };
+    if !is_look(sequence, stage) {
+        return hear(sequence, host, stage, Told::Got(bytes));
+    }
+    look_hears(sequence, host, bytes);
+    no_step(ACCEPTED)
+}
+
+// A look hears what came back.
+fn look_hears(sequence: &mut SequenceImage, host: &GuardImage, bytes: &[u8])
+    requires there { IsThere host.now }
+    ensures { sequence.new ≡ sequence_image (heard_in (guard_in host.now) (sequence_meant sequence.old) bytes.now) sequence.old.said }
+{
     let mut is = Sequence::new(0, rules_of(0));
     sequence.hold(&mut is);
-    if !is_look(&is, stage) {
-        return hear(sequence, host, &mut is, stage, Told::Got(bytes));
-    }
     is.answered(host, bytes);
     let said = sequence.said;
     sequence.write(&is, said);
-    no_step(ACCEPTED)
 }

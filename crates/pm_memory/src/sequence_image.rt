@@ -1,7 +1,7 @@
 //! A sequence in a caller's memory: plain numbers, and what they mean.
 
 ghost use Rattle.std.specs.Prelude.{◌≡◌};
-ghost use Rattle.pm_memory.specs.SequenceImage.{fresh_number, fresh_read, phase_number, phase_read, phase_written as spec_phase_written, sequence_image, sequence_in, sequence_meant, told_read, told_written};
+ghost use Rattle.pm_memory.specs.SequenceImage.{fresh_number, fresh_read, is_looking, phase_number, phase_read, phase_written as spec_phase_written, sequence_image, sequence_in, sequence_meant, told_read, told_written};
 ghost use Rattle.pm_table.specs.Rules.{rule};
 ghost use Rattle.pm_table.specs.Cell.{output_of as spec_output_of};
 
@@ -226,12 +226,22 @@ impl SequenceImage {
         self.list.is_list()
     }
 
+    /// Whether a rail is looked at.
+    pub fn looks(&self) -> bool
+        ensures { result ≡ is_looking (phase_read self.now.phase) }
+    {
+        match phase_of(self.phase) {
+            Phase::Steps => false,
+            Phase::Before | Phase::After => true,
+        }
+    }
+
     /// What the numbers mean of memory that holds a sequence.
     pub fn hold(&self, is: &mut Sequence)
         ensures { is.new ≡ sequence_meant self.now }
     {
         self.list.hold(&mut is.list);
-        is.look = self.look.look();
+        self.look.hold(&mut is.look);
         is.look_host = self.look_host;
         is.phase = phase_of(self.phase);
         is.is_read = self.is_read == 1;
@@ -250,7 +260,7 @@ impl SequenceImage {
 }
 
 // Whose survey is fresh, by its number.
-fn fresh_of(number: u8) -> Fresh
+pub(crate) fn fresh_of(number: u8) -> Fresh
     ensures { result ≡ fresh_read number }
 {
     match number {
@@ -260,7 +270,7 @@ fn fresh_of(number: u8) -> Fresh
     }
 }
 
-fn fresh_number(fresh: Fresh) -> u8
+pub(crate) fn fresh_number(fresh: Fresh) -> u8
     ensures { result ≡ fresh_number fresh }
 {
     match fresh {

@@ -1,6 +1,7 @@
 //! The steps of a sequence and their records in a caller's memory: plain numbers, and what they mean.
 
-ghost use Rattle.std.specs.Prelude.{◌≡◌};
+ghost use Rattle.std.specs.Prelude.{◌≡◌, None, Ok};
+ghost use Rattle.std.specs.Result.{result_err};
 ghost use Rattle.pm_memory.specs.SequenceStep.{are_looks, back_image, looks_asked, step_in};
 
 use crate::DeliveryImage;
@@ -47,20 +48,28 @@ pub struct SequenceRecordImage {
 }
 
 impl SequenceStepImage {
-    /// The step that the numbers mean, or the number of what is wrong with them.
-    pub(crate) fn step(&self) -> Result<Step, u8>
-        ensures { result ≡ step_in self.now }
+    /// The number of what is wrong with the numbers.
+    pub(crate) fn fault(&self) -> Option<u8>
+        ensures { result ≡ result_err (step_in self.now) }
     {
-        let placed = self.placed.placed()?;
-        if !self.are_looks() {
-            return Err(NO_STEP);
+        match self.placed.fault() {
+            Some(number) => Some(number),
+            None if !self.are_looks() => Some(NO_STEP),
+            None => None,
         }
-        Ok(Step {
-            placed,
+    }
+
+    /// The step that the numbers mean, where nothing is wrong with them.
+    pub(crate) fn step(&self) -> Step
+        requires { result_err (step_in self.now) ≡ None }
+        ensures { step_in self.now ≡ Ok result }
+    {
+        Step {
+            placed: self.placed.placed(),
             wait: self.wait,
             looks: self.looks(),
             before: self.before,
-        })
+        }
     }
 
     // Whether its rail can be looked at so.

@@ -15,6 +15,7 @@ mod sequence;
 mod sight;
 mod step;
 
+pub use frames::{hear_course, heard_fresh};
 pub use gate::Gate;
 pub use look::{Look, LookAct, Probe, Silence};
 pub use sequence::{Act, End, Fresh, Phase, Rules, Sequence};

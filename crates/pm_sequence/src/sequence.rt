@@ -1,6 +1,7 @@
 //! What comes next in a list of steps.
 
 ghost use Rattle.std.specs.Prelude.{◌≡◌, ◌<◌, None};
+ghost use Rattle.std.specs.Option.{option_copied};
 ghost use Rattle.pm_host.specs.Image.{held};
 ghost use Rattle.pm_stairs.specs.Sequence.{one_more as spec_one_more};
 ghost use Rattle.pm_sequence.specs.Sequence.{act_of, after_of, afresh_with, ahead_act, ahead_after, anew, asked_of, begun_as, begun_with, due_by, due_in as spec_due_in, end_of as spec_end_of, found_at, fresh_after, gate as spec_gate, gated_act, gated_after, had_two as spec_had_two, is_at as spec_is_at, is_begin as spec_is_begin, is_fresh as spec_is_fresh, is_good as spec_is_good, is_read_for as spec_is_read_for, job_after, judged_after, judged_gate, look_before, looked_act, looked_after, may_leave as spec_may_leave, needs_look as spec_needs_look, new_sequence, on_count as spec_on_count, reached_act, reached_after, shown as spec_shown, spent_end as spec_spent_end, stopped_act, stopped_after, verdict_by, verdict_in as spec_verdict_in, with_list, Acts, Steps};
@@ -203,16 +204,16 @@ impl Sequence {
         ensures { Steps (S.guarded guard.now) under.now ahead.now self.old result self.new }
     {
         let shown = self.shown(ahead);
-        let turn = self.list.next_from(was, guard, &shown);
+        let turn = self.list.next_from(was, guard, shown);
         self.goes(guard, under, ahead, turn, was)
     }
 
     // The first step ahead, if it may be asked.
-    fn shown(&self, ahead: &Option<Step>) -> Option<Placed>
-        ensures { result ≡ spec_shown self.now ahead.now }
+    fn shown<'a>(&self, ahead: &'a Option<Step>) -> Option<&'a Placed>
+        ensures { option_copied result ≡ spec_shown self.now ahead.now }
     {
         match ahead {
-            Some(step) if self.is_shown => Some(step.placed),
+            Some(step) if self.is_shown => Some(&step.placed),
             _ => None,
         }
     }

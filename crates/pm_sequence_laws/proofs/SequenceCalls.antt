@@ -17,8 +17,8 @@ use Rattle.pm_sequence_laws.specs.Runs.{Hears as HearsInRun}
 use Rattle.pm_sequence_laws.specs.Runs as run
 use Rattle.pm_memory.specs.declared.guard_image.GuardImage.{GuardImage}
 use Rattle.pm_memory.specs.declared.sending_image.SendingImage.{SendingImage}
-use Rattle.pm_memory.specs.declared.sequence_image.SaidImage.{SaidImage}
 use Rattle.pm_memory.specs.declared.sequence_image.SequenceImage.{SequenceImage}
+use Rattle.pm_memory.specs.Heard.{heard_image}
 use Rattle.pm_memory.specs.SequenceImage.{SequencesAreKept, sequence_image, sequence_in}
 use Rattle.pm_memory.specs.declared.host_step.HostStep.{HostStep}
 use Rattle.pm_memory.specs.declared.sequence_step.SequenceRecordImage.{SequenceRecordImage}
@@ -103,10 +103,9 @@ module _ (kept : SequencesAreKept) (law : CallsAreRuns) (places : Places) (steps
       }
 
   -- what is heard changes what is known alone
-  hears-meant : (marks : List Mark) (was : SequenceImage) (q is : Sequence) (said : SaidImage) → Meant places steps tries rules marks was →
-      sequence_in was ≡ Some q → HearsInRun q is → sequence_in (sequence_image is said) ≡ Some is →
-      Meant places steps tries rules marks (sequence_image is said)
-  hears-meant marks was q is said m held hears read = record {
+  hears-meant : (marks : List Mark) (was image : SequenceImage) (q is : Sequence) → Meant places steps tries rules marks was →
+      sequence_in was ≡ Some q → HearsInRun q is → sequence_in image ≡ Some is → Meant places steps tries rules marks image
+  hears-meant marks was image q is m held hears read = record {
     q = is;
     held = read;
     runs = run.hears marks q is (runs-of marks was q m held) hears;
@@ -119,13 +118,13 @@ module _ (kept : SequencesAreKept) (law : CallsAreRuns) (places : Places) (steps
   told-meant marks old _ was _ entry _ m (refused_told number fault) read = m
   told-meant marks old _ was _ entry _ m (unasked g q is fault both hear) read = m
   told-meant marks old _ was _ entry _ m (hears_it g next q is new both hear after) read =
-      hears-meant marks was q is was.said m both.held (law.hears g next q is entry (Ok tt) hear) read
+      hears-meant marks was (heard_image was is) q is m both.held (law.hears g next q is entry (Ok tt) hear) read
 
   read-meant : (marks : List Mark) (old new : GuardImage) (was is : SequenceImage) (bytes : List ℕ) (step : HostStep) →
       Meant places steps tries rules marks was → (call : ReadIn old was bytes step new is) → IsReadBack call →
       Meant places steps tries rules marks is
   read-meant marks old _ was _ bytes _ m (of_a_look g q both look) read =
-      hears-meant marks was q (heard_in g q bytes) was.said m both.held (law.answered g q bytes) read
+      hears-meant marks was (sequence_image (heard_in g q bytes) was.said) q (heard_in g q bytes) m both.held (law.answered g q bytes) read
   read-meant marks old _ was _ bytes _ m (of_a_job g q step new is both look hear) read = told-meant marks old new was is _ step m hear read
   read-meant marks old _ was _ bytes _ m (refused_read number fault) read = m
 

@@ -10,6 +10,7 @@ use Rattle.pm_sequence_laws.specs.Runs.{Mark, NoneLeft, Places, Runs, marks_of, 
 use Rattle.pm_memory.specs.declared.guard_image.GuardImage.{GuardImage}
 use Rattle.pm_memory.specs.declared.sending_image.SendingImage.{SendingImage}
 use Rattle.pm_memory.specs.declared.sequence_image.SequenceImage.{SequenceImage}
+use Rattle.pm_memory.specs.Heard.{heard_image}
 use Rattle.pm_memory.specs.SequenceImage.{sequence_image, sequence_in}
 use Rattle.pm_memory.specs.declared.host_step.HostStep.{HostStep}
 use Rattle.pm_memory.specs.declared.sequence_step.SequenceRecordImage.{SequenceRecordImage}
@@ -38,7 +39,7 @@ abbrev pub IsReadHeard : {old new : GuardImage} {was is : SequenceImage} {entry 
     HearsIn old was entry step new is → Type 0
 IsReadHeard (refused_told number fault) = Unit {0}
 IsReadHeard (unasked g q is fault both hear) = Unit {0}
-IsReadHeard {was = was} (hears_it g next q is new both hear after) = sequence_in (sequence_image is was.said) ≡ Some is
+IsReadHeard {was = was} (hears_it g next q is new both hear after) = sequence_in (heard_image was is) ≡ Some is
 
 abbrev pub IsReadBack : {old new : GuardImage} {was is : SequenceImage} {bytes : List ℕ} {step : HostStep} →
     ReadIn old was bytes step new is → Type 0

@@ -1,6 +1,7 @@
 //! A list of steps over the outputs of several parts.
 
 ghost use Rattle.std.specs.Prelude.{◌≡◌, is_some};
+ghost use Rattle.std.specs.Option.{option_copied};
 ghost use Rattle.pm_stairs.specs.OpenCourse.{course_open as spec_course_open, is_job_at as spec_is_job_at};
 ghost use Rattle.pm_stairs.specs.Sequence.{ahead_here as spec_ahead_here, asked_apart as spec_asked_apart, at_once, has_begun as spec_has_begun, heard_with, host_due as spec_host_due, is_at_once as spec_is_at_once, is_under as spec_is_under, off_at_once as spec_off_at_once, one_begun, one_more as spec_one_more, refused_back as spec_refused_back, refused_for as spec_refused_for, refused_in, sequence_new, skipped, step_stopped, turned, turned_after, with_stairs, Says, Turns};
 
@@ -90,13 +91,13 @@ impl Sequence {
         ensures { Turns (S.guarded guard.now) ahead.now self.old result self.new }
     {
         let was = *self;
-        self.next_from(&was, guard, ahead)
+        self.next_from(&was, guard, ahead.as_ref())
     }
 
     /// As `next`, of a list that was this before, so that nothing is copied.
-    pub fn next_from<S: Sight>(&mut self, was: &Sequence, guard: &S, ahead: &Option<Placed>) -> Turn
+    pub fn next_from<S: Sight>(&mut self, was: &Sequence, guard: &S, ahead: Option<&Placed>) -> Turn
         requires { was.now ≡ self.old }
-        ensures { Turns (S.guarded guard.now) ahead.now self.old result self.new }
+        ensures { Turns (S.guarded guard.now) (option_copied ahead.entry) self.old result self.new }
     {
         let due = self.host_due(ahead);
         if self.host == due {
@@ -107,13 +108,13 @@ impl Sequence {
     }
 
     // What comes next by the host that is the one to ask.
-    fn asked<S: Sight>(&mut self, was: &Sequence, guard: &S, ahead: &Option<Placed>) -> Turn
+    fn asked<S: Sight>(&mut self, was: &Sequence, guard: &S, ahead: Option<&Placed>) -> Turn
         requires same { was.now ≡ self.old }
-        requires due { self.old.host ≡ spec_host_due self.old ahead.now }
-        ensures { Turns (S.guarded guard.now) ahead.now self.old result self.new }
+        requires due { self.old.host ≡ spec_host_due self.old (option_copied ahead) }
+        ensures { Turns (S.guarded guard.now) (option_copied ahead.entry) self.old result self.new }
     {
         if let Some(step) = self.off_at_once(ahead) {
-            self.begins_at_once(&step);
+            self.begins_at_once(step);
             return Turn::Again;
         }
         let said = was.said(guard, ahead, &mut self.stairs);
@@ -122,19 +123,19 @@ impl Sequence {
     }
 
     // What these stairs, which are its own, say, and become.
-    fn said<S: Sight>(&self, guard: &S, ahead: &Option<Placed>, asked: &mut Stairs) -> Move
+    fn said<S: Sight>(&self, guard: &S, ahead: Option<&Placed>, asked: &mut Stairs) -> Move
         requires { asked.old ≡ self.now.stairs }
-        ensures { Says (S.guarded guard.now) ahead.now self.now result asked.new }
+        ensures { Says (S.guarded guard.now) (option_copied ahead.entry) self.now result asked.new }
     {
         match self.asked_apart(ahead) {
-            Some(step) => asked.next_apart(guard, &step, self.tries),
-            None => asked.next(guard, &self.ahead_here(ahead), self.tries),
+            Some(step) => asked.next_apart(guard, step, self.tries),
+            None => asked.next(guard, self.ahead_here(ahead), self.tries),
         }
     }
 
     // The place of the host that is to be asked.
-    fn host_due(&self, ahead: &Option<Placed>) -> u8
-        ensures { result ≡ spec_host_due self.now ahead.now }
+    fn host_due(&self, ahead: Option<&Placed>) -> u8
+        ensures { result ≡ spec_host_due self.now (option_copied ahead.entry) }
     {
         if self.is_under(ahead) {
             return self.under_host;
@@ -146,29 +147,29 @@ impl Sequence {
     }
 
     // Whether the step under way is asked first.
-    fn is_under(&self, ahead: &Option<Placed>) -> bool
-        ensures { result ≡ spec_is_under self.now ahead.now }
+    fn is_under(&self, ahead: Option<&Placed>) -> bool
+        ensures { result ≡ spec_is_under self.now (option_copied ahead.entry) }
     {
         self.stairs.under.is_some() && (!self.is_free || ahead.is_none())
     }
 
     // The first step ahead, if it is asked without the one under way, which is over.
-    fn asked_apart(&self, ahead: &Option<Placed>) -> Option<Step>
-        ensures { result ≡ spec_asked_apart self.now ahead.now }
+    fn asked_apart<'a>(&self, ahead: Option<&'a Placed>) -> Option<&'a Step>
+        ensures { option_copied result ≡ spec_asked_apart self.now (option_copied ahead.entry) }
     {
         match ahead {
-            Some(placed) if self.is_free => Some(placed.step),
+            Some(placed) if self.is_free => Some(&placed.step),
             _ => None,
         }
     }
 
     // The first step ahead, if the host that is asked is its own and it doesn't begin at once.
-    fn ahead_here(&self, ahead: &Option<Placed>) -> Option<Step>
-        ensures { result ≡ spec_ahead_here self.now ahead.now }
+    fn ahead_here<'a>(&self, ahead: Option<&'a Placed>) -> Option<&'a Step>
+        ensures { option_copied result ≡ spec_ahead_here self.now (option_copied ahead.entry) }
     {
         match ahead {
             Some(placed) if placed.host == self.host && !self.is_at_once(&placed.step) => {
-                Some(placed.step)
+                Some(&placed.step)
             }
             _ => None,
         }
@@ -185,12 +186,12 @@ impl Sequence {
     }
 
     // The first step ahead, if it begins at once now.
-    fn off_at_once(&self, ahead: &Option<Placed>) -> Option<Step>
-        ensures { result ≡ spec_off_at_once self.now (spec_is_under self.now ahead.now) ahead.now }
+    fn off_at_once<'a>(&self, ahead: Option<&'a Placed>) -> Option<&'a Step>
+        ensures { option_copied result ≡ spec_off_at_once self.now (spec_is_under self.now (option_copied ahead.entry)) (option_copied ahead.entry) }
     {
         match ahead {
             Some(placed) if !self.is_under(ahead) && self.is_at_once(&placed.step) => Some(
-                placed.step,
+                &placed.step,
             ),
             _ => None,
         }
@@ -223,12 +224,12 @@ impl Sequence {
     fn goes(
         &mut self,
         was: &Stairs,
-        ahead: &Option<Placed>,
+        ahead: Option<&Placed>,
         said: &Move,
         refused: Option<PlanFault>,
     ) -> Turn
-        ensures turn { result ≡ turned ahead.now said.now refused }
-        ensures after { self.new ≡ turned_after ahead.now (with_stairs self.old was.now) said.now self.old.stairs refused }
+        ensures turn { result ≡ turned (option_copied ahead.entry) said.now refused }
+        ensures after { self.new ≡ turned_after (option_copied ahead.entry) (with_stairs self.old was.now) said.now self.old.stairs refused }
     {
         match *said {
             Move::Job(job) => {

@@ -1,6 +1,7 @@
 //! The machine that carries out steps, one after another.
 
 ghost use Rattle.std.specs.Prelude.{◌≡◌, ◌<◌, true};
+ghost use Rattle.std.specs.Option.{option_copied};
 ghost use Rattle.pm_limits.specs.Guard.{limits_at};
 ghost use Rattle.pm_stairs.specs.Due.{due_now, said_of as spec_said_of};
 ghost use Rattle.pm_stairs.specs.Sequence.{GoesApart};
@@ -67,8 +68,8 @@ impl Stairs {
     }
 
     /// What comes next, if this is the first step ahead, which gets so many tries.
-    pub fn next<S: Sight>(&mut self, guard: &S, ahead: &Option<Step>, tries: u16) -> Move
-        ensures { Goes (S.guarded guard.now) tries ahead.now self.old result self.new }
+    pub fn next<S: Sight>(&mut self, guard: &S, ahead: Option<&Step>, tries: u16) -> Move
+        ensures { Goes (S.guarded guard.now) tries (option_copied ahead.entry) self.old result self.new }
     {
         if self.restarted {
             return Move::Stops(StepEnd::Restarted);
@@ -103,7 +104,8 @@ impl Stairs {
         if !are_there(guard, &under.step, &under.course) {
             return Some(Move::Stops(absent()));
         }
-        let said = ask(guard, true, &under.step, &mut under.course);
+        let was = under.course;
+        let said = ask(guard, true, &under.step, &was, &mut under.course);
         under_move(said)
     }
 
@@ -129,7 +131,8 @@ impl Stairs {
             self.reads_for(course);
             return Move::Stops(absent());
         }
-        let said = ask(guard, false, step, course);
+        let was = *course;
+        let said = ask(guard, false, step, &was, course);
         if begins_now(said) {
             self.begins(step, course);
         } else {
@@ -239,17 +242,23 @@ pub(crate) fn words_by<S: Sight>(guard: &S, course: &FrameCourse) -> Result<Want
     }
 }
 
-// What a step asks for, which has begun or begins now, and its course then.
-fn ask<S: Sight>(guard: &S, begun: bool, step: &WordStep, course: &mut FrameCourse) -> Said
+// What a step asks for, which has begun or begins now, and its course then, which was this before.
+fn ask<S: Sight>(
+    guard: &S,
+    begun: bool,
+    step: &WordStep,
+    was: &FrameCourse,
+    course: &mut FrameCourse,
+) -> Said
+    requires same { was.now ≡ course.old }
     requires step { step.now.output < (S.guarded guard.now).host.setup.outputs }
     requires course { course.old.course.survey.output < (S.guarded guard.now).host.setup.outputs }
     ensures { SaysStep (S.guarded guard.now) begun step.now course.old result course.new }
 {
-    let was = *course;
     let limits = guard.limits(course.course.survey.output);
     let next = course.next_in(guard.state(), guard.stage(), guard.registers(), &limits);
-    let said = trying(&was, said_by(guard, begun, step, &was.course, next));
-    put_said(course, &was, said);
+    let said = trying(was, said_by(guard, begun, step, &was.course, next));
+    put_said(course, was, said);
     said
 }
 

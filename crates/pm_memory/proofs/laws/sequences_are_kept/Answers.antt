@@ -1,5 +1,9 @@
+use Rattle.pm_memory.proofs.Hearings.{hearings}
 use Rattle.pm_memory.proofs.Sequences.{sequences}
 use Rattle.pm_memory.proofs.laws.sequences_are_kept.Goals as goal
 
-pub returns : goal.returns
-returns c = sequences
+pub returns-clause-written : goal.returns-clause-written
+returns-clause-written c = sequences
+
+pub returns-clause-heard : goal.returns-clause-heard
+returns-clause-heard c = hearings

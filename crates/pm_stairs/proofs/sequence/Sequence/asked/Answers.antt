@@ -1,4 +1,5 @@
 use Rattle.std.proofs.Common.{◌≡◌, Option, ap, sym, subst, ◌∙◌}
+use Rattle.std.specs.Option.{option_copied}
 use Rattle.pm_rail.specs.declared.fault.PlanFault.{PlanFault}
 use Rattle.pm_stairs.specs.declared.sequence.Sequence.{Sequence}
 use Rattle.pm_stairs.specs.declared.sequence.Turn.{Turn}
@@ -8,15 +9,15 @@ use Rattle.pm_stairs.proofs.sequence.Sequence.asked.Goals as goal
 
 pub returns-in-Some : goal.returns-in-Some
 returns-in-Some g c =
-    subst (λ (q : Sequence). Turns (g.S.Sight.guarded c.args.guard.now) c.args.ahead.now c.args.self.now turn.Again q)
+    subst (λ (q : Sequence). Turns (g.S.Sight.guarded c.args.guard.now) (option_copied c.args.ahead) c.args.self.now turn.Again q)
     (sym c.begins_at_once.ensures)
-    (at_once_of c.in-Some.step c.requires.due (sym c.off_at_once.ensures ∙ c.in-Some.is))
+    (at_once_of c.in-Some.step.now c.requires.due (sym c.off_at_once.ensures ∙ ap (λ o. option_copied o) c.in-Some.is))
 
 pub returns : goal.returns
 returns g c =
     let G = g.S.Sight.guarded c.args.guard.now in
     let q = c.args.self.now in
-    let ahead = c.args.ahead.now in
+    let ahead = (option_copied c.args.ahead) in
     let said = c.said-said.result in
     let stairs = c.said-said.new.asked in
     let why = refused_for G q said in
@@ -31,5 +32,5 @@ returns g c =
     ∙ ap (λ (r : Option PlanFault). turned_after ahead q said stairs r) why-is in
     subst (λ (t : Turn). Turns G ahead q t c.goes.new.self) (sym turn-is)
     (subst (λ (new : Sequence). Turns G ahead q (turned ahead said why) new) (sym after-is)
-    (asks said stairs c.requires.due (sym c.off_at_once.ensures ∙ c.in_default.is)
+    (asks said stairs c.requires.due (sym c.off_at_once.ensures ∙ ap (λ o. option_copied o) c.in_default.is)
     (subst (λ (w : Sequence). Says G ahead w said stairs) c.requires.same c.said-said.ensures)))
