@@ -1,23 +1,100 @@
--- How the memory of a course is kept.
-use Rattle.std.proofs.Common.{◌≡◌, ◌<◌, ℕ, ℤ, Bool, true, false, Option, Some, None, refl, sym, ap, ◌∙◌, rules}
-use Rattle.std.specs.Prelude.{nat_lt, ◌==◌, if◌then◌else◌, is_none, is_some, unwrap_or}
+-- A course and a host in memory: what the numbers read as.
+use Rattle.std.specs.Prelude.{option_and_then, unwrap_or, ◌==◌, if◌then◌else◌, is_some, nat_lt, is_none}
+use Rattle.std.proofs.Common.{◌≡◌, Bool, true, false, Option, Some, None, refl, sym, ap, ◌∙◌, subst, ℕ, ◌<◌, ℤ, rules}
 use Rattle.pm_table.specs.declared.reg.Reg.{Reg}
-use Rattle.pm_table.specs.declared.reg.Reg.TheVariants.{Operation, VoutCommand, VoutMax, MarginHigh, MarginLow, VoutMin}
-use Rattle.pm_host.specs.declared.job.Job.{Job}
-use Rattle.pm_rail.specs.declared.course.Differing.{Differing}
-use Rattle.pm_rail.specs.declared.survey.Reads.{Reads}
-use Rattle.pm_rail.specs.declared.wanted.Wanted.{Wanted}
-use Rattle.pm_rail.specs.Course.{course_of}
-use Rattle.pm_course.specs.declared.answer_fault.AnswerFault.{AnswerFault}
-use Rattle.pm_course.specs.declared.answer_fault.AnswerFault.TheVariants.{NoAnswer, NotAcknowledged, NotOurs, Short, Long, WrongCount, WrongPec}
-use Rattle.pm_course.specs.declared.frame_course.FrameCourse.{FrameCourse}
-use Rattle.pm_course.specs.declared.voltages.Voltages.{Voltages}
+use Rattle.pm_host.specs.{Sound.IsSound, Summary.Summary, declared.image.HostImage.HostImage, declared.job.Job.Job}
+use Rattle.pm_host.specs.{declared.stage.Stage.Stage, declared.state.State.State}
+use Rattle.pm_host.specs.Image.{held, host_of, is_current, is_sound, sound_in, stage_held}
+use Rattle.pm_rail.specs.{Course.course_of, Survey.wanted_in, declared.course.Differing.Differing, declared.survey.Reads.Reads}
+use Rattle.pm_rail.specs.{declared.wanted.Wanted.Wanted}
+use Rattle.pm_course.specs.{Wishes.no_voltages, declared.answer_fault.AnswerFault.AnswerFault}
+use Rattle.pm_course.specs.{declared.frame_course.FrameCourse.FrameCourse}
 use Rattle.pm_course.specs.FrameCourse.{going_on, refused_by, to_byte, to_survey, wanting}
-use Rattle.pm_course.specs.Wishes.{no_voltages}
-use Rattle.pm_memory.specs.CourseEnd.{end_held, end_numbers, fault_held, fault_number}
-use Rattle.pm_memory.specs.CourseImage.{course_image, course_in, differed_held, differed_image, voltages_held, CoursesAreKept, IsKept}
-use Rattle.pm_memory.specs.Flag.{flag}
-use Rattle.pm_memory.proofs.Kept.{flag-kept, plan-kept}
+use Rattle.pm_course.specs.declared.answer_fault.AnswerFault.TheVariants.{NoAnswer, NotAcknowledged, NotOurs, Short, Long, WrongCount}
+use Rattle.pm_course.specs.declared.answer_fault.AnswerFault.TheVariants.{WrongPec}
+use Rattle.pm_memory.specs.{Flag.flag, declared.guard_image.GuardImage.GuardImage}
+use Rattle.pm_memory.specs.CourseEnd.{fault_held, fault_number}
+use Rattle.pm_memory.specs.CourseImage.{course_image, course_in, differed_held, differed_image, CoursesAreKept, IsKept}
+use Rattle.pm_memory.specs.Guard.{guard_of, limits_kept}
+use Rattle.pm_memory.specs.Hosted.{IsThere, guard_in}
+use Rattle.pm_memory.specs.Wanted.{wanted_image, wanted_meant, wish_image, wish_meant}
+
+-- Memory that holds a host has its layout, and its state beside where its job stands.
+
+pub record IsHeld (image : HostImage) (s : Summary) : Type 0 where
+  pub current : is_current image ≡ true
+  pub whole : held s.stage image.state ≡ s
+
+unwrapped : (x y : Summary) → Some x ≡ Some y → x ≡ y
+unwrapped x y is = ap (λ (o : Option Summary). unwrap_or o x) is
+
+staged : (state : State) (stage : Option Stage) (s : Summary) → sound_in state stage ≡ Some s → held s.stage state ≡ s
+staged state stage s is = by (is_sound (held stage state)) refl where
+  by : (b : Bool) → is_sound (held stage state) ≡ b → held s.stage state ≡ s
+  by true holds =
+      let same : held stage state ≡ s = unwrapped (held stage state) s (rw holds at is) in
+      ap (λ (x : Summary). held x.stage state) (sym same) ∙ same
+  by false other = let never = rw other at is in cc
+
+stood : (state : State) (at : Option (Option Stage)) (s : Summary) → option_and_then (sound_in state) at ≡ Some s → held s.stage state ≡ s
+stood state None s is = cc
+stood state (Some stage) s is = staged state stage s is
+
+pub held-of : (image : HostImage) (s : Summary) → host_of image ≡ Some s → IsHeld image s
+unfolding host_of
+held-of image s is = by (is_current image) refl where
+  by : (b : Bool) → is_current image ≡ b → IsHeld image s
+  by true holds = record { current = holds; whole = stood image.state (stage_held image.stage) s (rw holds at is) }
+  by false other = let never = rw other at is in cc
+
+-- Memory that holds a host means it.
+
+pub means : (image : GuardImage) (s : Summary) → host_of image.host ≡ Some s → (guard_in image).host ≡ s
+means image s found = rw found refl
+
+pub there-of : (image : GuardImage) (s : Summary) → host_of image.host ≡ Some s → IsSound s → IsThere image
+there-of image s found sound =
+    let kept = held-of image.host s found in
+    let is = means image s found in
+    record {
+      there = found ∙ ap (λ (x : Summary). Some x) (sym is);
+      current = kept.current;
+      whole = ap (λ (x : Summary). held x.stage image.host.state) is ∙ kept.whole ∙ sym is;
+      sound = subst (λ (x : Summary). IsSound x) (sym is) sound;
+    }
+
+pub guarded : (image : GuardImage) → IsThere image → guard_of image ≡ Some (guard_in image)
+guarded image there = rw (there.there) refl
+
+-- the limits of memory whose host changes stay
+pub limits-stay : (image : GuardImage) (host : HostImage)
+    → limits_kept (record { host = host; registers = image.registers; unused = image.unused; limits = image.limits }) ≡ limits_kept image
+unfolding limits_kept
+limits-stay image host = refl
+
+pub found-in : (image : GuardImage) (s : Summary) → host_of image.host ≡ Some s → guard_of image ≡ Some (guard_in image)
+found-in image s found = rw found refl
+
+-- How a flag, a wish and the words that a plan wants are kept in memory: each is read as it was written.
+
+pub flag-kept : (b : Bool) → (flag b == 1) ≡ b
+flag-kept true = refl
+flag-kept false = refl
+
+wish-kept : (word : Option ℕ) → wish_meant (wish_image word) ≡ word
+wish-kept None = refl
+wish-kept (Some word) = refl
+
+pub wanted-kept : (w : Wanted) → wanted_meant (wanted_image w) ≡ w
+wanted-kept w =
+    rw (wish-kept w.command, wish-kept w.max, wish-kept w.margin_high, wish-kept w.margin_low, wish-kept w.min) refl
+
+pub plan-kept : (plan : Option Wanted)
+    → (if flag (is_some plan) == 1 then Some (wanted_meant (wanted_image (wanted_in plan))) else None) ≡ plan
+plan-kept None = refl
+plan-kept (Some w) = ap (λ (x : Wanted). Some x) (wanted-kept w)
+
+-- How the memory of a course is kept.
 
 -- a fault is read as it was written, a byte is, and which registers differed are
 fault-kept : (fault : Option AnswerFault) → fault_held (fault_number fault) ≡ fault

@@ -31,7 +31,7 @@ use Rattle.pm_memory.specs.SequenceImage.{sequence_in, sequence_meant}
 use Rattle.pm_sequence.specs.declared.step.Step.{Step as ListStep}
 use Rattle.pm_memory.specs.declared.sequence_step.SequenceStepImage.{SequenceStepImage}
 use Rattle.pm_memory.specs.Sequence.{asked_fault, both_fault, list_fault, number_next, number_sent, one_step, steps_fault, AreBoth}
-use Rattle.pm_memory.proofs.Heard.{hears-by}
+use Rattle.pm_memory.proofs.Frames.{hears-by}
 
 pub numbered : (g : Guarded) (at : Option Stage) (sent : Option Sending) (said : Act) → IsSentAt g at sent → number_next at said ≡ number_sent sent said
 numbered g None sent said is = rw is refl

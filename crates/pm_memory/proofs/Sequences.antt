@@ -1,25 +1,30 @@
--- How the memory of a sequence is kept.
-use Rattle.std.proofs.Common.{◌≡◌, ℕ, Option, Some, None, refl, ◌∙◌, ap}
-use Rattle.std.specs.Prelude.{IfSome, Bool, true, false, ◌||◌, ◌==◌, nat_lt}
-use Rattle.pm_course.specs.declared.frame_course.FrameCourse.{FrameCourse}
-use Rattle.pm_stairs.specs.declared.sequence.Sequence.{Sequence as List}
-use Rattle.pm_stairs.specs.declared.stairs.Under.{Under}
-use Rattle.pm_stairs.specs.declared.step.WordAct.{WordAct}
-use Rattle.pm_stairs.specs.declared.step.WordAct.TheVariants as words
-use Rattle.pm_sequence.specs.declared.look.Look.{Look}
-use Rattle.pm_sequence.specs.declared.sequence.Fresh.{Fresh}
-use Rattle.pm_sequence.specs.declared.sequence.Fresh.TheVariants as fresh
-use Rattle.pm_sequence.specs.declared.sequence.Phase.{Phase}
-use Rattle.pm_sequence.specs.declared.sequence.Phase.TheVariants as phase
-use Rattle.pm_sequence.specs.declared.sequence.Sequence.{Sequence}
-use Rattle.pm_host.specs.declared.job.Job.{Job}
+-- A list in memory: what was written reads as it was, and so does what a hearing changes.
+use Rattle.std.specs.Prelude.{IfSome, Bool, true, false, ◌||◌, ◌==◌, nat_lt, ◌&&◌, is_some, if◌then◌else◌, option_map, unwrap_or}
+use Rattle.std.proofs.Common.{◌≡◌, ℕ, Option, Some, None, refl, ◌∙◌, ap, sym, subst}
+use Rattle.pm_table.specs.Rules.{rule}
+use Rattle.pm_host.specs.{Transcript.Entry, declared.job.Job.Job, declared.stage.Stage.Stage}
 use Rattle.pm_host.specs.declared.job.Job.TheVariants as asked
-use Rattle.pm_memory.specs.declared.sequence_image.SaidImage.{SaidImage}
-use Rattle.pm_memory.specs.CourseImage.{IsKept}
-use Rattle.pm_memory.specs.SequenceImage.{answer_number, fresh_number, fresh_read, look_image, look_read, phase_read, phase_written, sequence_image, sequence_in, told_by, told_written, IsKeptList, IsKeptSequence, SequencesAreKept}
-use Rattle.pm_memory.specs.ListImage.{list_image, list_in}
-use Rattle.pm_memory.proofs.Courses.{kept}
-use Rattle.pm_memory.proofs.Kept.{flag-kept, wanted-kept}
+use Rattle.pm_course.specs.{Heard.is_job_of, declared.frame_course.FrameCourse.FrameCourse}
+use Rattle.pm_stairs.specs.{Sequence.heard_with, declared.sequence.Sequence.Sequence as List, declared.stairs.Stairs.Stairs}
+use Rattle.pm_stairs.specs.{declared.stairs.Under.Under, declared.step.WordAct.WordAct, declared.step.WordStep.WordStep}
+use Rattle.pm_stairs.specs.OpenCourse.{course_open, is_job_at, under_with, with_course}
+use Rattle.pm_stairs.specs.declared.step.WordAct.TheVariants as words
+use Rattle.pm_sequence.specs.{declared.look.Look.Look, declared.sequence.Fresh.Fresh, declared.sequence.Phase.Phase}
+use Rattle.pm_sequence.specs.{declared.sequence.Sequence.Sequence}
+use Rattle.pm_sequence.specs.Frames.{fresh_heard, list_heard}
+use Rattle.pm_sequence.specs.declared.sequence.Fresh.TheVariants as fresh
+use Rattle.pm_sequence.specs.declared.sequence.Phase.TheVariants as phase
+use Rattle.pm_memory.specs.{Flag.flag, declared.course_image.CourseImage.CourseImage, declared.list_image.ListImage.ListImage}
+use Rattle.pm_memory.specs.{declared.sequence_image.SaidImage.SaidImage, declared.sequence_image.SequenceImage.SequenceImage}
+use Rattle.pm_memory.specs.CourseImage.{IsKept, course_held, course_image, course_in, is_course}
+use Rattle.pm_memory.specs.Heard.{course_heard, heard_image, stairs_heard, HearingsAreKept}
+use Rattle.pm_memory.specs.ListImage.{list_image, list_in, held_with, list_meant, under_words, with_its_course}
+use Rattle.pm_memory.specs.SequenceImage.{answer_number, fresh_number, fresh_read, look_image, look_read, phase_read, phase_written}
+use Rattle.pm_memory.specs.SequenceImage.{sequence_image, sequence_in, told_by, told_written, IsKeptList, IsKeptSequence, SequencesAreKept}
+use Rattle.pm_memory.specs.SequenceImage.{sequence_mark, sequence_meant, sequence_read, sequence_version}
+use Rattle.pm_memory.proofs.Courses.{kept, flag-kept, wanted-kept}
+
+-- How the memory of a sequence is kept.
 
 there-kept : (there off : Bool) → (answer_number there off == 1 || answer_number there off == 3) ≡ there
 there-kept true true = refl
@@ -192,3 +197,173 @@ sequence-kept q said is = rw (
 
 pub sequences : SequencesAreKept
 sequences = record { kept = sequence-kept }
+
+-- The numbers of a list that a hearing changes, and how they are read.
+
+-- ---- What is written ----
+
+abbrev stairs_at : Option WordStep → FrameCourse → Option FrameCourse → Bool → Bool → Stairs
+stairs_at step course coming reading restarted =
+    record { under = option_map (with_its_course course) step; coming = coming; reading = reading; restarted = restarted }
+
+abbrev course_put : ListImage → FrameCourse → Bool → Bool → ListImage
+course_put i is reading seen = if reading
+    then record i { coming = course_image is; under = record i.under { is_restarted = flag seen } }
+    else record i { course = course_image is; under = record i.under { is_restarted = flag seen } }
+
+put-at : (i : ListImage) (is course : FrameCourse) (step : Option WordStep) (coming : Option FrameCourse) (reading restarted seen : Bool)
+    → is_some (course_open (stairs_at step course coming reading restarted)) ≡ true
+    → course_put i is reading (restarted || seen)
+    ≡ stairs_heard i (with_course (stairs_at step course coming reading restarted) is seen)
+put-at i is course step coming true restarted seen opened = refl
+put-at i is course (Some step) coming false restarted seen opened = refl
+put-at i is course None coming false restarted seen opened = cc
+
+pub list-put : (i : ListImage) (is : FrameCourse) (restarted : Bool) → is_some (course_open (list_meant i).stairs) ≡ true
+    → course_heard i is restarted ≡ stairs_heard i (heard_with (list_meant i) is restarted).stairs
+list-put i is restarted opened =
+    put-at i is (course_held i.course) (under_words i.under) (rule (i.under.has_coming == 1) (course_held i.coming)) (i.under.is_reading == 1)
+    (i.under.is_restarted == 1) (restarted && i.ends_at_restart == 1) opened
+
+-- ---- The course whose job was named last ----
+
+under-at : (step : Option WordStep) (course : FrameCourse) (coming : Option FrameCourse) (reading restarted : Bool) → reading ≡ false
+    → is_some (course_open (stairs_at step course coming reading restarted)) ≡ true
+    → course_open (stairs_at step course coming reading restarted) ≡ Some course
+under-at step course coming true restarted other opened = cc
+under-at (Some step) course coming false restarted other opened = refl
+under-at None course coming false restarted other opened = cc
+
+pub open-under : (i : ListImage) → (i.under.is_reading == 1) ≡ false → is_some (course_open (list_meant i).stairs) ≡ true
+    → course_open (list_meant i).stairs ≡ Some (course_held i.course)
+open-under i other opened =
+    under-at (under_words i.under) (course_held i.course) (rule (i.under.has_coming == 1) (course_held i.coming)) (i.under.is_reading == 1)
+    (i.under.is_restarted == 1) other opened
+
+job-under : (step : Option WordStep) (course : FrameCourse) (coming : Option FrameCourse) (reading restarted : Bool) (stage : Stage)
+    → reading ≡ false → is_some step ≡ true
+    → is_job_of course.course.survey.asked stage ≡ is_job_at (stairs_at step course coming reading restarted) stage
+job-under step course coming true restarted stage other begun = cc
+job-under (Some step) course coming false restarted stage other begun = refl
+job-under None course coming false restarted stage other begun = cc
+
+pub job-at : (i : ListImage) (stage : Stage) → (i.under.is_reading == 1) ≡ false → is_some (under_words i.under) ≡ true
+    → is_job_of (course_held i.course).course.survey.asked stage ≡ is_job_at (list_meant i).stairs stage
+job-at i stage other begun =
+    job-under (under_words i.under) (course_held i.course) (rule (i.under.has_coming == 1) (course_held i.coming)) (i.under.is_reading == 1)
+    (i.under.is_restarted == 1) stage other begun
+
+-- ---- What is read ----
+
+-- memory that means a list, or a sequence
+record ReadList (i : ListImage) (q : List) : Type 0 where
+  course : course_in i.course ≡ Some (course_held i.course)
+  coming : course_in i.coming ≡ Some (course_held i.coming)
+  is : q ≡ list_meant i
+
+read-both : (i : ListImage) (course coming : Option FrameCourse) (q : List) → held_with i course coming ≡ Some q
+    → (is_some course ≡ true) × (is_some coming ≡ true)
+read-both i (Some course) (Some coming) q is = (refl, refl)
+read-both i (Some course) None q is = cc
+read-both i None coming q is = cc
+
+held-if : (b : Bool) (i : CourseImage) → is_some (if b then Some (course_held i) else None) ≡ true
+    → (if b then Some (course_held i) else None) ≡ Some (course_held i)
+held-if true i is = refl
+held-if false i is = cc
+
+same-list : (x y : List) → Some x ≡ Some y → x ≡ y
+same-list x y is = ap (λ (o : Option List). unwrap_or o x) is
+
+read-list : (i : ListImage) (q : List) → list_in i ≡ Some q → ReadList i q
+read-list i q is =
+    let there = read-both i (course_in i.course) (course_in i.coming) q is in
+    let course = held-if (is_course i.course) i.course there.0 in
+    let coming = held-if (is_course i.coming) i.coming there.1 in
+    record {
+      course = course;
+      coming = coming;
+      is = same-list q (list_meant i) (sym is ∙ rw (course, coming) refl);
+    }
+
+-- the newest step is the same, but for its course
+same-step : (step : Option WordStep) (course is : FrameCourse)
+    → option_map (with_its_course is) step ≡ option_map (under_with is) (option_map (with_its_course course) step)
+same-step None course is = refl
+same-step (Some step) course is = refl
+
+-- what the written list means
+heard-list : (i : ListImage) (is : FrameCourse) (restarted reading : Bool) → (i.under.is_reading == 1) ≡ reading
+    → (reading ≡ true → (i.under.has_coming == 1) ≡ true) → course_in i.course ≡ Some (course_held i.course)
+    → course_in i.coming ≡ Some (course_held i.coming) → course_in (course_image is) ≡ Some is
+    → list_in (course_heard i is restarted) ≡ Some (heard_with (list_meant i) is restarted)
+heard-list i is restarted true at has course coming own =
+    let seen = flag-kept (i.under.is_restarted == 1 || (restarted && i.ends_at_restart == 1)) in
+    rw (at, course, own, seen) (rw (at, has refl) refl)
+heard-list i is restarted false at has course coming own =
+    let under = same-step (under_words i.under) (course_held i.course) is in
+    let seen = flag-kept (i.under.is_restarted == 1 || (restarted && i.ends_at_restart == 1)) in
+    rw (at, coming, own, seen) (rw at (ap (λ (u : Option Under). Some (record (list_meant i) {
+      stairs = record (list_meant i).stairs {
+        under = u;
+        reading = false;
+        restarted = i.under.is_restarted == 1 || (restarted && i.ends_at_restart == 1);
+      };
+    })) under))
+
+-- a course that is open ahead was read for
+coming-there : (step : Option WordStep) (course coming : FrameCourse) (reading restarted has : Bool) (named : FrameCourse)
+    → course_open (stairs_at step course (rule has coming) reading restarted) ≡ Some named → reading ≡ true → has ≡ true
+coming-there step course coming true restarted true named opened reads = refl
+coming-there step course coming true restarted false named opened reads = cc
+coming-there step course coming false restarted has named opened reads = cc
+
+-- memory that means a sequence
+record Read (was : SequenceImage) (b : Bool) (o : Option List) (q : Sequence) : Type 0 where
+  marked : b ≡ true
+  list : o ≡ Some q.list
+  is : q ≡ sequence_read was q.list
+
+read-at : (was : SequenceImage) (b : Bool) (o : Option List) (q : Sequence)
+    → (if b then option_map (sequence_read was) o else None) ≡ Some q → Read was b o q
+read-at was true (Some l) q is =
+    let same = ap (λ (o : Option Sequence). unwrap_or o (sequence_read was l)) is in
+    let list = ap (λ (x : Sequence). x.list) same in
+    record {
+      marked = refl;
+      list = ap (λ (x : List). Some x) list;
+      is = sym same ∙ ap (λ (x : List). sequence_read was x) list;
+    }
+read-at was true None q is = cc
+read-at was false o q is = cc
+
+heard-of-meant : (was : SequenceImage) (named is : FrameCourse) (restarted : Bool) (entry : Entry)
+    → (was.mark == sequence_mark && was.version == sequence_version) ≡ true → ReadList was.list (list_meant was.list)
+    → course_open (list_meant was.list).stairs ≡ Some named → IsKept is
+    → let after = list_heard (sequence_meant was) entry (heard_with (list_meant was.list) is restarted) in
+    sequence_in (heard_image was after) ≡ Some after
+heard-of-meant was named is restarted entry marked list opened own =
+    let i = was.list in
+    let begun = ap (λ (o : Option FrameCourse). is_some o) opened in
+    let has = coming-there (under_words i.under) (course_held i.course) (course_held i.coming) (i.under.is_reading == 1)
+    (i.under.is_restarted == 1) (i.under.has_coming == 1) named opened in
+    let means = heard-list i is restarted (i.under.is_reading == 1) refl has list.course list.coming (kept is own) in
+    let written = list-put i is restarted begun in
+    let fresh = fresh-kept (fresh_heard (fresh_read was.told.fresh) entry) in
+    rw (marked, sym written, means, fresh) refl
+
+heard : (was : SequenceImage) (q : Sequence) (named is : FrameCourse) (restarted : Bool) (entry : Entry) →
+    sequence_in was ≡ Some q → course_open q.list.stairs ≡ Some named → IsKept is →
+    let after = list_heard q entry (heard_with q.list is restarted) in sequence_in (heard_image was after) ≡ Some after
+heard was q named is restarted entry held opened own =
+    let read = read-at was (was.mark == sequence_mark && was.version == sequence_version) (list_in was.list) q held in
+    let list = read-list was.list q.list read.list in
+    let meant : q ≡ sequence_meant was = read.is ∙ ap (λ (x : List). sequence_read was x) list.is in
+    let whole : ReadList was.list (list_meant was.list) = record { course = list.course; coming = list.coming; is = refl } in
+    subst (λ (x : Sequence). course_open x.list.stairs ≡ Some named
+    → sequence_in (heard_image was (list_heard x entry (heard_with x.list is restarted)))
+    ≡ Some (list_heard x entry (heard_with x.list is restarted))) (sym meant)
+    (λ at. heard-of-meant was named is restarted entry read.marked whole at own) opened
+
+pub hearings : HearingsAreKept
+hearings = record { heard = heard }

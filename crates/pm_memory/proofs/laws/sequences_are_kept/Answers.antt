@@ -1,5 +1,4 @@
-use Rattle.pm_memory.proofs.Hearings.{hearings}
-use Rattle.pm_memory.proofs.Sequences.{sequences}
+use Rattle.pm_memory.proofs.Sequences.{hearings, sequences}
 use Rattle.pm_memory.proofs.laws.sequences_are_kept.Goals as goal
 
 pub returns-clause-written : goal.returns-clause-written
