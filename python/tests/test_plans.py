@@ -247,6 +247,18 @@ class Applies(unittest.TestCase):
             self.assertEqual([frame for frame in pmbus.bus.frames if frame[1] == 0x05], [])
             self.assertIsNone(pmbus.host.frame())
 
+    def test_a_course_that_the_caller_stops_before_an_order_goes_on(self):
+        """Host and course hold what they did before it, so that no word is possible that wasn't sent."""
+        pmbus, course = recorded(), Course.words(0, VOLTS)
+        for _ in range(2):
+            with self.assertRaises(EOFError):
+                course.run(pmbus.host, pmbus.bus, before_order=mock.Mock(side_effect=EOFError))
+            self.assertEqual((pmbus.host.frame(), course.job(), course.ended), (None, None, None))
+            self.assertEqual([frame for frame in pmbus.bus.frames if frame[1] == 0x05], [])
+            self.assertEqual(pmbus.host.possible_words(0, "VOUT_COMMAND"), (0x34CD,))
+        course.run(pmbus.host, pmbus.bus)
+        self.assertEqual((course.ended.kind, pmbus.bus.part.word(0, "VOUT_COMMAND")), ("reached", 0x3500))
+
     def test_a_course_that_is_interrupted_goes_on(self):
         """Whichever of its transfers is broken off, the job has ended, and another call goes on from there."""
         for place in range(14):

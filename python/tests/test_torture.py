@@ -10,10 +10,12 @@ import sys
 import tempfile
 import textwrap
 import time
+import types
 import unittest
 import unittest.mock
 
 from pmhost import cli
+from pmhost.cli import torture
 from pmhost.faults import FaultyBus, Struck, read_faults
 from pmhost.packets import pec
 from pmhost.part import ModelPart
@@ -393,6 +395,10 @@ class Watching(unittest.TestCase):
             back = back and back[:-1] + bytes([pec(sent + back[:-1])])
             with self.subTest(words):
                 self.assertEqual(line(Struck(sent, count, fault, heard, came, back), 7, page), f"  7  {words}")
+
+    def test_the_line_that_repeats_a_run_names_its_device(self):
+        bench = types.SimpleNamespace(cuse=250, count=2, finds=None, seconds=torture.SECONDS, cells=[], program=types.SimpleNamespace(words=["./host"]))
+        self.assertEqual(torture.again(bench, Verdict(run(faults=[(4, "false")]))), "pmhost torture --cuse 250 --again 4:false -- ./host")
 
     def test_runs_of_one_cause_are_told_together(self):
         """By what the faults did; a write that the part took as another page's is one cause, whatever lost PAGE."""

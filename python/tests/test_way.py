@@ -223,6 +223,11 @@ class Ways(unittest.TestCase):
                          (1, [("start", "", ["not known"], [], [])], "it wasn't surveyed"))
         self.assertEqual([*rails["core"].drawn.boxes("url(#unknown)", None)], [[0]])
 
+    def test_a_scale_has_room_for_each_limit(self):
+        drawn = lane.Lane("core", [(True, 1_000_000, None, {"VOUT_MIN": 0, "VOUT_MAX": 5_000_000})], [None])
+        self.assertEqual(drawn.values(), {0, 1_000_000, 5_000_000})
+        self.assertTrue(drawn.low <= 0 < 5_000_000 <= drawn.high)
+
     def test_a_file_that_fails_is_a_line_and_status_2(self):
         nowhere, pipe = os.path.join(self.picture, "it"), self.picture + ".pipe"
         os.mkfifo(pipe)
