@@ -80,6 +80,15 @@ class Zeros(unittest.TestCase):
     def test_only_write_protect_is_guarded(self):
         self.assertEqual(self.read([ZEROS], request=b"\x90\x19"), (ZEROS, ["read"]))
 
+    def test_a_store_fails_by_the_bits_that_came_with_it(self):
+        for before, word, why in (
+                (None, 0x80, ""), (0x80, 0x80, ""), (0x80, None, ""), (0x80, 0xA0, "STATUS_CML 20 PEC came with the store"),
+                (0x00, 0xA0, "STATUS_CML A0 COMMAND, PEC came with the store"),
+                (0x80, 0x90, "STATUS_CML 90 COMMAND, MEMORY: the part says that its memory failed"),
+                (0x80, 0xC0, "STATUS_CML C0 COMMAND, DATA: the part says that it refused the data")):
+            with self.subTest(before=before, word=word), mock.patch.object(stores, "cml", return_value=word):
+                self.assertEqual(stores.why_failed(Device(ModelPartBus(ModelPart(0x58)), 0x58), before), why)
+
     def test_what_is_believed(self):
         around = ["OPERATION", "read", "OPERATION"]
         self.assertEqual(self.read([b"\x80\x2B"], "", ""), (b"\x80\x2B", around))

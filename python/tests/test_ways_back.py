@@ -7,7 +7,7 @@ from types import SimpleNamespace
 from unittest import mock
 
 from pmhost import Format
-from pmhost.back import Held, bring_back
+from pmhost.back import Held, bring_back, is_held
 from pmhost.bus.linux import ENDING
 from pmhost.cli import back, streams
 from pmhost.cli.signals import Interrupted, Later, drop, interrupt, interruptible
@@ -48,6 +48,15 @@ class Call:
     def end(self):
         with mock.patch.object(back, "bring_back", self.bring):
             return self.way.end()
+
+
+class Helds(unittest.TestCase):
+    def test_a_byte_of_operation_is_held_by_the_command_that_it_is(self):
+        for register, word, known, is_so in (
+                ("OPERATION", 0x80, 0x81, True), ("OPERATION", 0x80, 0x00, False), ("OPERATION", 0x80, 0xA8, False), ("OPERATION", 0x80, None, False),
+                ("VOUT_COMMAND", 0x1000, 0x1000, True), ("VOUT_COMMAND", 0x1000, 0x1001, False)):
+            with self.subTest(register=register, known=known), mock.patch("pmhost.back.only_word", return_value=known):
+                self.assertIs(is_held(rails(), 0, register, word), is_so)
 
 
 class Ends(unittest.TestCase):

@@ -1,6 +1,7 @@
 //! How jobs end over buses that fail, and which frames they send.
 
 use core::fmt;
+use core::sync::atomic::{AtomicBool, Ordering};
 use std::error::Error;
 
 use super::{framed, free, learned, part, COMMAND};
@@ -356,6 +357,39 @@ fn what_was_turned_on_is_turned_off_again_the_last_one_first() {
         let writes = bus.frames.iter().filter(|frame| frame[1] == 0x05 && frame[4] == 0x01);
         assert_eq!(writes.map(|frame| (frame[3], frame[5])).collect::<Vec<_>>(), orders, "{before:?} {outputs:?}");
     }
+}
+
+/// A part whose bus goes away.
+struct Leaving<'a> {
+    part: Part,
+    is_gone: &'a AtomicBool,
+}
+
+impl Bus for Leaving<'_> {
+    type Error = NoAnswer;
+
+    fn transaction(&mut self, address: u8, operations: &mut [Operation<'_>]) -> Result<(), NoAnswer> {
+        if self.is_gone.load(Ordering::Relaxed) {
+            return Err(NoAnswer);
+        }
+        self.part.transaction(address, operations)
+    }
+}
+
+#[test]
+fn what_could_not_be_turned_off_is_said_once() {
+    let (is_gone, starts) = (AtomicBool::new(false), [0; 2].map(|operation| Output { operation, ..Output::default() }));
+    let mut bus = Leaving { part: Part::new(0x58, &starts, (1, 0, 3)).unwrap(), is_gone: &is_gone };
+    let mut host = free(0x58, 2, 3);
+    let mut board = OffOnDrop::new(&mut host, &mut bus);
+    let unseen = Looks { has_status_word: false, has_read_vout: false, fault_limits: FaultLimits::Skip, ..Looks::default() };
+    for output in [0, 1] {
+        let step = SequenceStep::turns(0, output, 0x80).with_looks(Some(unseen));
+        let _ = board.deliver(&step, &mut SequenceRecord::default(), |_| ()).unwrap();
+    }
+    is_gone.store(true, Ordering::Relaxed);
+    assert!(matches!(board.turn_off(), Err(NotReached::Spent { .. })));
+    assert_eq!(board.turn_off(), Ok(()));
 }
 
 #[test]
