@@ -1,12 +1,13 @@
 #!/usr/bin/env python3
 """Compares what the C headers, the Python package and the Rust package say of the two libraries with the types of crates/:
-the version; the names of the calls; each refusal's number, letter and name; the sizes and versions; and of each struct the names and
-the widths of its fields. By text alone: nothing is built or run.
+the version; the names of the calls; each refusal's number, letter and name; the sizes and versions; of each struct the names and
+the widths of its fields; and the numbers of steps, of what is said of them and of verdicts. By text alone: nothing is built or run.
 
     tools/compare_layers.py
 
 A line for each difference; the last line says how many comparisons passed and failed.
 """
+import ast
 import os
 import re
 import sys
@@ -39,6 +40,18 @@ FAULTS = {"HostFault": "pm_host/src/fault.rt", "NumFault": "pm_num/src/fault.rt"
           "FrameFault": "pm_frame/src/fault.rt", "DeviceFault": "pm_device/src/fault.rt", "ConfigFault": "pm_device/src/config_fault.rt",
           "PlanFault": "pm_rail/src/fault.rt", "DeliveryFault": "pm_delivery/src/fault.rt",
           "AcceptFault": "pm_course/src/accept_fault.rt"}
+# The numbers of lists by their names in C: those of Python's tables, and of Rust's constants.
+ACTS = {"sets": "PM_SETS", "turns": "PM_TURNS", "surveys": "PM_STEP_SURVEYS", "rests": "PM_STEP_RESTS"}
+KINDS = {"reached": "PM_REACHED", "refused": "PM_REFUSED", "differs": "PM_STILL_DIFFERS", "spent": "PM_SPENT", "format": "PM_OTHER_FORMAT",
+         "source": "PM_OTHER_SOURCE", "changed": "PM_STEP_CHANGED", "restarted": "PM_PART_RESTARTED", "no way back": "PM_WAY_BACK_REFUSED",
+         "left": "PM_STEPS_LEFT", "beyond": "PM_GOAL_BEYOND", "unjudged": "PM_GOAL_UNJUDGED", "does": "PM_RAIL_DOES", "fails": "PM_RAIL_FAILS",
+         "order": "PM_ORDER_NEXT"}
+VERDICTS = {"not yet": "PM_NOT_YET", "delivers": "PM_DELIVERS", "commanded off": "PM_COMMANDED_OFF", "not known to be on": "PM_NOT_KNOWN_ON",
+            "off": "PM_IS_OFF", "fault": "PM_NEW_FAULT", "outside": "PM_OUTSIDE_LIMITS", "beyond": "PM_BEYOND",
+            "power good alone": "PM_POWER_GOOD_ALONE", "no power good": "PM_NO_POWER_GOOD", "not known": "PM_DELIVERY_NOT_KNOWN",
+            "went off": "PM_WENT_OFF", "still on": "PM_STILL_ON", "delivers by READ_VOUT": "PM_DELIVERS_BY_READ_VOUT"}
+STEPS = {"STAY": "PM_STAY", "WORD": "PM_WORD", "MICROVOLTS": "PM_MICROVOLTS", "SETS": "PM_SETS", "TURNS": "PM_TURNS", "SURVEYS": "PM_STEP_SURVEYS",
+         "RESTS": "PM_STEP_RESTS", "LOOK_NOT": "PM_LOOK_NOT", "LOOK": "PM_LOOK", "LOOK_MUST": "PM_LOOK_MUST"}
 # The words of an output, which C and Python name and Rattle and Rust count.
 REGISTERS = ["operation", "command", "max", "high", "low", "min"]
 
@@ -229,6 +242,18 @@ def kind_of(kind):
     return known.get(kind, kind)
 
 
+def lists():
+    """The numbers of steps, of what is said of them and of verdicts, by their names in the header."""
+    header = {name: int(number, 0) for name, number in re.findall(r"\b(PM_\w+) = (0x[0-9A-F]+|\d+)\b", HEADERS["pm_host_c"])}
+    text = read("python/src/pmhost/sequence.py")
+    python = {name: ast.literal_eval(re.search(rf"^{name} = ([({{].*?[)}}])$", text, re.MULTILINE | re.DOTALL)[1]) for name in ("ACTS", "KINDS", "VERDICTS")}
+    for what, names in (("ACTS", ACTS), ("KINDS", KINDS), ("VERDICTS", VERDICTS)):
+        found = python[what] if isinstance(python[what], dict) else {word: place for place, word in enumerate(python[what]) if word in names}
+        yield f"{what} of a list", {word: header.get(name) for word, name in names.items()}, {"python": found}
+    rust = dict(re.findall(r"^const (\w+): u\d+ = (\d+);", read("rust/src/step.rs"), re.MULTILINE))
+    yield "numbers of a step", {word: header.get(name) for word, name in STEPS.items()}, {"rust": {word: int(rust[word]) for word in STEPS}}
+
+
 def structs():
     for name, (own, path) in STRUCTS.items():
         image = {"HostStep": "StepImage", "FormatNumbers": "FormatImage", "KnownCell": "CellImage", "KnownCells": "KnownImage"}.get(own, own)
@@ -241,7 +266,7 @@ def structs():
 def main():
     no_words(__doc__)
     tally = Tally()
-    for what, types, layers in [*versions(), *calls(), *refusals(), *letters(), *sizes(), *structs()]:
+    for what, types, layers in [*versions(), *calls(), *refusals(), *letters(), *sizes(), *lists(), *structs()]:
         if not types:
             layers = {"crates": None}
         for layer, found in layers.items():
