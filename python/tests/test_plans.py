@@ -7,6 +7,7 @@ import pmhost
 from pmhost import Band, Course, CourseEnd, Differs, Host, Job, RailState, SequenceStep, Spent, Step, Unknown, Voltage
 
 from pmhost.cuts import cuts
+from pmhost.transfers import Transfers
 
 from .fixtures import Faulty, Recorded, free, rails
 
@@ -246,6 +247,14 @@ class Applies(unittest.TestCase):
                 pmbus.apply(0, VOLTS, before_order=mock.Mock(side_effect=fault))
             self.assertEqual([frame for frame in pmbus.bus.frames if frame[1] == 0x05], [])
             self.assertIsNone(pmbus.host.frame())
+
+    def test_a_loop_of_ones_own_goes_on_to_the_end(self):
+        pmbus, course = recorded(), Course.words(0, VOLTS)
+        sending = course.frame(pmbus.host)
+        while sending is not None:
+            came = pmbus.host.came(pmbus.bus, sending, Transfers())
+            sending = (course.after_read if sending.is_request else course.after_write)(pmbus.host, came)[1]
+        self.assertEqual((course.ended.kind, pmbus.bus.part.word(0, "VOUT_COMMAND")), ("reached", 0x3500))
 
     def test_a_course_that_the_caller_stops_before_an_order_goes_on(self):
         """Host and course hold what they did before it, so that no word is possible that wasn't sent."""

@@ -3,6 +3,7 @@
 use core::fmt;
 use core::sync::atomic::{AtomicBool, Ordering};
 use std::error::Error;
+use std::panic::{catch_unwind, AssertUnwindSafe};
 
 use super::{framed, free, learned, part, COMMAND};
 use pmhost::*;
@@ -359,16 +360,18 @@ fn what_was_turned_on_is_turned_off_again_the_last_one_first() {
     }
 }
 
-/// A part whose bus goes away.
+/// A part whose bus goes away, or panics.
 struct Leaving<'a> {
     part: Part,
     is_gone: &'a AtomicBool,
+    panics: &'a AtomicBool,
 }
 
 impl Bus for Leaving<'_> {
     type Error = NoAnswer;
 
     fn transaction(&mut self, address: u8, operations: &mut [Operation<'_>]) -> Result<(), NoAnswer> {
+        assert!(!self.panics.load(Ordering::Relaxed), "the bus panics");
         if self.is_gone.load(Ordering::Relaxed) {
             return Err(NoAnswer);
         }
@@ -377,19 +380,34 @@ impl Bus for Leaving<'_> {
 }
 
 #[test]
-fn what_could_not_be_turned_off_is_said_once() {
-    let (is_gone, starts) = (AtomicBool::new(false), [0; 2].map(|operation| Output { operation, ..Output::default() }));
-    let mut bus = Leaving { part: Part::new(0x58, &starts, (1, 0, 3)).unwrap(), is_gone: &is_gone };
+fn what_could_not_be_turned_off_is_said_once_and_a_panic_turns_off_too() {
+    let (is_gone, panics) = (AtomicBool::new(false), AtomicBool::new(false));
+    let starts = [0; 2].map(|operation| Output { operation, ..Output::default() });
+    let unseen = Looks { has_status_word: false, has_read_vout: false, fault_limits: FaultLimits::Skip, ..Looks::default() };
+    let on = |output| SequenceStep::turns(0, output, 0x80).with_looks(Some(unseen));
+    let mut bus = Leaving { part: Part::new(0x58, &starts, (1, 0, 3)).unwrap(), is_gone: &is_gone, panics: &panics };
     let mut host = free(0x58, 2, 3);
     let mut board = OffOnDrop::new(&mut host, &mut bus);
-    let unseen = Looks { has_status_word: false, has_read_vout: false, fault_limits: FaultLimits::Skip, ..Looks::default() };
     for output in [0, 1] {
-        let step = SequenceStep::turns(0, output, 0x80).with_looks(Some(unseen));
-        let _ = board.deliver(&step, &mut SequenceRecord::default(), |_| ()).unwrap();
+        let _ = board.deliver(&on(output), &mut SequenceRecord::default(), |_| ()).unwrap();
     }
     is_gone.store(true, Ordering::Relaxed);
     assert!(matches!(board.turn_off(), Err(NotReached::Spent { .. })));
     assert_eq!(board.turn_off(), Ok(()));
+    drop(board);
+
+    is_gone.store(false, Ordering::Relaxed);
+    for output in [0, 1] {
+        assert_eq!(host.run_course(&mut Course::power(output, 0x00, 8).unwrap(), &mut bus), Ok(()));
+    }
+    let mut board = OffOnDrop::new(&mut host, &mut bus);
+    let _ = board.deliver(&on(0), &mut SequenceRecord::default(), |_| ()).unwrap();
+    panics.store(true, Ordering::Relaxed);
+    // A job is open then: it is given up before the output that was turned on goes off.
+    catch_unwind(AssertUnwindSafe(|| board.deliver(&on(1), &mut SequenceRecord::default(), |_| ()))).unwrap_err();
+    panics.store(false, Ordering::Relaxed);
+    drop(board);
+    assert_eq!([0, 1].map(|output| bus.part.is_on(output)), [Ok(false); 2]);
 }
 
 #[test]
