@@ -123,6 +123,11 @@ of_target() {
     mkdir -p "$tree/lib" "$tree/include"
     cp "$from/libpm_host_c.a" "$tree/lib/libpmhost.a"
     cp "$from/libpm_device_c.a" "$tree/lib/libpmpart.a"
+    if [ -d "$from/fast" ]; then
+        mkdir "$tree/lib/fast"
+        cp "$from/fast/libpm_host_c.a" "$tree/lib/fast/libpmhost.a"
+        cp "$from/fast/libpm_device_c.a" "$tree/lib/fast/libpmpart.a"
+    fi
     cp "$root"/crates/pm_host_c/include/*.h "$root"/crates/pm_device_c/include/*.h "$tree/include/"
     cp -r "$root/examples/c" "$root/examples/firmware" "$tree/"
     cp "$root/packaging/release.md" "$tree/README.md"

@@ -6,7 +6,7 @@
 #
 # TARGET is a name of the table; all if left out. The programs are an order and both ends under faults (examples/c), the
 # firmware (examples/firmware), and N seeds of trials/c/same.c, 11 if left out. With --out, FOLDER gets for each target
-# the archives, the headers and a line of facts. With --built the archives and modules of the toolchain are kept in a FOLDER,
+# the archives, the headers and a line of facts; and where they are compiled for size, those for speed as fast/. With --built the archives and modules of the toolchain are kept in a FOLDER,
 # and taken from there where it has them: else each call proves both libraries and builds them, four times.
 #
 # What a library is on other processors than x86-64, aarch64 Linux and wasm64 is tested, not proved. Says a line for
@@ -99,6 +99,12 @@ compile() {
     $clang "${words[@]}" "$module" -S -emit-llvm -o "$folder/$of.passed" &&
         $clang "${words[@]}" "$module" -c -fstack-usage -o "$folder/$of.o" || return 1
     [ "${class[$name]}" = kit ] || "$kit/toolchain/bin/llvm-ar" rcs "$folder/$of.a" "$folder/$of.o"
+    # (what is compiled for size is there for speed, too)
+    case " ${words[*]} " in *" -Os "*)
+        rm -f "$folder/$of.fast.a"
+        $clang "${words[@]/#-Os/-O2}" "$module" -c -o "$folder/$of.fast.o" &&
+            "$kit/toolchain/bin/llvm-ar" rcs "$folder/$of.fast.a" "$folder/$of.fast.o" ;;
+    esac
 }
 
 # compared NAME WHAT FILE WANTED STATUS: a line for one output
@@ -122,17 +128,40 @@ program() {
     compared "$name" "$what" "$folder/$name.$what" "$wanted" "$status"
 }
 
-# instructions NAME: how many of the library's instructions an order takes
+# What is counted by itself: an order within limits in microvolts, a course to one voltage, a list of four rails that are looked at; and
+# the calls that each makes.
+whats="order course list"
+declare -A firmware=([order]=1 [course]=2 [list]=3) begins=([order]=0x80 [course]=0x80 [list]=0x00) calls=(
+    [order]="pm_host_new pm_host_set_limits pm_host_learn pm_host_order_microvolts pm_host_frame pm_host_write_ended pm_host_read_ended"
+    [course]="pm_host_new pm_host_set_limits pm_course_microvolts pm_course_frame pm_course_after_write pm_course_after_read pm_course_ended"
+    [list]="pm_host_new pm_host_set_limits pm_sequence_new pm_sequence_next pm_sequence_write_ended pm_sequence_read_ended")
+# What isn't the library's of such a program: its own functions, the header's and the part's.
+own='^(main|work|put|ask|pause|bus_write|bus_read|make|slot|pec8|console_put|pm_(run_sequence|carry_out|host_run|host_run_course|answer|was_acked|sets|turns))([.]|$)'
+
+# instructions NAME WHAT: how many instructions of the library, and of the C library for it, a round takes: that of four less two
 instructions() {
-    local name=$1 count=() each
+    local name=$1 count=() each program=$folder/$1.$2.counted
     [ -n "${counter[$name]}" ] || { echo -; return; }
-    for each in 2 12; do
-        link "$name" "$folder/$name.orders" "-DORDERS=$each" trials/c/orders.c > /dev/null 2>&1 || { echo -; return; }
-        run "$name" "$folder/$name.orders" -singlestep -d exec,nochain -D "$folder/$name.trace" > /dev/null 2>&1 || { echo -; return; }
-        count+=("$(awk '/^Trace/ && $NF != "main"' "$folder/$name.trace" | wc -l)")
-        rm "$folder/$name.trace"
+    for each in 2 4; do
+        link "$name" "$program" "-DFW=${firmware[$2]} -DSTART_OP=${begins[$2]} -DROUNDS=$each" trials/c/firmware/fw.c trials/c/firmware/tpart.c \
+            > "$program.log" 2>&1 && mkfifo "$program.trace" || { echo -; return; }
+        awk -v own="$own" '/^Trace/ && $NF !~ own {n++} END {print n + 0}' "$program.trace" > "$program.count" &
+        run "$name" "$program" -singlestep -d exec,nochain -D "$program.trace" > /dev/null 2>&1
+        wait $!
+        count+=("$(cat "$program.count")")
+        rm "$program.trace"
     done
-    echo $(((count[1] - count[0]) / 10))
+    echo $(((count[1] - count[0]) / 2))
+}
+
+# flash NAME WHAT: text of the calls that it makes, with all below them
+flash() {
+    if [ -n "${linker[$1]}" ] && [ -f "$folder/$1.passed" ] &&
+        ${linker[$1]} -r --gc-sections $(printf -- '-u %s ' ${calls[$2]}) "$folder/$1.a" -o "$folder/$1.alone" 2> /dev/null; then
+        size "$folder/$1.alone" | awk 'END {print $1}'
+    else
+        echo -
+    fi
 }
 
 # deepest NAME EXPORT ..: the stack of a call and then of each export that the header promises by itself, by the frames
@@ -145,32 +174,35 @@ deepest() {
     fi
 }
 
-# measured NAME: text of the host's archive, flash of an order alone, stack of a host's call, of pm_refusal_name, of the three calls of
-# a list that the header promises by themselves and of a part's call, instructions
+# most NUMBER ..: the greatest
+most() {
+    printf '%s\n' "$@" | sort -n | tail -1
+}
+
+# measured NAME: text of the host's archive; the stack of a host's call, of pm_refusal_name and of a part's call; then flash, stack and
+# instructions of an order, a course and a list
 measured() {
-    local name=$1 text order=-
+    local name=$1 text naming order frame write read next hear_write hear_read others what
     text=$(size -t "$folder/$name.a" 2> /dev/null | awk 'END {print $1}')
     case $name in wasm*) text=$(wc -c < "$folder/$name.o") ;; esac
-    if [ -n "${linker[$name]}" ] && [ -f "$folder/$name.passed" ]; then
-        ${linker[$name]} -r --gc-sections -u pm_host_new -u pm_host_order -u pm_host_frame -u pm_host_write_ended -u pm_host_read_ended \
-            -u pm_host_confirmed_word "$folder/$name.a" -o "$folder/$name.alone" 2> /dev/null &&
-            order=$(size "$folder/$name.alone" | awk 'END {print $1}')
-    fi
-    echo "$text $order $(deepest "$name" pm_refusal_name pm_sequence_next pm_sequence_write_ended pm_sequence_read_ended) $(deepest "$name.part") $(instructions "$name")"
+    read -r others naming order frame write read next hear_write hear_read <<< "$(deepest "$name" pm_refusal_name pm_host_order_microvolts \
+        pm_course_frame pm_course_after_write pm_course_after_read pm_sequence_next pm_sequence_write_ended pm_sequence_read_ended)"
+    frame=$(most "$frame" "$write" "$read")
+    echo "$text $(most "$others" "$order" "$frame") $naming $(deepest "$name.part")" $(for what in $whats; do flash "$name" $what; done) \
+        "$order $frame $(most "$next" "$hear_write" "$hear_read")" $(for what in $whats; do instructions "$name" $what; done)
 }
 
 # within NAME: the stack is at most what the header promises
 within() {
-    local host naming asks writes reads part most=() each
-    read -r _ _ host naming asks writes reads part _ < "$folder/$1.measured"
+    local host naming part list most=() each
+    read -r _ host naming part _ _ _ _ _ list _ < "$folder/$1.measured"
     for each in PM_STACK PM_NAME_STACK PM_SEQUENCE_STACK PM_PART_STACK; do
         most+=("$(sed -n "s/^#define $each \([0-9]*\)$/\1/p" crates/pm_host_c/include/pmhost.h crates/pm_device_c/include/pmpart.h)")
     done
-    if { [ "$host" -le "${most[0]}" ] && [ "$naming" -le "${most[1]}" ] && [ "$asks" -le "${most[2]}" ] && [ "$writes" -le "${most[2]}" ] &&
-        [ "$reads" -le "${most[2]}" ] && [ "$part" -le "${most[3]}" ]; } 2> /dev/null; then
+    if { [ "$host" -le "${most[0]}" ] && [ "$naming" -le "${most[1]}" ] && [ "$list" -le "${most[2]}" ] && [ "$part" -le "${most[3]}" ]; } 2> /dev/null; then
         echo "$1 stack: ok"
     else
-        echo "$1 stack: FAILED, $host of ${most[0]}, $naming of ${most[1]}, $asks, $writes and $reads of ${most[2]} and $part of ${most[3]}"
+        echo "$1 stack: FAILED, $host of ${most[0]}, $naming of ${most[1]}, $list of ${most[2]} and $part of ${most[3]}"
     fi
 }
 
@@ -189,27 +221,37 @@ target() {
 
 # leave NAME: the archives, the headers and the line of facts
 leave() {
-    local name=$1 text order host naming list part orders
-    read -r text order host naming list _ _ part orders < "$folder/$name.measured"
+    local name=$1 text host naming part flashes stacks counts
+    read -r text host naming part flashes < "$folder/$name.measured"
+    read -ra flashes <<< "$flashes"
+    stacks=("${flashes[@]:3:3}") counts=("${flashes[@]:6}")
     mkdir -p "$out/$name"
     cp "$folder/$name.a" "$out/$name/libpm_host_c.a"
     cp "$folder/$name.part.a" "$out/$name/libpm_device_c.a"
     cp crates/pm_host_c/include/pmhost.h crates/pm_device_c/include/pmpart.h "$out/$name/"
+    rm -rf "$out/$name/fast"
+    if [ -f "$folder/$name.fast.a" ]; then
+        mkdir "$out/$name/fast"
+        cp "$folder/$name.fast.a" "$out/$name/fast/libpm_host_c.a"
+        cp "$folder/$name.part.fast.a" "$out/$name/fast/libpm_device_c.a"
+    fi
     echo "commit=$(git rev-parse HEAD) toolchain=$(rt version | tr ' ' '-') target=$name proof=${class[$name]} flags=$(tr ' ' ',' <<< "${flags[$name]}")" \
-        "text=$text order=$order stack-host=$host stack-name=$naming stack-list=$list stack-part=$part instructions=$orders sha256=$(sha256sum "$folder/$name.a" | cut -d' ' -f1)" \
-        "sha256-part=$(sha256sum "$folder/$name.part.a" | cut -d' ' -f1)" \
+        "text=$text order=${flashes[0]} course=${flashes[1]} list=${flashes[2]} stack-host=$host stack-name=$naming stack-list=${stacks[2]} stack-part=$part" \
+        "instructions=$(IFS=,; echo "${counts[*]}") sha256=$(sha256sum "$folder/$name.a" | cut -d' ' -f1) sha256-part=$(sha256sum "$folder/$name.part.a" | cut -d' ' -f1)" \
         > "$out/$name/facts"
 }
 
 # table: what the page shows
 table() {
-    local name text order host naming list part orders
-    echo "| target | how | host's archive, bytes | only an order | stack of a host's call | of pm_refusal_name | of pm_sequence_next | of a part's call | instructions of an order |"
-    echo "|---|---|---|---|---|---|---|---|---|"
+    local name text naming part numbers
+    echo "An order within limits, a course to one voltage, a list of four rails that are looked at:"
+    echo "| target | how | archive, bytes | flash of an order, a course, a list | stack | instructions |"
+    echo "|---|---|---|---|---|---|"
     for name in $names; do
         [ -f "$folder/$name.measured" ] || continue
-        read -r text order host naming list _ _ part orders < "$folder/$name.measured"
-        echo "| ${title[$name]} | ${meaning[${class[$name]}]} | $text | $order | $host | $naming | $list | $part | $orders |"
+        read -r text _ naming part numbers < "$folder/$name.measured"
+        read -ra numbers <<< "$numbers"
+        echo "| ${title[$name]} | ${meaning[${class[$name]}]} | $text | ${numbers[*]:0:3} | ${numbers[*]:3:3} | ${numbers[*]:6:3} |"
     done
 }
 
