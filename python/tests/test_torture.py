@@ -1,5 +1,6 @@
 """The bench for anybody's host: what it says of programs whose faults are known, and each part of its verdict by itself."""
 import contextlib
+import errno
 import fcntl
 import io
 import json
@@ -537,6 +538,57 @@ print("all told", file=sys.stderr)
         found = self.ran(elsewhere, "^ENXIO ENXIO ENXIO ENXIO all told$")
         self.assertTrue(found.is_success)
         self.assertEqual((found.status, found.transfers), (None, []))
+
+    def test_a_lock_is_the_kernels_own(self):
+        """An address that is locked for one open file is locked for no other, until that is closed; another bus has its own locks, and one that is
+        open for reading alone has none for writing."""
+        script = HOST + """
+import errno, struct
+def locked(at, place):
+    try:
+        fcntl.fcntl(at, 37, struct.pack("hhqqi0q", fcntl.F_WRLCK, os.SEEK_SET, place, 1, 0))
+        return "locked"
+    except OSError as fault:
+        return errno.errorcode[fault.errno]
+other, elsewhere, reading = (os.open(path, flags) for path, flags in (("/dev/i2c-1", os.O_RDWR), ("/dev/i2c-2", os.O_RDWR), ("/dev/i2c-3", os.O_RDONLY)))
+said = [locked(file, 0x58), locked(other, 0x58), locked(other, 0x59), locked(elsewhere, 0x58), locked(reading, 0x58)]
+os.close(file)
+print(*said, locked(other, 0x58))
+"""
+        self.assertTrue(self.ran(script, "^locked EAGAIN locked locked EBADF locked$").is_success)
+
+    def test_a_bus_and_an_address_may_be_refused(self):
+        """By what serves them; a transfer of which only the first message went has no answer."""
+        class Refusing(Server):
+            def opened(self, number):
+                if number != 1:
+                    raise OSError(errno.EACCES, "")
+                return self
+
+            def asked(self, request, argument):
+                if argument == 0x57:
+                    raise OSError(errno.EBUSY, "")
+                return super().asked(request, argument)
+
+            def transfer(self, messages):
+                return len(messages) - 1, []
+
+        script = HOST + """
+import errno
+def said(call):
+    try:
+        return call()
+    except OSError as fault:
+        return errno.errorcode[fault.errno]
+functions = ctypes.c_ulong(0)
+fcntl.ioctl(file, 0x0705, functions)
+back, sent = ctypes.create_string_buffer(2), ctypes.create_string_buffer(b"!", 1)
+heads = (Message * 2)(Message(0x58, 0, 1, ctypes.addressof(sent)), Message(0x58, 1, 2, ctypes.addressof(back)))
+print(said(lambda: os.open("/dev/i2c-2", os.O_RDWR)), said(lambda: fcntl.ioctl(file, 0x0703, 0x57)), said(lambda: fcntl.ioctl(file, 0x0706, 0x56)),
+      hex(functions.value), fcntl.ioctl(file, 0x0707, Messages(heads, 2)), back.raw)
+"""
+        with unittest.mock.patch("pmhost.torture.program.Server", Refusing):
+            self.assertTrue(self.ran(script, r"^EACCES EBUSY 0 0xfff8009 1 b'\\x00\\x00'$").is_success)
 
     def test_a_wrong_packet_error_code_is_the_kernels_error(self):
         """EBADMSG of a call of SMBus, and not the word."""
