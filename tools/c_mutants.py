@@ -17,7 +17,7 @@ UNITS = {name for each in os.listdir(SOURCES) for name in re.findall(r"#\[test\]
 PROGRAMS = {
     "run_rows.c": (["trials/c/rows/run_rows.c"], []),
     "on_off_rows.c": (["trials/c/rows/on_off_rows.c"], ["trials/c/rows/on_off.txt"]),
-    "patient_rows.c": (["trials/c/rows/patient_rows.c"], []),
+    "patient_rows.c": (["trials/c/rows/patient_rows.c"], ["trials/c/rows/patient.txt"]),
     "target_rows.c": (["trials/c/rows/target_rows.c"], []),
     "course rows": (["trials/course/rows.c"], ["trials/course/rows.txt"]),
     "sequence rows": (["trials/sequences_c/rows.c"], []),

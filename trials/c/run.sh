@@ -260,7 +260,7 @@ for each in $compilers; do
         program "$name ON_OFF_CONFIG" trials/c/rows/on_off_rows.expected "$compiler $strict" trials/c/rows/on_off_rows.c $rest -- trials/c/rows/on_off.txt
         program "$name courses" trials/course/rows.expected "$compiler $strict" trials/course/rows.c $rest -- trials/course/rows.txt trials/course/accept.txt
         program "$name sequences" trials/sequences_c/rows.expected "$compiler $strict" trials/sequences_c/rows.c $rest --
-        program "$name pm_patient_run" trials/c/rows/patient_rows.expected "$compiler $strict" trials/c/rows/patient_rows.c $rest --
+        program "$name pm_patient_run" trials/c/rows/patient_rows.expected "$compiler $strict" trials/c/rows/patient_rows.c $rest -- trials/c/rows/patient.txt
         program "$name both ends" examples/c/faults.expected "$compiler $strict" examples/c/faults.c $rest --
         program "$name HAL" examples/c/hal_bus.expected "$compiler $strict" examples/c/hal_bus.c $rest --
         program "$name rail" examples/c/rail.expected "$compiler $strict" examples/c/rail.c $rest --
