@@ -238,7 +238,7 @@ fn a_busy_part_is_waited_for() {
         assert_eq!(waited, deadline.unwrap_or(over + 1000), "{name}: no longer than to the deadline");
         count += 1;
     }
-    assert_eq!(count, 41);
+    assert_eq!(count, 45);
     assert_eq!(NotHeard::<Failed>::Late.to_string(), "the deadline has passed");
 }
 
