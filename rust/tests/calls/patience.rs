@@ -10,7 +10,7 @@ use pmhost::*;
 
 /// Why a transaction failed: nobody acknowledged the address, or a byte behind it wasn't acknowledged.
 #[derive(Clone, Copy, Debug, PartialEq, Eq)]
-enum Failed {
+pub(super) enum Failed {
     Address,
     Byte,
 }
@@ -255,65 +255,6 @@ fn the_last_error_is_the_source() {
     let heard = error.source().unwrap();
     assert_eq!((heard.to_string(), heard.source().unwrap().to_string()), ("the transfer failed".into(), "Byte".into()));
     assert_eq!(NotHeard::<Failed>::Ones.to_string(), "nothing but FFh");
-}
-
-/// A part of one output that acknowledges nothing for 100 ms once it has seen so many host's frames, and comes up anew as another one: each transaction
-/// takes 10 ms.
-struct Away {
-    part: Part,
-    anew: Option<Part>,
-    away_at: usize,
-    until: Option<u32>,
-    frames: usize,
-    writes: usize,
-    time: Time,
-}
-
-impl Bus for Away {
-    type Error = Failed;
-
-    fn transaction(&mut self, address: u8, operations: &mut [Operation<'_>]) -> Result<(), Failed> {
-        let is_question = matches!(operations, [Operation::Write([0x19]), _]);
-        let now = self.time.0.get() + 10;
-        self.time.0.set(now);
-        if self.frames >= self.away_at && self.anew.is_some() {
-            let until = *self.until.get_or_insert(now + 100);
-            if now >= until {
-                self.part = self.anew.take().unwrap();
-            }
-        }
-        self.frames += usize::from(!is_question);
-        self.writes += usize::from(operations.len() == 1);
-        if self.until.is_some() && self.anew.is_some() {
-            return Err(Failed::Address);
-        }
-        self.part.transaction(address, operations).map_err(|_| Failed::Byte)
-    }
-}
-
-#[test]
-fn a_part_that_comes_up_anew_is_not_turned_on() {
-    let part = |command| Part::new(0x58, &[Output { operation: 0x00, command, ..Output::default() }], (1, 0, 3)).unwrap();
-    let steps = [SequenceStep::turns(0, 0, 0x80).with_looks(None)];
-    let mut reached = 0;
-    for (away_at, rules) in (0..=19).flat_map(|at| [(at, Rules::UP), (at, Rules::DOWN)]) {
-        let time = Time(Rc::new(Kept::new(0)));
-        // 0.86 V, and 1 V: 0.8 to 0.9 V are allowed.
-        let below =
-            Away { part: part(0x0DC3), anew: Some(part(0x1000)), away_at, until: None, frames: 0, writes: 0, time: time.clone() };
-        let mut bus = Patient::new(below, time);
-        let mut host = Host::new(0x58, 1, 3).unwrap();
-        host.set_limits(0, Limits { least: 800_000, most: 900_000 }).unwrap();
-        let mut list = Sequence::new(COURSE_TRIES, rules).unwrap();
-        let mut records = [SequenceRecord::default()];
-        let send = |_: usize, frame: &Sending, answer: &mut [u8]| bus.send(frame, answer).ok();
-        let end = list.run(&steps, &mut records, &mut [&mut host], send, |_| {}, |_| true).unwrap();
-        let below = bus.bus();
-        assert!(below.anew.is_some() || !below.part.is_on(0).unwrap(), "{away_at}: {end:?}");
-        assert!(below.writes < 2, "{away_at}: {} writes", below.writes);
-        reached += usize::from(below.anew.is_some());
-    }
-    assert_eq!(reached, 2);
 }
 
 #[test]
