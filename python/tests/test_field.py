@@ -17,13 +17,13 @@ from .kernel import FakeKernel
 from .running import ROOT
 from .runs import blocks, called
 from .seeded import seeded
-from .test_runs import Blocks
+from .test_runs import OfBoards
 
 # How many random boards there are, and how many calls of each command.
 BOARDS, CALLS = int(os.environ.get("PMHOST_FIELD_BOARDS", "60")), int(os.environ.get("PMHOST_FIELD_CALLS", "12"))
 
 
-class Rows(Blocks):
+class Rows(OfBoards):
     """Each block of field.txt has a name, its words and its status, and at how many volts the rails are then."""
 
     def test_what_pmhost_says_of_parts_in_the_field(self):
@@ -37,15 +37,6 @@ class Rows(Blocks):
                 self.assertTrue(run.name)
                 if run.status == 0 and run.volts and run.volts.split()[0] == "0":
                     self.assertRegex(run.words + line, "commanded off| off 0|OPERATION turns it off")
-
-    def look_at(self, trace, mishaps, part):
-        """The frames of the trace, whatever bus they are of."""
-        super().look_at("".join(f"{line}\n" for line in trace.splitlines() if not line.startswith("#")), mishaps, part)
-
-    def look_at_rails(self, run, got):
-        """The rails are at the volts of the row."""
-        volts = [part.volts(output) for part in got.parts if isinstance(part, Field) for output in range(part.outputs)]
-        self.assertEqual(" ".join(f"{each / 1e6:.6f}".rstrip("0").rstrip(".") for each in volts), run.volts)
 
 
 class Api(unittest.TestCase):
