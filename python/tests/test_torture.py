@@ -116,14 +116,20 @@ def setUpModule():
         unittest.enterModuleContext(unittest.mock.patch("pmhost.cli.torture.preload", lambda: contextlib.nullcontext(below)))
 
 
-def tortured(script, *options):
-    """The status, what it prints and what it complains of, of a bench over a script."""
-    out, err = io.StringIO(), io.StringIO()
+@contextlib.contextmanager
+def words_of(script):
+    """The words that run a script."""
     with tempfile.NamedTemporaryFile("w", suffix=".py") as file:
         file.write(textwrap.dedent(script))
         file.flush()
-        with contextlib.redirect_stdout(out), contextlib.redirect_stderr(err):
-            status = cli.main(["torture", *options, "--", sys.executable, "-S", "-E", file.name])
+        yield [sys.executable, "-S", "-E", file.name]
+
+
+def tortured(script, *options):
+    """The status, what it prints and what it complains of, of a bench over a script."""
+    out, err = io.StringIO(), io.StringIO()
+    with words_of(script) as words, contextlib.redirect_stdout(out), contextlib.redirect_stderr(err):
+        status = cli.main(["torture", *options, "--", *words])
     return status, out.getvalue(), err.getvalue()
 
 
@@ -494,21 +500,14 @@ class Preloading(unittest.TestCase):
 
     def test_a_program_that_closes_and_opens_again_is_on_the_same_part(self):
         script = HOST + "write(0x05, 0x04, 0, 0x21, 0x34, 0x12)\nos.close(file)\nfile = os.open('/dev/i2c-7', os.O_RDWR)\nprint(read([0x06, 2, 0, 0x21], 3).hex())\n"
-        with tempfile.TemporaryDirectory() as folder:
-            path = os.path.join(folder, "host.py")
-            with open(path, "w", encoding="utf-8") as file:
-                file.write(script)
-            found = Program([sys.executable, "-S", "-E", path], 2, said="^023412$").run(self.below)
+        found = self.ran(script, "^023412$")
         self.assertTrue(found.is_success)
         self.assertEqual((found.status, [each.word for each in found.took], found.named), (None, [0x1234], {ONE: 2}))
 
-    def ran(self, script, said=None, seconds=10):
-        """The run of a script without a fault, and what it prints, to which its standard error belongs."""
-        with tempfile.TemporaryDirectory() as folder:
-            path = os.path.join(folder, "host.py")
-            with open(path, "w", encoding="utf-8") as file:
-                file.write(script)
-            return Program([sys.executable, "-S", "-E", path], 2, seconds, said).run(self.below)
+    def ran(self, script, said=None, seconds=10, faults=()):
+        """The run of a script, and what it prints, to which its standard error belongs."""
+        with words_of(script) as words:
+            return Program(words, 2, seconds, said).run(self.below, faults)
 
     def test_pmhost_by_the_calls_of_the_kernel_itself(self):
         """Each word reaches its own output whatever befalls a transfer, and success is what the part holds."""
@@ -600,12 +599,8 @@ try:
 except OSError as fault:
     print(fault.errno)
 """
-        with tempfile.TemporaryDirectory() as folder:
-            path = os.path.join(folder, "host.py")
-            with open(path, "w", encoding="utf-8") as file:
-                file.write(script)
-            for fault, said in (("ok", f"^{start_of(2)[0].command:#x}$"), ("garbled:1:0", "^74$")):
-                self.assertTrue(Program([sys.executable, "-S", "-E", path], 2, said=said).run(self.below, [(1, fault)]).is_success, fault)
+        for fault, said in (("ok", f"^{start_of(2)[0].command:#x}$"), ("garbled:1:0", "^74$")):
+            self.assertTrue(self.ran(script, said, faults=[(1, fault)]).is_success, fault)
 
     def test_a_program_that_breaks_off_in_a_call(self):
         """The next one is served all the same."""
