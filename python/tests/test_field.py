@@ -43,9 +43,7 @@ class Api(unittest.TestCase):
     """A Device raises where a rail doesn't deliver, or would trip."""
 
     def device(self, *fields, **named):
-        part = Field()
-        for name, value in fields:
-            part.set(name, value)
+        part = Field(**dict(fields))
         part.lines.clear()
         return part, Device(FieldBus(part), ADDRESS, 2, limits={0: ("0.8V", "1.3V")}, **named)
 
@@ -255,9 +253,7 @@ class Transfers(unittest.TestCase):
     """How many transfers a set takes where the part answers all, and nothing has to be asked again: 14 of them are the course's own."""
 
     def counted(self, *words, **fields):
-        part = Field()
-        for name, value in fields.items():
-            part.set(name, value)
+        part = Field(**fields)
         before = part.get("transfers")
         status, out, err = called(["-b", "7", "-a", "58", "--outputs", "2", "--limit=0:0.8V:1.3V", *words, "set", "0", "1.05V"], FakeKernel(part))
         self.assertEqual((status, err), (0, ""), out)

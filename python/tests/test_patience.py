@@ -59,14 +59,6 @@ JOBS = " + ".join([*(f"word {output} VOUT_COMMAND {word:04X}" for output, word i
 WAYS = (0, 1, 2)
 
 
-def busy(milliseconds, **fields):
-    """A part that is busy for so long behind each write."""
-    part = Field()
-    for name, value in {"busy_ms": milliseconds, **fields}.items():
-        part.set(name, value)
-    return part
-
-
 def as_shipped():
     """The times for a busy part are those of the package."""
     return mock.patch.multiple(patient, TIMEOUT=runs.TIMEOUT, LONG_TIMEOUT=runs.LONG_TIMEOUT, STORE_TIMEOUT=runs.STORE_TIMEOUT)
@@ -77,7 +69,7 @@ class EightOrders(unittest.TestCase):
 
     def carry_out(self, milliseconds, way, patience):
         """The status, and whether what `known` says is held."""
-        part = busy(milliseconds, busy_kind=way, store_ms=400)
+        part = Field(busy_ms=milliseconds, busy_kind=way, store_ms=400)
         given = ["--busy-timeout", f"{patience}ms"] if patience is not None else []
         status, out, _ = runs.called(["-b", "7", "-a", "58", "--outputs", "2", "--no-limit", *given, *JOBS.split()], FakeKernel(part))
         for output, word, possible in re.findall("^([01]) VOUT_COMMAND (?:([0-9A-F]{4}) .*confirmed|possible (.*))$", out, re.M):
@@ -202,7 +194,7 @@ class Patience(unittest.TestCase):
         self.assertEqual(below.frames, [FRAME])
 
     def test_over_the_bus_of_linux(self):
-        for part, went in ((busy(30), True), (Part(), True)):
+        for part, went in ((Field(busy_ms=30), True), (Part(), True)):
             with LinuxBus(7, 0x58, kernel=FakeKernel(part)) as bus:
                 over = PatientBus(bus, 0, 200)
                 self.assertIs(over.write(FRAME), went)
@@ -220,7 +212,7 @@ class Patience(unittest.TestCase):
         """Behind a store of 440 ms and of 4.1 s; by CAPABILITY, and by the part's own byte, which it answers while it is busy."""
         for milliseconds, most in ((440, 8), (4100, 12)):
             for more, noted in (([], True), (["--ready", "EF:60"], False)):
-                part = busy(0, store_ms=milliseconds, busy_kind=1)
+                part = Field(store_ms=milliseconds, busy_kind=1)
                 with as_shipped(), self.subTest(milliseconds=milliseconds, more=more):
                     status, out, _ = runs.called(["-b", "7", "-a", "58", "--outputs", "2", *more, "store"], FakeKernel(part))
                     self.assertEqual((status, out, part.get("stores")), (0, "store: acknowledged\n", 1))
@@ -232,7 +224,7 @@ class Patience(unittest.TestCase):
     def test_the_ready_of_a_board_file_is_what_the_part_is_asked(self):
         """The byte EF of a part of the file is asked behind a write, as often as by --ready; without it CAPABILITY is."""
         for ready, asked in ('ready = "EF:60"', "B0 EF /"), ("", "B0 19 /"):
-            part = busy(60, busy_kind=1)
+            part = Field(busy_ms=60, busy_kind=1)
             with as_shipped(), tempfile.NamedTemporaryFile("w", suffix=".toml") as file, self.subTest(ready):
                 file.write(f'[parts.u1]\nbus = 7\naddress = "58"\noutputs = 2\n{ready}\n'
                            '[rails.core]\npart = "u1"\noutput = 0\nvolts = "1.05V"\nlimits = ["0.8V", "1.3V"]\n')

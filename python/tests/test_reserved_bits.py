@@ -27,9 +27,7 @@ class Restarts(unittest.TestCase):
 
     def test_none_is_told_at_another_voltage(self):
         for frame in range(1, 45):
-            part = Field()
-            for name, value in (("OPERATION", 0), ("reserved", 1), ("pin_command", 0x1100), ("restart_at", frame)):
-                part.set(name, value)
+            part = Field(OPERATION=0, reserved=1, pin_command=0x1100, restart_at=frame)
             status, out, _ = called(["-b", "7", "-a", "58", "--outputs", "2", "--limit=0:0.8V:1.1V", "on", "0"], FakeKernel(part))
             with self.subTest(frame=frame, status=status, out=out):
                 volts = f"{part.volts() / 1e6:.6f}".rstrip("0").rstrip(".")
@@ -53,10 +51,7 @@ class Bytes(unittest.TestCase):
 
 class Api(unittest.TestCase):
     def device(self, reserved, **fields):
-        part = Field()
-        part.set("reserved", reserved)
-        for name, value in fields.items():
-            part.set(name, value)
+        part = Field(reserved=reserved, **fields)
         return part, Device(FieldBus(part), ADDRESS, 2, limits={0: ("0.8V", "1.1V")})
 
     def test_no_restart_is_seen(self):

@@ -40,9 +40,7 @@ class Api(unittest.TestCase):
     """A Device raises TrimRefused before it orders anything."""
 
     def device(self, *fields, **named):
-        part = Field()
-        for name, value in (("VOUT_COMMAND", 0x0D9A), ("VOUT_MARGIN_HIGH", 0x0DEC), ("VOUT_MARGIN_LOW", 0x0D48), *fields):
-            part.set(name, value)
+        part = Field(VOUT_COMMAND=0x0D9A, VOUT_MARGIN_HIGH=0x0DEC, VOUT_MARGIN_LOW=0x0D48, **dict(fields))
         part.lines.clear()
         return part, Device(FieldBus(part), ADDRESS, 2, limits={0: ("0.8V", "0.9V")}, **{"trims": True, **named})
 
@@ -122,9 +120,7 @@ class Transfers(unittest.TestCase):
     """A part without trims hears no transfer more; one with them two a rail and call, and four where a trim is refused of a rail that is on."""
 
     def counted(self, options, command, status=0, **fields):
-        part = Field()
-        for name, value in fields.items():
-            part.set(name, value)
+        part = Field(**fields)
         before = part.get("transfers")
         got, _, err = called(["-b", "7", "-a", "58", "--outputs", "2", "--limit=0:0.8V:1.1V", *options, *command.split()], FakeKernel(part))
         self.assertEqual(got, status, err)
