@@ -1,5 +1,4 @@
 """A bus that waits for a busy part, over a clock that nobody waits for."""
-import contextlib
 import errno
 import os
 import re
