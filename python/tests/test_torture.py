@@ -1,5 +1,6 @@
 """The bench for anybody's host: what it says of programs whose faults are known, and each part of its verdict by itself."""
 import contextlib
+import copy
 import errno
 import fcntl
 import io
@@ -559,10 +560,14 @@ print(*said, locked(other, 0x58))
     def test_a_bus_and_an_address_may_be_refused(self):
         """By what serves them; a transfer of which only the first message went has no answer."""
         class Refusing(Server):
+            is_opened = False
+
             def opened(self, number):
                 if number != 1:
                     raise OSError(errno.EACCES, "")
-                return self
+                found = copy.copy(self)
+                found.is_opened = True
+                return found
 
             def asked(self, request, argument):
                 if argument == 0x57:
@@ -570,7 +575,7 @@ print(*said, locked(other, 0x58))
                 return super().asked(request, argument)
 
             def transfer(self, messages):
-                return len(messages) - 1, []
+                return len(messages) - self.is_opened, []
 
         script = HOST + """
 import errno
