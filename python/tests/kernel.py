@@ -17,7 +17,7 @@ A mishap befalls one transfer, in their order:
     short0h    the same, and the part has heard the frame
     short1     of two messages the first goes, and there is no error: 1 of 2
     twice      the kernel sends the frame once more, as after a lost arbitration
-    ones       what comes back is nothing but FFh
+    high       what comes back is nothing but FFh: nobody drives the line
     empty      the transfer succeeds, and nothing was written into the buffer for the answer
     sigint     Ctrl-C comes while the transfer is under way
     sigterm    the same of SIGTERM
@@ -375,7 +375,7 @@ class FakeKernel(Calls):
             self.fail(part.refusal)
         if back is None or mishap in ("short0h", "empty"):
             return 0 if mishap == "short0h" else len(messages), []
-        got = bytearray([*(answer[1:] if mishap != "ones" else []), *[0xFF] * 300][:back.length])
+        got = bytearray([*(answer[1:] if mishap != "high" else []), *[0xFF] * 300][:back.length])
         if mishap == "damaged":
             got[-1] ^= 4
         return 2, [bytes(got)]
