@@ -131,23 +131,18 @@ def ran(preload, words, mishaps, more=None):
     return (status if status >= 0 else 128 - status), said + (written[0].replace("waited ", before) if counts else written[0]), written[1]
 
 
-def mishaps_of(text):
-    """`deaf*40` stands for 40 of them."""
-    return [each for word, _, count in (it.partition("*") for it in text.split()) for each in [word] * int(count or 1)]
-
-
 def differences(preload, row, program, more):
     """What is wrong with a row."""
     mishaps, arguments, status, out, err = row.split("|")
     wanted = int(status), out.replace("\\n", "\n") + "\n" * bool(out), f"i2c_dev: {err}\n" * bool(err)
-    found = ran(preload, [*program, *shlex.split(arguments)], mishaps_of(mishaps), more)
+    found = ran(preload, [*program, *shlex.split(arguments)], runs.mishaps_of(mishaps), more)
     return [] if found == wanted else [f"it gives {found}, not {wanted}"]
 
 
 def main(words):
     preload, what, name, *program = words
     if what == "once":
-        status, out, err = ran(preload, program, mishaps_of(name))
+        status, out, err = ran(preload, program, runs.mishaps_of(name))
         print(out + err, end="")
         return status
     left_out = program[1] if program[:1] == ["--without"] else None
