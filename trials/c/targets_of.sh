@@ -75,7 +75,7 @@ hosted() {
 }
 
 # board NAME PROGRAM SOURCES ..: the linker script of a Cortex-M. same.c keeps three hosts, all cells and a list, 10.4 of the board's 16 KB,
-# and leaves less for the stack than firmware asks: 5.5 KB, where its deepest call takes 4.9 KB on M0. The M33's board starts in its
+# and leaves less for the stack than firmware asks: 5.5 KB, where its deepest call takes 4.2 KB on M0. The M33's board starts in its
 # secure memory, which stands elsewhere.
 board() {
     local name=$1 program=$2 words=(); shift 2
@@ -109,6 +109,7 @@ link_wasm() {
     [ "$name" = wasm32 ] && steps="-Dpm_host_write_ended=step_of_write -Dpm_host_read_ended=step_of_read"
     [ "$name" = wasm32 ] && steps="$steps -Dpm_course_write_ended=step_of_course_write -Dpm_course_read_ended=step_of_course_read"
     [ "$name" = wasm32 ] && steps="$steps -Dpm_course_after_write=step_after_course_write -Dpm_course_after_read=step_after_course_read"
+    [ "$name" = wasm32 ] && steps="$steps -Dpm_sequence_write_ended=step_of_sequence_write -Dpm_sequence_read_ended=step_of_sequence_read"
     for each in "$@" $bare/bare.c $bare/wasm.c; do
         objects+=("$program.$(basename "$each").o")
         case $each in */wasm.c) steps= ;; esac
