@@ -19,8 +19,7 @@ use Rattle.pm_memory.specs.declared.host_step.HostStep.{HostStep}
 use Rattle.pm_memory.specs.Course.{heard_step}
 use Rattle.pm_memory.specs.Host.{host_step, told_fault}
 use Rattle.pm_memory.specs.Sequence.{hears_it, unasked, HearsIn}
-use Rattle.pm_memory.proofs.Frames.{fault-at}
-use Rattle.pm_memory.proofs.SequenceCalls.{none-open, some-open, told-at, unheard}
+use Rattle.pm_memory.proofs.Calls.{fault-at, none-open, some-open, told-at, unheard}
 use Rattle.pm_memory.proofs.sequence.hear.Goals as goal
 
 pub returns-in_default : goal.returns-in_default

@@ -3,7 +3,7 @@ use Rattle.pm_host.specs.Image.{held, host_of}
 use Rattle.pm_host.specs.Summary.{next, step_of}
 use Rattle.pm_host.specs.Told.{entry_told}
 use Rattle.pm_memory.specs.Host.{fault_in, host_step}
-use Rattle.pm_memory.proofs.Frames.{awaited, tells}
+use Rattle.pm_memory.proofs.Calls.{awaited, tells}
 use Rattle.pm_memory.proofs.told.tell.Goals as goal
 
 pub returns-in-Some : goal.returns-in-Some

@@ -14,7 +14,7 @@ use Rattle.pm_limits.specs.Guard.{BeginsUnless, guard_fault, limited_fault}
 use Rattle.pm_memory.specs.declared.guard_image.GuardImage.{GuardImage}
 use Rattle.pm_memory.specs.Guard.{job_limits, limits_kept}
 use Rattle.pm_memory.specs.Hosted.{IsThere, guard_in}
-use Rattle.pm_memory.proofs.Courses.{limits-stay, means, there-of}
+use Rattle.pm_memory.proofs.Kept.{limits-stay, means, there-of}
 use Rattle.pm_memory.proofs.guard_image.GuardImage.begin_job.Goals as goal
 
 pub returns-in-Ok-clause-there : goal.returns-in-Ok-clause-there
