@@ -204,6 +204,16 @@ class Ways(unittest.TestCase):
         self.assertEqual((status, rails["core"].rows), (0, [
             START, RAISED, ("VOUT_COMMAND 3.300048V", "differs: 1000 1V", [], [1.0], [3.5]),
             ("VOUT_COMMAND 3.300048V", "given again: done", ["3.3 V"], [3.3], [3.5])]))
+        colours = {it.words: it.colour for it in rails["core"].drawn.texts}
+        self.assertEqual([colours[words] for words in ("done", "differs: 1000 1V", "given again: done")], [drawing.GOOD, drawing.FAULT, drawing.GOOD])
+
+    def test_a_call_that_breaks_off_says_why(self):
+        """The bus ends the call while VOUT_COMMAND is written."""
+        with mock.patch.object(Desk, "write", side_effect=MemoryError("no room is left")), self.assertRaises(MemoryError):
+            self.called(UP, "--picture", self.picture)
+        said, rails = self.read()
+        self.assertEqual((said[0], said[2:]), ("apply rails.toml: broken off", ["no room is left"]))
+        self.assertEqual(rails["core"].rows[0], START)
 
     def test_an_interruption_is_drawn_too(self):
         """Ctrl-C comes while VOUT_COMMAND is written."""
@@ -222,6 +232,10 @@ class Ways(unittest.TestCase):
         self.assertEqual((status, rails["core"].rows, rails["core"].end),
                          (1, [("start", "", ["not known"], [], [])], "it wasn't surveyed"))
         self.assertEqual([*rails["core"].drawn.boxes("url(#unknown)", None)], [[0]])
+
+    def test_a_voltage_in_words(self):
+        self.assertEqual([lane.value_in_words(*it) for it in ((False, 3_300_000, None), (True, 3_300_000, None), (True, 3_300_000, "max"))],
+                         ["off", "3.3 V", "max 3.3 V"])
 
     def test_a_scale_has_room_for_each_limit(self):
         drawn = lane.Lane("core", [(True, 1_000_000, None, {"VOUT_MIN": 0, "VOUT_MAX": 5_000_000})], [None])
