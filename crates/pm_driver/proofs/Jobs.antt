@@ -61,10 +61,10 @@ use Rattle.pm_world.specs.State.{finish_cause, hears, rule, tells}
 use Rattle.pm_world.specs.declared.cause.Cause.TheVariants.{WrongKind, NotBetrayed}
 use Rattle.pm_world.specs.declared.event.Event.TheVariants.{Exchange, Finish, Deliver, Reading, RestartDevice}
 use Rattle.pm_part_laws.specs.Alike.{back_of}
-use Rattle.pm_part_laws.specs.Lemmas.Pageless.{ComesBack, IsHeardPageless, comes-same, own-same, request-pageless, write-pageless}
+use Rattle.pm_part_laws.specs.Lemmas.Pageless.{ComesBack, IsHeardPageless, comes-same, own-same, request-pageless, write-pageless, answer_of}
 use Rattle.pm_course_laws.specs.FrameLives.{goes_on as still}
 use Rattle.pm_driver.specs.Acts.{Call, Read, Wrote, told_of, Called, MayDo, IsNoWrite, Looked, Began}
-use Rattle.pm_driver.specs.Bus.{AreAll, answer_of, restarts_in, held_by, is_beside, may_hear, IsAsked, held_after}
+use Rattle.pm_driver.specs.Bus.{AreAll, restarts_in, held_by, is_beside, may_hear, IsAsked, held_after}
 use Rattle.pm_driver.specs.Driven.{Driving, HasLife, driven, HasNoRestartSince, Runs}
 use Rattle.pm_driver.specs.Ends.{Stands, EndSays, cell_read}
 use Rattle.pm_driver.specs.Laws.{EndIsTrue, EndsAreTrue, LawsOfLives, LeadsCompose}

@@ -40,12 +40,12 @@ use Rattle.pm_world.specs.declared.event.Arrival.TheVariants as arrival
 use Rattle.pm_world.specs.declared.event.Back.TheVariants as back
 use Rattle.pm_world.specs.declared.event.Event.TheVariants.{RestartDevice, Reading, Exchange, Finish, Check, Clear, Learn, Order}
 use Rattle.pm_world.specs.declared.event.Event.TheVariants.{RestartHost, Restore, Store, Deliver}
-use Rattle.pm_part_laws.specs.Lemmas.Pageless.{IsHeardPageless, after-same, first-bytes, settings-of}
+use Rattle.pm_part_laws.specs.Lemmas.Pageless.{IsHeardPageless, after-same, first-bytes, settings-of, answer_of}
 use Rattle.pm_part_laws.specs.Settings.{HaveSameSettings, modes_of, moved}
 use Rattle.pm_driver.specs.Lemmas.Restarts.{restarts-on}
 use Rattle.pm_driver.specs.Acts.{Act, told_all, told_by, AreCalls, AreDone, Began, Call, Called, Looked, MayDo, Renewed, asked_in, host_by}
 use Rattle.pm_driver.specs.Acts.{IsNoWrite, Read, Wrote}
-use Rattle.pm_driver.specs.Bus.{AreAll, held_after, held_by, is_beside, restarts_in, answer_of}
+use Rattle.pm_driver.specs.Bus.{AreAll, held_after, held_by, is_beside, restarts_in}
 use Rattle.pm_driver.specs.Disturbed.{IsAskedPart, IsDisturbed, IsSentPart}
 use Rattle.pm_driver.specs.Driven.{HasLife, HasNoRestartSince, IsTrueOf, IsAsItIs, MayBegin, Driving, driven}
 use Rattle.pm_driver.specs.Ends.{EndSays, Stands, cell_read}

@@ -11,13 +11,14 @@ use Rattle.pm_world.specs.declared.event.Event.TheVariants.{Reading, RestartDevi
 use Rattle.pm_driver.specs.{Adapter.IsUnheard, Lemmas.Restarts.restarts-on, declared.buses.fault.Fault.Fault}
 use Rattle.pm_driver.specs.{declared.buses.simulated_bus.SimulatedBus.SimulatedBus}
 use Rattle.pm_driver.specs.Acts.{Read, Wrote}
-use Rattle.pm_driver.specs.Bus.{AreAll, IsAsked, IsSent, answer_of, held_after, held_by, is_beside, may_hear}
+use Rattle.pm_driver.specs.Bus.{AreAll, IsAsked, IsSent, held_after, held_by, is_beside, may_hear}
 use Rattle.pm_driver.specs.Disturbed.{IsSentPart, PartsCompose, RequestsMayBeLost, IsDisturbed}
 use Rattle.pm_driver.specs.NeverRestarts.{NeverRestartsStays, PatientNeverRestartsStays, ReadsKeepNeverRestarts, patient_device}
 use Rattle.pm_driver.specs.NeverRestarts.{patient_gives, patient_restarts}
 use Rattle.pm_driver.specs.Patience.{asks_patiently, sends_patiently}
 use Rattle.pm_driver.specs.Plan.{restarts_of, TurnsTo, device_in, gives_so, restarts_so, tries_so}
 use Rattle.pm_driver.specs.WithoutRestart.{AreWithoutRestart, JobsRestartNothing, ReadsRestartNothing}
+use Rattle.pm_part_laws.specs.Lemmas.Pageless.{answer_of}
 
 -- What happens to a converter, in parts.
 

@@ -12,6 +12,7 @@ use Rattle.pm_world.specs.declared.event.Event.{Event}
 use Rattle.pm_world.specs.declared.event.Event.TheVariants.{Deliver, RestartDevice, Reading}
 use Rattle.pm_world.specs.Confirmed.{restarts_converter}
 use Rattle.pm_world.specs.Legal.{heard_bytes, ending_of, is_legal_hearing, is_legal_return, is_heard_whole, answer_in, back_bytes}
+use Rattle.pm_part_laws.specs.Lemmas.Pageless.{answer_of}
 
 -- what happens to a converter beside the bus: it restarts, or what it measures changes
 abbrev pub is_beside : Event → Bool
@@ -56,11 +57,6 @@ pub record IsSent (frame : List ℕ) (old : Held) (was : ℕ) (new : Held) (is :
   pub may : AreAll (may_hear frame) events
   pub after : held_after frame old events ≡ new
   pub count : restarts_in events + was ≡ is
-
--- the answer of a converter to a request as it arrives
-abbrev pub answer_of : Held → List ℕ → Arrival → List ℕ
-answer_of held request arrival =
-    answer_in (reply_of held (heard_bytes request arrival) (ending_of Restart arrival))
 
 -- A request was sent, whose whole answer has this many bytes, and these came back: the converter heard it once,
 -- legally, and what came back is a legal return of its answer. A count of its restarts rose by just those that happened.

@@ -15,9 +15,9 @@ use Rattle.pm_driver.specs.declared.adapter.ReadEnd.{ReadEnd}
 use Rattle.pm_driver.specs.declared.adapter.ReadEnd.TheVariants as read
 use Rattle.pm_driver.specs.Acts.{Call, Wrote, Read}
 use Rattle.pm_driver.specs.Adapter.{Asks, Sends, Try}
-use Rattle.pm_driver.specs.Bus.{answer_of}
 use Rattle.pm_driver.specs.declared.buses.fault.Fault.{Fault}
 use Rattle.pm_driver.specs.declared.buses.simulated_bus.SimulatedBus.{SimulatedBus}
+use Rattle.pm_part_laws.specs.Lemmas.Pageless.{answer_of}
 
 -- how often the converter restarts by faults
 abbrev pub restarts_of : List Fault → ℕ

@@ -22,8 +22,9 @@ use Rattle.pm_host.specs.declared.knowledge.Standing.TheVariants.{Confirmed, Unk
 use Rattle.pm_part_laws.specs.LateBelow.{Below}
 use Rattle.pm_part_laws.specs.Late.{Waiting, MayWait, all_longer, frames_in, sent_in, waiting_at, waiting_without, sent_by, Both, Event}
 use Rattle.pm_part_laws.specs.Late.{Hears, Takes, Restarts, Tells, MayComeEach, both_after, IsOwn, was_held, was_stored, was_sent, IsRecent}
-use Rattle.pm_part_laws.specs.Late.{IsTrueAnswer, answers, frames_to_answer, is_good_for, restarted_since, writes}
+use Rattle.pm_part_laws.specs.Late.{IsTrueAnswer, answers, frames_to_answer, restarted_since, writes}
 use Rattle.pm_part_laws.specs.LateWords.{LateWordsAreOwn, LateWordsWerePossible, LateConfirmationsAreHeld}
+use Rattle.pm_world.specs.Confirmed.{is_good_for}
 
 -- What waits in the queue was sent, as many frames ago as it counts.
 

@@ -18,6 +18,7 @@ use Rattle.pm_host.specs.Refusals.{IsSetup, may_come}
 use Rattle.pm_host.specs.Told.{is_of_frame}
 use Rattle.pm_host.specs.Transcript.{Setup, Job, Order, Send, Entry, Got, open_job, told_since}
 use Rattle.pm_host.specs.Transcript.{is_write_turn}
+use Rattle.pm_world.specs.Confirmed.{is_good_for}
 
 -- a write that the part heard and hasn't taken, and how many frames have ended since it was heard, its own among them
 pub record Waiting : Type 0 where
@@ -130,13 +131,7 @@ pub record IsLate (frames : ℕ) (setup : Setup) (held stored : Words) (events :
   pub stores : AreWords stored
   pub came : MayComeEach frames setup held stored events
 
--- the mark is a good answer for the cell, and what the host was told after these entries is one
-abbrev pub is_good_for : Cell → Mark → Bool
-is_good_for cell (Put put word) = false
-is_good_for cell (Good read word) = same_cell read cell
-is_good_for cell Restored = false
-is_good_for cell Restart = false
-
+-- what the host was told after these entries is a good answer for the cell
 abbrev pub answers : Setup → List Entry → Cell → Entry → Bool
 answers setup before cell (Got bytes) = list_any (is_good_for cell) (goods setup before bytes)
 answers setup before cell entry = false

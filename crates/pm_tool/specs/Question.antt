@@ -15,6 +15,7 @@ use Rattle.pm_tool.specs.declared.numbers.question.Asked.TheVariants.{Word, Near
 use Rattle.pm_tool.specs.declared.numbers.question.Question.{Question}
 use Rattle.pm_tool.specs.declared.numbers.fault.NumberFault.{NumberFault}
 use Rattle.pm_tool.specs.declared.numbers.fault.NumberFault.TheVariants as fault
+use Rattle.pm_trace.specs.Trace.{is_slash}
 
 abbrev pub Text : Type 0
 Text = List ℕ
@@ -73,9 +74,6 @@ HasExponent (Ulinear16 n) = IsExponent n
 HasExponent (Direct m b r) = ⊤
 
 -- a format in which no slash (47) stands for a colon, as `number` has formats
-abbrev pub is_slash : ℕ → Bool
-is_slash c = c == 47
-
 abbrev pub plain_format_of : Text → Option FormatText
 plain_format_of text = if list_any is_slash text then None else format_of text
 

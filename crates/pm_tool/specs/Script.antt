@@ -17,11 +17,9 @@ use Rattle.pm_lines.specs.declared.fault.TextFault.{TextFault}
 use Rattle.pm_lines.specs.declared.fault.TextFault.TheVariants.{Syntax, BadHex}
 use Rattle.pm_text.specs.Base.{base}
 use Rattle.pm_tool.specs.HeardText.{reply_words}
+use Rattle.pm_trace.specs.Trace.{is_slash}
 
 -- ---- what a line asks
-
-abbrev pub is_slash : ℕ → Bool
-is_slash byte = byte == 47
 
 -- the first word is this one
 abbrev pub begins_with : List ℕ → List (List ℕ) → Bool

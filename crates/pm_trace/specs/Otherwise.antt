@@ -16,6 +16,7 @@ use Rattle.pm_trace.specs.declared.answers.Ones.TheVariants.{Answer, Doubtful, N
 use Rattle.pm_trace.specs.declared.otherwise.Otherwise.{Otherwise}
 use Rattle.pm_trace.specs.ValueText.{known_text}
 use Rattle.pm_trace.specs.Values.{other_value}
+use Rattle.pm_frame.specs.Layout.{with_pec}
 
 -- ---- which packets
 
@@ -146,10 +147,6 @@ is_accepted (Accepted addr message answer) = true
 is_accepted (Faulty addr is_read fault) = false
 is_accepted BadSyntax = false
 is_accepted BadHex = false
-
--- a part with the PEC of what was before it and of its bytes
-abbrev pub with_pec : List ℕ → List ℕ → List ℕ
-with_pec before part = part ++ pec_of (before ++ part) ∷ []
 
 -- a packet with this last part
 abbrev pub judged_with : List ℕ → Bool → List ℕ → Judged

@@ -17,6 +17,7 @@ use Rattle.pm_trace.specs.declared.value.Value.TheVariants.{Measured, Operates, 
 use Rattle.pm_trace.specs.declared.formats.GivenFormats.{GivenFormats}
 use Rattle.pm_trace.specs.declared.value.Unit.{Unit as MeasureUnit}
 use Rattle.pm_trace.specs.declared.value.Unit.TheVariants as unit
+use Rattle.pm_table.specs.Cell.{is_protection}
 
 -- ---- numbers
 
@@ -32,10 +33,6 @@ byte_in bytes = slice_index bytes 0
 
 abbrev pub word_in : List ℕ → ℕ
 word_in bytes = slice_index bytes 0 + 256 * slice_index bytes 1
-
--- a byte of WRITE_PROTECT that lets some writes through
-abbrev pub is_protection : ℕ → Bool
-is_protection byte = byte == 0x00 || (byte == 0x20 || (byte == 0x40 || byte == 0x80))
 
 abbrev pub protects : ℕ → Option Value
 protects byte = if is_protection byte then Some (Protects byte) else None
