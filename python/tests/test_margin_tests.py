@@ -7,9 +7,12 @@ import re
 import signal
 import tempfile
 import unittest
+from unittest import mock
 
 from pmhost import ModelPart, ModelPartBus, Output
 from pmhost.bus.linux import ENDING
+from pmhost.cli.call import Call
+from pmhost.cli.signals import Interrupted
 
 from .kernel import BoardKernel
 from .runs import called
@@ -136,6 +139,12 @@ class MarginTests(Broken):
                 status, out, err, part, _ = self.run_once(["ok"] * place + [("sigint", "sigterm")[place % 2]])
                 self.compare(status, out, err, part, (130,))
                 self.assertRegex(err, rf"^pmhost: interrupted during [^:]*: {self.interrupted}\n$")
+
+    def test_a_signal_as_it_says_what_was_measured(self):
+        with mock.patch.object(Call, "say_lines", side_effect=Interrupted):
+            status, out, err, part, _ = self.run_once(["ok"])
+        self.compare(status, out, err, part, (130,))
+        self.assertRegex(err, rf"^pmhost: interrupted during [^:]*: {self.interrupted}\n$")
 
     def test_a_signal_as_the_way_back_is_under_way(self):
         """The bus is away, so that it goes back; then the signal comes, unless the last rail was back already and nothing is left to be sent."""

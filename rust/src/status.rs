@@ -158,6 +158,30 @@ mod tests {
     }
 
     #[test]
+    fn each_register_that_is_asked_has_its_name() {
+        for (code, name) in [
+            (0x21, "VOUT_COMMAND"),
+            (0x25, "VOUT_MARGIN_HIGH"),
+            (0x26, "VOUT_MARGIN_LOW"),
+            (0x40, "VOUT_OV_FAULT_LIMIT"),
+            (0x42, "VOUT_OV_WARN_LIMIT"),
+            (0x43, "VOUT_UV_WARN_LIMIT"),
+            (0x44, "VOUT_UV_FAULT_LIMIT"),
+            (0x5E, "POWER_GOOD_ON"),
+            (0x5F, "POWER_GOOD_OFF"),
+            (0x79, "STATUS_WORD"),
+            (0x7A, "STATUS_VOUT"),
+            (0x7B, "STATUS_IOUT"),
+            (0x7C, "STATUS_INPUT"),
+            (0x7D, "STATUS_TEMPERATURE"),
+            (0x8B, "READ_VOUT"),
+            (0x80, "another register"),
+        ] {
+            assert_eq!(name_of(code), name);
+        }
+    }
+
+    #[test]
     fn each_bit_of_a_status_register_has_its_name() {
         for (code, word, words) in [
             (0x79, 0xFF00, "STATUS_WORD FF00 VOUT, IOUT_POUT, INPUT, MFR_SPECIFIC, POWER_GOOD#, FANS, OTHER, UNKNOWN"),

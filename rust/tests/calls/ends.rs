@@ -251,6 +251,7 @@ fn microvolts_are_exact() {
     let direct = Format::Direct { m: 100, b: -3355, r: 4 };
     assert_eq!((direct.nearest_word(EXACT), direct.microvolts(4433)), (Ok(4433), Ok(EXACT)));
     let mut part = Part::new(0x58, &[Output { mode: 0x40, ..Output::default() }], (100, -3355, 4)).unwrap();
+    assert_eq!(format!("{part:?}"), "Part { address: 88, outputs: 1, .. }");
     let mut host = free(0x58, 1, 3);
     assert_eq!(host.run_job(Job::Learn(0), &mut part), Ok(Done::Learned(direct)));
     assert_eq!(host.run_job(Job::OrderMicrovolts(COMMAND, EXACT), &mut part), Ok(Done::Word(4433)));

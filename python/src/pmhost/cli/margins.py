@@ -301,7 +301,6 @@ def margin_test(call: Call, command: Command) -> int:
 
 def tell(call: Call, command: Command, board: Board, begun: list[RailTest], rows: list[Row], why: str, status: int) -> int:
     """Says it: the table, and which rails are back. The status."""
-    call.maybe = ""
     if not call.is_json and rows:
         call.say_lines(table([("rail", "point", "commands", "READ_VOUT", "STATUS_WORD"), *(row.columns() for row in rows)]))
         call.say_lines([f"{each.rail.name}: back, {OPERATION} {ON:02X}{each.held_back()}" for each in begun if each.is_back])
