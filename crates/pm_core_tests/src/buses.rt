@@ -93,153 +93,50 @@ struct Ordered {
 }
 
 // Orders over a simulated bus itself, and over a patient one with one try over it.
+#[rattlefmt::skip]
 static ONCE: [Ordered; 11] = [
-    Ordered {
-        plan: &[],
-        tries: 1,
-        passes: 1,
-        end: JobEnd::Done,
-        held: 0x34CD,
-        next: 0,
-    },
+    Ordered { plan: &[], tries: 1, passes: 1, end: JobEnd::Done, held: 0x34CD, next: 0 },
     // A restart before the read-back.
-    Ordered {
-        plan: &[Whole, Restarted],
-        tries: 1,
-        passes: 1,
-        end: JobEnd::Differs(0x1000),
-        held: 0x1000,
-        next: 2,
-    },
-    Ordered {
-        plan: &[Whole, Restarted],
-        tries: 1,
-        passes: 2,
-        end: JobEnd::Done,
-        held: 0x34CD,
-        next: 2,
-    },
-    Ordered {
-        plan: &[Whole, RequestCut],
-        tries: 1,
-        passes: 1,
-        end: JobEnd::Unknown,
-        held: 0x34CD,
-        next: 2,
-    },
-    Ordered {
-        plan: &[Whole, AnswerCut],
-        tries: 1,
-        passes: 1,
-        end: JobEnd::Unknown,
-        held: 0x34CD,
-        next: 2,
-    },
-    Ordered {
-        plan: &[Repeated],
-        tries: 1,
-        passes: 1,
-        end: JobEnd::Done,
-        held: 0x34CD,
-        next: 1,
-    },
-    Ordered {
-        plan: &[Lost],
-        tries: 1,
-        passes: 1,
-        end: JobEnd::Differs(0x1000),
-        held: 0x1000,
-        next: 1,
-    },
-    Ordered {
-        plan: &[WriteCut],
-        tries: 1,
-        passes: 1,
-        end: JobEnd::Differs(0x1000),
-        held: 0x1000,
-        next: 1,
-    },
-    Ordered {
-        plan: &[Unheard],
-        tries: 1,
-        passes: 1,
-        end: JobEnd::Differs(0x1000),
-        held: 0x1000,
-        next: 1,
-    },
-    Ordered {
-        plan: &[Whole, Unheard],
-        tries: 1,
-        passes: 1,
-        end: JobEnd::Unknown,
-        held: 0x34CD,
-        next: 2,
-    },
+    Ordered { plan: &[Whole, Restarted], tries: 1, passes: 1, end: JobEnd::Differs(0x1000),
+        held: 0x1000, next: 2 },
+    Ordered { plan: &[Whole, Restarted], tries: 1, passes: 2, end: JobEnd::Done, held: 0x34CD,
+        next: 2 },
+    Ordered { plan: &[Whole, RequestCut], tries: 1, passes: 1, end: JobEnd::Unknown, held: 0x34CD,
+        next: 2 },
+    Ordered { plan: &[Whole, AnswerCut], tries: 1, passes: 1, end: JobEnd::Unknown, held: 0x34CD,
+        next: 2 },
+    Ordered { plan: &[Repeated], tries: 1, passes: 1, end: JobEnd::Done, held: 0x34CD, next: 1 },
+    Ordered { plan: &[Lost], tries: 1, passes: 1, end: JobEnd::Differs(0x1000), held: 0x1000,
+        next: 1 },
+    Ordered { plan: &[WriteCut], tries: 1, passes: 1, end: JobEnd::Differs(0x1000), held: 0x1000,
+        next: 1 },
+    Ordered { plan: &[Unheard], tries: 1, passes: 1, end: JobEnd::Differs(0x1000), held: 0x1000,
+        next: 1 },
+    Ordered { plan: &[Whole, Unheard], tries: 1, passes: 1, end: JobEnd::Unknown, held: 0x34CD,
+        next: 2 },
     // It restarts with a frame that it doesn't hear, too.
-    Ordered {
-        plan: &[Whole, RestartedUnheard, Lost, Whole],
-        tries: 1,
-        passes: 2,
-        end: JobEnd::Differs(0x1000),
-        held: 0x1000,
-        next: 4,
-    },
+    Ordered { plan: &[Whole, RestartedUnheard, Lost, Whole], tries: 1, passes: 2,
+        end: JobEnd::Differs(0x1000), held: 0x1000, next: 4 },
 ];
 
 // Orders over nothing but a patient bus.
+#[rattlefmt::skip]
 static PATIENT: [Ordered; 6] = [
-    Ordered {
-        plan: &[Unheard, Unheard, Whole, Unheard, Unheard],
-        tries: 3,
-        passes: 1,
-        end: JobEnd::Done,
-        held: 0x34CD,
-        next: 5,
-    },
+    Ordered { plan: &[Unheard, Unheard, Whole, Unheard, Unheard], tries: 3, passes: 1,
+        end: JobEnd::Done, held: 0x34CD, next: 5 },
     // Both tries of the write are spent, and the read comes through.
-    Ordered {
-        plan: &[Unheard, Unheard, Whole],
-        tries: 2,
-        passes: 1,
-        end: JobEnd::Differs(0x1000),
-        held: 0x1000,
-        next: 3,
-    },
+    Ordered { plan: &[Unheard, Unheard, Whole], tries: 2, passes: 1, end: JobEnd::Differs(0x1000),
+        held: 0x1000, next: 3 },
     // A read that may have been heard isn't sent again, and neither is such a write.
-    Ordered {
-        plan: &[Whole, AnswerCut, Whole],
-        tries: 3,
-        passes: 1,
-        end: JobEnd::Unknown,
-        held: 0x34CD,
-        next: 2,
-    },
-    Ordered {
-        plan: &[Failed, Whole],
-        tries: 3,
-        passes: 1,
-        end: JobEnd::Differs(0x1000),
-        held: 0x1000,
-        next: 2,
-    },
+    Ordered { plan: &[Whole, AnswerCut, Whole], tries: 3, passes: 1, end: JobEnd::Unknown,
+        held: 0x34CD, next: 2 },
+    Ordered { plan: &[Failed, Whole], tries: 3, passes: 1, end: JobEnd::Differs(0x1000),
+        held: 0x1000, next: 2 },
     // The converter restarts between two tries of the read.
-    Ordered {
-        plan: &[Whole, RestartedUnheard, Whole],
-        tries: 2,
-        passes: 1,
-        end: JobEnd::Differs(0x1000),
-        held: 0x1000,
-        next: 3,
-    },
+    Ordered { plan: &[Whole, RestartedUnheard, Whole], tries: 2, passes: 1,
+        end: JobEnd::Differs(0x1000), held: 0x1000, next: 3 },
     // With no try nothing is sent.
-    Ordered {
-        plan: &[Whole],
-        tries: 0,
-        passes: 1,
-        end: JobEnd::Unknown,
-        held: 0x1000,
-        next: 0,
-    },
+    Ordered { plan: &[Whole], tries: 0, passes: 1, end: JobEnd::Unknown, held: 0x1000, next: 0 },
 ];
 
 // A clear of the second output's faults, with two passes, by a plan.

@@ -124,6 +124,7 @@ fn another_source_ends_a_course_to_a_voltage(rt: HostRuntime) {
 }
 
 // A register, microvolts, the mode and the coefficients, and the word that is ordered.
+#[rattlefmt::skip]
 static WORDS: [(Reg, i64, u8, [u8; 5], u16); 7] = [
     (Reg::VoutCommand, 1_200_000, 0x14, [0; 5], 0x1333),
     (Reg::MarginHigh, 1_200_150, 0x14, [0; 5], 0x1334),
@@ -131,21 +132,9 @@ static WORDS: [(Reg, i64, u8, [u8; 5], u16); 7] = [
     (Reg::VoutMax, 1_199_950, 0x14, [0; 5], 0x1332),
     (Reg::VoutMin, 500_001, 0x14, [0; 5], 0x0801),
     // DIRECT with m = -1000, b = 5000, R = 0: a word Y is (Y - 5000) / -1000 volts, so 4000 is 1 V.
-    (
-        Reg::VoutCommand,
-        1_200_400,
-        0x40,
-        [0x18, 0xFC, 0x88, 0x13, 0x00],
-        3800,
-    ),
+    (Reg::VoutCommand, 1_200_400, 0x40, [0x18, 0xFC, 0x88, 0x13, 0x00], 3800),
     // VOUT_MAX gets the highest value that isn't above the wish, and the word that isn't below is another.
-    (
-        Reg::VoutMax,
-        3_000_400,
-        0x40,
-        [0x18, 0xFC, 0x88, 0x13, 0x00],
-        2000,
-    ),
+    (Reg::VoutMax, 3_000_400, 0x40, [0x18, 0xFC, 0x88, 0x13, 0x00], 2000),
 ];
 
 #[test]

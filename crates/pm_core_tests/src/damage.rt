@@ -10,12 +10,8 @@ use std::process::Abort;
 use std::test::Fail;
 
 // A frame of each layout that is written: by PAGE_PLUS_WRITE, of a byte, of a word, and of no data.
-static WRITES: [&str; 4] = [
-    "B0 05 04 00 21 CD 34 5A",
-    "B0 10 80 34",
-    "B0 21 CD 34 38",
-    "B0 03 46",
-];
+#[rattlefmt::skip]
+static WRITES: [&str; 4] = ["B0 05 04 00 21 CD 34 5A", "B0 10 80 34", "B0 21 CD 34 38", "B0 03 46"];
 
 const MODE: Message = Message::ReadCommand { code: 0x20 };
 

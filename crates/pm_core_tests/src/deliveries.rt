@@ -162,75 +162,21 @@ type RoundRow = (&'static str, bool, u16, Reading, usize, Option<Verdict>);
 #[test]
 fn a_rail_fails_at_once_by_two_things_alone(rt: HostRuntime) {
     let fault = Verdict::NewFault(Question::StatusWord, 5);
+    #[rattlefmt::skip]
     let rows: [RoundRow; 12] = [
-        (
-            "above",
-            false,
-            0x0000,
-            Reading::Above,
-            0,
-            Some(Verdict::OutsideLimits),
-        ),
-        (
-            "above, once it was lowered",
-            true,
-            0x0000,
-            Reading::Above,
-            0,
-            None,
-        ),
-        (
-            "above still, once it was lowered",
-            true,
-            0x0000,
-            Reading::Above,
-            2,
-            Some(Verdict::OutsideLimits),
-        ),
-        (
-            "above, with a new fault",
-            false,
-            0x0020,
-            Reading::Above,
-            0,
-            Some(fault),
-        ),
+        ("above", false, 0x0000, Reading::Above, 0, Some(Verdict::OutsideLimits)),
+        ("above, once it was lowered", true, 0x0000, Reading::Above, 0, None),
+        ("above still, once it was lowered", true, 0x0000, Reading::Above, 2,
+            Some(Verdict::OutsideLimits)),
+        ("above, with a new fault", false, 0x0020, Reading::Above, 0, Some(fault)),
         ("below", false, 0x0000, Reading::Outside, 0, None),
         ("far away", false, 0x0000, Reading::Beyond, 0, None),
         ("a new fault", false, 0x0020, Reading::Right, 0, None),
-        (
-            "a new fault still",
-            false,
-            0x0020,
-            Reading::Right,
-            2,
-            Some(fault),
-        ),
-        (
-            "off with a new fault",
-            false,
-            0x0060,
-            Reading::NotKnown,
-            0,
-            Some(Verdict::IsOff),
-        ),
-        (
-            "off with a new fault, lowered",
-            true,
-            0x0060,
-            Reading::NotKnown,
-            0,
-            Some(Verdict::IsOff),
-        ),
+        ("a new fault still", false, 0x0020, Reading::Right, 2, Some(fault)),
+        ("off with a new fault", false, 0x0060, Reading::NotKnown, 0, Some(Verdict::IsOff)),
+        ("off with a new fault, lowered", true, 0x0060, Reading::NotKnown, 0, Some(Verdict::IsOff)),
         ("off", false, 0x0840, Reading::NotKnown, 0, None),
-        (
-            "off still",
-            false,
-            0x0840,
-            Reading::NotKnown,
-            2,
-            Some(Verdict::IsOff),
-        ),
+        ("off still", false, 0x0840, Reading::NotKnown, 2, Some(Verdict::IsOff)),
     ];
     for (name, lowers, status, reading, round, end) in &rows {
         let mut delivery = Delivery::new(0, 0, 0, 50, 3);

@@ -122,16 +122,13 @@ fn commanded(converter: &Converter, output: u8) -> (i128, i128) {
 }
 
 // Writes that a converter of its own takes, then VOUT_COMMAND of both outputs and PAGE.
+#[rattlefmt::skip]
 static WRITES: [(&[&str], [u16; 2], u8); 5] = [
     (&["B0 05 04 00 21 CD 34 5A"], [0x34CD, 0x1000], 0),
     (&["B0 05 04 01 21 CD 34 4C"], [0x1000, 0x34CD], 0),
     (&["B0 21 CD 34 38"], [0x34CD, 0x1000], 0),
     (&["B0 00 01 ED", "B0 21 CD 34 38"], [0x1000, 0x34CD], 1),
-    (
-        &["B0 00 01 ED", "B0 05 04 00 21 CD 34 5A"],
-        [0x34CD, 0x1000],
-        1,
-    ),
+    (&["B0 00 01 ED", "B0 05 04 00 21 CD 34 5A"], [0x34CD, 0x1000], 1),
 ];
 
 // Each cell has its start word, and VOUT_COMMAND of both outputs these.

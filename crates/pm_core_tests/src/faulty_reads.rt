@@ -116,72 +116,23 @@ const SLOPES: Message = Message::ReadCoefficients {
 // A request, what came back after its first byte, what ends that, and the fault.
 type Answer = (Message, &'static [u8], Ends, FrameFault);
 
+#[rattlefmt::skip]
 static FAULTY_ANSWERS: [Answer; 19] = [
     // a request with a count: the length, the count, the PEC
     (PAGE_PLUS, &[], Ends::Bare, FrameFault::Short(1)),
     (PAGE_PLUS, &[0x02, 0xCD], Ends::Bare, FrameFault::Short(3)),
     (PAGE_PLUS, &[0x02, 0xCD], Ends::Pec, FrameFault::Short(4)),
     (PAGE_PLUS, &[0x03, 0xCD], Ends::Pec, FrameFault::Short(4)),
-    (
-        PAGE_PLUS,
-        &[0x02, 0xCD, 0x34, 0x00],
-        Ends::Pec,
-        FrameFault::Long(5),
-    ),
-    (
-        PAGE_PLUS,
-        &[0x02, 0xCD, 0x34, 0x00],
-        Ends::OtherPec,
-        FrameFault::Long(5),
-    ),
-    (
-        PAGE_PLUS,
-        &[0x03, 0xCD, 0x34, 0x00],
-        Ends::Pec,
-        FrameFault::Long(5),
-    ),
-    (
-        PAGE_PLUS,
-        &[0x03, 0xCD, 0x34],
-        Ends::Pec,
-        FrameFault::WrongCount(1),
-    ),
-    (
-        PAGE_PLUS,
-        &[0x01, 0xCD, 0x34],
-        Ends::OtherPec,
-        FrameFault::WrongCount(1),
-    ),
-    (
-        PAGE_PLUS,
-        &[0x02, 0xCD, 0x34],
-        Ends::OtherPec,
-        FrameFault::WrongPec(4),
-    ),
-    (
-        SLOPES,
-        &[0x05, 0x01, 0x00, 0x00, 0x00, 0x03],
-        Ends::Bare,
-        FrameFault::Short(7),
-    ),
-    (
-        SLOPES,
-        &[0x05, 0x01, 0x00, 0x00, 0x00, 0x03, 0x00],
-        Ends::Pec,
-        FrameFault::Long(8),
-    ),
-    (
-        SLOPES,
-        &[0x04, 0x01, 0x00, 0x00, 0x00, 0x03],
-        Ends::Pec,
-        FrameFault::WrongCount(1),
-    ),
-    (
-        SLOPES,
-        &[0x05, 0x01, 0x00, 0x00, 0x00, 0x03],
-        Ends::OtherPec,
-        FrameFault::WrongPec(7),
-    ),
+    (PAGE_PLUS, &[0x02, 0xCD, 0x34, 0x00], Ends::Pec, FrameFault::Long(5)),
+    (PAGE_PLUS, &[0x02, 0xCD, 0x34, 0x00], Ends::OtherPec, FrameFault::Long(5)),
+    (PAGE_PLUS, &[0x03, 0xCD, 0x34, 0x00], Ends::Pec, FrameFault::Long(5)),
+    (PAGE_PLUS, &[0x03, 0xCD, 0x34], Ends::Pec, FrameFault::WrongCount(1)),
+    (PAGE_PLUS, &[0x01, 0xCD, 0x34], Ends::OtherPec, FrameFault::WrongCount(1)),
+    (PAGE_PLUS, &[0x02, 0xCD, 0x34], Ends::OtherPec, FrameFault::WrongPec(4)),
+    (SLOPES, &[0x05, 0x01, 0x00, 0x00, 0x00, 0x03], Ends::Bare, FrameFault::Short(7)),
+    (SLOPES, &[0x05, 0x01, 0x00, 0x00, 0x00, 0x03, 0x00], Ends::Pec, FrameFault::Long(8)),
+    (SLOPES, &[0x04, 0x01, 0x00, 0x00, 0x00, 0x03], Ends::Pec, FrameFault::WrongCount(1)),
+    (SLOPES, &[0x05, 0x01, 0x00, 0x00, 0x00, 0x03], Ends::OtherPec, FrameFault::WrongPec(7)),
     // a plain request: the length, the PEC
     (PLAIN, &[], Ends::Bare, FrameFault::Short(1)),
     (PLAIN, &[0x14], Ends::Bare, FrameFault::Short(2)),

@@ -11,6 +11,7 @@ use pm_table::address_ok;
 use std::alloc::{AllocError, Global};
 use std::process::Abort;
 
+#[rattlefmt::skip]
 static FAULTY_WRITES: [(&[u8], Ends, FrameFault); 64] = [
     // lengths of a plain code that is written
     (&[], Ends::Bare, FrameFault::Short(1)),
@@ -23,82 +24,30 @@ static FAULTY_WRITES: [(&[u8], Ends, FrameFault); 64] = [
     (&[0x16, 0x46], Ends::Pec, FrameFault::Long(3)),
     (&[0x10, 0x80, 0x34], Ends::Pec, FrameFault::Long(4)),
     (&[0x21, 0xCD, 0x34, 0x00], Ends::Pec, FrameFault::Long(5)),
-    (
-        &[0x21, 0xCD, 0x34, 0x00],
-        Ends::OtherPec,
-        FrameFault::Long(5),
-    ),
+    (&[0x21, 0xCD, 0x34, 0x00], Ends::OtherPec, FrameFault::Long(5)),
     // the length of PAGE_PLUS_WRITE before its count, its PEC and its code
     (&[0x05], Ends::Bare, FrameFault::Short(2)),
     (&[0x05, 0x02], Ends::Bare, FrameFault::Short(3)),
-    (
-        &[0x05, 0x04, 0x00, 0x21, 0xCD, 0x34],
-        Ends::Bare,
-        FrameFault::Short(7),
-    ),
-    (
-        &[0x05, 0x04, 0x00, 0x21, 0xCD],
-        Ends::Pec,
-        FrameFault::Short(7),
-    ),
+    (&[0x05, 0x04, 0x00, 0x21, 0xCD, 0x34], Ends::Bare, FrameFault::Short(7)),
+    (&[0x05, 0x04, 0x00, 0x21, 0xCD], Ends::Pec, FrameFault::Short(7)),
     (&[0x05, 0x03, 0x00, 0x21], Ends::Bare, FrameFault::Short(5)),
     (&[0x05, 0x01, 0x00], Ends::Bare, FrameFault::Short(4)),
     (&[0x05, 0x02, 0x00, 0x06], Ends::Bare, FrameFault::Short(5)),
     (&[0x05, 0x02, 0x00, 0x99], Ends::Bare, FrameFault::Short(5)),
     (&[0x05, 0x02, 0x00, 0x78], Ends::Bare, FrameFault::Short(5)),
-    (
-        &[0x05, 0x04, 0x00, 0x21, 0xCD, 0x34, 0x00],
-        Ends::Pec,
-        FrameFault::Long(8),
-    ),
-    (
-        &[0x05, 0x03, 0x00, 0x21, 0xCD, 0x34],
-        Ends::Pec,
-        FrameFault::Long(7),
-    ),
+    (&[0x05, 0x04, 0x00, 0x21, 0xCD, 0x34, 0x00], Ends::Pec, FrameFault::Long(8)),
+    (&[0x05, 0x03, 0x00, 0x21, 0xCD, 0x34], Ends::Pec, FrameFault::Long(7)),
     (&[0x05, 0x00, 0x00, 0x00], Ends::Pec, FrameFault::Long(4)),
-    (
-        &[0x05, 0x02, 0x00, 0x06, 0x00],
-        Ends::Pec,
-        FrameFault::Long(6),
-    ),
-    (
-        &[0x05, 0x02, 0x00, 0x99, 0x00],
-        Ends::Pec,
-        FrameFault::Long(6),
-    ),
-    (
-        &[0x05, 0x02, 0x00, 0x78, 0x00],
-        Ends::Pec,
-        FrameFault::Long(6),
-    ),
+    (&[0x05, 0x02, 0x00, 0x06, 0x00], Ends::Pec, FrameFault::Long(6)),
+    (&[0x05, 0x02, 0x00, 0x99, 0x00], Ends::Pec, FrameFault::Long(6)),
+    (&[0x05, 0x02, 0x00, 0x78, 0x00], Ends::Pec, FrameFault::Long(6)),
     // its count before its PEC
-    (
-        &[0x05, 0x03, 0x00, 0x21, 0xCD],
-        Ends::Pec,
-        FrameFault::WrongCount(2),
-    ),
-    (
-        &[0x05, 0x03, 0x00, 0x21, 0xCD],
-        Ends::OtherPec,
-        FrameFault::WrongCount(2),
-    ),
-    (
-        &[0x05, 0x05, 0x00, 0x21, 0xCD, 0x34, 0x00],
-        Ends::Pec,
-        FrameFault::WrongCount(2),
-    ),
-    (
-        &[0x05, 0x03, 0x00, 0x03, 0x00],
-        Ends::Pec,
-        FrameFault::WrongCount(2),
-    ),
+    (&[0x05, 0x03, 0x00, 0x21, 0xCD], Ends::Pec, FrameFault::WrongCount(2)),
+    (&[0x05, 0x03, 0x00, 0x21, 0xCD], Ends::OtherPec, FrameFault::WrongCount(2)),
+    (&[0x05, 0x05, 0x00, 0x21, 0xCD, 0x34, 0x00], Ends::Pec, FrameFault::WrongCount(2)),
+    (&[0x05, 0x03, 0x00, 0x03, 0x00], Ends::Pec, FrameFault::WrongCount(2)),
     (&[0x05, 0x01, 0x00], Ends::Pec, FrameFault::WrongCount(2)),
-    (
-        &[0x05, 0x01, 0x00],
-        Ends::OtherPec,
-        FrameFault::WrongCount(2),
-    ),
+    (&[0x05, 0x01, 0x00], Ends::OtherPec, FrameFault::WrongCount(2)),
     (&[0x05, 0x00], Ends::Pec, FrameFault::WrongCount(2)),
     // any other code before the PEC
     (&[0x06], Ends::Bare, FrameFault::Short(2)),
@@ -107,28 +56,12 @@ static FAULTY_WRITES: [(&[u8], Ends, FrameFault); 64] = [
     // the PEC before the code
     (&[0x03], Ends::OtherPec, FrameFault::WrongPec(2)),
     (&[0x10, 0x80], Ends::OtherPec, FrameFault::WrongPec(3)),
-    (
-        &[0x05, 0x04, 0x00, 0x21, 0xCD, 0x34],
-        Ends::OtherPec,
-        FrameFault::WrongPec(7),
-    ),
+    (&[0x05, 0x04, 0x00, 0x21, 0xCD, 0x34], Ends::OtherPec, FrameFault::WrongPec(7)),
     (&[0x78], Ends::OtherPec, FrameFault::WrongPec(2)),
     (&[0x99], Ends::OtherPec, FrameFault::WrongPec(2)),
-    (
-        &[0x05, 0x02, 0x00, 0x06],
-        Ends::OtherPec,
-        FrameFault::WrongPec(5),
-    ),
-    (
-        &[0x05, 0x02, 0x00, 0x99],
-        Ends::OtherPec,
-        FrameFault::WrongPec(5),
-    ),
-    (
-        &[0x05, 0x02, 0x00, 0x78],
-        Ends::OtherPec,
-        FrameFault::WrongPec(5),
-    ),
+    (&[0x05, 0x02, 0x00, 0x06], Ends::OtherPec, FrameFault::WrongPec(5)),
+    (&[0x05, 0x02, 0x00, 0x99], Ends::OtherPec, FrameFault::WrongPec(5)),
+    (&[0x05, 0x02, 0x00, 0x78], Ends::OtherPec, FrameFault::WrongPec(5)),
     // the code of a plain packet
     (&[0x78], Ends::Pec, FrameFault::WrongDirection(1)),
     (&[0x06], Ends::Pec, FrameFault::WrongDirection(1)),
@@ -140,44 +73,16 @@ static FAULTY_WRITES: [(&[u8], Ends, FrameFault); 64] = [
     (&[0x17], Ends::Pec, FrameFault::UnknownCode(1)),
     (&[0x99, 0x00, 0x00], Ends::Pec, FrameFault::UnknownCode(1)),
     // the carried code, whatever the count, if it is not carried, known or written
-    (
-        &[0x05, 0x02, 0x00, 0x78],
-        Ends::Pec,
-        FrameFault::WrongDirection(4),
-    ),
-    (
-        &[0x05, 0x03, 0x00, 0x20, 0x14],
-        Ends::Pec,
-        FrameFault::WrongDirection(4),
-    ),
-    (
-        &[0x05, 0x04, 0x00, 0x20, 0x14, 0x00],
-        Ends::Pec,
-        FrameFault::WrongDirection(4),
-    ),
-    (
-        &[0x05, 0x02, 0x00, 0x99],
-        Ends::Pec,
-        FrameFault::UnknownCode(4),
-    ),
-    (
-        &[0x05, 0x04, 0x00, 0x99, 0x00, 0x00],
-        Ends::Pec,
-        FrameFault::UnknownCode(4),
-    ),
+    (&[0x05, 0x02, 0x00, 0x78], Ends::Pec, FrameFault::WrongDirection(4)),
+    (&[0x05, 0x03, 0x00, 0x20, 0x14], Ends::Pec, FrameFault::WrongDirection(4)),
+    (&[0x05, 0x04, 0x00, 0x20, 0x14, 0x00], Ends::Pec, FrameFault::WrongDirection(4)),
+    (&[0x05, 0x02, 0x00, 0x99], Ends::Pec, FrameFault::UnknownCode(4)),
+    (&[0x05, 0x04, 0x00, 0x99, 0x00, 0x00], Ends::Pec, FrameFault::UnknownCode(4)),
     (&[0x05, 0x02, 0x00, 0x06], Ends::Pec, FrameFault::Nested(4)),
     (&[0x05, 0x02, 0x00, 0x05], Ends::Pec, FrameFault::Nested(4)),
-    (
-        &[0x05, 0x03, 0x00, 0x05, 0x00],
-        Ends::Pec,
-        FrameFault::Nested(4),
-    ),
+    (&[0x05, 0x03, 0x00, 0x05, 0x00], Ends::Pec, FrameFault::Nested(4)),
     (&[0x05, 0x02, 0x00, 0x30], Ends::Pec, FrameFault::Nested(4)),
-    (
-        &[0x05, 0x03, 0x00, 0x00, 0x01],
-        Ends::Pec,
-        FrameFault::Nested(4),
-    ),
+    (&[0x05, 0x03, 0x00, 0x00, 0x01], Ends::Pec, FrameFault::Nested(4)),
     (&[0x05, 0x02, 0x00, 0x00], Ends::Pec, FrameFault::Nested(4)),
 ];
 
@@ -272,24 +177,13 @@ fn the_length_of_a_frame_is_that_of_its_count_up_to_255(rt: HostRuntime) -> Resu
 }
 
 // The first two bytes, and the faults as a write and as a request.
+#[rattlefmt::skip]
 static MILLIONS: [(&[u8], FrameFault, FrameFault); 5] = [
     (&[0x05, 0x05], FrameFault::NotOurs, FrameFault::NotOurs),
-    (
-        &[0xB0, 0x05],
-        FrameFault::Long(9),
-        FrameFault::WrongDirection(1),
-    ),
+    (&[0xB0, 0x05], FrameFault::Long(9), FrameFault::WrongDirection(1)),
     (&[0xB0, 0x21], FrameFault::Long(5), FrameFault::Long(2)),
-    (
-        &[0xB0, 0x06],
-        FrameFault::WrongPec(999_999),
-        FrameFault::Long(5),
-    ),
-    (
-        &[0xB0, 0x99],
-        FrameFault::WrongPec(999_999),
-        FrameFault::UnknownCode(1),
-    ),
+    (&[0xB0, 0x06], FrameFault::WrongPec(999_999), FrameFault::Long(5)),
+    (&[0xB0, 0x99], FrameFault::WrongPec(999_999), FrameFault::UnknownCode(1)),
 ];
 
 #[test]

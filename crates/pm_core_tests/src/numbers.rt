@@ -39,14 +39,10 @@ fn parts<F: NumFormat>(format: &F, word: u16) -> (i128, i128) {
     (value.num(), value.den())
 }
 
+#[rattlefmt::skip]
 static LINEAR11_WORDS: [(u16, (i128, i128)); 7] = [
-    (0xD300, (768, 64)),
-    (0x07D8, (-40, 1)),
-    (0x87FF, (-1, 65536)),
-    (0x7BFF, (33_521_664, 1)),
-    (0x7C00, (-33_554_432, 1)),
-    (0x0BFF, (2046, 1)),
-    (0x0C00, (-2048, 1)),
+    (0xD300, (768, 64)), (0x07D8, (-40, 1)), (0x87FF, (-1, 65536)), (0x7BFF, (33_521_664, 1)),
+    (0x7C00, (-33_554_432, 1)), (0x0BFF, (2046, 1)), (0x0C00, (-2048, 1)),
 ];
 
 static ULINEAR16_WORDS: [(i8, u16, (i128, i128)); 2] = [
@@ -154,14 +150,10 @@ const MOST: i128 = 0x80_0000_0000_0000;
 
 const BEYOND: i128 = 0x80_0000_0000_0001;
 
+#[rattlefmt::skip]
 static PAIRS: [(i128, i128, bool); 7] = [
-    (0, 0, false),
-    (0, 1, true),
-    (MOST, MOST, true),
-    (-MOST, MOST, true),
-    (BEYOND, 1, false),
-    (-BEYOND, 1, false),
-    (0, BEYOND, false),
+    (0, 0, false), (0, 1, true), (MOST, MOST, true), (-MOST, MOST, true), (BEYOND, 1, false),
+    (-BEYOND, 1, false), (0, BEYOND, false),
 ];
 
 // Whether this is an exponent of ULINEAR16.

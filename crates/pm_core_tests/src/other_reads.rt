@@ -50,79 +50,33 @@ static TOO_MANY: [u8; 36] = [
 type Payload = Result<&'static [u8], FrameFault>;
 
 // The code, what came back from 58h, and the payload or the first fault. MFR_ID (99h) is `LTC`.
+#[rattlefmt::skip]
 static BLOCKS: [(u8, &[u8], Payload); 19] = [
     (0x99, &[0xB1, 0x03, 0x4C, 0x54, 0x43, 0x9F], Ok(b"LTC")),
     (0x9A, &[0xB1, 0x00, 0xEC], Ok(&[])),
     (0x99, &[], Err(FrameFault::NotOurs)),
-    (
-        0x99,
-        &[0xB0, 0x03, 0x4C, 0x54, 0x43, 0x9F],
-        Err(FrameFault::NotOurs),
-    ),
-    (
-        0x99,
-        &[0x9F, 0x03, 0x4C, 0x54, 0x43, 0x9F],
-        Err(FrameFault::NotOurs),
-    ),
+    (0x99, &[0xB0, 0x03, 0x4C, 0x54, 0x43, 0x9F], Err(FrameFault::NotOurs)),
+    (0x99, &[0x9F, 0x03, 0x4C, 0x54, 0x43, 0x9F], Err(FrameFault::NotOurs)),
     (0x99, &[0xB1], Err(FrameFault::Short(1))),
     (0x9A, &[0xB1, 0x00], Err(FrameFault::Short(2))),
-    (
-        0x99,
-        &[0xB1, 0x03, 0x4C, 0x54, 0x43],
-        Err(FrameFault::Short(5)),
-    ),
-    (
-        0x99,
-        &[0xB1, 0x04, 0x4C, 0x54, 0x43, 0x9F],
-        Err(FrameFault::Short(6)),
-    ),
-    (
-        0x99,
-        &[0xB1, 0x03, 0x4C, 0x54, 0x43, 0x9F, 0x00],
-        Err(FrameFault::Long(6)),
-    ),
-    (
-        0x99,
-        &[0xB1, 0x02, 0x4C, 0x54, 0x43, 0x9F],
-        Err(FrameFault::Long(5)),
-    ),
+    (0x99, &[0xB1, 0x03, 0x4C, 0x54, 0x43], Err(FrameFault::Short(5))),
+    (0x99, &[0xB1, 0x04, 0x4C, 0x54, 0x43, 0x9F], Err(FrameFault::Short(6))),
+    (0x99, &[0xB1, 0x03, 0x4C, 0x54, 0x43, 0x9F, 0x00], Err(FrameFault::Long(6))),
+    (0x99, &[0xB1, 0x02, 0x4C, 0x54, 0x43, 0x9F], Err(FrameFault::Long(5))),
     (0x9E, &[0xB1, 0x21], Err(FrameFault::WrongCount(1))),
-    (
-        0x99,
-        &[0xB1, 0xFF, 0xFF, 0xFF, 0xFF, 0xFF],
-        Err(FrameFault::WrongCount(1)),
-    ),
+    (0x99, &[0xB1, 0xFF, 0xFF, 0xFF, 0xFF, 0xFF], Err(FrameFault::WrongCount(1))),
     // another PEC, that of nothing but the answer, that from the code on, that of another code's, and changed bytes
-    (
-        0x99,
-        &[0xB1, 0x03, 0x4C, 0x54, 0x43, 0x9E],
-        Err(FrameFault::WrongPec(5)),
-    ),
-    (
-        0x99,
-        &[0xB1, 0x03, 0x4C, 0x54, 0x43, 0x73],
-        Err(FrameFault::WrongPec(5)),
-    ),
-    (
-        0x99,
-        &[0xB1, 0x03, 0x4C, 0x54, 0x43, 0x67],
-        Err(FrameFault::WrongPec(5)),
-    ),
-    (
-        0x9A,
-        &[0xB1, 0x03, 0x4C, 0x54, 0x43, 0x9F],
-        Err(FrameFault::WrongPec(5)),
-    ),
-    (
-        0x99,
-        &[0xB1, 0x03, 0x4C, 0x54, 0x42, 0x9F],
-        Err(FrameFault::WrongPec(5)),
-    ),
+    (0x99, &[0xB1, 0x03, 0x4C, 0x54, 0x43, 0x9E], Err(FrameFault::WrongPec(5))),
+    (0x99, &[0xB1, 0x03, 0x4C, 0x54, 0x43, 0x73], Err(FrameFault::WrongPec(5))),
+    (0x99, &[0xB1, 0x03, 0x4C, 0x54, 0x43, 0x67], Err(FrameFault::WrongPec(5))),
+    (0x9A, &[0xB1, 0x03, 0x4C, 0x54, 0x43, 0x9F], Err(FrameFault::WrongPec(5))),
+    (0x99, &[0xB1, 0x03, 0x4C, 0x54, 0x42, 0x9F], Err(FrameFault::WrongPec(5))),
     (0x9A, &[0xB1, 0x00, 0x00], Err(FrameFault::WrongPec(2))),
 ];
 
 // The code, how many bytes were asked for, what came back from 58h, and the payload or the first fault. STATUS_WORD (79h)
 // is 0040h, CAPABILITY (19h) is B0h.
+#[rattlefmt::skip]
 static PLAIN: [(u8, usize, &[u8], Payload); 14] = [
     (0x79, 2, &[0xB1, 0x40, 0x00, 0x8F], Ok(&[0x40, 0x00])),
     (0x19, 1, &[0xB1, 0xB0, 0x43], Ok(&[0xB0])),
@@ -130,49 +84,14 @@ static PLAIN: [(u8, usize, &[u8], Payload); 14] = [
     (0x79, 2, &[0xB0, 0x40, 0x00, 0x8F], Err(FrameFault::NotOurs)),
     (0x79, 2, &[0xB1], Err(FrameFault::Short(1))),
     (0x79, 2, &[0xB1, 0x40, 0x00], Err(FrameFault::Short(3))),
-    (
-        0x79,
-        3,
-        &[0xB1, 0x40, 0x00, 0x8F],
-        Err(FrameFault::Short(4)),
-    ),
-    (
-        0x79,
-        2,
-        &[0xB1, 0x40, 0x00, 0x8F, 0x00],
-        Err(FrameFault::Long(4)),
-    ),
+    (0x79, 3, &[0xB1, 0x40, 0x00, 0x8F], Err(FrameFault::Short(4))),
+    (0x79, 2, &[0xB1, 0x40, 0x00, 0x8F, 0x00], Err(FrameFault::Long(4))),
     (0x79, 1, &[0xB1, 0x40, 0x00, 0x8F], Err(FrameFault::Long(3))),
-    (
-        0x79,
-        2,
-        &[0xB1, 0x40, 0x00, 0x8E],
-        Err(FrameFault::WrongPec(3)),
-    ),
-    (
-        0x79,
-        2,
-        &[0xB1, 0x40, 0x00, 0xDA],
-        Err(FrameFault::WrongPec(3)),
-    ),
-    (
-        0x78,
-        2,
-        &[0xB1, 0x40, 0x00, 0x8F],
-        Err(FrameFault::WrongPec(3)),
-    ),
-    (
-        0x79,
-        2,
-        &[0xB1, 0xFF, 0xFF, 0xFF],
-        Err(FrameFault::WrongPec(3)),
-    ),
-    (
-        0x79,
-        2,
-        &[0xB1, 0x00, 0x00, 0x00],
-        Err(FrameFault::WrongPec(3)),
-    ),
+    (0x79, 2, &[0xB1, 0x40, 0x00, 0x8E], Err(FrameFault::WrongPec(3))),
+    (0x79, 2, &[0xB1, 0x40, 0x00, 0xDA], Err(FrameFault::WrongPec(3))),
+    (0x78, 2, &[0xB1, 0x40, 0x00, 0x8F], Err(FrameFault::WrongPec(3))),
+    (0x79, 2, &[0xB1, 0xFF, 0xFF, 0xFF], Err(FrameFault::WrongPec(3))),
+    (0x79, 2, &[0xB1, 0x00, 0x00, 0x00], Err(FrameFault::WrongPec(3))),
 ];
 
 // What came back for a block read of this code of this device.
@@ -274,17 +193,10 @@ fn a_read_by_page_plus_is_read_or_has_its_first_fault(rt: HostRuntime) {
 
 // The codes that PAGE_PLUS doesn't carry (PMBus 1.3 Part II): PAGE, PAGE_PLUS_WRITE, PAGE_PLUS_READ; and COEFFICIENTS, by this
 // project's own choice. Beside them codes that it carries.
+#[rattlefmt::skip]
 static CARRIED: [(u8, bool); 10] = [
-    (0x00, false),
-    (0x05, false),
-    (0x06, false),
-    (0x30, false),
-    (0x01, true),
-    (0x04, true),
-    (0x07, true),
-    (0x40, true),
-    (0x79, true),
-    (0xFF, true),
+    (0x00, false), (0x05, false), (0x06, false), (0x30, false), (0x01, true), (0x04, true),
+    (0x07, true), (0x40, true), (0x79, true), (0xFF, true),
 ];
 
 #[test]
@@ -296,28 +208,11 @@ fn page_plus_carries_all_codes_but_four(rt: HostRuntime) {
 
 // The read of VOUT_COMMAND of output 0, that of VOUT_MARGIN_LOW of output 1, which shares its PEC, and that of
 // VOUT_MARGIN_HIGH of output 0, which doesn't; and the fault of one answer to the first.
+#[rattlefmt::skip]
 static LATE: [(Message, Option<FrameFault>); 3] = [
-    (
-        Message::PagePlusRead {
-            page: 0,
-            code: 0x21,
-        },
-        None,
-    ),
-    (
-        Message::PagePlusRead {
-            page: 1,
-            code: 0x26,
-        },
-        None,
-    ),
-    (
-        Message::PagePlusRead {
-            page: 0,
-            code: 0x25,
-        },
-        Some(FrameFault::WrongPec(4)),
-    ),
+    (Message::PagePlusRead { page: 0, code: 0x21 }, None),
+    (Message::PagePlusRead { page: 1, code: 0x26 }, None),
+    (Message::PagePlusRead { page: 0, code: 0x25 }, Some(FrameFault::WrongPec(4))),
 ];
 
 #[test]

@@ -154,16 +154,8 @@ const SILENT: Verdict = Verdict::NotKnown(Question::StatusWord, 1);
 const UNASKED: Verdict = Verdict::NotKnown(Question::StatusWord, 0);
 
 // What one set of output 0 comes to: how it ends, what was found last, the frames and the writes.
-type SetRow = (
-    &'static str,
-    Part,
-    Looks,
-    i64,
-    End,
-    Option<Verdict>,
-    usize,
-    usize,
-);
+#[rattlefmt::skip]
+type SetRow = (&'static str, Part, Looks, i64, End, Option<Verdict>, usize, usize);
 
 #[test]
 fn a_set_ends_by_what_its_rail_does(rt: HostRuntime) {
@@ -173,172 +165,34 @@ fn a_set_ends_by_what_its_rail_does(rt: HostRuntime) {
         has_vout: false,
         ..PART
     };
+    #[rattlefmt::skip]
     let rows: [SetRow; 13] = [
-        (
-            "a good set",
-            PART,
-            MUST,
-            1_200_000,
-            End::Reached,
-            found,
-            24,
-            1,
-        ),
-        (
-            "a word that is held",
-            PART,
-            LOOKS,
-            1_000_000,
-            End::Reached,
-            found,
-            8,
-            0,
-        ),
-        (
-            "a part without STATUS_WORD",
-            Part {
-                status: None,
-                ..PART
-            },
-            MUST,
-            1_200_000,
-            End::Reached,
-            Some(Verdict::DeliversByVoltage),
-            28,
-            1,
-        ),
-        (
-            "a part without READ_VOUT",
-            Part {
-                has_vout: false,
-                ..PART
-            },
-            MUST,
-            1_200_000,
-            End::Reached,
-            found,
-            30,
-            1,
-        ),
-        (
-            "a part without both",
-            blind,
-            LOOKS,
-            1_200_000,
-            End::Does(UNASKED),
-            None,
-            35,
-            1,
-        ),
-        (
-            "a part without both, as the caller says",
-            blind,
-            Looks {
-                lacks_status_word: true,
-                lacks_read_vout: true,
-                ..LOOKS
-            },
-            1_200_000,
-            End::Reached,
-            Some(UNASKED),
-            21,
-            1,
-        ),
-        (
-            "the same, and it has to deliver",
-            blind,
-            Looks {
-                lacks_status_word: true,
-                lacks_read_vout: true,
-                ..MUST
-            },
-            1_200_000,
-            End::Does(UNASKED),
-            None,
-            21,
-            1,
-        ),
-        (
-            "a fault limit below the voltage",
-            Part {
-                limit: Some(0x1200),
-                ..PART
-            },
-            LOOKS,
-            1_200_000,
-            End::Beyond(DeliveryFault::BeyondFaultLimit(Question::OvFaultLimit, 0x1200)),
-            None,
-            14,
-            0,
-        ),
-        (
-            "the same, which is told alone",
-            Part {
-                limit: Some(0x1200),
-                ..PART
-            },
-            Looks {
-                fault_limits: 1,
-                ..LOOKS
-            },
-            1_200_000,
-            End::Reached,
-            found,
-            24,
-            1,
-        ),
-        (
-            "a rail that is off",
-            Part {
-                is_dead: true,
-                ..PART
-            },
-            LOOKS,
-            1_200_000,
-            End::Does(Verdict::IsOff),
-            None,
-            30,
-            1,
-        ),
-        (
-            "the bus is gone once the word is confirmed",
-            Part {
-                gone_after: 22,
-                ..PART
-            },
-            LOOKS,
-            1_200_000,
-            End::Does(SILENT),
-            None,
-            30,
-            1,
-        ),
-        (
-            "the bus is gone though nothing is ordered",
-            Part {
-                gone_after: 6,
-                ..PART
-            },
-            LOOKS,
-            1_000_000,
-            End::Does(SILENT),
-            None,
-            22,
-            0,
-        ),
-        (
-            "nothing is looked at",
-            PART,
-            Looks {
-                is_wanted: false,
-                ..LOOKS
-            },
-            1_200_000,
-            End::Reached,
-            None,
-            14,
-            1,
-        ),
+        ("a good set", PART, MUST, 1_200_000, End::Reached, found, 24, 1),
+        ("a word that is held", PART, LOOKS, 1_000_000, End::Reached, found, 8, 0),
+        ("a part without STATUS_WORD", Part { status: None, ..PART }, MUST, 1_200_000, End::Reached,
+            Some(Verdict::DeliversByVoltage), 28, 1),
+        ("a part without READ_VOUT", Part { has_vout: false, ..PART }, MUST, 1_200_000,
+            End::Reached, found, 30, 1),
+        ("a part without both", blind, LOOKS, 1_200_000, End::Does(UNASKED), None, 35, 1),
+        ("a part without both, as the caller says", blind,
+            Looks { lacks_status_word: true, lacks_read_vout: true, ..LOOKS }, 1_200_000,
+            End::Reached, Some(UNASKED), 21, 1),
+        ("the same, and it has to deliver", blind,
+            Looks { lacks_status_word: true, lacks_read_vout: true, ..MUST }, 1_200_000,
+            End::Does(UNASKED), None, 21, 1),
+        ("a fault limit below the voltage", Part { limit: Some(0x1200), ..PART }, LOOKS, 1_200_000,
+            End::Beyond(DeliveryFault::BeyondFaultLimit(Question::OvFaultLimit, 0x1200)), None, 14,
+            0),
+        ("the same, which is told alone", Part { limit: Some(0x1200), ..PART },
+            Looks { fault_limits: 1, ..LOOKS }, 1_200_000, End::Reached, found, 24, 1),
+        ("a rail that is off", Part { is_dead: true, ..PART }, LOOKS, 1_200_000,
+            End::Does(Verdict::IsOff), None, 30, 1),
+        ("the bus is gone once the word is confirmed", Part { gone_after: 22, ..PART }, LOOKS,
+            1_200_000, End::Does(SILENT), None, 30, 1),
+        ("the bus is gone though nothing is ordered", Part { gone_after: 6, ..PART }, LOOKS,
+            1_000_000, End::Does(SILENT), None, 22, 0),
+        ("nothing is looked at", PART, Looks { is_wanted: false, ..LOOKS }, 1_200_000, End::Reached,
+            None, 14, 1),
     ];
     for (name, part, looks, microvolts, end, found, frames, writes) in &rows {
         let steps = [sets(0, 0, *microvolts, *looks)];
@@ -354,16 +208,9 @@ fn a_set_ends_by_what_its_rail_does(rt: HostRuntime) {
 
 // A list over two parts, each of two outputs: how it ends, how often was looked at a rail that does what it is to, the waits, and OPERATION and
 // VOUT_COMMAND of each output then.
-pub(crate) type ListRow = (
-    &'static str,
-    Rules,
-    [Part; 2],
-    [Step; 3],
-    End,
-    usize,
-    u32,
-    [(u16, u16); 4],
-);
+#[rattlefmt::skip]
+pub(crate) type ListRow = (&'static str, Rules, [Part; 2], [Step; 3], End, usize, u32,
+    [(u16, u16); 4]);
 
 pub(crate) fn check_lists(rt: &impl Abort, rows: &[ListRow]) {
     for (name, rules, parts, steps, end, found, waits, words) in rows {
@@ -407,106 +254,34 @@ fn a_list_goes_on_as_its_rails_deliver(rt: HostRuntime) {
     let on = (0x80, 0x1000);
     let is_off = (0x00, 0x1000);
     let goals = [(0x80, 0x1333), (0x80, 0x10CD), (0x80, 0x119A), on];
+    #[rattlefmt::skip]
     let rows: [ListRow; 7] = [
         ("up", UP, [PART, PART], up, End::Reached, 3, 20, goals),
-        (
-            "up, and the second rail stays off",
-            UP,
-            [PART, dead],
-            up,
-            End::Does(Verdict::IsOff),
-            1,
-            15,
-            [(0x80, 0x1333), on, (0x80, 0x119A), on],
-        ),
-        (
-            "up, and the first rail stays off",
-            UP,
-            [dead, PART],
-            up,
-            End::Does(Verdict::IsOff),
-            0,
-            0,
-            [(0x80, 0x1333), on, on, on],
-        ),
-        (
-            "down",
-            DOWN,
-            [PART, PART],
-            down,
-            End::Reached,
-            3,
-            10,
-            [is_off, is_off, is_off, on],
-        ),
-        (
-            "down, and the first output stays on",
-            DOWN,
-            [deaf, PART],
-            down,
-            End::Left(1),
-            2,
-            10,
-            [on, is_off, is_off, on],
-        ),
-        (
-            "down, and the second part is gone",
-            DOWN,
-            [PART, gone],
-            down,
-            End::Left(1),
-            2,
-            10,
-            [is_off, is_off, on, on],
-        ),
-        (
-            "down, and the first part is gone",
-            DOWN,
-            [gone, PART],
-            down,
-            End::Left(2),
-            1,
-            10,
-            [on, on, is_off, on],
-        ),
+        ("up, and the second rail stays off", UP, [PART, dead], up, End::Does(Verdict::IsOff), 1,
+            15, [(0x80, 0x1333), on, (0x80, 0x119A), on]),
+        ("up, and the first rail stays off", UP, [dead, PART], up, End::Does(Verdict::IsOff), 0, 0,
+            [(0x80, 0x1333), on, on, on]),
+        ("down", DOWN, [PART, PART], down, End::Reached, 3, 10, [is_off, is_off, is_off, on]),
+        ("down, and the first output stays on", DOWN, [deaf, PART], down, End::Left(1), 2, 10,
+            [on, is_off, is_off, on]),
+        ("down, and the second part is gone", DOWN, [PART, gone], down, End::Left(1), 2, 10,
+            [is_off, is_off, on, on]),
+        ("down, and the first part is gone", DOWN, [gone, PART], down, End::Left(2), 1, 10,
+            [on, on, is_off, on]),
     ];
     check_lists(&rt, &rows);
 }
 
 #[test]
 fn a_step_off_is_no_success_by_silence(rt: HostRuntime) {
+    #[rattlefmt::skip]
     let rows = [
         ("off", LOOKS, 100000, End::Reached, None, 3),
-        (
-            "the bus is gone after the order",
-            LOOKS,
-            2,
-            End::Left(1),
-            Some(End::Does(SILENT)),
-            18,
-        ),
-        (
-            "the caller says that the part has no STATUS_WORD",
-            Looks {
-                lacks_status_word: true,
-                ..LOOKS
-            },
-            100000,
-            End::Reached,
-            None,
-            2,
-        ),
-        (
-            "the same, and it has to be known off",
-            Looks {
-                lacks_status_word: true,
-                ..MUST
-            },
-            100000,
-            End::Left(1),
-            Some(End::Does(UNASKED)),
-            2,
-        ),
+        ("the bus is gone after the order", LOOKS, 2, End::Left(1), Some(End::Does(SILENT)), 18),
+        ("the caller says that the part has no STATUS_WORD",
+            Looks { lacks_status_word: true, ..LOOKS }, 100000, End::Reached, None, 2),
+        ("the same, and it has to be known off", Looks { lacks_status_word: true, ..MUST }, 100000,
+            End::Left(1), Some(End::Does(UNASKED)), 2),
     ];
     for (name, looks, gone_after, end, left, frames) in &rows {
         let part = Part {
@@ -533,27 +308,12 @@ fn a_step_that_orders_nothing_surveys_or_rests(rt: HostRuntime) {
         gone_after: 0,
         ..PART
     };
+    #[rattlefmt::skip]
     let rows = [
         ("a survey", PART, Does::Surveys, blind, End::Reached, 0, 5),
         ("a rest", PART, Does::Rests, blind, End::Reached, 0, 0),
-        (
-            "a survey that is looked at",
-            PART,
-            Does::Surveys,
-            MUST,
-            End::Reached,
-            1,
-            7,
-        ),
-        (
-            "a rest of a part that is gone",
-            gone,
-            Does::Rests,
-            blind,
-            End::Reached,
-            0,
-            0,
-        ),
+        ("a survey that is looked at", PART, Does::Surveys, MUST, End::Reached, 1, 7),
+        ("a rest of a part that is gone", gone, Does::Rests, blind, End::Reached, 0, 0),
     ];
     for (name, part, act, looks, end, found, frames) in &rows {
         let steps = [step_of(0, 1, *act, *looks)];

@@ -205,15 +205,10 @@ fn with_third(count: u8) -> Result<Converter, ConfigFault> {
 }
 
 // A side that isn't there, and codes that have no coefficients.
+#[rattlefmt::skip]
 static NO_COEFFICIENTS: [&str; 8] = [
-    "B0 30 02 21 02 /",
-    "B0 30 02 21 FF /",
-    "B0 30 02 01 00 /",
-    "B0 30 02 20 00 /",
-    "B0 30 02 22 00 /",
-    "B0 30 02 8C 01 /",
-    "B0 30 02 88 01 /",
-    "B0 30 02 30 00 /",
+    "B0 30 02 21 02 /", "B0 30 02 21 FF /", "B0 30 02 01 00 /", "B0 30 02 20 00 /",
+    "B0 30 02 22 00 /", "B0 30 02 8C 01 /", "B0 30 02 88 01 /", "B0 30 02 30 00 /",
 ];
 
 // A COEFFICIENTS request is refused for its code, for its side, and if no output that exists is DIRECT.

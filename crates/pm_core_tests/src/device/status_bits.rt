@@ -147,47 +147,15 @@ fn bit_3_written_clears_the_warning_of_one_output(rt: HostRuntime) -> Result<(),
 
 // Writes of output 0 after which it is within its limits again, and whether it was outside them: by
 // VOUT_MAX, by VOUT_MIN, by OPERATION, by a margin that is selected, and not by one that isn't.
+#[rattlefmt::skip]
 static WARNINGS: [(&[&str], bool); 7] = [
-    (
-        &["B0 05 04 00 2B 00 20 B5", "B0 05 04 00 2B 00 00 55"],
-        true,
-    ),
-    (
-        &["B0 05 04 00 24 00 08 2A", "B0 05 04 00 24 00 40 D5"],
-        true,
-    ),
-    (
-        &[
-            "B0 05 04 00 25 00 50 CE",
-            "B0 05 03 00 01 A8 DA",
-            "B0 05 03 00 01 80 02",
-        ],
-        true,
-    ),
-    (
-        &[
-            "B0 05 03 00 01 A8 DA",
-            "B0 05 04 00 25 00 50 CE",
-            "B0 05 04 00 25 00 11 0E",
-        ],
-        true,
-    ),
-    (
-        &[
-            "B0 05 03 00 01 94 6E",
-            "B0 05 04 00 26 00 50 73",
-            "B0 05 04 00 26 00 0F E9",
-        ],
-        true,
-    ),
-    (
-        &["B0 05 04 00 25 00 50 CE", "B0 05 04 00 25 00 11 0E"],
-        false,
-    ),
-    (
-        &["B0 05 04 00 26 00 50 73", "B0 05 04 00 26 00 0F E9"],
-        false,
-    ),
+    (&["B0 05 04 00 2B 00 20 B5", "B0 05 04 00 2B 00 00 55"], true),
+    (&["B0 05 04 00 24 00 08 2A", "B0 05 04 00 24 00 40 D5"], true),
+    (&["B0 05 04 00 25 00 50 CE", "B0 05 03 00 01 A8 DA", "B0 05 03 00 01 80 02"], true),
+    (&["B0 05 03 00 01 A8 DA", "B0 05 04 00 25 00 50 CE", "B0 05 04 00 25 00 11 0E"], true),
+    (&["B0 05 03 00 01 94 6E", "B0 05 04 00 26 00 50 73", "B0 05 04 00 26 00 0F E9"], true),
+    (&["B0 05 04 00 25 00 50 CE", "B0 05 04 00 25 00 11 0E"], false),
+    (&["B0 05 04 00 26 00 50 73", "B0 05 04 00 26 00 0F E9"], false),
 ];
 
 // The first output warns after these rows, or doesn't, until it is cleared; the second never does.

@@ -30,6 +30,7 @@ const ONE: [u16; 2] = [0x34CD, 0x1000];
 
 const BOTH: [u16; 2] = [0x34CD, 0x2000];
 
+#[rattlefmt::skip]
 static ROWS: [Row; 33] = [
     ("B0 16 2D", None, START, START, 0x00),
     ("B0 05 04 00 21 CD 34 5A", None, ONE, START, 0x00),
@@ -59,21 +60,9 @@ static ROWS: [Row; 33] = [
     ("B0 05 02 01 15 27", None, ONE, ONE, 0x00),
     ("B0 05 04 01 21 00 20 24", None, BOTH, ONE, 0x00),
     ("B0 15 24", None, BOTH, BOTH, 0x00),
-    (
-        "B0 05 04 00 21 00 10 A2",
-        None,
-        [0x1000, 0x2000],
-        BOTH,
-        0x00,
-    ),
+    ("B0 05 04 00 21 00 10 A2", None, [0x1000, 0x2000], BOTH, 0x00),
     ("B0 05 02 01 16 2E", None, BOTH, BOTH, 0x00),
-    (
-        "B0 05 04 00 21 00 10 A2",
-        None,
-        [0x1000, 0x2000],
-        BOTH,
-        0x00,
-    ),
+    ("B0 05 04 00 21 00 10 A2", None, [0x1000, 0x2000], BOTH, 0x00),
     // PAGE is left as it is.
     ("B0 00 01 ED", None, [0x1000, 0x2000], BOTH, 0x00),
     ("B0 16 2D", None, BOTH, BOTH, 0x00),
@@ -128,19 +117,12 @@ fn write_protect_is_not_stored(rt: HostRuntime) -> Result<(), Fail> {
 }
 
 // Each cell of both outputs gets another word; the store brings each back.
+#[rattlefmt::skip]
 static OTHERS: [&str; 12] = [
-    "B0 05 03 00 01 40 4C",
-    "B0 05 04 00 21 11 11 E7",
-    "B0 05 04 00 24 44 44 C6",
-    "B0 05 04 00 25 77 07 A5",
-    "B0 05 04 00 26 AA 0A 68",
-    "B0 05 04 00 2B DD 0A 30",
-    "B0 05 03 01 01 94 05",
-    "B0 05 04 01 21 22 22 AE",
-    "B0 05 04 01 24 55 55 E5",
-    "B0 05 04 01 25 88 08 49",
-    "B0 05 04 01 26 BB 0B 3B",
-    "B0 05 04 01 2B EE 0B E7",
+    "B0 05 03 00 01 40 4C", "B0 05 04 00 21 11 11 E7", "B0 05 04 00 24 44 44 C6",
+    "B0 05 04 00 25 77 07 A5", "B0 05 04 00 26 AA 0A 68", "B0 05 04 00 2B DD 0A 30",
+    "B0 05 03 01 01 94 05", "B0 05 04 01 21 22 22 AE", "B0 05 04 01 24 55 55 E5",
+    "B0 05 04 01 25 88 08 49", "B0 05 04 01 26 BB 0B 3B", "B0 05 04 01 2B EE 0B E7",
 ];
 
 fn is_stored(rt: &impl Abort, converter: &Converter, cell: Cell) {

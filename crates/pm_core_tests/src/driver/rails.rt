@@ -136,86 +136,28 @@ fn known<B: Bus>(rt: &impl Abort, driver: &Driver<B>, register: Reg) -> Option<u
 
 // What goes wrong, with orders of one pass, and the tries; how it ends that VOUT_COMMAND is to be 3.3 V and VOUT_MAX
 // 3.465 V, from 1 V and 4 V, after how many frames, and the words that are held then.
+#[rattlefmt::skip]
 static ENDS: [(&[(usize, Wrong)], u16, CourseEnd, usize, [u16; 2]); 12] = [
     // A learn and five checks, two orders, and all of these once more.
     (&[], 60, CourseEnd::Reached, 16, [0x34CD, 0x3770]),
     // The tries are just enough, or one fewer; or enough for one order.
     (&[], 14, CourseEnd::Reached, 16, [0x34CD, 0x3770]),
-    (
-        &[],
-        13,
-        CourseEnd::Spent {
-            code: Code(0x10),
-            fault: None,
-        },
-        15,
-        [0x34CD, 0x3770],
-    ),
-    (
-        &[],
-        7,
-        CourseEnd::Spent {
-            code: Code(0x24),
-            fault: None,
-        },
-        8,
-        [0x34CD, 0x4000],
-    ),
-    (
-        &[],
-        6,
-        CourseEnd::Spent {
-            code: Code(0x21),
-            fault: None,
-        },
-        6,
-        [0x1000, 0x4000],
-    ),
-    (
-        &[],
-        0,
-        CourseEnd::Spent {
-            code: Code(0x20),
-            fault: None,
-        },
-        0,
-        [0x1000, 0x4000],
-    ),
+    (&[], 13, CourseEnd::Spent { code: Code(0x10), fault: None }, 15, [0x34CD, 0x3770]),
+    (&[], 7, CourseEnd::Spent { code: Code(0x24), fault: None }, 8, [0x34CD, 0x4000]),
+    (&[], 6, CourseEnd::Spent { code: Code(0x21), fault: None }, 6, [0x1000, 0x4000]),
+    (&[], 0, CourseEnd::Spent { code: Code(0x20), fault: None }, 0, [0x1000, 0x4000]),
     // An order that differs is given once more.
     (&[(6, Lost)], 60, CourseEnd::Reached, 18, [0x34CD, 0x3770]),
     // An order that differs again is the end.
-    (
-        &[(6, Lost), (8, Lost)],
-        60,
-        CourseEnd::Differs(Reg::VoutCommand, 0x1000),
-        10,
-        [0x1000, 0x4000],
-    ),
+    (&[(6, Lost), (8, Lost)], 60, CourseEnd::Differs(Reg::VoutCommand, 0x1000), 10,
+        [0x1000, 0x4000]),
     // Each of two registers may differ once.
-    (
-        &[(6, Lost), (10, Lost)],
-        60,
-        CourseEnd::Reached,
-        20,
-        [0x34CD, 0x3770],
-    ),
+    (&[(6, Lost), (10, Lost)], 60, CourseEnd::Reached, 20, [0x34CD, 0x3770]),
     // An order that ended unknown is checked before the next, even if it never took.
     (&[(7, Cut)], 60, CourseEnd::Reached, 17, [0x34CD, 0x3770]),
-    (
-        &[(6, Lost), (7, Cut)],
-        60,
-        CourseEnd::Reached,
-        19,
-        [0x34CD, 0x3770],
-    ),
+    (&[(6, Lost), (7, Cut)], 60, CourseEnd::Reached, 19, [0x34CD, 0x3770]),
     // An answer that doesn't come is asked for again.
-    (
-        &[(0, Cut), (3, Cut)],
-        60,
-        CourseEnd::Reached,
-        18,
-        [0x34CD, 0x3770],
-    ),
+    (&[(0, Cut), (3, Cut)], 60, CourseEnd::Reached, 18, [0x34CD, 0x3770]),
 ];
 
 #[test]
@@ -403,41 +345,18 @@ fn what_is_not_known_is_told(rt: HostRuntime) {
 
 // What goes wrong with a course that turns the first output off, and its tries; how it ends, after how many frames, and the
 // byte of OPERATION that is held then.
+#[rattlefmt::skip]
 static OFFS: [(&[(usize, Wrong)], u16, CourseEnd, usize, u16); 6] = [
     // The order is the first frame, and its read-back the second: nothing else is read.
     (&[], 1, CourseEnd::Reached, 2, 0x00),
-    (
-        &[],
-        0,
-        CourseEnd::Spent {
-            code: Code(0x01),
-            fault: None,
-        },
-        0,
-        0x80,
-    ),
+    (&[], 0, CourseEnd::Spent { code: Code(0x01), fault: None }, 0, 0x80),
     // An order whose read-back doesn't come, or differs, is given once more.
     (&[(1, Cut)], 4, CourseEnd::Reached, 4, 0x00),
     (&[(0, Lost)], 4, CourseEnd::Reached, 4, 0x00),
     // A second difference is the end.
-    (
-        &[(0, Lost), (2, Lost)],
-        4,
-        CourseEnd::Differs(Reg::Operation, 0x80),
-        4,
-        0x80,
-    ),
+    (&[(0, Lost), (2, Lost)], 4, CourseEnd::Differs(Reg::Operation, 0x80), 4, 0x80),
     // No try is left for the second order.
-    (
-        &[(0, Lost)],
-        1,
-        CourseEnd::Spent {
-            code: Code(0x01),
-            fault: None,
-        },
-        2,
-        0x80,
-    ),
+    (&[(0, Lost)], 1, CourseEnd::Spent { code: Code(0x01), fault: None }, 2, 0x80),
 ];
 
 #[test]

@@ -26,18 +26,16 @@ fn the_outputs_are_judged_before_the_passes(rt: HostRuntime) {
 }
 
 // A learn over two reads, the first answers of which are no good.
+#[rattlefmt::skip]
 static LEARNED_LATE: [(Call<'static>, Answer); 5] = [
-    (Learn(0), BEGUN),
-    (Got(&[0xB1]), NEXT),
+    (Learn(0), BEGUN), (Got(&[0xB1]), NEXT),
     (Answered(READ_MODE, &[0x40]), NEXT),
     (Got(&[]), NEXT),
-    (
-        Answered(READ_COEFFICIENTS, &[0x01, 0x00, 0x00, 0x00, 0x03]),
-        LEARNED,
-    ),
+    (Answered(READ_COEFFICIENTS, &[0x01, 0x00, 0x00, 0x00, 0x03]), LEARNED),
 ];
 
 // Modes without a format, coefficients without one, no answer to either read.
+#[rattlefmt::skip]
 static NOTHING_LEARNED: [(Call<'static>, Answer); 21] = [
     (Learn(0), BEGUN),
     (Answered(READ_MODE, &[0x20]), UNKNOWN),
@@ -49,23 +47,13 @@ static NOTHING_LEARNED: [(Call<'static>, Answer); 21] = [
     (Answered(READ_MODE, &[0x94]), UNKNOWN),
     (Learn(0), BEGUN),
     (Answered(READ_MODE, &[0x40]), NEXT),
-    (
-        Answered(READ_COEFFICIENTS, &[0x00, 0x00, 0x00, 0x00, 0x00]),
-        UNKNOWN,
-    ),
+    (Answered(READ_COEFFICIENTS, &[0x00, 0x00, 0x00, 0x00, 0x00]), UNKNOWN),
     (Learn(0), BEGUN),
     (Answered(READ_MODE, &[0x40]), NEXT),
-    (
-        Answered(READ_COEFFICIENTS, &[0x01, 0x00, 0x00, 0x00, 0x0D]),
-        UNKNOWN,
-    ),
-    (Learn(0), BEGUN),
-    (Got(&[]), NEXT),
-    (Got(&[]), UNKNOWN),
-    (Learn(0), BEGUN),
+    (Answered(READ_COEFFICIENTS, &[0x01, 0x00, 0x00, 0x00, 0x0D]), UNKNOWN),
+    (Learn(0), BEGUN), (Got(&[]), NEXT), (Got(&[]), UNKNOWN), (Learn(0), BEGUN),
     (Answered(READ_MODE, &[0x40]), NEXT),
-    (Got(&[]), NEXT),
-    (Got(&[]), UNKNOWN),
+    (Got(&[]), NEXT), (Got(&[]), UNKNOWN),
 ];
 
 // 3300 millivolts.

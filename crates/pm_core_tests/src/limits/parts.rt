@@ -136,13 +136,11 @@ fn a_register_that_is_there_has_to_be_read(rt: HostRuntime) {
 const ABSENT: Option<LimitFault> = Some(LimitFault::Host(HostFault::UnknownOutput));
 
 // At a part without VOUT_MIN and without margins, before the format is known.
+#[rattlefmt::skip]
 static JOBS: [(Job, Option<LimitFault>); 15] = [
     (Job::Order(Cell::Out(0, Reg::VoutMin), 0), MISSING),
     (Job::OrderMicro(Cell::Out(0, Reg::VoutMin), 0), MISSING),
-    (
-        Job::OrderMicro(Cell::Out(0, Reg::VoutMin), i64::MAX),
-        MISSING,
-    ),
+    (Job::OrderMicro(Cell::Out(0, Reg::VoutMin), i64::MAX), MISSING),
     (Job::Check(Cell::Out(0, Reg::VoutMin)), MISSING),
     (Job::Check(Cell::Out(0, Reg::MarginHigh)), MISSING),
     (Job::Check(Cell::Out(0, Reg::MarginLow)), MISSING),
@@ -152,10 +150,7 @@ static JOBS: [(Job, Option<LimitFault>); 15] = [
     (Job::Order(Cell::Out(1, Reg::Operation), 0xA4), MISSING),
     (Job::Order(Cell::Out(2, Reg::VoutMin), 0), ABSENT),
     (Job::Check(Cell::Out(2, Reg::VoutMin)), ABSENT),
-    (
-        Job::Order(Cell::Out(0, Reg::Operation), 0x80),
-        Some(LimitFault::FormatUnknown),
-    ),
+    (Job::Order(Cell::Out(0, Reg::Operation), 0x80), Some(LimitFault::FormatUnknown)),
     (Job::Order(Cell::Out(0, Reg::Operation), 0x00), None),
     (Job::Check(Cell::Out(0, Reg::VoutMax)), None),
 ];
@@ -188,14 +183,10 @@ fn a_job_on_a_missing_register_is_refused(rt: HostRuntime) {
 
 // The byte that is read of OPERATION, and the least and the greatest over 4096 that the output may command then, if it
 // has a band: VOUT_COMMAND is 1 V, VOUT_MARGIN_HIGH 3 V, VOUT_MARGIN_LOW 0.5 V.
+#[rattlefmt::skip]
 static BYTES: [(u16, Option<(i128, i128)>); 8] = [
-    (0x80, Some((4096, 4096))),
-    (0xA8, Some((12288, 12288))),
-    (0x30, Some((4096, 4096))),
-    (0xA0, Some((2048, 12288))),
-    (0xC0, Some((2048, 12288))),
-    (0xB0, None),
-    (0xBF, None),
+    (0x80, Some((4096, 4096))), (0xA8, Some((12288, 12288))), (0x30, Some((4096, 4096))),
+    (0xA0, Some((2048, 12288))), (0xC0, Some((2048, 12288))), (0xB0, None), (0xBF, None),
     (0xF0, None),
 ];
 
@@ -363,32 +354,13 @@ fn a_plan_needs_no_missing_register(rt: HostRuntime) {
 }
 
 // Whether a part has VOUT_MAX, the margins, high first, and VOUT_MIN; the word of each of its registers; whether a survey ends by its own rule, and after how many jobs.
+#[rattlefmt::skip]
 static SURVEYS: [([bool; 4], [u16; 6], (bool, u16)); 5] = [
-    (
-        [true, true, true, true],
-        [0x80, 4096, 5325, 0, 0, 0],
-        (true, 5),
-    ),
-    (
-        [true, true, true, false],
-        [0x80, 4096, 5325, 0, 0, 0],
-        (true, 4),
-    ),
-    (
-        [false, true, true, true],
-        [0x80, 4096, 5325, 0, 0, 0],
-        (true, 4),
-    ),
-    (
-        [true, false, false, true],
-        [0x80, 4096, 5325, 0, 0, 0],
-        (true, 5),
-    ),
-    (
-        [true, false, false, true],
-        [0xA8, 4096, 5325, 0, 0, 0],
-        (false, 4),
-    ),
+    ([true, true, true, true], [0x80, 4096, 5325, 0, 0, 0], (true, 5)),
+    ([true, true, true, false], [0x80, 4096, 5325, 0, 0, 0], (true, 4)),
+    ([false, true, true, true], [0x80, 4096, 5325, 0, 0, 0], (true, 4)),
+    ([true, false, false, true], [0x80, 4096, 5325, 0, 0, 0], (true, 5)),
+    ([true, false, false, true], [0xA8, 4096, 5325, 0, 0, 0], (false, 4)),
 ];
 
 #[test]

@@ -77,18 +77,13 @@ fn no_order_goes_into_a_part_that_came_up_anew(rt: HostRuntime) {
         ..DOWN
     };
     // The rules, after how many frames it restarts, how many it doesn't answer then, and how the list ends.
+    #[rattlefmt::skip]
     let rows: [(&'static str, Rules, usize, usize, End); 5] = [
         ("in the look before the order", UP, 10, 0, restarted),
         ("after the look", UP, 14, 0, restarted),
         ("after VOUT_COMMAND was read", UP, 17, 1, restarted),
         ("after the look, and the list goes on", going, 14, 0, above),
-        (
-            "after VOUT_COMMAND was read, and the list goes on",
-            going,
-            17,
-            1,
-            above,
-        ),
+        ("after VOUT_COMMAND was read, and the list goes on", going, 17, 1, above),
     ];
     for (name, rules, frames, silent, end) in &rows {
         let part = Part {
@@ -135,40 +130,13 @@ fn a_look_that_finds_a_part_anew_ends_at_once(rt: HostRuntime) {
 fn a_voltage_above_its_limit_ends_at_once_unless_it_was_lowered(rt: HostRuntime) {
     let outside = End::Does(Verdict::OutsideLimits);
     // OPERATION before, the voltage that it has then, the step, for how many reads READ_VOUT is above the limit, and how the list ends.
+    #[rattlefmt::skip]
     let rows: [(&'static str, u16, u16, Step, usize, End); 6] = [
-        (
-            "raised",
-            0x80,
-            0x0E00,
-            sets(0, 0, 1_000_000, LOOKS),
-            2,
-            outside,
-        ),
-        (
-            "lowered",
-            0x80,
-            0x1180,
-            sets(0, 0, 1_000_000, LOOKS),
-            2,
-            End::Reached,
-        ),
-        (
-            "lowered, and not in time",
-            0x80,
-            0x1180,
-            sets(0, 0, 1_000_000, LOOKS),
-            9,
-            outside,
-        ),
+        ("raised", 0x80, 0x0E00, sets(0, 0, 1_000_000, LOOKS), 2, outside),
+        ("lowered", 0x80, 0x1180, sets(0, 0, 1_000_000, LOOKS), 2, End::Reached),
+        ("lowered, and not in time", 0x80, 0x1180, sets(0, 0, 1_000_000, LOOKS), 9, outside),
         ("turned on", 0x00, 0x1000, on(0, 0, LOOKS), 2, outside),
-        (
-            "from margin high",
-            0xA8,
-            0x1000,
-            on(0, 0, LOOKS),
-            2,
-            End::Reached,
-        ),
+        ("from margin high", 0xA8, 0x1000, on(0, 0, LOOKS), 2, End::Reached),
         ("from margin low", 0x98, 0x1000, on(0, 0, LOOKS), 2, outside),
     ];
     for (name, operation, command, step, ramps, end) in &rows {

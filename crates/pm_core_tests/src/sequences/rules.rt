@@ -52,21 +52,14 @@ fn a_list_that_asks_tells_each_order_first(rt: HostRuntime) {
 fn another_order_than_the_one_told_is_told_first(rt: HostRuntime) {
     let asking = Rules { asks: true, ..DOWN };
     let is_off = Job::Order(Cell::Out(0, Reg::Operation), 0x00);
+    #[rattlefmt::skip]
     let rows = [
         ("nothing was told", None, Act::Order(is_off), Some(is_off)),
         ("it was told", Some(is_off), Act::Job(is_off), None),
-        (
-            "another byte was",
-            Some(Job::Order(Cell::Out(0, Reg::Operation), 0x40)),
-            Act::Order(is_off),
-            Some(is_off),
-        ),
-        (
-            "the same byte of another output was",
-            Some(Job::Order(Cell::Out(1, Reg::Operation), 0x00)),
-            Act::Order(is_off),
-            Some(is_off),
-        ),
+        ("another byte was", Some(Job::Order(Cell::Out(0, Reg::Operation), 0x40)),
+            Act::Order(is_off), Some(is_off)),
+        ("the same byte of another output was",
+            Some(Job::Order(Cell::Out(1, Reg::Operation), 0x00)), Act::Order(is_off), Some(is_off)),
     ];
     for (name, told, act, then) in &rows {
         let guard = guard(&rt);
@@ -104,30 +97,12 @@ fn a_step_that_stops_is_left_where_the_list_says_so(rt: HostRuntime) {
     };
     let on = (0x80, 0x1000);
     let stays_on = StepEnd::Course(CourseEnd::Differs(Reg::Operation, 0x80));
+    #[rattlefmt::skip]
     let rows: [ListRow; 2] = [
-        (
-            "up, and the second rail stays off",
-            Rules { leaves: true, ..UP },
-            [PART, dead],
-            up,
-            End::Left(1),
-            2,
-            20,
-            [(0x80, 0x1333), (0x80, 0x10CD), (0x80, 0x119A), on],
-        ),
-        (
-            "down, and the first output stays on",
-            Rules {
-                leaves: false,
-                ..DOWN
-            },
-            [deaf, PART],
-            down,
-            End::Stopped(stays_on),
-            0,
-            0,
-            [on, on, on, on],
-        ),
+        ("up, and the second rail stays off", Rules { leaves: true, ..UP }, [PART, dead], up,
+            End::Left(1), 2, 20, [(0x80, 0x1333), (0x80, 0x10CD), (0x80, 0x119A), on]),
+        ("down, and the first output stays on", Rules { leaves: false, ..DOWN }, [deaf, PART], down,
+            End::Stopped(stays_on), 0, 0, [on, on, on, on]),
     ];
     check_lists(&rt, &rows);
 }
@@ -191,63 +166,15 @@ fn faults_are_new_against_what_an_earlier_list_heard(rt: HostRuntime) {
         fault: 1,
         word: 0,
     };
+    #[rattlefmt::skip]
     let rows: [BeforeRow; 7] = [
-        (
-            "no earlier list",
-            Heard::NOTHING,
-            0x0020,
-            1_200_000,
-            End::Reached,
-            24,
-        ),
-        (
-            "the fault stood",
-            good(0x0020),
-            0x0020,
-            1_200_000,
-            End::Reached,
-            23,
-        ),
-        (
-            "it came with the earlier list",
-            good(0x0000),
-            0x0020,
-            1_200_000,
-            is_new,
-            28,
-        ),
-        (
-            "it stood, and nothing is ordered",
-            good(0x0020),
-            0x0020,
-            1_000_000,
-            End::Reached,
-            8,
-        ),
-        (
-            "it came, and nothing is ordered",
-            good(0x0000),
-            0x0020,
-            1_000_000,
-            is_new,
-            13,
-        ),
-        (
-            "no answer came",
-            silent,
-            0x0000,
-            1_200_000,
-            End::Reached,
-            24,
-        ),
-        (
-            "no answer came, and a fault is there",
-            silent,
-            0x0020,
-            1_200_000,
-            is_new,
-            29,
-        ),
+        ("no earlier list", Heard::NOTHING, 0x0020, 1_200_000, End::Reached, 24),
+        ("the fault stood", good(0x0020), 0x0020, 1_200_000, End::Reached, 23),
+        ("it came with the earlier list", good(0x0000), 0x0020, 1_200_000, is_new, 28),
+        ("it stood, and nothing is ordered", good(0x0020), 0x0020, 1_000_000, End::Reached, 8),
+        ("it came, and nothing is ordered", good(0x0000), 0x0020, 1_000_000, is_new, 13),
+        ("no answer came", silent, 0x0000, 1_200_000, End::Reached, 24),
+        ("no answer came, and a fault is there", silent, 0x0020, 1_200_000, is_new, 29),
     ];
     for (name, before, status, microvolts, end, frames) in &rows {
         let part = Part {
@@ -298,19 +225,11 @@ fn requests_beside_the_jobs_read_the_output_that_is_looked_at(rt: HostRuntime) {
     let guard = guard(&rt);
     let mut sequence = Sequence::new(60, UP);
     sequence.look.delivery.output = 1;
+    #[rattlefmt::skip]
     let rows = [
-        (
-            Act::Ask(Question::Before),
-            Some([0xB0, 0x06, 0x02, 0x01, 0x79]),
-        ),
-        (
-            Act::Ask(Question::OvFaultLimit),
-            Some([0xB0, 0x06, 0x02, 0x01, 0x40]),
-        ),
-        (
-            Act::Ask(Question::ReadVout),
-            Some([0xB0, 0x06, 0x02, 0x01, 0x8B]),
-        ),
+        (Act::Ask(Question::Before), Some([0xB0, 0x06, 0x02, 0x01, 0x79])),
+        (Act::Ask(Question::OvFaultLimit), Some([0xB0, 0x06, 0x02, 0x01, 0x40])),
+        (Act::Ask(Question::ReadVout), Some([0xB0, 0x06, 0x02, 0x01, 0x8B])),
         (Act::Probe, Some([0xB0, 0x06, 0x02, 0x01, 0x01])),
         (Act::Again, None),
         (Act::Order(Job::Learn(0)), None),

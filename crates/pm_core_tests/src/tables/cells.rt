@@ -4,23 +4,17 @@ use crate::checks::agrees;
 use pm_table::{Cell, Code, Reg, cell_of};
 
 // The bytes of OPERATION that have a meaning: the bits that are fixed, and their values.
+#[rattlefmt::skip]
 static OPERATIONS: [(u16, u16); 7] = [
-    (0b1100_0000, 0b0000_0000),
-    (0b1100_0000, 0b0100_0000),
-    (0b1111_0000, 0b1000_0000),
-    (0b1111_1100, 0b1001_0100),
-    (0b1111_1100, 0b1001_1000),
-    (0b1111_1100, 0b1010_0100),
+    (0b1100_0000, 0b0000_0000), (0b1100_0000, 0b0100_0000), (0b1111_0000, 0b1000_0000),
+    (0b1111_1100, 0b1001_0100), (0b1111_1100, 0b1001_1000), (0b1111_1100, 0b1010_0100),
     (0b1111_1100, 0b1010_1000),
 ];
 
+#[rattlefmt::skip]
 static REGISTERS: [(u8, Reg); 6] = [
-    (0x01, Reg::Operation),
-    (0x21, Reg::VoutCommand),
-    (0x24, Reg::VoutMax),
-    (0x25, Reg::MarginHigh),
-    (0x26, Reg::MarginLow),
-    (0x2B, Reg::VoutMin),
+    (0x01, Reg::Operation), (0x21, Reg::VoutCommand), (0x24, Reg::VoutMax), (0x25, Reg::MarginHigh),
+    (0x26, Reg::MarginLow), (0x2B, Reg::VoutMin),
 ];
 
 // Whether a cell takes this word.
