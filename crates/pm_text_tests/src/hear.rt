@@ -33,22 +33,15 @@ const FIRST: &str = "output 0 VOUT_COMMAND 34CD\noutput 1 VOUT_COMMAND 1000\n";
 const SECOND: &str = "output 0 VOUT_COMMAND 1000\noutput 1 VOUT_COMMAND 34CD\n";
 
 // The text, the lines of its answers, and those of the outputs.
+#[rattlefmt::skip]
 static ANSWERS: [(&str, &str, &str); 31] = [
     ("", "", NONE),
     ("# B0\n\n  \n\r\n", "", NONE),
     ("B0 05 04 00 21 CD 34 5A", "taken\n", FIRST),
     ("B0 05 04 01 21 CD 34 4C", "taken\n", SECOND),
-    (
-        "B0 05 04 01 21 CD 34 5A",
-        "refused K1 Frame F5 WrongPec 7\n",
-        NONE,
-    ),
+    ("B0 05 04 01 21 CD 34 5A", "refused K1 Frame F5 WrongPec 7\n", NONE),
     ("B0", "refused K1 Frame F2 Short 1\n", NONE),
-    (
-        "B0 05 04 00 21 CD 34",
-        "refused K1 Frame F2 Short 7\n",
-        NONE,
-    ),
+    ("B0 05 04 00 21 CD 34", "refused K1 Frame F2 Short 7\n", NONE),
     ("B0 21 CD 34 38 00", "refused K1 Frame F3 Long 5\n", NONE),
     ("B0 05 01 00 21", "refused K1 Frame F4 WrongCount 2\n", NONE),
     ("B0 05 04 02 21 00 10 8E", "refused K4 BadPage\n", NONE),
@@ -65,44 +58,21 @@ static ANSWERS: [(&str, &str, &str); 31] = [
     ("B0 98 /", "answer B1 33 A3\n", NONE),
     ("B0 30 02 21 00 /", "refused K3 UnsupportedData\n", NONE),
     // What both outputs and the device start with.
-    (
-        "B0 01 /\nB0 24 /\nB0 25 /\nB0 26 /\nB0 2B /\nB0 10 /",
+    ("B0 01 /\nB0 24 /\nB0 25 /\nB0 26 /\nB0 2B /\nB0 10 /",
         "answer B1 80 20\nanswer B1 00 40 11\nanswer B1 00 11 B7\nanswer B1 00 0F D7\nanswer B1 00 00 04\nanswer B1 00 60\n",
-        NONE,
-    ),
-    (
-        "B0 06 02 01 01 /\nB0 06 02 01 20 /\nB0 06 02 01 24 /\nB0 06 02 01 25 /\nB0 06 02 01 26 /\nB0 06 02 01 2B /",
+        NONE),
+    ("B0 06 02 01 01 /\nB0 06 02 01 20 /\nB0 06 02 01 24 /\nB0 06 02 01 25 /\nB0 06 02 01 26 /\nB0 06 02 01 2B /",
         "answer B1 01 80 11\nanswer B1 01 14 2C\nanswer B1 02 00 40 32\nanswer B1 02 00 11 E0\nanswer B1 02 00 0F 1C\nanswer B1 02 00 00 C5\n",
-        NONE,
-    ),
+        NONE),
     // A plain write goes to the output that PAGE names.
     ("B0 00 01 ED\nB0 00 /", "taken\nanswer B1 01 C5\n", NONE),
     ("B0 00 01 ED\nB0 21 CD 34 38", "taken\ntaken\n", SECOND),
-    (
-        "B0 00 01 ED\nrestart\nB0 00 /",
-        "taken\nrestarted\nanswer B1 00 C2\n",
-        NONE,
-    ),
-    (
-        "B0 00 01 ED\nrestart\nB0 21 CD 34 38",
-        "taken\nrestarted\ntaken\n",
-        FIRST,
-    ),
-    (
-        "B0 05 04 00 21 CD 34 5A\n  restart  ",
-        "taken\nrestarted\n",
-        NONE,
-    ),
-    (
-        "B0 05 04 00 21 CD 34 5A\nB0 06 02 00 21 /",
-        "taken\nanswer B1 02 CD 34 B9\n",
-        FIRST,
-    ),
-    (
-        "B0 10 80 34\nB0 05 04 00 21 CD 34 5A\nB0 7E /",
-        "taken\nrefused K5 Protected\nanswer B1 80 00\n",
-        NONE,
-    ),
+    ("B0 00 01 ED\nrestart\nB0 00 /", "taken\nrestarted\nanswer B1 00 C2\n", NONE),
+    ("B0 00 01 ED\nrestart\nB0 21 CD 34 38", "taken\nrestarted\ntaken\n", FIRST),
+    ("B0 05 04 00 21 CD 34 5A\n  restart  ", "taken\nrestarted\n", NONE),
+    ("B0 05 04 00 21 CD 34 5A\nB0 06 02 00 21 /", "taken\nanswer B1 02 CD 34 B9\n", FIRST),
+    ("B0 10 80 34\nB0 05 04 00 21 CD 34 5A\nB0 7E /",
+        "taken\nrefused K5 Protected\nanswer B1 80 00\n", NONE),
 ];
 
 #[test]
@@ -114,15 +84,12 @@ fn each_line_is_answered_and_the_outputs_follow(rt: HostRuntime) {
     }
 }
 
+#[rattlefmt::skip]
 static SPELLINGS: [&str; 9] = [
-    "B0 05 04 00 21 CD 34 5A\n",
-    "B0 05 04 00 21 CD 34 5A\r\n",
-    "B0 05 04 00 21 CD 34 5A\r",
+    "B0 05 04 00 21 CD 34 5A\n", "B0 05 04 00 21 CD 34 5A\r\n", "B0 05 04 00 21 CD 34 5A\r",
     "B0 05 04 00 21 CD 34 5A\n\r",
     "\n# the frame\n   \n\r\n#\nB0 05 04 00 21 CD 34 5A\n\n# B0 /\n  ",
-    "b0 05 04 00 21 cD 34 5a\n",
-    "  B0   05 04 00  21 CD 34 5A   \n",
-    "B0050400 21CD345A",
+    "b0 05 04 00 21 cD 34 5a\n", "  B0   05 04 00  21 CD 34 5A   \n", "B0050400 21CD345A",
     "B005040021CD345A",
 ];
 

@@ -111,92 +111,39 @@ const BAD_LACKS: &str =
     "pmb: bad lacks: give an address and VOUT_MAX, VOUT_MARGIN_HIGH, VOUT_MARGIN_LOW or VOUT_MIN, as 58:VOUT_MAX,VOUT_MIN\n";
 
 /// Options of `check`, the log, the status, and what is written on standard output.
+#[rattlefmt::skip]
 static CHECKS: [(&[&str], &str, u8, &str); 10] = [
-    (
-        &[],
-        WITHOUT,
-        1,
-        "line 5: the writer says that 58 lacks VOUT_MAX VOUT_MIN: --lacks=58:VOUT_MAX,VOUT_MIN if its data sheet says so\n",
-    ),
-    (
-        &["--lacks=58:VOUT_MAX,VOUT_MIN"],
-        WITHOUT,
-        0,
-        "accepted: 1 claim, 3 transfers; without VOUT_MAX VOUT_MIN of 58 by --lacks\n",
-    ),
+    (&[], WITHOUT, 1,
+        "line 5: the writer says that 58 lacks VOUT_MAX VOUT_MIN: --lacks=58:VOUT_MAX,VOUT_MIN if its data sheet says so\n"),
+    (&["--lacks=58:VOUT_MAX,VOUT_MIN"], WITHOUT, 0,
+        "accepted: 1 claim, 3 transfers; without VOUT_MAX VOUT_MIN of 58 by --lacks\n"),
     // In any order, twice, in several options, with an address in either case and a slash for the colon.
-    (
-        &["--lacks", "58/VOUT_MIN,VOUT_MAX,VOUT_MIN"],
-        WITHOUT,
-        0,
-        "accepted: 1 claim, 3 transfers; without VOUT_MAX VOUT_MIN of 58 by --lacks\n",
-    ),
-    (
-        &[
-            "--lacks=58:VOUT_MIN",
-            "--lacks=6a:VOUT_MIN",
-            "--lacks=58:VOUT_MAX",
-        ],
-        WITHOUT,
-        0,
-        "accepted: 1 claim, 3 transfers; without VOUT_MAX VOUT_MIN of 58 by --lacks\n",
-    ),
-    (
-        &["--lacks=58:VOUT_MIN"],
-        WITHOUT,
-        1,
-        "line 5: the writer says that 58 lacks VOUT_MAX: --lacks=58:VOUT_MAX if its data sheet says so\n",
-    ),
-    (
-        &["--lacks=59:VOUT_MAX,VOUT_MIN"],
-        WITHOUT,
-        1,
-        "line 5: the writer says that 58 lacks VOUT_MAX VOUT_MIN: --lacks=58:VOUT_MAX,VOUT_MIN if its data sheet says so\n",
-    ),
-    (
-        &["--lacks=58:VOUT_MAX,VOUT_MARGIN_HIGH,VOUT_MARGIN_LOW,VOUT_MIN"],
-        WITHOUT,
-        0,
-        "accepted: 1 claim, 3 transfers; without VOUT_MAX VOUT_MIN of 58 by --lacks\n",
-    ),
-    (
-        &["--lacks=58:VOUT_MARGIN_HIGH,VOUT_MARGIN_LOW"],
-        WITHOUT,
-        1,
-        "line 5: the writer says that 58 lacks VOUT_MAX VOUT_MIN: --lacks=58:VOUT_MAX,VOUT_MIN if its data sheet says so\n",
-    ),
-    (
-        &[],
-        BELIED,
-        1,
-        "line 6: the writer says that 58 lacks VOUT_MAX: 0 VOUT_MAX answered on line 5\n",
-    ),
-    (
-        &["--lacks=58:VOUT_MAX,VOUT_MIN"],
-        BELIED,
-        1,
-        "line 6: the writer says that 58 lacks VOUT_MAX: 0 VOUT_MAX answered on line 5\n",
-    ),
+    (&["--lacks", "58/VOUT_MIN,VOUT_MAX,VOUT_MIN"], WITHOUT, 0,
+        "accepted: 1 claim, 3 transfers; without VOUT_MAX VOUT_MIN of 58 by --lacks\n"),
+    (&["--lacks=58:VOUT_MIN", "--lacks=6a:VOUT_MIN", "--lacks=58:VOUT_MAX"], WITHOUT, 0,
+        "accepted: 1 claim, 3 transfers; without VOUT_MAX VOUT_MIN of 58 by --lacks\n"),
+    (&["--lacks=58:VOUT_MIN"], WITHOUT, 1,
+        "line 5: the writer says that 58 lacks VOUT_MAX: --lacks=58:VOUT_MAX if its data sheet says so\n"),
+    (&["--lacks=59:VOUT_MAX,VOUT_MIN"], WITHOUT, 1,
+        "line 5: the writer says that 58 lacks VOUT_MAX VOUT_MIN: --lacks=58:VOUT_MAX,VOUT_MIN if its data sheet says so\n"),
+    (&["--lacks=58:VOUT_MAX,VOUT_MARGIN_HIGH,VOUT_MARGIN_LOW,VOUT_MIN"], WITHOUT, 0,
+        "accepted: 1 claim, 3 transfers; without VOUT_MAX VOUT_MIN of 58 by --lacks\n"),
+    (&["--lacks=58:VOUT_MARGIN_HIGH,VOUT_MARGIN_LOW"], WITHOUT, 1,
+        "line 5: the writer says that 58 lacks VOUT_MAX VOUT_MIN: --lacks=58:VOUT_MAX,VOUT_MIN if its data sheet says so\n"),
+    (&[], BELIED, 1,
+        "line 6: the writer says that 58 lacks VOUT_MAX: 0 VOUT_MAX answered on line 5\n"),
+    (&["--lacks=58:VOUT_MAX,VOUT_MIN"], BELIED, 1,
+        "line 6: the writer says that 58 lacks VOUT_MAX: 0 VOUT_MAX answered on line 5\n"),
 ];
 
 /// A text of `--lacks` that can't be read.
+#[rattlefmt::skip]
 static NO_LACKS: [&str; 16] = [
-    "--lacks=",
-    "--lacks=58",
-    "--lacks=58:",
-    "--lacks=:VOUT_MAX",
-    "--lacks=VOUT_MAX",
-    "--lacks=58:VOUT_MAX,",
-    "--lacks=58:,VOUT_MAX",
-    "--lacks=58:VOUT_MAX VOUT_MIN",
-    "--lacks=58:vout_max",
-    "--lacks=58:VOUT_COMMAND",
-    "--lacks=58:OPERATION",
-    "--lacks=58:VOUT_MAX:VOUT_MIN",
-    "--lacks=07:VOUT_MAX",
-    "--lacks=78:VOUT_MAX",
-    "--lacks=0x58:VOUT_MAX",
-    "--lacks=58:VOUT_MAX,59:VOUT_MAX",
+    "--lacks=", "--lacks=58", "--lacks=58:", "--lacks=:VOUT_MAX", "--lacks=VOUT_MAX",
+    "--lacks=58:VOUT_MAX,", "--lacks=58:,VOUT_MAX", "--lacks=58:VOUT_MAX VOUT_MIN",
+    "--lacks=58:vout_max", "--lacks=58:VOUT_COMMAND", "--lacks=58:OPERATION",
+    "--lacks=58:VOUT_MAX:VOUT_MIN", "--lacks=07:VOUT_MAX", "--lacks=78:VOUT_MAX",
+    "--lacks=0x58:VOUT_MAX", "--lacks=58:VOUT_MAX,59:VOUT_MAX",
 ];
 
 #[test]
@@ -385,40 +332,19 @@ fn flushed(alloc: Global, words: &[&str], text: &str, flush_fails: bool) -> Ran 
 }
 
 /// The option or the command, what is read, the status, what is printed and what is said.
+#[rattlefmt::skip]
 static HANDED_ON: [(&str, &str, u8, &str, &str); 9] = [
-    (
-        "decode",
-        "B0",
-        0,
-        "1 58 write F2 Short 1\nlines 1 accepted 0 faults 1 bad 0\n",
-        "",
-    ),
+    ("decode", "B0", 0, "1 58 write F2 Short 1\nlines 1 accepted 0 faults 1 bad 0\n", ""),
     ("decode", "", 0, "lines 0 accepted 0 faults 0 bad 0\n", ""),
     ("--version", "", 0, "pmb 0.1.0\n", ""),
     ("hear", "/ /", 1, "", "pmb: X1 Syntax line 1\n"),
     ("replay", "", 1, "", "pmb: X1 Syntax line 1\n"),
-    (
-        "replay",
-        "scenario 1\naddress 5\n",
-        1,
-        "",
-        "pmb: X2 BadHex line 2\n",
-    ),
+    ("replay", "scenario 1\naddress 5\n", 1, "", "pmb: X2 BadHex line 2\n"),
     ("number", "", 2, "", "pmb: give one of --word and --micro\n"),
-    (
-        "check",
-        "#log 58 2 2\nB0 06 02 00 21 / B1 02 CD 34 B9\n#holds 0 VOUT_COMMAND 34CD\n",
-        0,
-        "accepted: 1 claim, 1 transfer\n",
-        "",
-    ),
-    (
-        "check",
-        "#log 58 2 2\nB0 06 02 00 21 / B1 02 CD 34 B8\n#holds 0 VOUT_COMMAND 34CD\n",
-        1,
-        "line 3: 0 VOUT_COMMAND isn't known to hold 34CD: possible any\n",
-        "",
-    ),
+    ("check", "#log 58 2 2\nB0 06 02 00 21 / B1 02 CD 34 B9\n#holds 0 VOUT_COMMAND 34CD\n", 0,
+        "accepted: 1 claim, 1 transfer\n", ""),
+    ("check", "#log 58 2 2\nB0 06 02 00 21 / B1 02 CD 34 B8\n#holds 0 VOUT_COMMAND 34CD\n", 1,
+        "line 3: 0 VOUT_COMMAND isn't known to hold 34CD: possible any\n", ""),
 ];
 
 #[test]

@@ -9,15 +9,10 @@ use std::process::Abort;
 use std::test::Fail;
 
 // The lines before the events, of version 2.
+#[rattlefmt::skip]
 static HEAD: [&str; 8] = [
-    "scenario 2",
-    "address 58",
-    "passes 2",
-    "protect 00",
-    "coefficients -1 5 3",
-    "output 14 80 1000 4000 1100 0F00 0800",
-    "output 40 80 0BB8 03E8 0BB8 0BB8 07D0",
-    "begin",
+    "scenario 2", "address 58", "passes 2", "protect 00", "coefficients -1 5 3",
+    "output 14 80 1000 4000 1100 0F00 0800", "output 40 80 0BB8 03E8 0BB8 0BB8 07D0", "begin",
 ];
 
 // A text with another line at a place, counted from 0, and with these events.
@@ -134,32 +129,18 @@ fn a_possible_byte_has_two_digits(rt: HostRuntime) -> Result<(), Fail> {
 }
 
 // An event of VOUT_MIN in version 2, and lines of the report.
+#[rattlefmt::skip]
 static ORDERED: [(&str, &str, &str, &str); 4] = [
-    (
-        "order 0 VOUT_MIN 2000",
-        "output 0 on commanded 8192/4096 2000000 uV\n",
-        "VOUT_MIN 2000 host confirmed 2000\nstatus 01 8001 08\noutput 1",
-        "job done\n",
-    ),
-    (
-        "order 0 VOUT_MIN 5000",
-        "output 0 on commanded 16384/4096 4000000 uV\n",
-        "VOUT_MIN 5000 host confirmed 5000\nstatus 01 8001 08\noutput 1",
-        "job done\n",
-    ),
-    (
-        "order 0 VOUT_MIN 1000",
-        "output 0 on commanded 4096/4096 1000000 uV\n",
-        "VOUT_MIN 1000 host confirmed 1000\nstatus 00 0000 00\noutput 1",
-        "job done\n",
-    ),
+    ("order 0 VOUT_MIN 2000", "output 0 on commanded 8192/4096 2000000 uV\n",
+        "VOUT_MIN 2000 host confirmed 2000\nstatus 01 8001 08\noutput 1", "job done\n"),
+    ("order 0 VOUT_MIN 5000", "output 0 on commanded 16384/4096 4000000 uV\n",
+        "VOUT_MIN 5000 host confirmed 5000\nstatus 01 8001 08\noutput 1", "job done\n"),
+    ("order 0 VOUT_MIN 1000", "output 0 on commanded 4096/4096 1000000 uV\n",
+        "VOUT_MIN 1000 host confirmed 1000\nstatus 00 0000 00\noutput 1", "job done\n"),
     // 2 V is the word 0BB8.
-    (
-        "learn 1\nexchange whole whole\nexchange whole whole\nvolts 1 VOUT_MIN 2000000",
+    ("learn 1\nexchange whole whole\nexchange whole whole\nvolts 1 VOUT_MIN 2000000",
         "output 1 on commanded 2000/1000 2000000 uV\n",
-        "VOUT_MIN 0BB8 host confirmed 0BB8\nstatus 01 8001 08\ncml",
-        "job done\n",
-    ),
+        "VOUT_MIN 0BB8 host confirmed 0BB8\nstatus 01 8001 08\ncml", "job done\n"),
 ];
 
 // The report after an event of version 2, which is carried out.
@@ -193,19 +174,14 @@ fn version_2_orders_vout_min(rt: HostRuntime) -> Result<(), Fail> {
 
 // Frames that the converter hears from its base configuration, whose VOUT_MIN is 0000h, and the lines before
 // the outputs'.
+#[rattlefmt::skip]
 static HEARD: [(&str, &str); 3] = [
-    (
-        "B0 05 04 00 2B 00 20 B5\nB0 7A /\nB0 79 /\nB0 2B /\n",
-        "taken\nanswer B1 08 1A\nanswer B1 01 80 48\nanswer B1 00 20 E4\n",
-    ),
-    (
-        "B0 05 04 00 2B 00 50 E2\nB0 7A /\nB0 79 /\nB0 2B /\n",
-        "taken\nanswer B1 08 1A\nanswer B1 01 80 48\nanswer B1 00 50 B3\n",
-    ),
-    (
-        "B0 05 04 00 2B 00 10 25\nB0 7A /\nB0 79 /\nB0 2B /\n",
-        "taken\nanswer B1 00 22\nanswer B1 00 00 D4\nanswer B1 00 10 74\n",
-    ),
+    ("B0 05 04 00 2B 00 20 B5\nB0 7A /\nB0 79 /\nB0 2B /\n",
+        "taken\nanswer B1 08 1A\nanswer B1 01 80 48\nanswer B1 00 20 E4\n"),
+    ("B0 05 04 00 2B 00 50 E2\nB0 7A /\nB0 79 /\nB0 2B /\n",
+        "taken\nanswer B1 08 1A\nanswer B1 01 80 48\nanswer B1 00 50 B3\n"),
+    ("B0 05 04 00 2B 00 10 25\nB0 7A /\nB0 79 /\nB0 2B /\n",
+        "taken\nanswer B1 00 22\nanswer B1 00 00 D4\nanswer B1 00 10 74\n"),
 ];
 
 fn is_heard(rt: &(impl Abort + AllocGlobal), text: &str, wanted: &str) {
@@ -225,31 +201,16 @@ fn hear_takes_vout_min_and_shows_what_it_cuts(rt: HostRuntime) -> Result<(), Fai
 }
 
 // The place of a line, counted from 0, a line that is faulty there, and the fault.
+#[rattlefmt::skip]
 static FAULTY: [(usize, &str, TextFault); 10] = [
     (0, "scenario 3", TextFault::Syntax(1)),
     (0, "scenario 02", TextFault::Syntax(1)),
     (0, "scenario 2 2", TextFault::Syntax(1)),
     (5, "output 14 80 1000 4000 1100 0F00", TextFault::Syntax(6)),
-    (
-        6,
-        "output 14 80 1000 4000 1100 0F00 0000 0000",
-        TextFault::Syntax(7),
-    ),
-    (
-        6,
-        "output 14 80 1000 4000 1100 0F00 00G0",
-        TextFault::BadHex(7),
-    ),
-    (
-        6,
-        "output 14 80 1000 4000 1100 0F00 00",
-        TextFault::BadHex(7),
-    ),
-    (
-        6,
-        "output 14 80 1000 4000 1100 0F00 begin",
-        TextFault::BadHex(7),
-    ),
+    (6, "output 14 80 1000 4000 1100 0F00 0000 0000", TextFault::Syntax(7)),
+    (6, "output 14 80 1000 4000 1100 0F00 00G0", TextFault::BadHex(7)),
+    (6, "output 14 80 1000 4000 1100 0F00 00", TextFault::BadHex(7)),
+    (6, "output 14 80 1000 4000 1100 0F00 begin", TextFault::BadHex(7)),
     // A line `output` of version 2 is faulty in version 1.
     (0, "scenario 1", TextFault::Syntax(6)),
     (0, "scenario", TextFault::Syntax(1)),

@@ -80,19 +80,11 @@ fn an_order_takes_at_each_whole_delivery(rt: HostRuntime) -> Result<(), SetupFau
     let nothing = Told::Nothing;
     let first = (Event::Order(FIRST, 0x34CD), Told::Accept(FIRST, 0x34CD));
     let second = (Event::Order(SECOND, 0x2000), Told::Accept(SECOND, 0x2000));
+    #[rattlefmt::skip]
     let rows = [
-        first,
-        (WHOLE, Told::Take),
-        (ACKED, nothing),
-        (READ, Told::End),
-        second,
-        (CUT, nothing),
-        (ACKED, nothing),
-        (READ, nothing),
-        (WHOLE, Told::Take),
-        (WHOLE, Told::Take),
-        (NOT_ACKED, nothing),
-        (CUT_READ, Told::End),
+        first, (WHOLE, Told::Take), (ACKED, nothing), (READ, Told::End), second, (CUT, nothing),
+        (ACKED, nothing), (READ, nothing), (WHOLE, Told::Take), (WHOLE, Told::Take),
+        (NOT_ACKED, nothing), (CUT_READ, Told::End),
     ];
     follow(&rt, &rows)
 }
@@ -105,20 +97,14 @@ fn start_words_come_back_and_the_order_goes_on(rt: HostRuntime) -> Result<(), Se
         Event::OrderMicro(FIRST, 2_000_000),
         Told::Accept(FIRST, 0x2000),
     );
+    #[rattlefmt::skip]
     let rows = [
-        order,
-        (WHOLE, Told::Take),
+        order, (WHOLE, Told::Take),
         (Event::RestartDevice, Told::Back),
         (WHOLE, Told::Take),
         (Event::RestartHost, Told::End),
-        (Event::Clear(1), nothing),
-        (WHOLE, nothing),
-        (ACKED, nothing),
-        (Event::Learn(0), nothing),
-        (READ, nothing),
-        micro,
-        (WHOLE, Told::Take),
-        (ACKED, nothing),
+        (Event::Clear(1), nothing), (WHOLE, nothing), (ACKED, nothing), (Event::Learn(0), nothing),
+        (READ, nothing), micro, (WHOLE, Told::Take), (ACKED, nothing),
         (Event::RestartDevice, Told::Back),
         (READ, nothing),
     ];
@@ -133,19 +119,12 @@ fn a_blocked_order_takes_after_a_restart(rt: HostRuntime) -> Result<(), SetupFau
         Told::Accept(Cell::Protect, 0x40),
     );
     let order = (Event::Order(SECOND, 0x34CD), Told::Accept(SECOND, 0x34CD));
+    #[rattlefmt::skip]
     let rows = [
-        protect,
-        (WHOLE, Told::Take),
-        (ACKED, nothing),
-        (READ, Told::End),
-        order,
-        (WHOLE, nothing),
-        (ACKED, nothing),
-        (READ, nothing),
+        protect, (WHOLE, Told::Take), (ACKED, nothing), (READ, Told::End), order, (WHOLE, nothing),
+        (ACKED, nothing), (READ, nothing),
         (Event::RestartDevice, Told::Back),
-        (WHOLE, Told::Take),
-        (ACKED, nothing),
-        (READ, Told::End),
+        (WHOLE, Told::Take), (ACKED, nothing), (READ, Told::End),
     ];
     follow(&rt, &rows)
 }

@@ -18,13 +18,9 @@ static WORDS: [u16; 6] = [0x0000, 0x0010, 0x0100, 0x7000, 0x8000, 0xFFF0];
 // Off, on, and on at either margin.
 static BYTES: [u16; 4] = [0x00, 0x80, 0xA8, 0x94];
 
+#[rattlefmt::skip]
 static REGISTERS: [Reg; 6] = [
-    Reg::Operation,
-    Reg::VoutCommand,
-    Reg::VoutMax,
-    Reg::MarginHigh,
-    Reg::MarginLow,
-    Reg::VoutMin,
+    Reg::Operation, Reg::VoutCommand, Reg::VoutMax, Reg::MarginHigh, Reg::MarginLow, Reg::VoutMin,
 ];
 
 // How a plan ends.

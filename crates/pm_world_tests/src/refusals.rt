@@ -84,6 +84,7 @@ const LEARNED: [Row; 14] = [
 ];
 
 // While a check is open, and nothing is known.
+#[rattlefmt::skip]
 const BUSY: [Row; 16] = [
     (Event::Order(SECOND, 0x1000), H3),
     (Event::Order(NO_COMMAND, 0x1000), H3),
@@ -95,12 +96,8 @@ const BUSY: [Row; 16] = [
     (Event::OrderMicro(Cell::Protect, 0), H3),
     (Event::Check(FIRST), H3),
     (Event::Check(Cell::Protect), H3),
-    (Event::Check(NO_COMMAND), H3),
-    (Event::Learn(0), H3),
-    (Event::Learn(2), H3),
-    (Event::Clear(0), H3),
-    (Event::Clear(2), H3),
-    (Event::Clear(255), H3),
+    (Event::Check(NO_COMMAND), H3), (Event::Learn(0), H3), (Event::Learn(2), H3),
+    (Event::Clear(0), H3), (Event::Clear(2), H3), (Event::Clear(255), H3),
 ];
 
 // While output 0's VOUT_COMMAND may hold 16 words, and its format is known; then in a check too, and

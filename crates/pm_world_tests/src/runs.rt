@@ -136,14 +136,10 @@ fn is_answered(rt: &impl Abort, world: &World, request: &str, answer: &str) {
 }
 
 // An output, the code of a reading, and its word.
+#[rattlefmt::skip]
 static READINGS: [(u8, u8, u16); 7] = [
-    (0, 0x88, 0x1A2B),
-    (0, 0x8B, 0x2B3C),
-    (1, 0x8B, 0x3C4D),
-    (1, 0x8C, 0x5E6F),
-    (255, 0x8D, 0x6F71),
-    (2, 0x8B, 0x7777),
-    (0, 0x21, 0x7777),
+    (0, 0x88, 0x1A2B), (0, 0x8B, 0x2B3C), (1, 0x8B, 0x3C4D), (1, 0x8C, 0x5E6F), (255, 0x8D, 0x6F71),
+    (2, 0x8B, 0x7777), (0, 0x21, 0x7777),
 ];
 
 // A request, and its answer.

@@ -37,79 +37,20 @@ fn mixed() -> Config {
 const PASSES: u8 = 3;
 
 // The word of each cell that is ordered, the write and the request.
+#[rattlefmt::skip]
 static ORDERS: [(Cell, u16, &str, &str); 13] = [
-    (
-        Cell::Out(0, Reg::Operation),
-        0x94,
-        "B0 05 03 00 01 94 6E",
-        "B0 06 02 00 01",
-    ),
-    (
-        Cell::Out(0, Reg::VoutCommand),
-        0x34CD,
-        "B0 05 04 00 21 CD 34 5A",
-        "B0 06 02 00 21",
-    ),
-    (
-        Cell::Out(0, Reg::VoutMax),
-        0x5678,
-        "B0 05 04 00 24 78 56 BD",
-        "B0 06 02 00 24",
-    ),
-    (
-        Cell::Out(0, Reg::MarginHigh),
-        0x1234,
-        "B0 05 04 00 25 34 12 AA",
-        "B0 06 02 00 25",
-    ),
-    (
-        Cell::Out(0, Reg::MarginLow),
-        0x0ABC,
-        "B0 05 04 00 26 BC 0A 41",
-        "B0 06 02 00 26",
-    ),
-    (
-        Cell::Out(0, Reg::VoutMin),
-        0x0123,
-        "B0 05 04 00 2B 23 01 C3",
-        "B0 06 02 00 2B",
-    ),
-    (
-        Cell::Out(1, Reg::Operation),
-        0x94,
-        "B0 05 03 01 01 94 05",
-        "B0 06 02 01 01",
-    ),
-    (
-        Cell::Out(1, Reg::VoutCommand),
-        0x34CD,
-        "B0 05 04 01 21 CD 34 4C",
-        "B0 06 02 01 21",
-    ),
-    (
-        Cell::Out(1, Reg::VoutMax),
-        0x5678,
-        "B0 05 04 01 24 78 56 AB",
-        "B0 06 02 01 24",
-    ),
-    (
-        Cell::Out(1, Reg::MarginHigh),
-        0x1234,
-        "B0 05 04 01 25 34 12 BC",
-        "B0 06 02 01 25",
-    ),
-    (
-        Cell::Out(1, Reg::MarginLow),
-        0x0ABC,
-        "B0 05 04 01 26 BC 0A 57",
-        "B0 06 02 01 26",
-    ),
-    (
-        Cell::Out(1, Reg::VoutMin),
-        0x0123,
-        "B0 05 04 01 2B 23 01 D5",
-        "B0 06 02 01 2B",
-    ),
+    (Cell::Out(0, Reg::Operation), 0x94, "B0 05 03 00 01 94 6E", "B0 06 02 00 01"),
+    (Cell::Out(0, Reg::VoutCommand), 0x34CD, "B0 05 04 00 21 CD 34 5A", "B0 06 02 00 21"),
+    (Cell::Out(0, Reg::VoutMax), 0x5678, "B0 05 04 00 24 78 56 BD", "B0 06 02 00 24"),
+    (Cell::Out(0, Reg::MarginHigh), 0x1234, "B0 05 04 00 25 34 12 AA", "B0 06 02 00 25"),
+    (Cell::Out(0, Reg::MarginLow), 0x0ABC, "B0 05 04 00 26 BC 0A 41", "B0 06 02 00 26"),
+    (Cell::Out(0, Reg::VoutMin), 0x0123, "B0 05 04 00 2B 23 01 C3", "B0 06 02 00 2B"),
+    (Cell::Out(1, Reg::Operation), 0x94, "B0 05 03 01 01 94 05", "B0 06 02 01 01"),
+    (Cell::Out(1, Reg::VoutCommand), 0x34CD, "B0 05 04 01 21 CD 34 4C", "B0 06 02 01 21"),
+    (Cell::Out(1, Reg::VoutMax), 0x5678, "B0 05 04 01 24 78 56 AB", "B0 06 02 01 24"),
+    (Cell::Out(1, Reg::MarginHigh), 0x1234, "B0 05 04 01 25 34 12 BC", "B0 06 02 01 25"),
+    (Cell::Out(1, Reg::MarginLow), 0x0ABC, "B0 05 04 01 26 BC 0A 57", "B0 06 02 01 26"),
+    (Cell::Out(1, Reg::VoutMin), 0x0123, "B0 05 04 01 2B 23 01 D5", "B0 06 02 01 2B"),
     (Cell::Protect, 0x40, "B0 10 40 7A", "B0 10"),
 ];
 

@@ -1,14 +1,9 @@
 //! What payloads are shown to mean: each bit of the status registers, units, OPERATION, WRITE_PROTECT, VOUT_MODE, and whose
 //! format a voltage has.
 
-use super::Row;
-
-/// Rows under `--values`.
-pub(super) static VALUES: [Row; 13] = [
-    (
-        &["pmb", "decode", "--values"],
-        0,
-        "
+/// Captures, as `are_told` reads them.
+pub(super) static VALUES: &str = r#"
+$ 0 pmb decode --values
 B0 78 / B1 80 7D -> 58 STATUS_BYTE read 80 BUSY
 B0 78 / B1 40 33 -> 58 STATUS_BYTE read 40 OFF
 B0 78 / B1 20 14 -> 58 STATUS_BYTE read 20 VOUT_OV_FAULT
@@ -53,17 +48,9 @@ B0 78 / B1 FF 07 -> 58 STATUS_BYTE read FF BUSY, OFF, VOUT_OV_FAULT, IOUT_OC_FAU
 B0 79 / B1 FF FF F0 -> 58 STATUS_WORD read FFFF VOUT, IOUT_POUT, INPUT, MFR_SPECIFIC, POWER_GOOD#, FANS, OTHER, UNKNOWN, BUSY, OFF, VOUT_OV_FAULT, IOUT_OC_FAULT, VIN_UV_FAULT, TEMPERATURE, CML, NONE_OF_THE_ABOVE
 B0 7A / B1 FF D1 -> 58 STATUS_VOUT read FF VOUT_OV_FAULT, VOUT_OV_WARNING, VOUT_UV_WARNING, VOUT_UV_FAULT, VOUT_MAX_MIN, TON_MAX_FAULT, TOFF_MAX_WARNING, TRACKING
 B0 7E / B1 FF 7A -> 58 STATUS_CML read FF COMMAND, DATA, PEC, MEMORY, PROCESSOR, bit 2, COMMUNICATION, OTHER
-count STATUS_BYTE 9
-count STATUS_WORD 17
-count STATUS_VOUT 9
-count STATUS_CML 9
+count STATUS_BYTE 9, STATUS_WORD 17, STATUS_VOUT 9, STATUS_CML 9
 lines 44 accepted 44 faults 0 bad 0
-",
-    ),
-    (
-        &["pmb", "decode", "--values"],
-        0,
-        "
+$ 0 pmb decode --values
 B0 88 / B1 00 D3 F6 -> 58 READ_VIN read D300
 B0 20 / B1 14 ED -> 58 VOUT_MODE read 14 ULINEAR16 -12
 B0 88 / B1 00 D3 F6 -> 58 READ_VIN read D300 12 V?
@@ -130,31 +117,12 @@ B0 06 02 01 79 / B1 02 01 80 67 -> 58 page 1 STATUS_WORD read 8001 VOUT, NONE_OF
 B0 79 / B1 40 08 B7 -> 58 STATUS_WORD read 0840 POWER_GOOD#, OFF
 B0 05 03 00 7A 88 0F -> 58 page 0 STATUS_VOUT write 88 VOUT_OV_FAULT, VOUT_MAX_MIN
 B0 7E FF 6D -> 58 STATUS_CML write FF COMMAND, DATA, PEC, MEMORY, PROCESSOR, bit 2, COMMUNICATION, OTHER
-count READ_VIN 6
-count VOUT_MODE 11
-count READ_IOUT 3
-count READ_TEMPERATURE_1 3
-count OPERATION 19
-count WRITE_PROTECT 6
-count PAGE 1
-count CAPABILITY 1
-count PMBUS_REVISION 1
-count CLEAR_FAULTS 2
-count STORE_USER_ALL 1
-count VOUT_COMMAND 2
-count COEFFICIENTS 1
-count STATUS_BYTE 2
-count STATUS_WORD 3
-count STATUS_VOUT 2
-count STATUS_CML 2
+count READ_VIN 6, VOUT_MODE 11, READ_IOUT 3, READ_TEMPERATURE_1 3, OPERATION 19, WRITE_PROTECT 6
+count PAGE 1, CAPABILITY 1, PMBUS_REVISION 1, CLEAR_FAULTS 2, STORE_USER_ALL 1, VOUT_COMMAND 2
+count COEFFICIENTS 1, STATUS_BYTE 2, STATUS_WORD 3, STATUS_VOUT 2, STATUS_CML 2
 lines 66 accepted 66 faults 0 bad 0
 ? line 49 writes PAGE: --pages shows which output each packet reaches
-",
-    ),
-    (
-        &["pmb", "decode", "--values"],
-        0,
-        "
+$ 0 pmb decode --values
 B0 05 04 00 21 CD 34 5A -> 58 page 0 VOUT_COMMAND write 34CD
 B0 06 02 00 20 / B1 01 14 4E -> 58 page 0 VOUT_MODE read 14 ULINEAR16 -12
 B0 05 04 00 21 CD 34 5A -> 58 page 0 VOUT_COMMAND write 34CD 3.300048 V
@@ -171,48 +139,26 @@ B0 06 02 00 20 / B1 01 13 5B -> 58 page 0 VOUT_MODE read 13 ULINEAR16 -13
 B0 05 04 00 21 CD 34 5A -> 58 page 0 VOUT_COMMAND write 34CD 1.650024 V
 B0 06 02 00 20 / B1 01 21 C5 -> 58 page 0 VOUT_MODE read 21 VID
 B0 05 04 00 21 CD 34 5A -> 58 page 0 VOUT_COMMAND write 34CD
-count VOUT_COMMAND 8
-count VOUT_MODE 3
-count VOUT_MAX 1
-count VOUT_MARGIN_HIGH 1
-count VOUT_MARGIN_LOW 1
-count VOUT_MIN 1
+count VOUT_COMMAND 8, VOUT_MODE 3, VOUT_MAX 1, VOUT_MARGIN_HIGH 1, VOUT_MARGIN_LOW 1, VOUT_MIN 1
 count READ_VOUT 1
 lines 16 accepted 16 faults 0 bad 0
-",
-    ),
-    (
-        &["pmb", "decode", "--values"],
-        0,
-        "
+$ 0 pmb decode --values
 B0 20 / B1 14 ED -> 58 VOUT_MODE read 14 ULINEAR16 -12
 B0 05 04 00 21 CD 34 5A -> 58 page 0 VOUT_COMMAND write 34CD
 B0 06 02 00 20 / B1 01 14 4F -> 58 read F5 WrongPec 3 bytes B0 06 02 00 20 / B1 01 14 4F
 B0 05 04 00 21 CD 34 5A -> 58 page 0 VOUT_COMMAND write 34CD
-count VOUT_MODE 1
-count VOUT_COMMAND 2
+count VOUT_MODE 1, VOUT_COMMAND 2
 lines 4 accepted 3 faults 1 bad 0
-",
-    ),
-    (
-        &["pmb", "decode", "--values"],
-        0,
-        "
+$ 0 pmb decode --values
 B0 06 02 FF 20 / B1 01 0F 36 -> 58 page 255 VOUT_MODE read 0F ULINEAR16 15
 B0 05 04 FF 21 01 00 16 -> 58 page 255 VOUT_COMMAND write 0001
 B0 06 02 FF 20 / B1 01 10 6B -> 58 page 255 VOUT_MODE read 10 ULINEAR16 -16
 B0 05 04 FF 21 01 00 16 -> 58 page 255 VOUT_COMMAND write 0001
 B0 05 04 FE 21 01 00 00 -> 58 page 254 VOUT_COMMAND write 0001
 B2 05 04 00 21 01 00 7E -> 59 page 0 VOUT_COMMAND write 0001
-count VOUT_MODE 2
-count VOUT_COMMAND 4
+count VOUT_MODE 2, VOUT_COMMAND 4
 lines 6 accepted 6 faults 0 bad 0
-",
-    ),
-    (
-        &["pmb", "decode", "--values"],
-        0,
-        "
+$ 0 pmb decode --values
 B0 06 02 01 20 / B1 01 40 87 -> 58 page 1 VOUT_MODE read 40 DIRECT
 B0 05 04 01 21 E4 0C F7 -> 58 page 1 VOUT_COMMAND write 0CE4
 B0 30 02 88 00 / B1 05 01 00 00 00 03 EA -> 58 COEFFICIENTS of 88 side 0 read m 1 b 0 r 3
@@ -238,21 +184,10 @@ B0 05 04 01 21 01 00 D1 -> 58 page 1 VOUT_COMMAND write 0001 1000000000000 V
 B0 05 04 00 21 E4 0C E1 -> 58 page 0 VOUT_COMMAND write 0CE4
 B2 06 02 01 20 / B3 01 40 77 -> 59 page 1 VOUT_MODE read 40 DIRECT
 B2 05 04 01 21 E4 0C 4E -> 59 page 1 VOUT_COMMAND write 0CE4
-count VOUT_MODE 2
-count VOUT_COMMAND 8
-count COEFFICIENTS 9
-count READ_VOUT 2
-count VOUT_MAX 1
-count VOUT_MARGIN_HIGH 1
-count VOUT_MARGIN_LOW 1
-count VOUT_MIN 1
+count VOUT_MODE 2, VOUT_COMMAND 8, COEFFICIENTS 9, READ_VOUT 2, VOUT_MAX 1, VOUT_MARGIN_HIGH 1
+count VOUT_MARGIN_LOW 1, VOUT_MIN 1
 lines 25 accepted 25 faults 0 bad 0
-",
-    ),
-    (
-        &["pmb", "decode", "--values", "--vout=direct:1:0:3"],
-        0,
-        "
+$ 0 pmb decode --values --vout=direct:1:0:3
 B0 05 04 00 21 E4 0C E1 -> 58 page 0 VOUT_COMMAND write 0CE4 3.3 V
 B0 21 E4 0C 83 -> 58 VOUT_COMMAND write 0CE4 3.3 V
 B0 06 02 00 20 / B1 01 21 C5 -> 58 page 0 VOUT_MODE read 21 VID
@@ -266,81 +201,44 @@ B0 06 02 01 8B / B1 02 E4 0C 05 -> 58 page 1 READ_VOUT read 0CE4 3.3 V
 B0 21 E4 0C 83 -> 58 VOUT_COMMAND write 0CE4
 B0 06 02 00 20 / B1 01 14 4E -> 58 page 0 VOUT_MODE read 14 ULINEAR16 -12
 B0 05 04 00 21 CD 34 5A -> 58 page 0 VOUT_COMMAND write 34CD 3.300048 V
-count VOUT_COMMAND 8
-count VOUT_MODE 3
-count COEFFICIENTS 1
-count READ_VOUT 1
+count VOUT_COMMAND 8, VOUT_MODE 3, COEFFICIENTS 1, READ_VOUT 1
 lines 13 accepted 13 faults 0 bad 0
-",
-    ),
-    (
-        &["pmb", "decode", "--values", "--vout=ulinear16:-12"],
-        0,
-        "
+$ 0 pmb decode --values --vout=ulinear16:-12
 B0 05 04 00 21 CD 34 5A -> 58 page 0 VOUT_COMMAND write 34CD 3.300048 V
 B0 06 02 00 20 / B1 01 40 E5 -> 58 page 0 VOUT_MODE read 40 DIRECT
 B0 05 04 00 21 CD 34 5A -> 58 page 0 VOUT_COMMAND write 34CD
 B0 21 CD 34 38 -> 58 VOUT_COMMAND write 34CD
-count VOUT_COMMAND 3
-count VOUT_MODE 1
+count VOUT_COMMAND 3, VOUT_MODE 1
 lines 4 accepted 4 faults 0 bad 0
-",
-    ),
-    (
-        &["pmb", "decode", "--values"],
-        0,
-        "
+$ 0 pmb decode --values
 B4 20 / B5 1F D0 -> 5A VOUT_MODE read 1F ULINEAR16 -1
 B4 88 / B5 00 D3 D2 -> 5A READ_VIN read D300 12 V?
 B6 20 / B7 20 6B -> 5B VOUT_MODE read 20 VID
 B6 88 / B7 00 D3 C0 -> 5B READ_VIN read D300
-count VOUT_MODE 2
-count READ_VIN 2
+count VOUT_MODE 2, READ_VIN 2
 lines 4 accepted 4 faults 0 bad 0
-",
-    ),
-    (
-        &["pmb", "decode", "--values", "--vout=direct:1:-1:6"],
-        0,
-        "
+$ 0 pmb decode --values --vout=direct:1:-1:6
 B0 05 04 00 21 FF FF F6 -> 58 page 0 VOUT_COMMAND write FFFF 0.999999 V
 B0 05 04 00 21 00 00 D2 -> 58 page 0 VOUT_COMMAND write 0000 1 V
 B0 05 04 00 21 00 80 5B -> 58 page 0 VOUT_COMMAND write 8000 0.967232 V
 B0 05 04 00 21 FF 7F 7F -> 58 page 0 VOUT_COMMAND write 7FFF 1.032767 V
 count VOUT_COMMAND 4
 lines 4 accepted 4 faults 0 bad 0
-",
-    ),
-    (
-        &["pmb", "decode", "--values", "--vout=direct:1:0:6"],
-        0,
-        "
+$ 0 pmb decode --values --vout=direct:1:0:6
 B0 05 04 00 21 FF FF F6 -> 58 page 0 VOUT_COMMAND write FFFF -0.000001 V
 B0 05 04 00 21 01 00 C7 -> 58 page 0 VOUT_COMMAND write 0001 0.000001 V
 count VOUT_COMMAND 2
 lines 2 accepted 2 faults 0 bad 0
-",
-    ),
-    (
-        &["pmb", "decode", "--values", "--vout=direct:1:0:-12"],
-        0,
-        "
+$ 0 pmb decode --values --vout=direct:1:0:-12
 B0 05 04 00 21 00 80 5B -> 58 page 0 VOUT_COMMAND write 8000 -32768000000000000 V
 B0 05 04 00 21 FF 7F 7F -> 58 page 0 VOUT_COMMAND write 7FFF 32767000000000000 V
 count VOUT_COMMAND 2
 lines 2 accepted 2 faults 0 bad 0
 ? line 1 orders a voltage beyond 1000 V by --vout: a minus may be missing
-",
-    ),
-    (
-        &["pmb", "decode", "--values", "--vout=direct:1:-1000:6"],
-        0,
-        "
+$ 0 pmb decode --values --vout=direct:1:-1000:6
 B0 05 04 00 21 00 00 D2 -> 58 page 0 VOUT_COMMAND write 0000 1000 V
 B0 05 04 00 21 01 00 C7 -> 58 page 0 VOUT_COMMAND write 0001 1000.000001 V
 count VOUT_COMMAND 2
 lines 2 accepted 2 faults 0 bad 0
 ? line 2 orders a voltage beyond 1000 V by --vout: a minus may be missing
-",
-    ),
-];
+"#;

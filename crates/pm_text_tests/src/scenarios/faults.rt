@@ -33,6 +33,7 @@ fn is_refused_event(
 }
 
 // The number of the line, and what stands there instead.
+#[rattlefmt::skip]
 static FAULTY_LINES: [(usize, &str, TextFault); 12] = [
     (1, "scenario 3", TextFault::Syntax(1)),
     (3, "passes 256", TextFault::Syntax(3)),
@@ -42,17 +43,9 @@ static FAULTY_LINES: [(usize, &str, TextFault); 12] = [
     (9, "order 0 OPERATION 34CD", TextFault::BadHex(9)),
     (9, "order 0 WRITE_PROTECT 40", TextFault::Syntax(9)),
     (9, "order - VOUT_COMMAND 34CD", TextFault::Syntax(9)),
-    (
-        9,
-        "volts 0 VOUT_COMMAND 9223372036854775808",
-        TextFault::Syntax(9),
-    ),
+    (9, "volts 0 VOUT_COMMAND 9223372036854775808", TextFault::Syntax(9)),
     (10, "deliver bytes B0050 stop", TextFault::BadHex(10)),
-    (
-        10,
-        "deliver bytes 000102030405060708090A0B0C0D0E0F10 stop",
-        TextFault::BadHex(10),
-    ),
+    (10, "deliver bytes 000102030405060708090A0B0C0D0E0F10 stop", TextFault::BadHex(10)),
     (11, "finish", TextFault::Syntax(11)),
 ];
 
@@ -65,75 +58,24 @@ fn a_faulty_line_of_the_worked_scenario_is_told(rt: HostRuntime) -> Result<(), F
     Ok(())
 }
 
+#[rattlefmt::skip]
 static FAULTY_WORDS: [&str; 68] = [
-    " # x",
-    "; learn 1",
-    "// learn 1",
-    "learn\t1",
-    "Learn 1",
-    "begin",
-    "wait",
-    "order",
-    "order 0 34CD",
-    "order 0 FOO ZZ",
-    "order 0 VOUT_COMMAND",
-    "order 0 VOUT_COMMAND 34CD 34CD",
-    "order 256 OPERATION 80",
-    "order -0 OPERATION 80",
-    "order +0 OPERATION 80",
-    "order - OPERATION 80",
-    "order 0 WRITE_PROTECT 80",
-    "order 0 READ_VOUT 80",
-    "volts - WRITE_PROTECT 5",
-    "volts 0 WRITE_PROTECT 5",
-    "volts 0 VOUT_COMMAND",
-    "volts 0 VOUT_COMMAND +1",
-    "volts 0 VOUT_COMMAND -",
-    "volts 0 VOUT_COMMAND 0x5",
-    "volts 0 VOUT_COMMAND -9223372036854775809",
-    "check",
-    "check -",
-    "check - VOUT_MAX",
-    "check - WRITE-PROTECT",
-    "check 0",
-    "check 0 VOUT_MAX 0",
-    "learn",
-    "learn -",
-    "learn 256",
-    "learn 1 1",
-    "clear",
-    "clear -1",
-    "clear 0 0",
-    "store",
-    "restore",
-    "deliver",
-    "deliver cut",
-    "deliver cut 256",
-    "deliver cut -0",
-    "deliver cut +1",
-    "deliver cut FF",
-    "deliver part",
-    "deliver whole stop",
-    "deliver bytes",
-    "deliver bytes B0",
-    "deliver bytes B0 begin",
-    "deliver bytes B0 stop stop",
-    "finish Ack",
-    "finish ack ack",
-    "exchange whole",
-    "exchange whole part",
-    "exchange whole cut 256",
-    "exchange whole bytes",
-    "exchange whole bytes B1 stop",
-    "exchange whole whole whole",
-    "restart",
-    "restart world",
-    "restart host host",
-    "reading 0 READ_VIN 0000",
-    "reading - READ_VOUT 0000",
-    "reading 0 VOUT_MODE 0000",
-    "reading - READ_VIN",
-    "reading - READ_VIN 0000 0",
+    " # x", "; learn 1", "// learn 1", "learn\t1", "Learn 1", "begin", "wait", "order",
+    "order 0 34CD", "order 0 FOO ZZ", "order 0 VOUT_COMMAND", "order 0 VOUT_COMMAND 34CD 34CD",
+    "order 256 OPERATION 80", "order -0 OPERATION 80", "order +0 OPERATION 80",
+    "order - OPERATION 80", "order 0 WRITE_PROTECT 80", "order 0 READ_VOUT 80",
+    "volts - WRITE_PROTECT 5", "volts 0 WRITE_PROTECT 5", "volts 0 VOUT_COMMAND",
+    "volts 0 VOUT_COMMAND +1", "volts 0 VOUT_COMMAND -", "volts 0 VOUT_COMMAND 0x5",
+    "volts 0 VOUT_COMMAND -9223372036854775809", "check", "check -", "check - VOUT_MAX",
+    "check - WRITE-PROTECT", "check 0", "check 0 VOUT_MAX 0", "learn", "learn -", "learn 256",
+    "learn 1 1", "clear", "clear -1", "clear 0 0", "store", "restore", "deliver", "deliver cut",
+    "deliver cut 256", "deliver cut -0", "deliver cut +1", "deliver cut FF", "deliver part",
+    "deliver whole stop", "deliver bytes", "deliver bytes B0", "deliver bytes B0 begin",
+    "deliver bytes B0 stop stop", "finish Ack", "finish ack ack", "exchange whole",
+    "exchange whole part", "exchange whole cut 256", "exchange whole bytes",
+    "exchange whole bytes B1 stop", "exchange whole whole whole", "restart", "restart world",
+    "restart host host", "reading 0 READ_VIN 0000", "reading - READ_VOUT 0000",
+    "reading 0 VOUT_MODE 0000", "reading - READ_VIN", "reading - READ_VIN 0000 0",
 ];
 
 #[test]
@@ -144,23 +86,13 @@ fn a_word_that_is_not_what_stands_at_its_place_is_a_fault(rt: HostRuntime) -> Re
     Ok(())
 }
 
+#[rattlefmt::skip]
 static BAD_HEXADECIMAL: [&str; 16] = [
-    "deliver bytes stop",
-    "deliver bytes B stop",
-    "deliver bytes B0B stop",
-    "deliver bytes ZZ x",
-    "deliver bytes +0 stop",
-    "exchange whole bytes B",
-    "exchange bytes - whole",
-    "order 0 VOUT_COMMAND ZZZZ x",
-    "order 0 VOUT_COMMAND 80",
-    "order 0 VOUT_COMMAND 034CD",
-    "order 0 VOUT_COMMAND +4CD",
-    "order 0 OPERATION 0080",
-    "order - WRITE_PROTECT 0080",
-    "order - WRITE_PROTECT 8",
-    "reading 0 READ_VOUT 00",
-    "reading - READ_VIN 0x00 0",
+    "deliver bytes stop", "deliver bytes B stop", "deliver bytes B0B stop", "deliver bytes ZZ x",
+    "deliver bytes +0 stop", "exchange whole bytes B", "exchange bytes - whole",
+    "order 0 VOUT_COMMAND ZZZZ x", "order 0 VOUT_COMMAND 80", "order 0 VOUT_COMMAND 034CD",
+    "order 0 VOUT_COMMAND +4CD", "order 0 OPERATION 0080", "order - WRITE_PROTECT 0080",
+    "order - WRITE_PROTECT 8", "reading 0 READ_VOUT 00", "reading - READ_VIN 0x00 0",
 ];
 
 #[test]
@@ -172,6 +104,7 @@ fn a_word_that_should_be_hexadecimal_and_is_not_is_a_fault(rt: HostRuntime) -> R
 }
 
 // The place of the line, counted from 0, and the line.
+#[rattlefmt::skip]
 static FAULTY_HEADS: [(usize, &str, TextFault); 28] = [
     (0, "scenario 01", TextFault::Syntax(1)),
     (0, "scenario 1 1", TextFault::Syntax(1)),
@@ -195,16 +128,8 @@ static FAULTY_HEADS: [(usize, &str, TextFault); 28] = [
     (4, "coefficients 1 0 128", TextFault::Syntax(5)),
     (4, "coefficients +1 0 0", TextFault::Syntax(5)),
     (5, "output 14 80 begin", TextFault::BadHex(6)),
-    (
-        5,
-        "output 14 80 1000 4000 1100 0F00 0",
-        TextFault::Syntax(6),
-    ),
-    (
-        5,
-        "output 14 0080 1000 4000 1100 0F00",
-        TextFault::BadHex(6),
-    ),
+    (5, "output 14 80 1000 4000 1100 0F00 0", TextFault::Syntax(6)),
+    (5, "output 14 0080 1000 4000 1100 0F00", TextFault::BadHex(6)),
     (5, "output 14 80 10 4000 1100 0F00", TextFault::BadHex(6)),
     (5, "learn 1", TextFault::Syntax(6)),
     (6, "begin 1", TextFault::Syntax(7)),
@@ -220,6 +145,7 @@ fn a_faulty_line_before_the_events_is_told(rt: HostRuntime) -> Result<(), Fail> 
     Ok(())
 }
 
+#[rattlefmt::skip]
 static FIRST_FAULTS: [(&str, TextFault); 9] = [
     ("", TextFault::Syntax(1)),
     ("\n\n# x", TextFault::Syntax(4)),
@@ -228,14 +154,8 @@ static FIRST_FAULTS: [(&str, TextFault); 9] = [
     ("scenario 1\r", TextFault::Syntax(2)),
     ("scenario 1\n\r", TextFault::Syntax(3)),
     ("scenario 1\r\r\n", TextFault::Syntax(1)),
-    (
-        "scenario 1\r\n\r\n#\r\n  \r\naddress ZZ\r\npasses x",
-        TextFault::BadHex(5),
-    ),
-    (
-        "scenario 1\naddress 58\npasses x\nprotect ZZ",
-        TextFault::Syntax(3),
-    ),
+    ("scenario 1\r\n\r\n#\r\n  \r\naddress ZZ\r\npasses x", TextFault::BadHex(5)),
+    ("scenario 1\naddress 58\npasses x\nprotect ZZ", TextFault::Syntax(3)),
 ];
 
 // Events of which one or more are faulty, and the first fault.
