@@ -8,6 +8,7 @@ use pm_driver::{Bus, DeadBus, Fault, Patient, SimulatedBus, carry_out, driver_ov
 use pm_host::{Command, Host, Job, JobEnd};
 use pm_limits::Guard;
 use pm_world::{Arrival, Back};
+use std::array;
 
 // What goes wrong with a frame.
 #[derive(Clone, Copy, Debug, Drop, PartialEq)]
@@ -65,20 +66,7 @@ fn fault(wrong: Wrong) -> Fault {
 
 // The faults of these and no more: five at most.
 fn faults(plan: &[Wrong]) -> [Fault; 5] {
-    [
-        fault_at(plan, 0),
-        fault_at(plan, 1),
-        fault_at(plan, 2),
-        fault_at(plan, 3),
-        fault_at(plan, 4),
-    ]
-}
-
-fn fault_at(plan: &[Wrong], number: usize) -> Fault {
-    match plan.get(number) {
-        Some(wrong) => fault(*wrong),
-        None => fault(Whole),
-    }
+    array::from_fn(|number| fault(plan.get(number).copied().unwrap_or(Whole)))
 }
 
 // An order of 34CDh to a cell that holds 1000h, by a plan, the tries of each frame and the passes: how it ends, the word

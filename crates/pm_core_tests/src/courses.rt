@@ -59,19 +59,13 @@ fn over(rt: &impl Abort, course: FrameCourse, part: &mut Part) -> Run {
 fn off_is_the_first_frame_of_any_part(rt: HostRuntime) {
     let modes = [None, Some(0x20), Some(0x14)];
     for (number, mode) in modes.iter().enumerate() {
-        let mut part = Part {
-            mode: *mode,
-            ..PART
-        };
+        let mut part = with! { Part, PART; mode: *mode };
         let run = over(&rt, FrameCourse::power(0, 0x00, 4), &mut part);
-        equal(&rt, &run.end, &Some(CourseEnd::Reached), &number);
-        equal(
-            &rt,
-            &(run.first, run.writes, run.frames),
-            &(0x01, 1, 2),
-            &number,
-        );
-        equal(&rt, &part.words[0], &0x00, &number);
+        compare! { &rt, number;
+            run.end => Some(CourseEnd::Reached);
+            (run.first, run.writes, run.frames) => (0x01, 1, 2);
+            part.words[0] => 0x00;
+        }
     }
 }
 
@@ -83,18 +77,12 @@ fn a_mode_of_no_format_ends_at_once(rt: HostRuntime) {
         FrameCourse::power(0, 0x80, 60),
     ];
     for (number, course) in courses.iter().enumerate() {
-        let mut part = Part {
-            mode: Some(0x20),
-            ..PART
-        };
+        let mut part = with! { Part, PART; mode: Some(0x20) };
         let run = over(&rt, *course, &mut part);
         equal(&rt, &run.end, &Some(CourseEnd::NoFormat(0x20)), &number);
         equal(&rt, &(run.frames, run.writes), &(1, 0), &number);
         // DIRECT, with coefficients that make no format: m is 0.
-        let mut part = Part {
-            mode: Some(0x40),
-            ..PART
-        };
+        let mut part = with! { Part, PART; mode: Some(0x40) };
         let run = over(&rt, *course, &mut part);
         equal(&rt, &run.end, &Some(CourseEnd::NoFormat(0x40)), &number);
         equal(&rt, &(run.frames, run.writes), &(2, 0), &number);
@@ -112,14 +100,11 @@ fn another_source_ends_a_course_to_a_voltage(rt: HostRuntime) {
         equal(&rt, &(run.frames, run.writes), &(2, 0), byte);
         // A course to a byte takes the output back.
         let run = over(&rt, FrameCourse::power(0, 0x80, 60), &mut part);
-        equal(&rt, &run.end, &Some(CourseEnd::Reached), byte);
-        equal(
-            &rt,
-            &(run.code, run.word, run.writes),
-            &(0x01, 0x80, 1),
-            byte,
-        );
-        equal(&rt, &run.asked_protect, &true, byte);
+        compare! { &rt, byte;
+            run.end => Some(CourseEnd::Reached);
+            (run.code, run.word, run.writes) => (0x01, 0x80, 1);
+            run.asked_protect => true;
+        }
     }
 }
 
@@ -147,12 +132,7 @@ fn the_word_of_a_voltage_is_formed_by_the_format(rt: HostRuntime) {
             // 1 V, 4 V, 1.1 V, 0.9 V and 0 V.
             [0x80, 4000, 1000, 3900, 4100, 5000]
         };
-        let mut part = Part {
-            mode: Some(mode),
-            coefficients,
-            words,
-            ..PART
-        };
+        let mut part = with! { Part, PART; mode: Some(mode), coefficients, words };
         let run = over(&rt, volts(register, microvolts), &mut part);
         equal(&rt, &run.end, &Some(CourseEnd::Reached), &number);
         let ordered = (register.code().0, word, 1);
@@ -180,19 +160,13 @@ fn a_voltage_without_a_word_is_refused(rt: HostRuntime) {
 #[test]
 fn a_format_that_changes_forms_the_word_anew(rt: HostRuntime) {
     // The part is exchanged after the first write: its exponent is -13, and its registers hold the same volts.
-    let mut part = Part {
-        next_mode: Some(0x13),
-        words: [0x80, 0x1000, 0x7FFF, 0x1100, 0x0F00, 0x0000],
-        ..PART
-    };
+    let mut part = with! { Part, PART;
+        next_mode: Some(0x13), words: [0x80, 0x1000, 0x7FFF, 0x1100, 0x0F00, 0x0000] };
     let run = over(&rt, volts(Reg::VoutCommand, 1_200_000), &mut part);
-    equal(&rt, &run.end, &Some(CourseEnd::Reached), &1);
-    equal(
-        &rt,
-        &(run.code, run.word, run.writes),
-        &(0x21, 0x2666, 2),
-        &2,
-    );
+    compare! { &rt;
+        1, run.end => Some(CourseEnd::Reached);
+        2, (run.code, run.word, run.writes) => (0x21, 0x2666, 2);
+    }
 }
 
 // After so many frames of the course the part is exchanged for one with the exponent -11, whose VOUT_COMMAND, VOUT_MAX or both show
@@ -202,12 +176,7 @@ fn a_read_that_surprises_has_the_format_learned_again(rt: HostRuntime) {
     let rows = [1, 2, 3];
     for frames in &rows {
         let mut guard = guard(&rt);
-        equal(
-            &rt,
-            &guard.narrow(0, 900_000, 1_300_000).is_ok(),
-            &true,
-            frames,
-        );
+        compare! { &rt, frames; guard.narrow(0, 900_000, 1_300_000).is_ok() => true }
         let mut part = PART;
         let known = carried(FrameCourse::survey(0, 60), &mut guard, &mut part, 400);
         equal(&rt, &known.end, &Some(CourseEnd::Reached), frames);
@@ -222,13 +191,10 @@ fn a_read_that_surprises_has_the_format_learned_again(rt: HostRuntime) {
             &mut part,
             400,
         );
-        equal(&rt, &run.end, &Some(CourseEnd::Reached), frames);
-        equal(
-            &rt,
-            &(run.code, run.word, run.writes),
-            &(0x21, 0x099A, 1),
-            frames,
-        );
+        compare! { &rt, frames;
+            run.end => Some(CourseEnd::Reached);
+            (run.code, run.word, run.writes) => (0x21, 0x099A, 1);
+        }
     }
 }
 
@@ -245,10 +211,7 @@ fn limits_judge_a_word_by_the_format_that_is_learned_again(rt: HostRuntime) {
         mode: 0x15,
         words: [0x80, 0x0800, 0x2000, 0x0880, 0x0780, 0x0000],
     });
-    let wishes = Wishes {
-        command: Wish::Word(0x1333),
-        ..Wishes::nothing()
-    };
+    let wishes = with! { Wishes, Wishes::nothing(); command: Wish::Word(0x1333) };
     let run = carried(FrameCourse::new(0, &wishes, 60), &mut guard, &mut part, 400);
     let end = Some(refused(0x24, Some(0x21)));
     equal(&rt, &(run.end, run.writes), &(end, 0), &3);
@@ -280,37 +243,23 @@ fn limits_and_protection_refuse_before_a_write(rt: HostRuntime) {
 #[test]
 fn protection_of_operation_is_looked_at_once(rt: HostRuntime) {
     let off = [0x00, 0x1000, 0x4000, 0x1100, 0x0F00, 0x0000];
-    let mut part = Part {
-        words: off,
-        protect: 0x80,
-        ..PART
-    };
+    let mut part = with! { Part, PART; words: off, protect: 0x80 };
     let turned = over(&rt, FrameCourse::power(0, 0x80, 60), &mut part);
     let end = Some(refused(0x67, Some(0x01)));
     equal(&rt, &(turned.end, turned.writes), &(end, 0), &1);
     let mut part = Part { words: off, ..PART };
     let turned = over(&rt, FrameCourse::power(0, 0x94, 60), &mut part);
-    equal(&rt, &turned.end, &Some(CourseEnd::Reached), &2);
-    equal(
-        &rt,
-        &(turned.word, turned.writes, turned.asked_protect),
-        &(0x94, 1, true),
-        &3,
-    );
+    compare! { &rt;
+        2, turned.end => Some(CourseEnd::Reached);
+        3, (turned.word, turned.writes, turned.asked_protect) => (0x94, 1, true);
+    }
     // Turning off asks for none.
-    let mut part = Part {
-        protect: 0x80,
-        takes: false,
-        ..PART
-    };
+    let mut part = with! { Part, PART; protect: 0x80, takes: false };
     let turned = over(&rt, FrameCourse::power(0, 0x00, 60), &mut part);
-    equal(
-        &rt,
-        &turned.end,
-        &Some(CourseEnd::Differs(Reg::Operation, 0x80)),
-        &4,
-    );
-    equal(&rt, &turned.asked_protect, &false, &5);
+    compare! { &rt;
+        4, turned.end => Some(CourseEnd::Differs(Reg::Operation, 0x80));
+        5, turned.asked_protect => false;
+    }
     // A margin is read before it is selected, so that limits can judge it: 0.9375 V and 1.0625 V.
     let rows = [
         (0x94, Some(CourseEnd::Reached)),
@@ -318,12 +267,7 @@ fn protection_of_operation_is_looked_at_once(rt: HostRuntime) {
     ];
     for row in &rows {
         let mut guard = guard(&rt);
-        equal(
-            &rt,
-            &guard.narrow(0, 900_000, 1_050_000).is_ok(),
-            &true,
-            &row.0,
-        );
+        compare! { &rt, row.0; guard.narrow(0, 900_000, 1_050_000).is_ok() => true }
         let turned = carried(
             FrameCourse::power(0, row.0, 60),
             &mut guard,
@@ -334,12 +278,7 @@ fn protection_of_operation_is_looked_at_once(rt: HostRuntime) {
     }
     // Limits that the voltage isn't known to be within: L5, of OPERATION.
     let mut guard = guard(&rt);
-    equal(
-        &rt,
-        &guard.narrow(0, 1_150_000, 1_300_000).is_ok(),
-        &true,
-        &6,
-    );
+    compare! { &rt, 6; guard.narrow(0, 1_150_000, 1_300_000).is_ok() => true }
     let mut part = Part { words: off, ..PART };
     let turned = carried(FrameCourse::power(0, 0x80, 60), &mut guard, &mut part, 400);
     let end = Some(refused(0x25, Some(0x01)));
@@ -353,16 +292,10 @@ fn no_try_is_left(rt: HostRuntime) {
         code: Code(code),
         fault,
     });
-    let mut part = Part {
-        silent: true,
-        ..PART
-    };
+    let mut part = with! { Part, PART; silent: true };
     let run = over(&rt, wish, &mut part);
     equal(&rt, &run.end, &spent(0x20, Some(AnswerFault::NoAnswer)), &1);
-    let mut part = Part {
-        wrong_pec: true,
-        ..PART
-    };
+    let mut part = with! { Part, PART; wrong_pec: true };
     let run = over(&rt, wish, &mut part);
     equal(&rt, &run.end, &spent(0x20, Some(AnswerFault::WrongPec)), &2);
     let mut few = FrameCourse::new(0, &Wishes::nothing(), 2);
@@ -370,39 +303,27 @@ fn no_try_is_left(rt: HostRuntime) {
     let run = over(&rt, few, &mut whole());
     equal(&rt, &run.end, &spent(0x21, None), &3);
     // An off that nothing hears.
-    let mut part = Part {
-        silent: true,
-        ..PART
-    };
+    let mut part = with! { Part, PART; silent: true };
     let run = over(&rt, FrameCourse::power(0, 0x00, 3), &mut part);
     equal(&rt, &run.end, &spent(0x01, Some(AnswerFault::NoAnswer)), &4);
 }
 
 #[test]
 fn an_order_that_differs_twice_ends(rt: HostRuntime) {
-    let mut part = Part {
-        takes: false,
-        ..PART
-    };
+    let mut part = with! { Part, PART; takes: false };
     let run = over(&rt, volts(Reg::VoutCommand, 1_200_000), &mut part);
-    equal(
-        &rt,
-        &run.end,
-        &Some(CourseEnd::Differs(Reg::VoutCommand, 0x1000)),
-        &1,
-    );
-    equal(&rt, &run.writes, &4, &2);
+    compare! { &rt;
+        1, run.end => Some(CourseEnd::Differs(Reg::VoutCommand, 0x1000));
+        2, run.writes => 4;
+    }
 }
 
 // What is wanted of an output that holds 1000h, 1 V, and how near is near enough; 0 if the held word is taken, otherwise why it
 // isn't.
+#[rattlefmt::skip]
 static HELD: [(i64, u32, u8); 6] = [
-    (1_003_000, 3000, 0),
-    (1_003_000, 2999, 0x69),
-    (997_000, 3000, 0),
-    (997_000, 2999, 0x69),
-    (1_000_000, 0, 0),
-    (2_000_000_000_000_000, 4_294_967_295, 0x69),
+    (1_003_000, 3000, 0), (1_003_000, 2999, 0x69), (997_000, 3000, 0), (997_000, 2999, 0x69),
+    (1_000_000, 0, 0), (2_000_000_000_000_000, 4_294_967_295, 0x69),
 ];
 
 // The number of why a held word isn't taken, 0 if it is; FFh if the guard's host doesn't have the output.
@@ -425,12 +346,7 @@ fn a_held_word_is_taken_by_its_value(rt: HostRuntime) {
     let _ = carried(FrameCourse::survey(0, 20), &mut guard, &mut part, 400);
     for (microvolts, tolerance, number) in &HELD {
         let mut course = volts(Reg::VoutCommand, *microvolts);
-        equal(
-            &rt,
-            &taken(&mut course, &guard, *tolerance),
-            number,
-            &(microvolts, tolerance),
-        );
+        compare! { &rt, (microvolts, tolerance); taken(&mut course, &guard, *tolerance) => *number }
     }
     let mut margin = volts(Reg::MarginHigh, 1_062_500);
     equal(&rt, &taken(&mut margin, &guard, 3000), &0x64, &2);
@@ -438,12 +354,7 @@ fn a_held_word_is_taken_by_its_value(rt: HostRuntime) {
     equal(&rt, &taken(&mut survey, &guard, 3000), &0x69, &3);
     equal(&rt, &taken(&mut course, &guard, 3000), &0, &4);
     let run = carried(course, &mut guard, &mut part, 400);
-    equal(
-        &rt,
-        &(run.end, run.writes),
-        &(Some(CourseEnd::Reached), 0),
-        &5,
-    );
+    compare! { &rt, 5; (run.end, run.writes) => (Some(CourseEnd::Reached), 0) }
     let _ = guard.narrow(0, 1_000_001, 2_000_000);
     let mut course = volts(Reg::VoutCommand, 1_003_000);
     equal(&rt, &taken(&mut course, &guard, 3000), &0x23, &6);
@@ -451,10 +362,7 @@ fn a_held_word_is_taken_by_its_value(rt: HostRuntime) {
 
 #[test]
 fn a_missing_register_is_refused_at_once(rt: HostRuntime) {
-    let lacks = PartRegisters {
-        vout_min: false,
-        ..PartRegisters::all()
-    };
+    let lacks = with! { PartRegisters, PartRegisters::all(); vout_min: false };
     match Guard::of_part(0x58, 1, 2, [OutputLimits::Unlimited; 8], lacks) {
         Ok(mut guard) => {
             let wish = volts(Reg::VoutMin, 500_000);
@@ -498,11 +406,8 @@ fn nothing_but_off_is_ordered_where_no_limits_are_known(rt: HostRuntime) {
 
 #[test]
 fn words_are_wanted_beside_voltages(rt: HostRuntime) {
-    let wishes = Wishes {
-        command: Wish::Word(0x1234),
-        max: Wish::Microvolts(2_000_000),
-        ..Wishes::nothing()
-    };
+    let wishes = with! { Wishes, Wishes::nothing();
+        command: Wish::Word(0x1234), max: Wish::Microvolts(2_000_000) };
     let mut part = PART;
     let run = over(&rt, FrameCourse::new(0, &wishes, 60), &mut part);
     equal(&rt, &run.end, &Some(CourseEnd::Reached), &1);

@@ -35,16 +35,10 @@ static READS: [(Message, &str, &str); 4] = [
     (COEFFICIENTS, "B0 30 02 21 00", "B1 05 01 00 00 00 03 6B"),
 ];
 
-const DIRECT: OutputStart = OutputStart {
-    mode: 0x40,
-    ..OUTPUT
-};
+const DIRECT: OutputStart = with! { OutputStart, OUTPUT; mode: 0x40 };
 
 // The first output holds what the answers say, the second is DIRECT, in millivolts.
-const HOLDS: OutputStart = OutputStart {
-    command: 0x34CD,
-    ..OUTPUT
-};
+const HOLDS: OutputStart = with! { OutputStart, OUTPUT; command: 0x34CD };
 
 const MIXED: Config = Config {
     addr: 0x58,

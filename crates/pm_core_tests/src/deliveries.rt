@@ -9,31 +9,21 @@ use pm_frame::{pec, pec_after};
 use pm_rail::Power;
 
 // The command code of each register that is asked, and how many bytes it has.
+#[rattlefmt::skip]
 static CODES: [(Question, u8, usize); 13] = [
-    (Question::Before, 0x79, 2),
-    (Question::OvFaultLimit, 0x40, 2),
-    (Question::OvWarnLimit, 0x42, 2),
-    (Question::UvWarnLimit, 0x43, 2),
-    (Question::UvFaultLimit, 0x44, 2),
-    (Question::StatusWord, 0x79, 2),
-    (Question::StatusVout, 0x7A, 1),
-    (Question::StatusIout, 0x7B, 1),
-    (Question::StatusInput, 0x7C, 1),
-    (Question::StatusTemperature, 0x7D, 1),
-    (Question::ReadVout, 0x8B, 2),
-    (Question::PowerGoodOn, 0x5E, 2),
+    (Question::Before, 0x79, 2), (Question::OvFaultLimit, 0x40, 2),
+    (Question::OvWarnLimit, 0x42, 2), (Question::UvWarnLimit, 0x43, 2),
+    (Question::UvFaultLimit, 0x44, 2), (Question::StatusWord, 0x79, 2),
+    (Question::StatusVout, 0x7A, 1), (Question::StatusIout, 0x7B, 1),
+    (Question::StatusInput, 0x7C, 1), (Question::StatusTemperature, 0x7D, 1),
+    (Question::ReadVout, 0x8B, 2), (Question::PowerGoodOn, 0x5E, 2),
     (Question::PowerGoodOff, 0x5F, 2),
 ];
 
 #[test]
 fn each_question_reads_its_register(rt: HostRuntime) {
     for (question, code, size) in &CODES {
-        equal(
-            &rt,
-            &(question.code().0, question.size()),
-            &(*code, *size),
-            question,
-        );
+        compare! { &rt, question; (question.code().0, question.size()) => (*code, *size) }
     }
 }
 
@@ -116,12 +106,7 @@ fn each_fault_of_a_status_register_decides(rt: HostRuntime) {
             } else {
                 Verdict::Delivers
             };
-            equal(
-                &rt,
-                &said_of(*status, *register, bit),
-                &wanted,
-                &(register, bit),
-            );
+            compare! { &rt, (register, bit); said_of(*status, *register, bit) => wanted }
         }
     }
 }
@@ -147,12 +132,7 @@ fn a_fault_of_which_nobody_knows_since_when_decides(rt: HostRuntime) {
     delivery.look_after(false, false);
     delivery.hear(Question::StatusWord, Ok(0x0020));
     let verdict = delivery.verdict(1, Power::On, Reading::NotKnown);
-    equal(
-        &rt,
-        &verdict,
-        &Verdict::NewFault(Question::StatusWord, 5),
-        &1,
-    );
+    compare! { &rt, 1; verdict => Verdict::NewFault(Question::StatusWord, 5) }
 }
 
 // What is looked at, STATUS_WORD after 0000h before the first order, how READ_VOUT stands, which of three rounds it is, what is due then, and

@@ -12,13 +12,12 @@ use pm_table::address_ok;
 use std::alloc::{AllocError, Global};
 use std::process::Abort;
 
+#[rattlefmt::skip]
 static FAULTY_REQUESTS: [(&[u8], FrameFault); 32] = [
     (&[], FrameFault::Short(1)),
     // PAGE_PLUS_READ and COEFFICIENTS: the length, the count, the code
-    (&[0x06], FrameFault::Short(2)),
-    (&[0x30], FrameFault::Short(2)),
-    (&[0x06, 0x02, 0x00], FrameFault::Short(4)),
-    (&[0x30, 0x02, 0x21], FrameFault::Short(4)),
+    (&[0x06], FrameFault::Short(2)), (&[0x30], FrameFault::Short(2)),
+    (&[0x06, 0x02, 0x00], FrameFault::Short(4)), (&[0x30, 0x02, 0x21], FrameFault::Short(4)),
     (&[0x06, 0x03, 0x00], FrameFault::Short(4)),
     (&[0x06, 0x02, 0x00, 0x21, 0x00], FrameFault::Long(5)),
     (&[0x30, 0x02, 0x21, 0x00, 0x00], FrameFault::Long(5)),
@@ -39,16 +38,10 @@ static FAULTY_REQUESTS: [(&[u8], FrameFault); 32] = [
     (&[0x06, 0x02, 0x00, 0x99], FrameFault::UnknownCode(4)),
     (&[0x06, 0x02, 0x00, 0x03], FrameFault::WrongDirection(4)),
     // every other code: the code before the length
-    (&[0x99], FrameFault::UnknownCode(1)),
-    (&[0x99, 0x00], FrameFault::UnknownCode(1)),
-    (&[0x03], FrameFault::WrongDirection(1)),
-    (&[0x03, 0x46], FrameFault::WrongDirection(1)),
-    (
-        &[0x05, 0x04, 0x00, 0x21, 0xCD, 0x34, 0x5A],
-        FrameFault::WrongDirection(1),
-    ),
-    (&[0x21, 0x00], FrameFault::Long(2)),
-    (&[0x20, 0x14, 0x28], FrameFault::Long(2)),
+    (&[0x99], FrameFault::UnknownCode(1)), (&[0x99, 0x00], FrameFault::UnknownCode(1)),
+    (&[0x03], FrameFault::WrongDirection(1)), (&[0x03, 0x46], FrameFault::WrongDirection(1)),
+    (&[0x05, 0x04, 0x00, 0x21, 0xCD, 0x34, 0x5A], FrameFault::WrongDirection(1)),
+    (&[0x21, 0x00], FrameFault::Long(2)), (&[0x20, 0x14, 0x28], FrameFault::Long(2)),
     (&[0x10, 0x80, 0x34], FrameFault::Long(2)),
 ];
 

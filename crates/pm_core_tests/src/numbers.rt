@@ -70,13 +70,10 @@ fn words_stand_for_the_defined_pairs(rt: HostRuntime) {
     }
 }
 
+#[rattlefmt::skip]
 static LINEAR11_NUMBERS: [(i64, Result<u16, NumFault>); 9] = [
-    (0, Ok(0x0000)),
-    (12_000_000, Ok(0x000C)),
-    (1_024_000_000, Ok(0x0A00)),
-    (2_047_000_000, Ok(0x0BFF)),
-    (-2_047_000_000, Ok(0x0C00)),
-    (33_521_664_000_000, Ok(0x7BFF)),
+    (0, Ok(0x0000)), (12_000_000, Ok(0x000C)), (1_024_000_000, Ok(0x0A00)),
+    (2_047_000_000, Ok(0x0BFF)), (-2_047_000_000, Ok(0x0C00)), (33_521_664_000_000, Ok(0x7BFF)),
     (33_521_664_000_001, Err(NumFault::AboveGreatest)),
     (-33_554_432_000_000, Ok(0x7C00)),
     (-33_554_432_000_001, Err(NumFault::BelowLeast)),

@@ -129,16 +129,13 @@ fn a_plain_read_is_read_or_has_its_first_fault(rt: HostRuntime) {
         assert!(rt; size <= MOST_READ);
         agrees(&rt, row, &plain(0x58, *code, size, got), wanted);
     }
-    agrees(&rt, 14, &plain(0x58, 0xD0, 32, &MOST_PLAIN), &Ok(&MOST));
-    // READ_VOUT of 4Fh
-    agrees(
-        &rt,
-        15,
-        &plain(0x4F, 0x8B, 2, &[0x9F, 0xCD, 0x34, 0x2A]),
-        &Ok(&[0xCD, 0x34]),
-    );
-    agrees(&rt, 16, &code_request(0x58, 0x99), &[0xB0, 0x99]);
-    agrees(&rt, 17, &code_request(0x4F, 0x8B), &[0x9E, 0x8B]);
+    compare! { &rt;
+        14, plain(0x58, 0xD0, 32, &MOST_PLAIN) => Ok(&MOST);
+        // READ_VOUT of 4Fh
+        15, plain(0x4F, 0x8B, 2, &[0x9F, 0xCD, 0x34, 0x2A]) => Ok(&[0xCD, 0x34]);
+        16, code_request(0x58, 0x99) => [0xB0, 0x99];
+        17, code_request(0x4F, 0x8B) => [0x9E, 0x8B];
+    }
 }
 
 // The page, the code, the size that was asked for, what came back from 58h, and the payload or the first fault. VOUT_OV_FAULT_LIMIT
@@ -183,12 +180,7 @@ fn a_read_by_page_plus_is_read_or_has_its_first_fault(rt: HostRuntime) {
         }
         agrees(&rt, row, &paged(*page, *code, size, got), wanted);
     }
-    agrees(
-        &rt,
-        18,
-        &paged_request(0x58, 1, 0x40),
-        &[0xB0, 0x06, 0x02, 0x01, 0x40],
-    );
+    compare! { &rt, 18; paged_request(0x58, 1, 0x40) => [0xB0, 0x06, 0x02, 0x01, 0x40] }
 }
 
 // The codes that PAGE_PLUS doesn't carry (PMBus 1.3 Part II): PAGE, PAGE_PLUS_WRITE, PAGE_PLUS_READ; and COEFFICIENTS, by this

@@ -8,10 +8,7 @@ use std::process::Abort;
 
 // Packets are shown with what they mean.
 fn values() -> TellOptions {
-    TellOptions {
-        values: true,
-        ..TellOptions::none()
-    }
+    with! { TellOptions, TellOptions::none(); values: true }
 }
 
 // What is written of a capture, and how it ends.
@@ -87,10 +84,7 @@ fn packets_of_other_codes_are_told_by_their_bytes(rt: HostRuntime) {
     are_told(
         &rt,
         &OTHERS,
-        &TellOptions {
-            all: true,
-            ..TellOptions::none()
-        },
+        &with! { TellOptions, TellOptions::none(); all: true },
     );
 }
 
@@ -104,10 +98,7 @@ fn each_line_begins_with_its_time(rt: HostRuntime) {
     are_told(
         &rt,
         &TIMES,
-        &TellOptions {
-            times: true,
-            ..TellOptions::none()
-        },
+        &with! { TellOptions, TellOptions::none(); times: true },
     );
 }
 
@@ -143,11 +134,7 @@ fn each_line_is_an_object_of_json(rt: HostRuntime) {
     are_told(
         &rt,
         &OBJECTS,
-        &TellOptions {
-            all: true,
-            json: true,
-            ..values()
-        },
+        &with! { TellOptions, values(); all: true, json: true },
     );
 }
 
@@ -163,14 +150,7 @@ static PAGES: [(&str, &str); 3] = [
 
 #[test]
 fn a_plain_packet_is_told_with_the_output_that_it_reaches(rt: HostRuntime) {
-    are_told(
-        &rt,
-        &PAGES,
-        &TellOptions {
-            pages: true,
-            ..values()
-        },
-    );
+    are_told(&rt, &PAGES, &with! { TellOptions, values(); pages: true });
 }
 
 static PAUSES: [(&str, &str); 1] = [(
@@ -192,14 +172,8 @@ fn behind_a_pause_a_page_is_not_known(rt: HostRuntime) {
     are_told(
         &rt,
         &PAUSES,
-        &TellOptions {
-            all: true,
-            times: true,
-            json: true,
-            pages: true,
-            gap: 2000,
-            ..TellOptions::none()
-        },
+        &with! { TellOptions, TellOptions::none();
+            all: true, times: true, json: true, pages: true, gap: 2000 },
     );
 }
 
@@ -242,11 +216,7 @@ fn what_was_refused_or_answered_by_nobody_is_not_told_as_done(rt: HostRuntime) {
     are_told(
         &rt,
         &RECEIVED,
-        &TellOptions {
-            all: true,
-            pages: true,
-            ..values()
-        },
+        &with! { TellOptions, values(); all: true, pages: true },
     );
 }
 
@@ -267,11 +237,7 @@ fn addresses_that_are_kept_for_something_else_are_no_parts(rt: HostRuntime) {
     are_told(
         &rt,
         &SPECIAL,
-        &TellOptions {
-            all: true,
-            pages: true,
-            ..values()
-        },
+        &with! { TellOptions, values(); all: true, pages: true },
     );
 }
 
@@ -300,18 +266,9 @@ fn parts_and_muxes_that_are_named_are_told_so(rt: HostRuntime) {
         muxes: Addresses::none().with(0x71).with(0x70),
         ..TellOptions::none()
     };
-    let followed = TellOptions {
-        values: true,
-        all: true,
-        pages: true,
-        ..named
-    };
+    let followed = with! { TellOptions, named; values: true, all: true, pages: true };
     are_told(&rt, &MUXES, &followed);
-    let object = TellOptions {
-        times: true,
-        json: true,
-        ..named
-    };
+    let object = with! { TellOptions, named; times: true, json: true };
     are_told(&rt, &MUX_OBJECTS, &object);
     are_told(&rt, &MUX_ALONE, &named);
 }

@@ -117,16 +117,9 @@ fn each_code_is_told_by_its_name(rt: HostRuntime) -> Result<(), Fail> {
         } else {
             "01 02 03 04"
         };
+        #[rattlefmt::skip]
         let line = [
-            "B0 ",
-            code,
-            " / B1 ",
-            bytes,
-            " -> 58 code ",
-            name,
-            " read ",
-            bytes,
-            ", no PEC",
+            "B0 ", code, " / B1 ", bytes, " -> 58 code ", name, " read ", bytes, ", no PEC",
         ];
         texts.add(rt.alloc(), &joined(rt.alloc(), &line)?)?;
     }

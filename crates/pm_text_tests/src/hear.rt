@@ -35,9 +35,7 @@ const SECOND: &str = "output 0 VOUT_COMMAND 1000\noutput 1 VOUT_COMMAND 34CD\n";
 // The text, the lines of its answers, and those of the outputs.
 #[rattlefmt::skip]
 static ANSWERS: [(&str, &str, &str); 31] = [
-    ("", "", NONE),
-    ("# B0\n\n  \n\r\n", "", NONE),
-    ("B0 05 04 00 21 CD 34 5A", "taken\n", FIRST),
+    ("", "", NONE), ("# B0\n\n  \n\r\n", "", NONE), ("B0 05 04 00 21 CD 34 5A", "taken\n", FIRST),
     ("B0 05 04 01 21 CD 34 4C", "taken\n", SECOND),
     ("B0 05 04 01 21 CD 34 5A", "refused K1 Frame F5 WrongPec 7\n", NONE),
     ("B0", "refused K1 Frame F2 Short 1\n", NONE),
@@ -48,14 +46,10 @@ static ANSWERS: [(&str, &str, &str); 31] = [
     ("B0 05 03 00 00 01 99", "refused K6 Nested\n", NONE),
     ("B0 05 03 00 01 B0 92", "refused K3 UnsupportedData\n", NONE),
     ("B0 99 89", "refused K2 UnsupportedCode\n", NONE),
-    ("B0 78 20", "refused K7 ReadOnly\n", NONE),
-    ("B0 00 02 E4", "refused K4 BadPage\n", NONE),
-    ("B2 05 04 00 21 CD 34 5A", "silent\n", NONE),
-    ("/", "silent\n", NONE),
-    ("B0 20 /", "answer B1 14 ED\n", NONE),
-    ("B0 20/", "answer B1 14 ED\n", NONE),
-    ("B0 19 /  ", "answer B1 80 D3\n", NONE),
-    ("B0 98 /", "answer B1 33 A3\n", NONE),
+    ("B0 78 20", "refused K7 ReadOnly\n", NONE), ("B0 00 02 E4", "refused K4 BadPage\n", NONE),
+    ("B2 05 04 00 21 CD 34 5A", "silent\n", NONE), ("/", "silent\n", NONE),
+    ("B0 20 /", "answer B1 14 ED\n", NONE), ("B0 20/", "answer B1 14 ED\n", NONE),
+    ("B0 19 /  ", "answer B1 80 D3\n", NONE), ("B0 98 /", "answer B1 33 A3\n", NONE),
     ("B0 30 02 21 00 /", "refused K3 UnsupportedData\n", NONE),
     // What both outputs and the device start with.
     ("B0 01 /\nB0 24 /\nB0 25 /\nB0 26 /\nB0 2B /\nB0 10 /",
@@ -109,34 +103,22 @@ fn is_refused(rt: &(impl Abort + AllocGlobal), text: &str, piece: usize, fault: 
     is_true(rt, written.is_empty(), &(text, piece));
 }
 
+#[rattlefmt::skip]
 static FAULTY_TEXTS: [(&str, TextFault); 27] = [
     // Not hexadecimal.
-    ("a comment\n\r", TextFault::BadHex(1)),
-    (" # x", TextFault::BadHex(1)),
-    ("\t", TextFault::BadHex(1)),
-    ("B0\t05", TextFault::BadHex(1)),
-    ("B0 0", TextFault::BadHex(1)),
-    ("B00 5", TextFault::BadHex(1)),
-    ("B0\r05", TextFault::BadHex(1)),
-    ("B0 05\r\r\n", TextFault::BadHex(1)),
-    ("\n#\nZZ", TextFault::BadHex(3)),
-    ("B0 restart", TextFault::BadHex(1)),
-    ("restarts", TextFault::BadHex(1)),
-    ("RESTART", TextFault::BadHex(1)),
-    ("restart/", TextFault::BadHex(1)),
+    ("a comment\n\r", TextFault::BadHex(1)), (" # x", TextFault::BadHex(1)),
+    ("\t", TextFault::BadHex(1)), ("B0\t05", TextFault::BadHex(1)), ("B0 0", TextFault::BadHex(1)),
+    ("B00 5", TextFault::BadHex(1)), ("B0\r05", TextFault::BadHex(1)),
+    ("B0 05\r\r\n", TextFault::BadHex(1)), ("\n#\nZZ", TextFault::BadHex(3)),
+    ("B0 restart", TextFault::BadHex(1)), ("restarts", TextFault::BadHex(1)),
+    ("RESTART", TextFault::BadHex(1)), ("restart/", TextFault::BadHex(1)),
     // A frame that isn't hexadecimal comes before what stands after its `/`.
-    ("B0 2 /", TextFault::BadHex(1)),
-    ("B0 2 / ZZ", TextFault::BadHex(1)),
-    ("B0 2/", TextFault::BadHex(1)),
-    ("\nZZ /", TextFault::BadHex(2)),
+    ("B0 2 /", TextFault::BadHex(1)), ("B0 2 / ZZ", TextFault::BadHex(1)),
+    ("B0 2/", TextFault::BadHex(1)), ("\nZZ /", TextFault::BadHex(2)),
     // More than a line may have.
-    ("B0 20 / ZZ", TextFault::Syntax(1)),
-    ("B0 05 / B1", TextFault::Syntax(1)),
-    ("B0 / /", TextFault::Syntax(1)),
-    ("//", TextFault::Syntax(1)),
-    ("/\t", TextFault::Syntax(1)),
-    ("restart x", TextFault::Syntax(1)),
-    ("  restart restart", TextFault::Syntax(1)),
+    ("B0 20 / ZZ", TextFault::Syntax(1)), ("B0 05 / B1", TextFault::Syntax(1)),
+    ("B0 / /", TextFault::Syntax(1)), ("//", TextFault::Syntax(1)), ("/\t", TextFault::Syntax(1)),
+    ("restart x", TextFault::Syntax(1)), ("  restart restart", TextFault::Syntax(1)),
     ("restart /", TextFault::Syntax(1)),
     // The first of several, whatever was heard before it.
     ("B0 05\n\nZZ\n/ /\n", TextFault::BadHex(3)),

@@ -6,6 +6,14 @@
 //! never end or take no memory; the three engines from a reader to a writer as one call (`Engines`); and the worked texts.
 #![tactic(auto)]
 
+/// A struct with these fields, whose others are those of another one: `with! { Part, PART; silent: true }`.
+#[cfg(test)]
+macro_rules! with {
+    ($type:ident, $base:expr; $($field:ident $(: $value:expr)?),+) => {
+        $type { $($field $(: $value)?,)+ ..$base }
+    };
+}
+
 #[cfg(test)]
 mod captures;
 #[cfg(test)]

@@ -217,10 +217,7 @@ fn ends_reading(
 }
 
 fn ends_at_read(rt: &(impl Abort + AllocGlobal), command: &str, fails_at: usize) {
-    let reader = Pieces {
-        fails_at,
-        ..in_pieces(FRAME.as_bytes(), 7)
-    };
+    let reader = with! { Pieces, in_pieces(FRAME.as_bytes(), 7); fails_at };
     let calls = ends_reading(rt, &["pmb", command], reader, "pmb: X4 Read\n");
     equal(rt, &calls, &fails_at, &command);
 }
@@ -264,11 +261,7 @@ fn ends_at_write(
     fails_at: usize,
     failure: Failure,
 ) {
-    let output = Paper {
-        fails_at,
-        failure,
-        ..blank_paper(rt.alloc(), 1)
-    };
+    let output = with! { Paper, blank_paper(rt.alloc(), 1); fails_at, failure };
     let found = run_into(rt.alloc(), words, output);
     equal(rt, &found.output.calls, &fails_at, &words);
     equal(rt, &found.output.flushes, &0, &fails_at);
@@ -291,10 +284,7 @@ fn holds_a_front(rt: &(impl Abort + AllocGlobal), words: &[&str], text: &str) {
             ends_at_write(rt, words, text, fails_at, Failure::Error(kind));
         }
     }
-    let output = Paper {
-        flush_fails: true,
-        ..blank_paper(rt.alloc(), 1)
-    };
+    let output = with! { Paper, blank_paper(rt.alloc(), 1); flush_fails: true };
     let found = run_into(rt.alloc(), words, output);
     is_true(rt, found.is(1, text, "pmb: X5 Write\n"), &1);
 }
@@ -318,10 +308,7 @@ static STOPPED_REPORT: &str =
 // A run over an output whose flush fails, or not.
 fn flushed(alloc: Global, words: &[&str], text: &str, flush_fails: bool) -> Ran {
     let mut input = Source::new(in_pieces(text.as_bytes(), 4096));
-    let output = Paper {
-        flush_fails,
-        ..blank_paper(alloc, 4096)
-    };
+    let output = with! { Paper, blank_paper(alloc, 4096); flush_fails };
     run_with(
         alloc,
         Ok(words),
@@ -398,10 +385,7 @@ fn keeps_status(
     fails_at: usize,
 ) {
     let mut input = Source::new(in_pieces(b"ZZ", 7));
-    let errors = Paper {
-        fails_at,
-        ..blank_paper(rt.alloc(), 1)
-    };
+    let errors = with! { Paper, blank_paper(rt.alloc(), 1); fails_at };
     let output = blank_paper(rt.alloc(), 1);
     let words = ["pmb", command];
     let found = run_with(rt.alloc(), Ok(&words), &mut input, output, errors);

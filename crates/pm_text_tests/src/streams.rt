@@ -16,11 +16,7 @@ fn is_called_once(
     kind: ErrorKind,
     wanted: Result<usize, TextFault>,
 ) {
-    let mut source = Source::new(Pieces {
-        fails_at,
-        kind,
-        ..in_pieces(b"abcdef", 3)
-    });
+    let mut source = Source::new(with! { Pieces, in_pieces(b"abcdef", 3); fails_at, kind });
     let result = source.read(&mut [0; 4]);
     equal(rt, &result, &wanted, &fails_at);
     equal(rt, &source.failed(), &wanted.is_err(), &fails_at);
@@ -57,10 +53,7 @@ fn is_read(rt: &(impl Abort + AllocGlobal), piece: usize) -> usize {
 }
 
 fn is_read_to(rt: &(impl Abort + AllocGlobal), piece: usize, fails_at: usize) {
-    let reader = Pieces {
-        fails_at,
-        ..in_pieces(TEXT, piece)
-    };
+    let reader = with! { Pieces, in_pieces(TEXT, piece); fails_at };
     let (result, calls, failed) = read(rt.alloc(), reader);
     is_true(rt, matches!(result, Err(TextFault::Read)) && failed, &1);
     equal(rt, &calls, &fails_at, &piece);
@@ -91,11 +84,8 @@ fn is_put(rt: &(impl Abort + AllocGlobal), piece: usize, calls: usize) {
 }
 
 fn is_put_to(rt: &(impl Abort + AllocGlobal), piece: usize, fails_at: usize, failure: Failure) {
-    let (result, failed, written) = put(Paper {
-        fails_at,
-        failure,
-        ..blank_paper(rt.alloc(), piece)
-    });
+    let (result, failed, written) = put(with! { Paper, blank_paper(rt.alloc(), piece);
+        fails_at, failure });
     is_true(rt, result == Err(TextFault::Write) && failed, &1);
     equal(
         rt,
@@ -157,10 +147,7 @@ fn a_sink_calls_its_writer_once_and_tells_its_failure(rt: HostRuntime) {
 }
 
 fn is_flushed(rt: &(impl Abort + AllocGlobal), flush_fails: bool) {
-    let mut sink = Sink::new(Paper {
-        flush_fails,
-        ..blank_paper(rt.alloc(), 1)
-    });
+    let mut sink = Sink::new(with! { Paper, blank_paper(rt.alloc(), 1); flush_fails });
     equal(rt, &sink.flush().is_err(), &flush_fails, &1);
     equal(rt, &sink.failed(), &flush_fails, &2);
     let written = sink.into_inner();
@@ -241,15 +228,10 @@ fn lines_are_numbered_and_words_are_parted_by_spaces(rt: HostRuntime) {
     );
 }
 
+#[rattlefmt::skip]
 static BYTES: [(&[u8], Option<&[u8]>); 8] = [
-    (b"", Some(b"")),
-    (b" 0a  FF ", Some(b"\x0A\xFF")),
-    (b"0aFf00", Some(b"\x0A\xFF\x00")),
-    (b"0", None),
-    (b"0a f", None),
-    (b"0a 0g", None),
-    (b"0a\t", None),
-    (b"0a 0A 0x", None),
+    (b"", Some(b"")), (b" 0a  FF ", Some(b"\x0A\xFF")), (b"0aFf00", Some(b"\x0A\xFF\x00")),
+    (b"0", None), (b"0a f", None), (b"0a 0g", None), (b"0a\t", None), (b"0a 0A 0x", None),
 ];
 
 // The bytes of a line follow what was there, or nothing is added.

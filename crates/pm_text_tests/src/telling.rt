@@ -249,10 +249,7 @@ fn options_are_read_as_they_are_written(rt: HostRuntime) -> Result<(), Fail> {
     };
     is_true(&rt, given == wanted, &given);
     is_true(&rt, given.options().is_err(), &given);
-    let more = TellTexts {
-        values: true,
-        ..wanted
-    };
+    let more = with! { TellTexts, wanted; values: true };
     let options = more.options()?;
     is_true(
         &rt,

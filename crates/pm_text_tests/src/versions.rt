@@ -33,28 +33,16 @@ fn replayed(alloc: Global, text: &str) -> (Result<bool, TextFault>, Vec<u8>) {
 
 // The report of the second version, with a line for VOUT_MIN. Output 0 is cut to its floor of 0.5 V. Output
 // 1 is DIRECT, its words fall as volts rise: it asks for 2 V, and is cut to its floor of 3 V.
-static SECOND: &str = "ran 4
-protect 00 host unknown possible any
-output 0 on commanded 2048/4096 500000 uV
-OPERATION 80 host unknown possible any
-VOUT_COMMAND 0400 host confirmed 0400
-VOUT_MAX 4000 host unknown possible any
-VOUT_MARGIN_HIGH 1100 host unknown possible any
-VOUT_MARGIN_LOW 0F00 host unknown possible any
-VOUT_MIN 0800 host unknown possible any
-status 01 8001 08
-output 1 on commanded 3000/1000 3000000 uV
-OPERATION 80 host unknown possible any
-VOUT_COMMAND 0BB8 host unknown possible any
-VOUT_MAX 03E8 host unknown possible any
-VOUT_MARGIN_HIGH 0BB8 host unknown possible any
-VOUT_MARGIN_LOW 0BB8 host unknown possible any
-VOUT_MIN 07D0 host unknown possible any
-status 01 8001 08
-cml 00
-restart seen no
-job done
-";
+static SECOND: &str = "ran 4\nprotect 00 host unknown possible any\n\
+    output 0 on commanded 2048/4096 500000 uV\nOPERATION 80 host unknown possible any\n\
+    VOUT_COMMAND 0400 host confirmed 0400\nVOUT_MAX 4000 host unknown possible any\n\
+    VOUT_MARGIN_HIGH 1100 host unknown possible any\n\
+    VOUT_MARGIN_LOW 0F00 host unknown possible any\nVOUT_MIN 0800 host unknown possible any\n\
+    status 01 8001 08\noutput 1 on commanded 3000/1000 3000000 uV\n\
+    OPERATION 80 host unknown possible any\nVOUT_COMMAND 0BB8 host unknown possible any\n\
+    VOUT_MAX 03E8 host unknown possible any\nVOUT_MARGIN_HIGH 0BB8 host unknown possible any\n\
+    VOUT_MARGIN_LOW 0BB8 host unknown possible any\nVOUT_MIN 07D0 host unknown possible any\n\
+    status 01 8001 08\ncml 00\nrestart seen no\njob done\n";
 
 #[test]
 fn a_report_of_version_2_tells_vout_min(rt: HostRuntime) -> Result<(), Fail> {
@@ -67,16 +55,9 @@ fn a_report_of_version_2_tells_vout_min(rt: HostRuntime) -> Result<(), Fail> {
 }
 
 // Both answers of an order are lost; then a report of version 2 shows the two words that the cell may have.
-static LOST: &str = "check 0 VOUT_COMMAND
-exchange whole whole
-order 0 VOUT_COMMAND 34CD
-deliver whole
-finish nack
-exchange whole cut 0
-deliver cut 0
-finish nack
-exchange whole cut 0
-";
+static LOST: &str = "check 0 VOUT_COMMAND\nexchange whole whole\norder 0 VOUT_COMMAND 34CD\n\
+    deliver whole\nfinish nack\nexchange whole cut 0\ndeliver cut 0\nfinish nack\n\
+    exchange whole cut 0\n";
 
 static LOST_TOLD: [&str; 4] = [
     "ran 9\nprotect 00 host unknown possible any\n",
@@ -243,15 +224,10 @@ fn no_event_of_version_1_names_vout_min(rt: HostRuntime) -> Result<(), Fail> {
 }
 
 // VOUT_MODE and m of a text of version 1, and VOUT_MIN then.
+#[rattlefmt::skip]
 static LEAST: [(&str, &str, u16); 8] = [
-    ("14", "1", 0x0000),
-    ("14", "-1", 0x0000),
-    ("00", "-1", 0x0000),
-    ("40", "1", 0x8000),
-    ("40", "0", 0x8000),
-    ("40", "-1", 0x7FFF),
-    ("41", "-1", 0x0000),
-    ("80", "-1", 0x0000),
+    ("14", "1", 0x0000), ("14", "-1", 0x0000), ("00", "-1", 0x0000), ("40", "1", 0x8000),
+    ("40", "0", 0x8000), ("40", "-1", 0x7FFF), ("41", "-1", 0x0000), ("80", "-1", 0x0000),
 ];
 
 // The version of a scenario, and VOUT_MIN of its first and its second output.

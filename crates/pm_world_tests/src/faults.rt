@@ -52,15 +52,12 @@ static HOST: [(HostFault, &str); 10] = [
     (HostFault::Num(NumFault::TooLarge), "N5 TooLarge"),
 ];
 
+#[rattlefmt::skip]
 static CAUSES: [(Cause, &str); 6] = [
-    (Cause::NotBetrayed, "S1 NotBetrayed"),
-    (Cause::NothingSent, "S2 NothingSent"),
+    (Cause::NotBetrayed, "S1 NotBetrayed"), (Cause::NothingSent, "S2 NothingSent"),
     (Cause::WrongKind, "S3 WrongKind"),
     (Cause::Host(HostFault::Busy), "S4 Host H3 Busy"),
-    (
-        Cause::Host(HostFault::Num(NumFault::TooLarge)),
-        "S4 Host N5 TooLarge",
-    ),
+    (Cause::Host(HostFault::Num(NumFault::TooLarge)), "S4 Host N5 TooLarge"),
     (Cause::Full, "S5 Full"),
 ];
 

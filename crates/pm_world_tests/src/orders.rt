@@ -99,14 +99,10 @@ fn start_words_come_back_and_the_order_goes_on(rt: HostRuntime) -> Result<(), Se
     );
     #[rattlefmt::skip]
     let rows = [
-        order, (WHOLE, Told::Take),
-        (Event::RestartDevice, Told::Back),
-        (WHOLE, Told::Take),
-        (Event::RestartHost, Told::End),
-        (Event::Clear(1), nothing), (WHOLE, nothing), (ACKED, nothing), (Event::Learn(0), nothing),
-        (READ, nothing), micro, (WHOLE, Told::Take), (ACKED, nothing),
-        (Event::RestartDevice, Told::Back),
-        (READ, nothing),
+        order, (WHOLE, Told::Take), (Event::RestartDevice, Told::Back), (WHOLE, Told::Take),
+        (Event::RestartHost, Told::End), (Event::Clear(1), nothing), (WHOLE, nothing),
+        (ACKED, nothing), (Event::Learn(0), nothing), (READ, nothing), micro, (WHOLE, Told::Take),
+        (ACKED, nothing), (Event::RestartDevice, Told::Back), (READ, nothing),
     ];
     follow(&rt, &rows)
 }

@@ -168,10 +168,7 @@ fn goal(
         low: word(Reg::MarginLow),
         min: word(Reg::VoutMin),
     };
-    let config = Config {
-        starts: [start; 8],
-        ..*config
-    };
+    let config = with! { Config, *config; starts: [start; 8] };
     let other = World::begin(config, 2)?;
     Ok(commands(&other, 0))
 }

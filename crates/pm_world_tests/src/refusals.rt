@@ -40,64 +40,45 @@ const FAR: i64 = 1_000_000_000_000_001;
 type Row = (Event, HostFault);
 
 // While no job is open and no format was learned.
+#[rattlefmt::skip]
 const IDLE: [Row; 22] = [
-    (Event::Order(NO_COMMAND, 0x1000), H4),
-    (Event::Order(NO_OPERATION, 0xB0), H4),
+    (Event::Order(NO_COMMAND, 0x1000), H4), (Event::Order(NO_OPERATION, 0xB0), H4),
     (Event::Order(Cell::Out(255, Reg::MarginLow), 0), H4),
-    (Event::Order(OPERATION, 0xB0), H5),
-    (Event::Order(OPERATION, 0x180), H5),
+    (Event::Order(OPERATION, 0xB0), H5), (Event::Order(OPERATION, 0x180), H5),
     (Event::Order(Cell::Out(1, Reg::Operation), 0xFF), H5),
-    (Event::Order(Cell::Protect, 0x60), H5),
-    (Event::Order(Cell::Protect, 0x140), H5),
-    (Event::OrderMicro(NO_COMMAND, 0), H4),
-    (Event::OrderMicro(NO_COMMAND, FAR), H4),
-    (Event::OrderMicro(NO_OPERATION, 0), H4),
-    (Event::OrderMicro(OPERATION, 0), H5),
-    (Event::OrderMicro(OPERATION, FAR), H5),
-    (Event::OrderMicro(Cell::Protect, 0), H5),
-    (Event::OrderMicro(FIRST, 3_300_000), H7),
-    (Event::OrderMicro(FIRST, -1), H7),
-    (Event::OrderMicro(FIRST, FAR), H7),
-    (Event::Check(NO_COMMAND), H4),
-    (Event::Learn(2), H4),
-    (Event::Learn(255), H4),
-    (Event::Clear(2), H4),
-    (Event::Clear(255), H4),
+    (Event::Order(Cell::Protect, 0x60), H5), (Event::Order(Cell::Protect, 0x140), H5),
+    (Event::OrderMicro(NO_COMMAND, 0), H4), (Event::OrderMicro(NO_COMMAND, FAR), H4),
+    (Event::OrderMicro(NO_OPERATION, 0), H4), (Event::OrderMicro(OPERATION, 0), H5),
+    (Event::OrderMicro(OPERATION, FAR), H5), (Event::OrderMicro(Cell::Protect, 0), H5),
+    (Event::OrderMicro(FIRST, 3_300_000), H7), (Event::OrderMicro(FIRST, -1), H7),
+    (Event::OrderMicro(FIRST, FAR), H7), (Event::Check(NO_COMMAND), H4), (Event::Learn(2), H4),
+    (Event::Learn(255), H4), (Event::Clear(2), H4), (Event::Clear(255), H4),
 ];
 
 // While no job is open and the format of output 0 is known, ULINEAR16 with N = -12.
+#[rattlefmt::skip]
 const LEARNED: [Row; 14] = [
     (Event::OrderMicro(FIRST, -1), N3),
     (Event::OrderMicro(FIRST, -1_000_000_000_000_000), N3),
-    (Event::OrderMicro(FIRST, -FAR), N5),
-    (Event::OrderMicro(FIRST, i64::MIN), N5),
+    (Event::OrderMicro(FIRST, -FAR), N5), (Event::OrderMicro(FIRST, i64::MIN), N5),
     (Event::OrderMicro(FIRST, 16_000_000), N4),
     (Event::OrderMicro(FIRST, 1_000_000_000_000_000), N4),
-    (Event::OrderMicro(FIRST, FAR), N5),
-    (Event::OrderMicro(FIRST, i64::MAX), N5),
-    (Event::OrderMicro(SECOND, 3_300_000), H7),
-    (Event::OrderMicro(NO_COMMAND, 3_300_000), H4),
-    (Event::OrderMicro(OPERATION, FAR), H5),
-    (Event::OrderMicro(OPERATION, -1), H5),
-    (Event::OrderMicro(OPERATION, 16_000_000), H5),
-    (Event::OrderMicro(Cell::Protect, 0), H5),
+    (Event::OrderMicro(FIRST, FAR), N5), (Event::OrderMicro(FIRST, i64::MAX), N5),
+    (Event::OrderMicro(SECOND, 3_300_000), H7), (Event::OrderMicro(NO_COMMAND, 3_300_000), H4),
+    (Event::OrderMicro(OPERATION, FAR), H5), (Event::OrderMicro(OPERATION, -1), H5),
+    (Event::OrderMicro(OPERATION, 16_000_000), H5), (Event::OrderMicro(Cell::Protect, 0), H5),
 ];
 
 // While a check is open, and nothing is known.
 #[rattlefmt::skip]
 const BUSY: [Row; 16] = [
-    (Event::Order(SECOND, 0x1000), H3),
-    (Event::Order(NO_COMMAND, 0x1000), H3),
-    (Event::Order(OPERATION, 0xB0), H3),
-    (Event::Order(Cell::Protect, 0x60), H3),
-    (Event::OrderMicro(FIRST, 3_300_000), H3),
-    (Event::OrderMicro(NO_COMMAND, 0), H3),
-    (Event::OrderMicro(OPERATION, 0), H3),
-    (Event::OrderMicro(Cell::Protect, 0), H3),
-    (Event::Check(FIRST), H3),
-    (Event::Check(Cell::Protect), H3),
-    (Event::Check(NO_COMMAND), H3), (Event::Learn(0), H3), (Event::Learn(2), H3),
-    (Event::Clear(0), H3), (Event::Clear(2), H3), (Event::Clear(255), H3),
+    (Event::Order(SECOND, 0x1000), H3), (Event::Order(NO_COMMAND, 0x1000), H3),
+    (Event::Order(OPERATION, 0xB0), H3), (Event::Order(Cell::Protect, 0x60), H3),
+    (Event::OrderMicro(FIRST, 3_300_000), H3), (Event::OrderMicro(NO_COMMAND, 0), H3),
+    (Event::OrderMicro(OPERATION, 0), H3), (Event::OrderMicro(Cell::Protect, 0), H3),
+    (Event::Check(FIRST), H3), (Event::Check(Cell::Protect), H3), (Event::Check(NO_COMMAND), H3),
+    (Event::Learn(0), H3), (Event::Learn(2), H3), (Event::Clear(0), H3), (Event::Clear(2), H3),
+    (Event::Clear(255), H3),
 ];
 
 // While output 0's VOUT_COMMAND may hold 16 words, and its format is known; then in a check too, and

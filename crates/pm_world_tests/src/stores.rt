@@ -184,10 +184,7 @@ fn a_store_and_a_restore_are_plain_send_bytes(rt: HostRuntime) -> Result<(), Set
 
 // Eight outputs, and VOUT_COMMAND of one of them.
 fn eight() -> Config {
-    Config {
-        count: 8,
-        ..World::base()
-    }
+    with! { Config, World::base(); count: 8 }
 }
 
 fn voltage(output: u8) -> Cell {

@@ -14,10 +14,7 @@ use pm_table::{Cell, Coefficients, Reg};
 use pm_world::{Event, SetupFault, World};
 use std::process::Abort;
 
-const DIRECT: OutputStart = OutputStart {
-    mode: 0x40,
-    ..OUTPUT
-};
+const DIRECT: OutputStart = with! { OutputStart, OUTPUT; mode: 0x40 };
 
 // The first output is ULINEAR16 with N = -12, the second DIRECT, in millivolts.
 const MIXED: Config = Config {

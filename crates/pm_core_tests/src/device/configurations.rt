@@ -93,11 +93,7 @@ static ROWS: [Row; 44] = [
 // The configuration of a row.
 fn configured(row: Row) -> (Config, Option<ConfigFault>) {
     let (count, operations, protect, addr, modes, (m, r), wanted) = row;
-    let others = OutputStart {
-        mode: modes[1],
-        operation: operations[1],
-        ..OUTPUT
-    };
+    let others = with! { OutputStart, OUTPUT; mode: modes[1], operation: operations[1] };
     let mut starts = [others; 8];
     starts[0].mode = modes[0];
     starts[0].operation = operations[0];

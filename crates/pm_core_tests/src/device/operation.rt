@@ -53,12 +53,7 @@ fn means(rt: &impl Abort, byte: u8) -> Result<(), ConfigFault> {
             does(rt, &converter, byte, on, volts);
         }
         (None, Err(fault)) => {
-            equal(
-                rt,
-                &fault,
-                &ConfigFault::BadStart(Cell::Out(1, Reg::Operation)),
-                &1,
-            );
+            compare! { rt, 1; fault => ConfigFault::BadStart(Cell::Out(1, Reg::Operation)) }
             let refused = Wanted::Refused(DeviceFault::UnsupportedData);
             hears(rt, &mut converter, &whole, Ending::Stop, refused);
             does(rt, &converter, 0x80, true, 0x1000);

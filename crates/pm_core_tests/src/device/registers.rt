@@ -224,16 +224,9 @@ static MEASURED: [&str; 4] = [
 
 // A converter of one output, which is DIRECT, in millivolts.
 fn in_millivolts() -> Result<Converter, ConfigFault> {
-    let start = OutputStart {
-        mode: 0x40,
-        ..OUTPUT
-    };
-    made(Config {
-        count: 1,
-        starts: [start; 8],
-        coefficients: Coefficients { m: 1, b: 0, r: 3 },
-        ..BASE
-    })
+    let start = with! { OutputStart, OUTPUT; mode: 0x40 };
+    made(with! { Config, BASE;
+        count: 1, starts: [start; 8], coefficients: Coefficients { m: 1, b: 0, r: 3 } })
 }
 
 #[test]

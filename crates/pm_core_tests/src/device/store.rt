@@ -35,29 +35,19 @@ static ROWS: [Row; 33] = [
     ("B0 16 2D", None, START, START, 0x00),
     ("B0 05 04 00 21 CD 34 5A", None, ONE, START, 0x00),
     // What names no output, has a byte too many, or is asked for as a read, is refused.
-    ("B0 05 02 02 15 18", K4, ONE, START, 0x00),
-    ("B0 05 02 02 16 11", K4, ONE, START, 0x00),
-    ("B0 05 02 FF 16 EC", K4, ONE, START, 0x00),
-    ("B0 15 00 FC", F3, ONE, START, 0x00),
-    ("B0 05 03 00 15 00 88", F4, ONE, START, 0x00),
-    ("B0 15 /", K7, ONE, START, 0x00),
+    ("B0 05 02 02 15 18", K4, ONE, START, 0x00), ("B0 05 02 02 16 11", K4, ONE, START, 0x00),
+    ("B0 05 02 FF 16 EC", K4, ONE, START, 0x00), ("B0 15 00 FC", F3, ONE, START, 0x00),
+    ("B0 05 03 00 15 00 88", F4, ONE, START, 0x00), ("B0 15 /", K7, ONE, START, 0x00),
     ("B0 06 02 00 16 /", K7, ONE, START, 0x00),
     // WRITE_PROTECT blocks both, but for 00h, whether they are carried or not.
-    ("B0 10 20 5D", None, ONE, START, 0x20),
-    ("B0 15 24", K5, ONE, START, 0x20),
-    ("B0 16 2D", K5, ONE, START, 0x20),
-    ("B0 05 02 01 15 27", K5, ONE, START, 0x20),
-    ("B0 05 02 02 15 18", K4, ONE, START, 0x20),
-    ("B0 10 40 7A", None, ONE, START, 0x40),
-    ("B0 15 24", K5, ONE, START, 0x40),
-    ("B0 16 2D", K5, ONE, START, 0x40),
-    ("B0 10 80 34", None, ONE, START, 0x80),
-    ("B0 15 24", K5, ONE, START, 0x80),
-    ("B0 05 02 00 16 3B", K5, ONE, START, 0x80),
-    ("B0 10 00 BD", None, ONE, START, 0x00),
+    ("B0 10 20 5D", None, ONE, START, 0x20), ("B0 15 24", K5, ONE, START, 0x20),
+    ("B0 16 2D", K5, ONE, START, 0x20), ("B0 05 02 01 15 27", K5, ONE, START, 0x20),
+    ("B0 05 02 02 15 18", K4, ONE, START, 0x20), ("B0 10 40 7A", None, ONE, START, 0x40),
+    ("B0 15 24", K5, ONE, START, 0x40), ("B0 16 2D", K5, ONE, START, 0x40),
+    ("B0 10 80 34", None, ONE, START, 0x80), ("B0 15 24", K5, ONE, START, 0x80),
+    ("B0 05 02 00 16 3B", K5, ONE, START, 0x80), ("B0 10 00 BD", None, ONE, START, 0x00),
     // On whichever page, both outputs are stored; a store heard twice is one.
-    ("B0 05 02 01 15 27", None, ONE, ONE, 0x00),
-    ("B0 05 02 01 15 27", None, ONE, ONE, 0x00),
+    ("B0 05 02 01 15 27", None, ONE, ONE, 0x00), ("B0 05 02 01 15 27", None, ONE, ONE, 0x00),
     ("B0 05 04 01 21 00 20 24", None, BOTH, ONE, 0x00),
     ("B0 15 24", None, BOTH, BOTH, 0x00),
     ("B0 05 04 00 21 00 10 A2", None, [0x1000, 0x2000], BOTH, 0x00),
@@ -65,11 +55,9 @@ static ROWS: [Row; 33] = [
     ("B0 05 04 00 21 00 10 A2", None, [0x1000, 0x2000], BOTH, 0x00),
     // PAGE is left as it is.
     ("B0 00 01 ED", None, [0x1000, 0x2000], BOTH, 0x00),
-    ("B0 16 2D", None, BOTH, BOTH, 0x00),
-    ("B0 00 / B1 01 C5", None, BOTH, BOTH, 0x00),
+    ("B0 16 2D", None, BOTH, BOTH, 0x00), ("B0 00 / B1 01 C5", None, BOTH, BOTH, 0x00),
     // Before the restart that follows, which gives WRITE_PROTECT its start value.
-    ("B0 15 24", None, BOTH, BOTH, 0x00),
-    ("B0 10 20 5D", None, BOTH, BOTH, 0x20),
+    ("B0 15 24", None, BOTH, BOTH, 0x00), ("B0 10 20 5D", None, BOTH, BOTH, 0x20),
 ];
 
 fn holds(rt: &impl Abort, converter: &Converter, row: &Row) {

@@ -165,20 +165,12 @@ fn a_job_on_a_missing_register_is_refused(rt: HostRuntime) {
         equal(&rt, &refusal(&mut guard, *job), wanted, &(at, job));
     }
     let _ = guard.check(first(Reg::VoutMax));
-    equal(
-        &rt,
-        &guard.check(first(Reg::VoutMin)).err(),
-        &BUSY,
-        &"a job is open",
-    );
-    equal(
-        &rt,
-        &LimitFault::MissingRegister.words(),
-        &"L7 MissingRegister",
-        &1,
-    );
-    equal(&rt, &LimitFault::MissingRegister.number(), &0x27, &2);
-    equal(&rt, &LimitFault::FormatUnknown.number(), &0x22, &3);
+    compare! { &rt;
+        "a job is open", guard.check(first(Reg::VoutMin)).err() => BUSY;
+        1, LimitFault::MissingRegister.words() => "L7 MissingRegister";
+        2, LimitFault::MissingRegister.number() => 0x27;
+        3, LimitFault::FormatUnknown.number() => 0x22;
+    }
 }
 
 // The byte that is read of OPERATION, and the least and the greatest over 4096 that the output may command then, if it
@@ -240,12 +232,7 @@ fn limits_that_refuse_an_open_order_are_refused(rt: HostRuntime) {
     for told in [false, true] {
         let mut guard = guard(3_200_000, 3_465_000);
         learn(&mut guard, 0, LINEAR, &[]);
-        equal(
-            &rt,
-            &guard.order(first(Reg::VoutCommand), 14192).err(),
-            &None,
-            &told,
-        );
+        compare! { &rt, told; guard.order(first(Reg::VoutCommand), 14192).err() => None }
         if told {
             let _ = guard.turn();
             tell_finished(&rt, &mut guard);
@@ -256,12 +243,7 @@ fn limits_that_refuse_an_open_order_are_refused(rt: HostRuntime) {
         }
         equal(&rt, &guard.narrow(1, 0, 1).err(), &None, &told);
         give_up(&mut guard);
-        equal(
-            &rt,
-            &guard.narrow(0, 3_300_000, 3_400_000).err(),
-            &None,
-            &told,
-        );
+        compare! { &rt, told; guard.narrow(0, 3_300_000, 3_400_000).err() => None }
     }
 }
 

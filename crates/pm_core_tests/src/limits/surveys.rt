@@ -89,12 +89,7 @@ fn a_survey_reads_what_decides(rt: HostRuntime) {
             Some(wishes) => Some(wanted(wishes)),
             None => None,
         };
-        equal(
-            &rt,
-            &survey(&rt, &mut guard, plan, *tries, words),
-            end,
-            &(before, words),
-        );
+        compare! { &rt, (before, words); survey(&rt, &mut guard, plan, *tries, words) => *end }
     }
 }
 
@@ -102,19 +97,9 @@ fn a_survey_reads_what_decides(rt: HostRuntime) {
 fn a_check_without_an_answer_is_asked_for_again(rt: HostRuntime) {
     let guard = knowing(0, false, &each(&[0x80, 1, 2, 3, 4, 5]), None);
     let mut survey = Survey::new(0, None, 9);
-    equal(
-        &rt,
-        &asks(&rt, &mut survey, &guard),
-        &Some(Job::Learn(0)),
-        &1,
-    );
+    compare! { &rt, 1; asks(&rt, &mut survey, &guard) => Some(Job::Learn(0)) }
     survey.told(JobEnd::Unknown);
-    equal(
-        &rt,
-        &asks(&rt, &mut survey, &guard),
-        &Some(Job::Learn(0)),
-        &2,
-    );
+    compare! { &rt, 2; asks(&rt, &mut survey, &guard) => Some(Job::Learn(0)) }
     survey.told(JobEnd::Learned);
     let check = Some(Job::Check(first(Reg::Operation)));
     equal(&rt, &asks(&rt, &mut survey, &guard), &check, &3);

@@ -25,19 +25,12 @@ static BYTES: [(u16, u16, bool); 26] = [
 #[test]
 fn bits_that_do_not_count_are_two(rt: HostRuntime) {
     for (wanted, held, same) in &BYTES {
-        equal(
-            &rt,
-            &(*wanted, *held, same_command(*wanted, *held)),
-            &(*wanted, *held, *same),
-            &"same_command",
-        );
+        compare! { &rt, "same_command";
+            (*wanted, *held, same_command(*wanted, *held)) => (*wanted, *held, *same) }
     }
 }
 
-const NOT: Looks = Looks {
-    is_wanted: false,
-    ..LOOKS
-};
+const NOT: Looks = with! { Looks, LOOKS; is_wanted: false };
 
 // A step to a byte: its rules, whether its rail is looked at, the byte; what OPERATION holds before and the bits that it reads as 1; how it ends, what
 // it holds then, what the host knows of it, and the writes.
@@ -71,10 +64,7 @@ static BYTE_ROWS: [ByteRow; 14] = [
 #[test]
 fn a_step_to_a_byte_is_over_but_for_reserved_bits(rt: HostRuntime) {
     for (name, rules, looks, (byte, before, reserved), end, held, known, writes) in &BYTE_ROWS {
-        let rules = Rules {
-            leaves: false,
-            ..*rules
-        };
+        let rules = with! { Rules, *rules; leaves: false };
         let mut parts = [PART];
         parts[0].words[0][0] = *before;
         parts[0].reserved = *reserved;
@@ -85,17 +75,10 @@ fn a_step_to_a_byte_is_over_but_for_reserved_bits(rt: HostRuntime) {
             &mut parts,
             &[turns(*byte, *looks)],
         );
-        equal(
-            &rt,
-            &(
-                run.end,
-                parts[0].words[0][0],
-                operation_of(&guards[0]),
-                parts[0].writes,
-            ),
-            &(Some(*end), *held, Some(*known), *writes),
-            name,
-        );
+        compare! { &rt, name;
+            (run.end, parts[0].words[0][0], operation_of(&guards[0]), parts[0].writes) =>
+                (Some(*end), *held, Some(*known), *writes);
+        }
     }
 }
 

@@ -120,14 +120,11 @@ fn the_code_of_a_cell_is_the_one_that_leads_to_it(rt: HostRuntime) {
 
 // A cell of each kind of place: the first, the last of an output, the first of the next, the
 // last of the last output, and the device's own.
+#[rattlefmt::skip]
 static PLACED: [(usize, Option<Cell>); 8] = [
-    (0, Some(Cell::Out(0, Reg::Operation))),
-    (5, Some(Cell::Out(0, Reg::VoutMin))),
-    (6, Some(Cell::Out(1, Reg::Operation))),
-    (22, Some(Cell::Out(3, Reg::MarginLow))),
-    (47, Some(Cell::Out(7, Reg::VoutMin))),
-    (48, Some(Cell::Protect)),
-    (49, None),
+    (0, Some(Cell::Out(0, Reg::Operation))), (5, Some(Cell::Out(0, Reg::VoutMin))),
+    (6, Some(Cell::Out(1, Reg::Operation))), (22, Some(Cell::Out(3, Reg::MarginLow))),
+    (47, Some(Cell::Out(7, Reg::VoutMin))), (48, Some(Cell::Protect)), (49, None),
     (usize::MAX, None),
 ];
 

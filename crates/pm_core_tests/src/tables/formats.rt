@@ -5,14 +5,11 @@ use crate::checks::agrees;
 use pm_num::{NumFault, NumFormat};
 use pm_table::{Coefficients, VoutMode, format_of};
 
+#[rattlefmt::skip]
 static ROWS: [((i16, i16, i8), Option<NumFault>); 8] = [
-    ((1, 0, 3), None),
-    ((-1, 5, 12), None),
-    ((-32768, 32767, -12), None),
-    ((0, 5, 3), Some(NumFault::ZeroSlope)),
-    ((0, 0, 13), Some(NumFault::ZeroSlope)),
-    ((1, 0, 13), Some(NumFault::ExponentRange)),
-    ((1, 0, -13), Some(NumFault::ExponentRange)),
+    ((1, 0, 3), None), ((-1, 5, 12), None), ((-32768, 32767, -12), None),
+    ((0, 5, 3), Some(NumFault::ZeroSlope)), ((0, 0, 13), Some(NumFault::ZeroSlope)),
+    ((1, 0, 13), Some(NumFault::ExponentRange)), ((1, 0, -13), Some(NumFault::ExponentRange)),
     ((-1, 0, 127), Some(NumFault::ExponentRange)),
 ];
 

@@ -73,17 +73,9 @@ fn a_device_has_its_cells_in_their_order(rt: HostRuntime) {
     for (row, (outputs, wanted)) in COUNTS.iter().enumerate() {
         agrees(&rt, row, &Cell::all(*outputs).count(), wanted);
     }
-    agrees(&rt, 4, &Cell::all(1).last(), &Some(Cell::Protect));
-    agrees(
-        &rt,
-        5,
-        &Cell::all(2).nth(6),
-        &Some(Cell::Out(1, Reg::Operation)),
-    );
-    agrees(
-        &rt,
-        6,
-        &Cell::all(2).nth(11),
-        &Some(Cell::Out(1, Reg::VoutMin)),
-    );
+    compare! { &rt;
+        4, Cell::all(1).last() => Some(Cell::Protect);
+        5, Cell::all(2).nth(6) => Some(Cell::Out(1, Reg::Operation));
+        6, Cell::all(2).nth(11) => Some(Cell::Out(1, Reg::VoutMin));
+    }
 }

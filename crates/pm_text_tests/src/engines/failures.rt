@@ -56,11 +56,7 @@ fn ends_at_read(
     kind: ErrorKind,
 ) {
     let (engine, input, text) = worked;
-    let read = Pieces {
-        fails_at,
-        kind,
-        ..in_pieces(input.as_bytes(), piece)
-    };
+    let read = with! { Pieces, in_pieces(input.as_bytes(), piece); fails_at, kind };
     let ended = engine.over(rt.alloc(), read, blank_paper(rt.alloc(), piece));
     equal(
         rt,
@@ -107,11 +103,7 @@ fn ends_at_write(
     failure: Failure,
 ) {
     let (engine, input, text) = worked;
-    let written = Paper {
-        fails_at,
-        failure,
-        ..blank_paper(rt.alloc(), piece)
-    };
+    let written = with! { Paper, blank_paper(rt.alloc(), piece); fails_at, failure };
     let ended = engine.over(rt.alloc(), in_pieces(input.as_bytes(), piece), written);
     equal(
         rt,

@@ -106,22 +106,14 @@ fn a_word_that_should_be_hexadecimal_and_is_not_is_a_fault(rt: HostRuntime) -> R
 // The place of the line, counted from 0, and the line.
 #[rattlefmt::skip]
 static FAULTY_HEADS: [(usize, &str, TextFault); 28] = [
-    (0, "scenario 01", TextFault::Syntax(1)),
-    (0, "scenario 1 1", TextFault::Syntax(1)),
-    (0, "scenario", TextFault::Syntax(1)),
-    (0, " # x", TextFault::Syntax(1)),
-    (0, "address 58", TextFault::Syntax(1)),
-    (1, "address", TextFault::Syntax(2)),
-    (1, "address 58 58", TextFault::Syntax(2)),
-    (1, "address 058", TextFault::BadHex(2)),
-    (1, "address +8", TextFault::BadHex(2)),
-    (1, "address 5G 58", TextFault::BadHex(2)),
-    (2, "passes -0", TextFault::Syntax(3)),
-    (2, "passes +1", TextFault::Syntax(3)),
-    (2, "passes 1 1", TextFault::Syntax(3)),
-    (3, "protect 0000", TextFault::BadHex(4)),
-    (3, "protect", TextFault::Syntax(4)),
-    (4, "coefficients 1 0", TextFault::Syntax(5)),
+    (0, "scenario 01", TextFault::Syntax(1)), (0, "scenario 1 1", TextFault::Syntax(1)),
+    (0, "scenario", TextFault::Syntax(1)), (0, " # x", TextFault::Syntax(1)),
+    (0, "address 58", TextFault::Syntax(1)), (1, "address", TextFault::Syntax(2)),
+    (1, "address 58 58", TextFault::Syntax(2)), (1, "address 058", TextFault::BadHex(2)),
+    (1, "address +8", TextFault::BadHex(2)), (1, "address 5G 58", TextFault::BadHex(2)),
+    (2, "passes -0", TextFault::Syntax(3)), (2, "passes +1", TextFault::Syntax(3)),
+    (2, "passes 1 1", TextFault::Syntax(3)), (3, "protect 0000", TextFault::BadHex(4)),
+    (3, "protect", TextFault::Syntax(4)), (4, "coefficients 1 0", TextFault::Syntax(5)),
     (4, "coefficients 1 0 0 0", TextFault::Syntax(5)),
     (4, "coefficients 32768 0 0", TextFault::Syntax(5)),
     (4, "coefficients 1 -32769 0", TextFault::Syntax(5)),
@@ -131,8 +123,7 @@ static FAULTY_HEADS: [(usize, &str, TextFault); 28] = [
     (5, "output 14 80 1000 4000 1100 0F00 0", TextFault::Syntax(6)),
     (5, "output 14 0080 1000 4000 1100 0F00", TextFault::BadHex(6)),
     (5, "output 14 80 10 4000 1100 0F00", TextFault::BadHex(6)),
-    (5, "learn 1", TextFault::Syntax(6)),
-    (6, "begin 1", TextFault::Syntax(7)),
+    (5, "learn 1", TextFault::Syntax(6)), (6, "begin 1", TextFault::Syntax(7)),
     (6, "learn 1", TextFault::Syntax(7)),
 ];
 
@@ -147,12 +138,9 @@ fn a_faulty_line_before_the_events_is_told(rt: HostRuntime) -> Result<(), Fail> 
 
 #[rattlefmt::skip]
 static FIRST_FAULTS: [(&str, TextFault); 9] = [
-    ("", TextFault::Syntax(1)),
-    ("\n\n# x", TextFault::Syntax(4)),
-    ("scenario 1", TextFault::Syntax(2)),
-    ("scenario 1\n", TextFault::Syntax(2)),
-    ("scenario 1\r", TextFault::Syntax(2)),
-    ("scenario 1\n\r", TextFault::Syntax(3)),
+    ("", TextFault::Syntax(1)), ("\n\n# x", TextFault::Syntax(4)),
+    ("scenario 1", TextFault::Syntax(2)), ("scenario 1\n", TextFault::Syntax(2)),
+    ("scenario 1\r", TextFault::Syntax(2)), ("scenario 1\n\r", TextFault::Syntax(3)),
     ("scenario 1\r\r\n", TextFault::Syntax(1)),
     ("scenario 1\r\n\r\n#\r\n  \r\naddress ZZ\r\npasses x", TextFault::BadHex(5)),
     ("scenario 1\naddress 58\npasses x\nprotect ZZ", TextFault::Syntax(3)),
