@@ -194,10 +194,7 @@ fn each_fault_of_a_plan_is_done(rt: HostRuntime) {
         equal(&rt, &carry_order(row), &wanted, &number);
         equal(&rt, &carry_order_patiently(row), &wanted, &number);
     }
-}
-
-#[test]
-fn what_was_unheard_is_sent_again(rt: HostRuntime) {
+    // What was unheard is sent again.
     for (number, row) in PATIENT.iter().enumerate() {
         let wanted = Some((Some(row.end), (row.held, row.next)));
         equal(&rt, &carry_order_patiently(row), &wanted, &number);

@@ -79,13 +79,6 @@ static LINEAR11_NUMBERS: [(i64, Result<u16, NumFault>); 9] = [
     (-33_554_432_000_001, Err(NumFault::BelowLeast)),
 ];
 
-#[test]
-fn linear11_encodes_known_numbers(rt: HostRuntime) {
-    for (row, (millionths, want)) in LINEAR11_NUMBERS.iter().enumerate() {
-        agrees(&rt, row, &encoded(&Linear11, volts(&rt, *millionths)), want);
-    }
-}
-
 static ULINEAR16_NUMBERS: [(i8, i64, Result<u16, NumFault>); 3] = [
     (-12, 3_300_000, Ok(0x34CD)),
     (-12, -1, Err(NumFault::BelowLeast)),
@@ -108,7 +101,10 @@ static DIRECT_NUMBERS: [((i16, i16, i8), i64, Result<u16, NumFault>); 10] = [
 ];
 
 #[test]
-fn the_grids_encode_known_numbers(rt: HostRuntime) {
+fn known_numbers_are_encoded(rt: HostRuntime) {
+    for (row, (millionths, want)) in LINEAR11_NUMBERS.iter().enumerate() {
+        agrees(&rt, row, &encoded(&Linear11, volts(&rt, *millionths)), want);
+    }
     for (row, (n, millionths, want)) in ULINEAR16_NUMBERS.iter().enumerate() {
         let found = encoded(&unsigned(&rt, *n), volts(&rt, *millionths));
         agrees(&rt, row, &found, want);

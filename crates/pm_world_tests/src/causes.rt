@@ -9,14 +9,9 @@ use pm_device::{Config, ConfigFault, OutputStart};
 use pm_host::{HostFault, JobEnd, Standing};
 use pm_num::NumFault;
 use pm_table::{Cell, Coefficients, Reg, TableFault};
+use pm_world::Cause::{NotBetrayed as S1, NothingSent as S2, WrongKind as S3};
 use pm_world::{Cause, Event, SetupFault, World};
 use std::process::Abort;
-
-const S1: Cause = Cause::NotBetrayed;
-
-const S2: Cause = Cause::NothingSent;
-
-const S3: Cause = Cause::WrongKind;
 
 const S4_BUSY: Cause = Cause::Host(HostFault::Busy);
 
@@ -145,14 +140,6 @@ fn arrives(
     holds(rt, &world, held)
 }
 
-#[test]
-fn a_write_is_heard_as_it_arrives(rt: HostRuntime) -> Result<(), SetupFault> {
-    for (heard, wanted) in &HEARINGS {
-        arrives(&rt, heard, *wanted)?;
-    }
-    Ok(())
-}
-
 type Outcome = Result<(Option<JobEnd>, u8), Cause>;
 
 // A good answer.
@@ -208,9 +195,10 @@ fn comes_back(rt: &impl Abort, heard: &str, came: &str, wanted: Outcome) -> Resu
 }
 
 #[test]
-fn a_request_is_heard_as_it_arrives_and_its_answer_as_it_comes_back(
-    rt: HostRuntime,
-) -> Result<(), SetupFault> {
+fn writes_requests_and_answers_are_heard_as_they_arrive(rt: HostRuntime) -> Result<(), SetupFault> {
+    for (heard, wanted) in &HEARINGS {
+        arrives(&rt, heard, *wanted)?;
+    }
     for (heard, came, wanted) in &RETURNS {
         comes_back(&rt, heard, came, *wanted)?;
     }

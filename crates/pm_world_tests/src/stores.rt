@@ -11,14 +11,9 @@ use pm_device::Config;
 use pm_host::{JobEnd, Standing};
 use pm_model::{OrderMachine, Plain};
 use pm_table::{Cell, Reg};
+use pm_world::Event::{RestartDevice as RESTARTED, Restore as RESTORE, Store as STORE};
 use pm_world::{Arrival, Event, SetupFault, World};
 use std::process::Abort;
-
-const STORE: Event = Event::Store;
-
-const RESTORE: Event = Event::Restore;
-
-const RESTARTED: Event = Event::RestartDevice;
 
 const CUT: Event = Event::Deliver(Arrival::Cut(2));
 

@@ -112,14 +112,6 @@ fn is_confirmed(
     Ok(())
 }
 
-#[test]
-fn each_cell_is_ordered_and_confirmed(rt: HostRuntime) -> Result<(), SetupFault> {
-    for (cell, word, write, request) in &ORDERS {
-        is_confirmed(&rt, *cell, *word, write, request)?;
-    }
-    Ok(())
-}
-
 // A clear in vain, and one whose second frame is acknowledged.
 fn is_cleared(rt: &impl Abort, world: &mut World, clear: &Event, frame: &str) {
     goes(rt, world, clear, frame);
@@ -134,7 +126,14 @@ fn is_cleared(rt: &impl Abort, world: &mut World, clear: &Event, frame: &str) {
 }
 
 #[test]
-fn a_clear_sends_clear_faults_until_it_is_acknowledged(rt: HostRuntime) -> Result<(), SetupFault> {
+fn each_cell_is_ordered_and_confirmed_and_each_output_is_cleared(
+    rt: HostRuntime,
+) -> Result<(), SetupFault> {
+    // Each cell is ordered and confirmed.
+    for (cell, word, write, request) in &ORDERS {
+        is_confirmed(&rt, *cell, *word, write, request)?;
+    }
+    // A clear sends clear faults until it is acknowledged.
     let mut world = World::begin(mixed(), PASSES)?;
     is_cleared(&rt, &mut world, &Event::Clear(0), "B0 05 02 00 03 50");
     is_cleared(&rt, &mut world, &Event::Clear(1), "B0 05 02 01 03 45");

@@ -77,13 +77,6 @@ static WITHIN: [(Call, Option<LimitFault>); 21] = [
     (WordAt(Cell::Protect, 0x00), None),
 ];
 
-#[test]
-fn a_voltage_is_judged_by_the_word_that_is_sent(rt: HostRuntime) {
-    let mut guard = guard(3_200_000, 3_465_000);
-    learn(&mut guard, 0, LINEAR, &[]);
-    goes(&rt, &mut guard, &WITHIN);
-}
-
 // A word below what was asked lies above the limit, though what was asked doesn't.
 static ASKED_BELOW: [(Call, Option<LimitFault>); 2] = [
     (Micro(Reg::VoutCommand, 3_199_900), None),
@@ -125,10 +118,16 @@ static FALLING_WITHIN: [(Call, Option<LimitFault>); 8] = [
 ];
 
 #[test]
-fn a_slope_below_zero_turns_words_and_not_volts(rt: HostRuntime) {
-    let mut guard = guard(3_200_000, 3_465_000);
-    learn(&mut guard, 0, DIRECT, FALLING);
-    goes(&rt, &mut guard, &FALLING_WITHIN);
+fn voltages_are_judged_by_words_that_are_sent(rt: HostRuntime) {
+    // A slope below zero turns words and not volts.
+    for (mode, coefficients, rows) in [
+        (LINEAR, &[][..], &WITHIN[..]),
+        (DIRECT, FALLING, &FALLING_WITHIN[..]),
+    ] {
+        let mut guard = guard(3_200_000, 3_465_000);
+        learn(&mut guard, 0, mode, coefficients);
+        goes(&rt, &mut guard, rows);
+    }
 }
 
 // Before the format is known. An output is turned off all the same.

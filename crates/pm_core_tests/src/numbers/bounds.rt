@@ -72,10 +72,7 @@ fn voltages_are_rounded_down_and_up(rt: HostRuntime) {
     rounds(&rt, &slope(&rt, 1, 0, 3), &RISING);
     rounds(&rt, &slope(&rt, -1, 5, 3), &FALLING);
     rounds(&rt, &Linear11, &LINEAR11);
-}
-
-#[test]
-fn a_format_of_run_time_rounds_as_its_own(rt: HostRuntime) {
+    // A format of run time rounds as its own.
     rounds(&rt, &AnyFormat::Ulinear16(unsigned(&rt, -12)), &UNSIGNED);
     rounds(&rt, &AnyFormat::Direct(slope(&rt, 1, 0, 3)), &RISING);
     rounds(&rt, &AnyFormat::Direct(slope(&rt, -1, 5, 3)), &FALLING);

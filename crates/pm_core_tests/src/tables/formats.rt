@@ -20,15 +20,6 @@ fn fault_of(mode: VoutMode, m: i16, b: i16, r: i8) -> Option<NumFault>
     format_of(mode, Coefficients { m, b, r }).err()
 }
 
-#[test]
-fn a_direct_mode_takes_the_coefficients_and_a_linear_one_ignores_them(rt: HostRuntime) {
-    for (row, ((m, b, r), fault)) in ROWS.iter().enumerate() {
-        agrees(&rt, row, &fault_of(VoutMode::Direct, *m, *b, *r), fault);
-        let linear = fault_of(VoutMode::Linear(-12), *m, *b, *r);
-        agrees(&rt, row, &linear, &None);
-    }
-}
-
 // The value of 34CDh in a mode, with millivolts for the direct one.
 fn value_in(mode: VoutMode) -> Result<(i128, i128), NumFault>
     requires { IsMode mode }
@@ -42,9 +33,15 @@ fn value_in(mode: VoutMode) -> Result<(i128, i128), NumFault>
     }
 }
 
-// 34CDh is 13517 * 2^-12, and 13517 millivolts.
 #[test]
-fn a_word_has_the_value_of_its_mode(rt: HostRuntime) {
+fn a_mode_has_its_format(rt: HostRuntime) {
+    // A direct mode takes the coefficients and a linear one ignores them.
+    for (row, ((m, b, r), fault)) in ROWS.iter().enumerate() {
+        agrees(&rt, row, &fault_of(VoutMode::Direct, *m, *b, *r), fault);
+        let linear = fault_of(VoutMode::Linear(-12), *m, *b, *r);
+        agrees(&rt, row, &linear, &None);
+    }
+    // 34CDh is 13517 * 2^-12, and 13517 millivolts.
     let fine = value_in(VoutMode::Linear(-12));
     agrees(&rt, 0, &fine, &Ok((13_517, 4096)));
     let coarse = value_in(VoutMode::Linear(15));

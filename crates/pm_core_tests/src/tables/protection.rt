@@ -33,10 +33,7 @@ fn each_value_allows_its_codes_and_no_other(rt: HostRuntime) {
     for (protect, allowed) in &PROTECTED {
         allows_only(&rt, *protect, allowed);
     }
-}
-
-#[test]
-fn a_word_above_a_byte_allows_clear_faults_alone(rt: HostRuntime) {
+    // A word above a byte allows clear faults alone.
     for protect in &ABOVE_A_BYTE {
         allows_only(&rt, *protect, &[]);
     }

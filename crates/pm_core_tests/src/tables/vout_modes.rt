@@ -30,13 +30,6 @@ fn read(byte: u8) -> Result<VoutMode, TableFault> {
     VoutMode::read(byte)
 }
 
-#[test]
-fn every_byte_reads_as_its_bits_say(rt: HostRuntime) {
-    for byte in 0..=u8::MAX {
-        agrees(&rt, usize::from(byte), &read(byte), &slow_mode(byte));
-    }
-}
-
 #[rattlefmt::skip]
 static ENDS: [(u8, Result<VoutMode, TableFault>); 17] = [
     (0x00, Ok(VoutMode::Linear(0))), (0x0F, Ok(VoutMode::Linear(15))),
@@ -51,7 +44,11 @@ static ENDS: [(u8, Result<VoutMode, TableFault>); 17] = [
 ];
 
 #[test]
-fn the_ends_of_each_range_read_as_the_standard_says(rt: HostRuntime) {
+fn every_byte_reads_as_its_bits_say(rt: HostRuntime) {
+    for byte in 0..=u8::MAX {
+        agrees(&rt, usize::from(byte), &read(byte), &slow_mode(byte));
+    }
+    // The ends of each range read as the standard says.
     for (row, (byte, wanted)) in ENDS.iter().enumerate() {
         agrees(&rt, row, &read(*byte), wanted);
     }
