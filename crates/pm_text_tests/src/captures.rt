@@ -39,11 +39,6 @@ static PACKETS: [(&str, &str); 2] = [
     ),
 ];
 
-#[test]
-fn without_an_option_packets_are_told_as_before(rt: HostRuntime) {
-    are_told(&rt, &PACKETS, &TellOptions::none());
-}
-
 #[rattlefmt::skip]
 static MEANINGS: [(&str, &str); 9] = [
     ("B0 88 / B1 30 D3 0F\nB0 20 / B1 14 ED\nB0 88 / B1 30 D3 0F",
@@ -66,11 +61,6 @@ static MEANINGS: [(&str, &str); 9] = [
         "1 58 page 1 VOUT_COMMAND write 34CD\n2 58 page 1 VOUT_MODE read 14 ULINEAR16 -12\n3 58 page 1 VOUT_COMMAND write 34CD 3.300048 V\n4 58 page 1 VOUT_MODE read 40 DIRECT\n5 58 page 1 VOUT_COMMAND write 34CD\n6 58 COEFFICIENTS of 21 side 0 read m 1 b 0 r 3\n7 58 page 1 VOUT_COMMAND write 34CD 13.517 V\n8 58 VOUT_COMMAND write 34CD\ncount VOUT_COMMAND 5\ncount VOUT_MODE 2\ncount COEFFICIENTS 1\nlines 8 accepted 8 faults 0 bad 0\n"),
 ];
 
-#[test]
-fn each_kind_of_value_stands_behind_its_packet(rt: HostRuntime) {
-    are_told(&rt, &MEANINGS, &values());
-}
-
 static OTHERS: [(&str, &str); 2] = [
     ("", "lines 0 accepted 0 other 0 faults 0 bad 0\n"),
     (
@@ -79,28 +69,10 @@ static OTHERS: [(&str, &str); 2] = [
     ),
 ];
 
-#[test]
-fn packets_of_other_codes_are_told_by_their_bytes(rt: HostRuntime) {
-    are_told(
-        &rt,
-        &OTHERS,
-        &with! { TellOptions, TellOptions::none(); all: true },
-    );
-}
-
 static TIMES: [(&str, &str); 1] = [(
     "0012 B0 10 80 34\r\n7\r\n # x\n#\n  \n\r\n1234567890123456789 B0\n12 # x\n 3 B0 10 80 34 00/00/00\n\n5\r",
     "1 0 us 58 WRITE_PROTECT write 80\n2 -5 us -- write F1 NotOurs\n3 X1 Syntax\n7 X1 Syntax\n8 X2 BadHex\n9 X1 Syntax\n11 -7 us -- write F1 NotOurs\ncount WRITE_PROTECT 1\nlines 7 accepted 1 faults 2 bad 4\n",
 )];
-
-#[test]
-fn each_line_begins_with_its_time(rt: HostRuntime) {
-    are_told(
-        &rt,
-        &TIMES,
-        &with! { TellOptions, TellOptions::none(); times: true },
-    );
-}
 
 static OBJECTS: [(&str, &str); 2] = [
     (
@@ -129,15 +101,6 @@ static OBJECTS: [(&str, &str); 2] = [
     ),
 ];
 
-#[test]
-fn each_line_is_an_object_of_json(rt: HostRuntime) {
-    are_told(
-        &rt,
-        &OBJECTS,
-        &with! { TellOptions, values(); all: true, json: true },
-    );
-}
-
 #[rattlefmt::skip]
 static PAGES: [(&str, &str); 3] = [
     ("B0 00 01 ED\nB0 20 / B1 14 ED\nB0 21 CD 34 38\nB0 00 / B1 00 C2\nB0 21 CD 34 38\nB0 00 01\nB0 21 CD 34 38\n",
@@ -147,11 +110,6 @@ static PAGES: [(&str, &str); 3] = [
     ("# bytes were lost\nB0 00 03 E3\nB0 03 46\n",
         "2 58 PAGE write 03\n3 58 page 3? CLEAR_FAULTS send\ncount PAGE 1\ncount CLEAR_FAULTS 1\nlines 2 accepted 2 faults 0 bad 0\n"),
 ];
-
-#[test]
-fn a_plain_packet_is_told_with_the_output_that_it_reaches(rt: HostRuntime) {
-    are_told(&rt, &PAGES, &with! { TellOptions, values(); pages: true });
-}
 
 static PAUSES: [(&str, &str); 1] = [(
     "0 B0 00 01\n2000 B0 03 46\n4001 B0 03 46\n4001 B0 00 02 E4\n4000 B0 03\n4000 B0 00 / B1 01 C5\n4000 B0 00 / B1 FF\n4000 B0 03 46\n",
@@ -166,16 +124,6 @@ static PAUSES: [(&str, &str); 1] = [(
 {\"count\":\"PAGE\",\"lines\":4}\n{\"count\":\"CLEAR_FAULTS\",\"lines\":4}\n\
 {\"lines\":8,\"accepted\":8,\"other\":0,\"faults\":0,\"bad\":0}\n",
 )];
-
-#[test]
-fn behind_a_pause_a_page_is_not_known(rt: HostRuntime) {
-    are_told(
-        &rt,
-        &PAUSES,
-        &with! { TellOptions, TellOptions::none();
-            all: true, times: true, json: true, pages: true, gap: 2000 },
-    );
-}
 
 #[rattlefmt::skip]
 static RECEIVED: [(&str, &str); 15] = [
@@ -211,15 +159,6 @@ static RECEIVED: [(&str, &str); 15] = [
         "2 58 READ_VOUT read 1000\n3 58 page 0 VOUT_MARGIN_HIGH write FFFF\n4 58 VOUT_MARGIN_HIGH read FFFF, no PEC\n5 58 page 0 VOUT_MARGIN_HIGH write 1000\n6 58 code 25 VOUT_MARGIN_HIGH read FF FF FF, all ones: nobody answered\ncount READ_VOUT 1\ncount VOUT_MARGIN_HIGH 3\ncount code 25 1\nlines 5 accepted 4 other 1 faults 0 bad 0\n"),
 ];
 
-#[test]
-fn what_was_refused_or_answered_by_nobody_is_not_told_as_done(rt: HostRuntime) {
-    are_told(
-        &rt,
-        &RECEIVED,
-        &with! { TellOptions, values(); all: true, pages: true },
-    );
-}
-
 #[rattlefmt::skip]
 static SPECIAL: [(&str, &str); 4] = [
     ("# Addresses that SMBus keeps for something else.\n10 B0 34 12\n18 / 19 B0\n50 21 / 51 00 10\n6E 00 01\nC2 02 1D\nC2 / C3 04 01 02\n",
@@ -231,15 +170,6 @@ static SPECIAL: [(&str, &str); 4] = [
     ("# A comment shows them as well, and a refused one is counted as refused.\nB0 00 01 ED\nB0 20 / B1 17 E4\n# another device: C2 00 00\nB0 21 00 10 C0\n# another device: 6E 00 00\nB0 21 00 10 C0\n# byte 1 wasn't acknowledged\n6E 00 00\n",
         "2 58 PAGE write 01\n3 58 page 1? VOUT_MODE read 17 ULINEAR16 -9\n5 58 page 1? VOUT_COMMAND write 1000 8 V\n7 58 VOUT_COMMAND write 1000\n9 37 ZONE_WRITE write 00 00, byte 1 not acknowledged\ncount PAGE 1\ncount VOUT_MODE 1\ncount VOUT_COMMAND 2\nlines 5 accepted 4 other 0 faults 0 refused 1 bad 0\n"),
 ];
-
-#[test]
-fn addresses_that_are_kept_for_something_else_are_no_parts(rt: HostRuntime) {
-    are_told(
-        &rt,
-        &SPECIAL,
-        &with! { TellOptions, values(); all: true, pages: true },
-    );
-}
 
 #[rattlefmt::skip]
 static MUXES: [(&str, &str); 2] = [
@@ -260,15 +190,37 @@ static MUX_ALONE: [(&str, &str); 1] = [(
 )];
 
 #[test]
-fn parts_and_muxes_that_are_named_are_told_so(rt: HostRuntime) {
+fn captures_are_told_as_their_options_say(rt: HostRuntime) {
     let named = TellOptions {
         parts: Addresses::none().with(0x61).with(0x37),
         muxes: Addresses::none().with(0x71).with(0x70),
         ..TellOptions::none()
     };
-    let followed = with! { TellOptions, named; values: true, all: true, pages: true };
-    are_told(&rt, &MUXES, &followed);
-    let object = with! { TellOptions, named; times: true, json: true };
-    are_told(&rt, &MUX_OBJECTS, &object);
-    are_told(&rt, &MUX_ALONE, &named);
+    let paged = with! { TellOptions, values(); all: true, pages: true };
+    #[rattlefmt::skip]
+    let rows: [(&[(&str, &str)], TellOptions); 12] = [
+        (&PACKETS, TellOptions::none()),
+        // Each kind of value stands after its packet.
+        (&MEANINGS, values()),
+        // Packets of other codes are told by their bytes.
+        (&OTHERS, with! { TellOptions, TellOptions::none(); all: true }),
+        // Each line begins with its time.
+        (&TIMES, with! { TellOptions, TellOptions::none(); times: true }),
+        // Each line is an object of JSON.
+        (&OBJECTS, with! { TellOptions, values(); all: true, json: true }),
+        // A plain packet is told with the output that it reaches, which isn't known after a pause.
+        (&PAGES, with! { TellOptions, values(); pages: true }),
+        (&PAUSES, with! { TellOptions, TellOptions::none(); all: true, times: true, json: true,
+                pages: true, gap: 2000 }),
+        // What was refused, or answered by nobody, isn't told as done.
+        (&RECEIVED, paged),
+        // Addresses that are kept for something else are no parts, but for those that are named, as muxes are.
+        (&SPECIAL, paged),
+        (&MUXES, with! { TellOptions, named; values: true, all: true, pages: true }),
+        (&MUX_OBJECTS, with! { TellOptions, named; times: true, json: true }),
+        (&MUX_ALONE, named),
+    ];
+    for (captures, options) in &rows {
+        are_told(&rt, captures, options);
+    }
 }

@@ -37,6 +37,22 @@ impl Texts {
         }
     }
 
+    // One more line of packets that are like this one: `like` has an `@` for what differs in them, and one for what differs in
+    // what is shown.
+    fn add_like(&mut self, alloc: Global, like: &str, line: &str) -> Result<(), AllocError> {
+        let mut parts = like.split('@');
+        let (Some(packet), Some(said), Some(end)) = (parts.next(), parts.next(), parts.next())
+        else {
+            return Ok(());
+        };
+        for pair in line.split("; ") {
+            if let Some((bytes, words)) = pair.split_once(" = ") {
+                self.add(alloc, &joined(alloc, &[packet, bytes, said, words, end])?)?;
+            }
+        }
+        Ok(())
+    }
+
     // One more line of a row. What is shown of a packet begins with its number, but for an object of JSON, which has it inside.
     fn add(&mut self, alloc: Global, line: &str) -> Result<(), AllocError> {
         if let Some(words) = line.strip_prefix("? ") {
@@ -75,18 +91,24 @@ fn is_told(rt: &(impl Abort + AllocGlobal), words: &[&str], status: u8, texts: &
 
 // Each row of this text is shown as it says. A row begins with `$`, the status and the words. Then each line is a packet and,
 // after ` -> `, what is shown of it; counts, each of which has a line of its own; another line that is shown at the end, or on
-// standard error if it begins with `? `; or what the row is for, after `// `.
+// standard error if it begins with `? `; or what the row is for, after `// `. Packets that are alike stand under a line after
+// `* `, whose `@` stand for what differs in them and in what is shown: pairs of both, as `80 7D = 80 BUSY; 40 33 = 40 OFF`.
 fn are_told(rt: &(impl Abort + AllocGlobal), text: &str) -> Result<(), Fail> {
     for row in text.split("\n$ ").skip(1) {
         let mut words = Vec::new(rt.alloc());
         let mut texts = Texts::none(rt.alloc());
         let mut status = 0;
+        let mut like = "";
         for (number, line) in row.split('\n').enumerate() {
             if number == 0 {
                 status = u8::from(line.starts_with("1 "));
                 for word in line.split(' ').skip(1) {
                     words.push(word)?;
                 }
+            } else if let Some(other) = line.strip_prefix("* ") {
+                like = other;
+            } else if line.contains(" = ") {
+                texts.add_like(rt.alloc(), like, line)?;
             } else if !line.is_empty() && !line.starts_with("// ") {
                 texts.add(rt.alloc(), line)?;
             }

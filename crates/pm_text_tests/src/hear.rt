@@ -2,6 +2,7 @@
 
 use crate::checks::{equal, is_true};
 use crate::{TAKEN, blank_paper, in_pieces};
+use pm_tool::TextFault::{BadHex, Syntax};
 use pm_tool::{Sink, Source, TextFault, hear};
 use std::alloc::Global;
 use std::process::Abort;
@@ -69,15 +70,6 @@ static ANSWERS: [(&str, &str, &str); 31] = [
         "taken\nrefused K5 Protected\nanswer B1 80 00\n", NONE),
 ];
 
-#[test]
-fn each_line_is_answered_and_the_outputs_follow(rt: HostRuntime) {
-    for &(text, answers, words) in &ANSWERS {
-        for &piece in &PIECES {
-            is_heard(&rt, text, piece, answers, words);
-        }
-    }
-}
-
 #[rattlefmt::skip]
 static SPELLINGS: [&str; 9] = [
     "B0 05 04 00 21 CD 34 5A\n", "B0 05 04 00 21 CD 34 5A\r\n", "B0 05 04 00 21 CD 34 5A\r",
@@ -88,7 +80,13 @@ static SPELLINGS: [&str; 9] = [
 ];
 
 #[test]
-fn a_frame_line_is_heard_however_it_is_written(rt: HostRuntime) {
+fn each_line_is_answered_and_the_outputs_follow(rt: HostRuntime) {
+    for &(text, answers, words) in &ANSWERS {
+        for &piece in &PIECES {
+            is_heard(&rt, text, piece, answers, words);
+        }
+    }
+    // A frame line is heard however it is written.
     for &text in &SPELLINGS {
         for &piece in &PIECES {
             is_heard(&rt, text, piece, "", TAKEN);
@@ -106,23 +104,18 @@ fn is_refused(rt: &(impl Abort + AllocGlobal), text: &str, piece: usize, fault: 
 #[rattlefmt::skip]
 static FAULTY_TEXTS: [(&str, TextFault); 27] = [
     // Not hexadecimal.
-    ("a comment\n\r", TextFault::BadHex(1)), (" # x", TextFault::BadHex(1)),
-    ("\t", TextFault::BadHex(1)), ("B0\t05", TextFault::BadHex(1)), ("B0 0", TextFault::BadHex(1)),
-    ("B00 5", TextFault::BadHex(1)), ("B0\r05", TextFault::BadHex(1)),
-    ("B0 05\r\r\n", TextFault::BadHex(1)), ("\n#\nZZ", TextFault::BadHex(3)),
-    ("B0 restart", TextFault::BadHex(1)), ("restarts", TextFault::BadHex(1)),
-    ("RESTART", TextFault::BadHex(1)), ("restart/", TextFault::BadHex(1)),
+    ("a comment\n\r", BadHex(1)), (" # x", BadHex(1)), ("\t", BadHex(1)), ("B0\t05", BadHex(1)),
+    ("B0 0", BadHex(1)), ("B00 5", BadHex(1)), ("B0\r05", BadHex(1)), ("B0 05\r\r\n", BadHex(1)),
+    ("\n#\nZZ", BadHex(3)), ("B0 restart", BadHex(1)), ("restarts", BadHex(1)),
+    ("RESTART", BadHex(1)), ("restart/", BadHex(1)),
     // A frame that isn't hexadecimal comes before what stands after its `/`.
-    ("B0 2 /", TextFault::BadHex(1)), ("B0 2 / ZZ", TextFault::BadHex(1)),
-    ("B0 2/", TextFault::BadHex(1)), ("\nZZ /", TextFault::BadHex(2)),
+    ("B0 2 /", BadHex(1)), ("B0 2 / ZZ", BadHex(1)), ("B0 2/", BadHex(1)), ("\nZZ /", BadHex(2)),
     // More than a line may have.
-    ("B0 20 / ZZ", TextFault::Syntax(1)), ("B0 05 / B1", TextFault::Syntax(1)),
-    ("B0 / /", TextFault::Syntax(1)), ("//", TextFault::Syntax(1)), ("/\t", TextFault::Syntax(1)),
-    ("restart x", TextFault::Syntax(1)), ("  restart restart", TextFault::Syntax(1)),
-    ("restart /", TextFault::Syntax(1)),
+    ("B0 20 / ZZ", Syntax(1)), ("B0 05 / B1", Syntax(1)), ("B0 / /", Syntax(1)), ("//", Syntax(1)),
+    ("/\t", Syntax(1)), ("restart x", Syntax(1)), ("  restart restart", Syntax(1)),
+    ("restart /", Syntax(1)),
     // The first of several, whatever was heard before it.
-    ("B0 05\n\nZZ\n/ /\n", TextFault::BadHex(3)),
-    ("B0 05\nrestart\n/ /\nZZ\n", TextFault::Syntax(3)),
+    ("B0 05\n\nZZ\n/ /\n", BadHex(3)), ("B0 05\nrestart\n/ /\nZZ\n", Syntax(3)),
 ];
 
 #[test]

@@ -36,14 +36,6 @@ static LONG_FRAMES: [(Long, (usize, &str, &str)); 8] = [
     ((["", ""], "restart\n", 131_072, ""), (131_074, "restarted\nrestarted\n", OUTPUTS)),
 ];
 
-#[test]
-fn long_texts_are_heard(rt: HostRuntime) -> Result<(), Fail> {
-    for &(long, written) in &LONG_FRAMES {
-        is_heard(&rt, &text_of(rt.alloc(), long)?, written);
-    }
-    Ok(())
-}
-
 // `hear` refuses a text for this, and writes nothing.
 fn is_not_heard(rt: &(impl Abort + AllocGlobal), text: &[u8], fault: TextFault) {
     let (end, written) = Engine::Hear.text_of(rt.alloc(), in_pieces(text, 4096));
@@ -58,6 +50,14 @@ static FAULTY_AT_THE_END: [(Long, TextFault); 3] = [
     ((["", ""], "#\n", 300_000, "/ /"), TextFault::Syntax(300_001)),
     ((["", ""], " \n", 300_000, "restart /"), TextFault::Syntax(300_001)),
 ];
+
+#[test]
+fn long_texts_are_heard(rt: HostRuntime) -> Result<(), Fail> {
+    for &(long, written) in &LONG_FRAMES {
+        is_heard(&rt, &text_of(rt.alloc(), long)?, written);
+    }
+    Ok(())
+}
 
 #[test]
 fn a_faulty_line_at_the_end_of_a_long_text_is_told(rt: HostRuntime) -> Result<(), Fail> {

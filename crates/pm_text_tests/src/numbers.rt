@@ -50,13 +50,6 @@ static WORDS_SHOWN: [(&str, &str, &str); 13] = [
     ("direct:01:-0:003", "0CE4", "word 0CE4 value 3300/1000 micro 3300000\n"),
 ];
 
-#[test]
-fn words_are_shown_with_their_values(rt: HostRuntime) {
-    for &(format, word, line) in &WORDS_SHOWN {
-        expect_line(&rt, format, (Some(word), None), line);
-    }
-}
-
 /// A format, a value in millionths, and the line of its nearest word.
 #[rattlefmt::skip]
 static VALUES_SHOWN: [(&str, &str, &str); 10] = [
@@ -73,7 +66,12 @@ static VALUES_SHOWN: [(&str, &str, &str); 10] = [
 ];
 
 #[test]
-fn values_are_shown_with_their_nearest_words(rt: HostRuntime) {
+fn lines_are_shown(rt: HostRuntime) {
+    // Words are shown with their values.
+    for &(format, word, line) in &WORDS_SHOWN {
+        expect_line(&rt, format, (Some(word), None), line);
+    }
+    // Values are shown with their nearest words.
     for &(format, micro, line) in &VALUES_SHOWN {
         expect_line(&rt, format, (None, Some(micro)), line);
     }
@@ -101,13 +99,6 @@ static FAULTY: [(&str, Option<&str>, Option<&str>, NumberFault); 7] = [
     ("direct:0:5:3", None, Some("1.5"), NumberFault::Micro),
 ];
 
-#[test]
-fn faulty_command_lines_are_refused_in_order(rt: HostRuntime) {
-    for &(format, word, micro, fault) in &FAULTY {
-        expect_fault(&rt, format, (word, micro), fault);
-    }
-}
-
 #[rattlefmt::skip]
 static NO_FORMATS: [&str; 27] = [
     "LINEAR11", "linear11:", "linear11 ", "ulinear16", "ulinear16:", "ulinear16:-17",
@@ -117,13 +108,6 @@ static NO_FORMATS: [&str; 27] = [
     "half", "/", "linear11/", "ulinear16//1", "ulinear16/16", "ulinear16/-12", "direct:1/0:3",
 ];
 
-#[test]
-fn texts_that_are_no_format_are_refused(rt: HostRuntime) {
-    for &format in &NO_FORMATS {
-        expect_fault(&rt, format, (Some("0001"), None), NumberFault::Format);
-    }
-}
-
 #[rattlefmt::skip]
 static NO_MICROS: [&str; 8] = [
     "", "-", "+1", "--1", "1 ", "1e6", "9223372036854775808", "-9223372036854775809",
@@ -132,16 +116,6 @@ static NO_MICROS: [&str; 8] = [
 static NO_WORDS: [&str; 9] = [
     "", "1", "001", "00001", "+001", "-001", "00G0", "0x01", " 001",
 ];
-
-#[test]
-fn texts_that_are_no_word_or_number_are_refused(rt: HostRuntime) {
-    for &word in &NO_WORDS {
-        expect_fault(&rt, "linear11", (Some(word), None), NumberFault::Word);
-    }
-    for &micro in &NO_MICROS {
-        expect_fault(&rt, "linear11", (None, Some(micro)), NumberFault::Micro);
-    }
-}
 
 /// A format, a value, and why it has no word.
 #[rattlefmt::skip]
@@ -160,7 +134,23 @@ static NO_NEAREST: [(&str, &str, NumFault); 11] = [
 ];
 
 #[test]
-fn numbers_without_a_word_are_refused(rt: HostRuntime) {
+fn what_has_no_line_is_refused(rt: HostRuntime) {
+    // Faulty command lines are refused in order.
+    for &(format, word, micro, fault) in &FAULTY {
+        expect_fault(&rt, format, (word, micro), fault);
+    }
+    // Texts that are no format are refused.
+    for &format in &NO_FORMATS {
+        expect_fault(&rt, format, (Some("0001"), None), NumberFault::Format);
+    }
+    // Texts that are no word or number are refused.
+    for &word in &NO_WORDS {
+        expect_fault(&rt, "linear11", (Some(word), None), NumberFault::Word);
+    }
+    for &micro in &NO_MICROS {
+        expect_fault(&rt, "linear11", (None, Some(micro)), NumberFault::Micro);
+    }
+    // Numbers without a word are refused.
     for &(format, micro, fault) in &NO_NEAREST {
         expect_fault(&rt, format, (None, Some(micro)), NumberFault::Num(fault));
     }

@@ -104,14 +104,6 @@ static STOPS: [(&str, Said); 19] = [
         ("stopped 2 S4 Host N5 TooLarge", START, UNKNOWN, "learned")),
 ];
 
-#[test]
-fn a_replay_goes_on_to_the_first_event_that_is_not_taken(rt: HostRuntime) -> Result<(), Fail> {
-    for &(events, said) in &STOPS {
-        is_reported(&rt, events, said)?;
-    }
-    Ok(())
-}
-
 /// The events of an order, and the end of the text.
 #[rattlefmt::skip]
 static ORDER: [&str; 5] = [
@@ -147,14 +139,6 @@ static RESTARTS: [(&str, usize, Said); 10] = [
     ("host", 4, ("ran 5", HELD, "34CD host unknown", "none")),
 ];
 
-#[test]
-fn a_restart_of_either_end_at_each_place_of_an_order(rt: HostRuntime) -> Result<(), Fail> {
-    for &(end, place, said) in &RESTARTS {
-        is_reported(&rt, &with_restart(rt.alloc(), end, place)?, said)?;
-    }
-    Ok(())
-}
-
 // A check, and then sixteen orders that nothing answers.
 fn sixteen_orders(alloc: Global) -> Result<String, Fail> {
     let mut events = String::new(alloc);
@@ -170,10 +154,19 @@ fn sixteen_orders(alloc: Global) -> Result<String, Fail> {
 }
 
 #[test]
-fn a_seventeenth_possible_word_is_refused(rt: HostRuntime) -> Result<(), Fail> {
+fn a_replay_goes_on_to_the_first_event_that_is_not_taken(rt: HostRuntime) -> Result<(), Fail> {
+    for &(events, said) in &STOPS {
+        is_reported(&rt, events, said)?;
+    }
+    // A restart of either end at each place of an order.
+    for &(end, place, said) in &RESTARTS {
+        is_reported(&rt, &with_restart(rt.alloc(), end, place)?, said)?;
+    }
+    // A seventeenth possible word is refused.
     let first = "stopped 77 S4 Host H6 TooUncertain";
     let events = sixteen_orders(rt.alloc())?;
-    is_reported(&rt, &events, (first, START, UNKNOWN, "unknown"))
+    is_reported(&rt, &events, (first, START, UNKNOWN, "unknown"))?;
+    Ok(())
 }
 
 // The report of a run without events that is said to have taken so many, and to have stopped so.

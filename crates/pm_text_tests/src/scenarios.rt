@@ -164,12 +164,7 @@ fn has_coefficients(
     r: i8,
 ) -> Result<(), Fail> {
     let scenario = with_line(rt.alloc(), 4, line)?;
-    equal(
-        rt,
-        &scenario.config.coefficients,
-        &Coefficients { m, b, r },
-        &line,
-    );
+    compare! { rt, line; scenario.config.coefficients => Coefficients { m, b, r } }
     Ok(())
 }
 

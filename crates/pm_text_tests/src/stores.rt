@@ -4,6 +4,7 @@ use crate::checks::{equal, is_true, joined, shown};
 use crate::scenarios::{is_refused, scenario_of};
 use crate::{Engine, Engines, SCENARIO, in_pieces};
 use pm_text::TextFault;
+use pm_text::TextFault::Syntax;
 use std::alloc::Global;
 use std::process::Abort;
 use std::test::Fail;
@@ -75,18 +76,6 @@ fn is_told(told: &str, first: &str, [held, said]: [&str; 2], last: &str) -> bool
     front.starts_with(first) && rest.starts_with(said) && rest.ends_with(last)
 }
 
-#[test]
-fn stored_words_come_back(rt: HostRuntime) -> Result<(), Fail> {
-    for &(events, first, output, last) in &ROWS {
-        let text = text_with(rt.alloc(), "00", events)?;
-        let (end, written) = Engine::Replay.text_of(rt.alloc(), in_pieces(text.as_bytes(), 4096));
-        equal(&rt, &end, &Ok(!first.starts_with("stopped")), &events);
-        let told = std::str::from_utf8(&written)?;
-        is_true(&rt, is_told(told, first, output, last), &events);
-    }
-    Ok(())
-}
-
 // WRITE_PROTECT at the start, events after the order, what WRITE_PROTECT then is and what the host says of it.
 #[rattlefmt::skip]
 static PROTECTED: [(&str, &str, &str); 4] = [
@@ -105,7 +94,15 @@ static PROTECTED: [(&str, &str, &str); 4] = [
 ];
 
 #[test]
-fn write_protect_is_not_stored(rt: HostRuntime) -> Result<(), Fail> {
+fn stored_words_come_back_but_for_write_protect(rt: HostRuntime) -> Result<(), Fail> {
+    for &(events, first, output, last) in &ROWS {
+        let text = text_with(rt.alloc(), "00", events)?;
+        let (end, written) = Engine::Replay.text_of(rt.alloc(), in_pieces(text.as_bytes(), 4096));
+        equal(&rt, &end, &Ok(!first.starts_with("stopped")), &events);
+        let told = std::str::from_utf8(&written)?;
+        is_true(&rt, is_told(told, first, output, last), &events);
+    }
+    // Write protect is not stored.
     for &(protect, events, first) in &PROTECTED {
         let text = text_with(rt.alloc(), protect, events)?;
         let (end, written) = Engine::Replay.text_of(rt.alloc(), in_pieces(text.as_bytes(), 4096));
@@ -182,10 +179,10 @@ static LINES_OF_ONE_WORD: [(&str, Result<&str, TextFault>); 7] = [
     ("store", Ok(", Store]")),
     ("  restore  ", Ok(", Restore]")),
     ("restore\r\nstore", Ok(", Restore, Store]")),
-    ("store 0", Err(TextFault::Syntax(13))),
-    ("restore device", Err(TextFault::Syntax(13))),
-    ("Store", Err(TextFault::Syntax(13))),
-    ("store\nstores", Err(TextFault::Syntax(14))),
+    ("store 0", Err(Syntax(13))),
+    ("restore device", Err(Syntax(13))),
+    ("Store", Err(Syntax(13))),
+    ("store\nstores", Err(Syntax(14))),
 ];
 
 #[test]
@@ -193,14 +190,10 @@ fn store_and_restore_are_lines_of_one_word(rt: HostRuntime) -> Result<(), Fail> 
     for &(line, wanted) in &LINES_OF_ONE_WORD {
         expect_event(&rt, line, wanted)?;
     }
-    Ok(())
-}
-
-#[test]
-fn version_1_knows_no_store(rt: HostRuntime) -> Result<(), Fail> {
+    // Version 1 knows no store.
     for event in ["store", "restore", "store 0", "restore ZZ"] {
         let text = joined(rt.alloc(), &[SCENARIO, event, "\n"])?;
-        is_refused(&rt, &text, TextFault::Syntax(13));
+        is_refused(&rt, &text, Syntax(13));
     }
     // What is heard is judged by the table all the same: a byte too many of a known code, and no wrong PEC.
     let text = joined(

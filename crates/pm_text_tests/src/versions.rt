@@ -4,6 +4,7 @@ use crate::checks::{equal, is_true, joined, shown};
 use crate::scenarios::{is_refused, scenario_of};
 use crate::{Engine, Engines, REPORT, SCENARIO, in_pieces};
 use pm_text::TextFault;
+use pm_text::TextFault::{BadHex, Syntax};
 use std::alloc::Global;
 use std::process::Abort;
 use std::test::Fail;
@@ -44,16 +45,6 @@ static SECOND: &str = "ran 4\nprotect 00 host unknown possible any\n\
     VOUT_MARGIN_LOW 0BB8 host unknown possible any\nVOUT_MIN 07D0 host unknown possible any\n\
     status 01 8001 08\ncml 00\nrestart seen no\njob done\n";
 
-#[test]
-fn a_report_of_version_2_tells_vout_min(rt: HostRuntime) -> Result<(), Fail> {
-    let events = "order 0 VOUT_COMMAND 0400\ndeliver whole\nfinish ack\nexchange whole whole\n";
-    let text = text_with(rt.alloc(), 8, "", events)?;
-    let (end, written) = replayed(rt.alloc(), &text);
-    equal(&rt, &end, &Ok(true), &1);
-    equal(&rt, &written.as_slice(), &SECOND.as_bytes(), &2);
-    Ok(())
-}
-
 // Both answers of an order are lost; then a report of version 2 shows the two words that the cell may have.
 static LOST: &str = "check 0 VOUT_COMMAND\nexchange whole whole\norder 0 VOUT_COMMAND 34CD\n\
     deliver whole\nfinish nack\nexchange whole cut 0\ndeliver cut 0\nfinish nack\n\
@@ -82,30 +73,30 @@ fn is_replayed_with(
 }
 
 #[test]
-fn a_report_of_version_2_tells_the_possible_words(rt: HostRuntime) -> Result<(), Fail> {
-    let second = "output 14 80 1000 4000 1100 0F00 0000";
-    let text = text_with(rt.alloc(), 6, second, LOST)?;
-    is_replayed_with(&rt, &text, &LOST_TOLD)
-}
-
-#[test]
-fn a_report_of_version_1_tells_no_possible_words(rt: HostRuntime) -> Result<(), Fail> {
-    let text = joined(rt.alloc(), &[SCENARIO, LOST])?;
+fn a_report_of_version_2_tells_vout_min_and_the_possible_words(
+    rt: HostRuntime,
+) -> Result<(), Fail> {
+    let events = "order 0 VOUT_COMMAND 0400\ndeliver whole\nfinish ack\nexchange whole whole\n";
+    let text = text_with(rt.alloc(), 8, "", events)?;
     let (end, written) = replayed(rt.alloc(), &text);
     equal(&rt, &end, &Ok(true), &1);
-    let told = std::str::from_utf8(&written)?;
-    is_true(&rt, !told.contains("possible"), &2);
-    Ok(())
-}
-
-// A byte that OPERATION and WRITE_PROTECT may have is shown with its two digits.
-#[test]
-fn a_possible_byte_has_two_digits(rt: HostRuntime) -> Result<(), Fail> {
+    equal(&rt, &written.as_slice(), &SECOND.as_bytes(), &2);
+    // A report of version 2 tells the possible words.
+    let second = "output 14 80 1000 4000 1100 0F00 0000";
+    let text = text_with(rt.alloc(), 6, second, LOST)?;
+    is_replayed_with(&rt, &text, &LOST_TOLD)?;
+    // A byte that OPERATION and WRITE_PROTECT may have is shown with its two digits.
     let events = "check - WRITE_PROTECT\nexchange whole whole\norder - WRITE_PROTECT 40\n";
     let text = text_with(rt.alloc(), 8, "", events)?;
     let (_, written) = replayed(rt.alloc(), &text);
     let line = "protect 00 host unknown possible 00 40\n";
     is_true(&rt, std::str::from_utf8(&written)?.contains(line), &1);
+    // A report of version 1 tells no possible words.
+    let text = joined(rt.alloc(), &[SCENARIO, LOST])?;
+    let (end, written) = replayed(rt.alloc(), &text);
+    equal(&rt, &end, &Ok(true), &1);
+    let told = std::str::from_utf8(&written)?;
+    is_true(&rt, !told.contains("possible"), &2);
     Ok(())
 }
 
@@ -184,27 +175,15 @@ fn hear_takes_vout_min_and_shows_what_it_cuts(rt: HostRuntime) -> Result<(), Fai
 // The place of a line, counted from 0, a line that is faulty there, and the fault.
 #[rattlefmt::skip]
 static FAULTY: [(usize, &str, TextFault); 10] = [
-    (0, "scenario 3", TextFault::Syntax(1)),
-    (0, "scenario 02", TextFault::Syntax(1)),
-    (0, "scenario 2 2", TextFault::Syntax(1)),
-    (5, "output 14 80 1000 4000 1100 0F00", TextFault::Syntax(6)),
-    (6, "output 14 80 1000 4000 1100 0F00 0000 0000", TextFault::Syntax(7)),
-    (6, "output 14 80 1000 4000 1100 0F00 00G0", TextFault::BadHex(7)),
-    (6, "output 14 80 1000 4000 1100 0F00 00", TextFault::BadHex(7)),
-    (6, "output 14 80 1000 4000 1100 0F00 begin", TextFault::BadHex(7)),
+    (0, "scenario 3", Syntax(1)), (0, "scenario 02", Syntax(1)), (0, "scenario 2 2", Syntax(1)),
+    (5, "output 14 80 1000 4000 1100 0F00", Syntax(6)),
+    (6, "output 14 80 1000 4000 1100 0F00 0000 0000", Syntax(7)),
+    (6, "output 14 80 1000 4000 1100 0F00 00G0", BadHex(7)),
+    (6, "output 14 80 1000 4000 1100 0F00 00", BadHex(7)),
+    (6, "output 14 80 1000 4000 1100 0F00 begin", BadHex(7)),
     // A line `output` of version 2 is faulty in version 1.
-    (0, "scenario 1", TextFault::Syntax(6)),
-    (0, "scenario", TextFault::Syntax(1)),
+    (0, "scenario 1", Syntax(6)), (0, "scenario", Syntax(1)),
 ];
-
-#[test]
-fn a_line_of_version_2_is_faulty_so(rt: HostRuntime) -> Result<(), Fail> {
-    for &(place, line, fault) in &FAULTY {
-        let text = text_with(rt.alloc(), place, line, "")?;
-        is_refused(&rt, &text, fault);
-    }
-    Ok(())
-}
 
 /// Events that version 1 doesn't know.
 static UNKNOWN_TO_VERSION_1: [&str; 4] = [
@@ -215,10 +194,15 @@ static UNKNOWN_TO_VERSION_1: [&str; 4] = [
 ];
 
 #[test]
-fn no_event_of_version_1_names_vout_min(rt: HostRuntime) -> Result<(), Fail> {
+fn lines_of_version_2_are_faulty_in_it_or_in_version_1(rt: HostRuntime) -> Result<(), Fail> {
+    for &(place, line, fault) in &FAULTY {
+        let text = text_with(rt.alloc(), place, line, "")?;
+        is_refused(&rt, &text, fault);
+    }
+    // No event of version 1 names vout min.
     for &event in &UNKNOWN_TO_VERSION_1 {
         let text = joined(rt.alloc(), &[SCENARIO, event, "\n"])?;
-        is_refused(&rt, &text, TextFault::Syntax(13));
+        is_refused(&rt, &text, Syntax(13));
     }
     Ok(())
 }
@@ -260,15 +244,12 @@ fn has_least(
 }
 
 #[test]
-fn version_1_has_the_least_vout_min(rt: HostRuntime) -> Result<(), Fail> {
+fn each_version_has_its_vout_min(rt: HostRuntime) -> Result<(), Fail> {
+    // Version 1 has the least vout min.
     for &(mode, m, wanted) in &LEAST {
         has_least(&rt, mode, m, wanted)?;
     }
-    Ok(())
-}
-
-#[test]
-fn version_2_has_vout_min_of_each_output(rt: HostRuntime) -> Result<(), Fail> {
+    // Version 2 has vout min of each output.
     let alloc = rt.alloc();
     let text = text_with(alloc, 8, "", "check 1 VOUT_MIN\n")?;
     equal(&rt, &least(alloc, &text)?, &(2, 0x0800, 0x07D0), &1);

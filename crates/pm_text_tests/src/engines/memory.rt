@@ -11,7 +11,6 @@ use pm_text::{
 use pm_world::World;
 use std::alloc::Global;
 use std::process::Abort;
-use std::test::Fail;
 
 // An engine writes this text, or lacks memory: then nothing of it, or by `decode` a prefix.
 fn expect_text(rt: &(impl Abort + AllocGlobal), engine: Engine, input: &str, text: &str) {

@@ -1,7 +1,7 @@
 //! Each call that can answer want of memory, with ample memory at the far end of each of its dimensions:
 //! the codes that are counted, lines, events, outputs, the bytes of a line or of a part, digits, words.
 
-use crate::checks::{equal, is_true};
+use crate::checks::equal;
 use crate::engines::long_text::{Written, expect_lines, is_written};
 use crate::{
     CODES, CODES_SAID, Engine, Engines, FRAME, Long, REPORT, SCENARIO, TAKEN, in_pieces, text_of,

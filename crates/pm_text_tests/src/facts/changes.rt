@@ -69,11 +69,9 @@ B0 2C / B1 00 10 -> 58 code 2C read 00 10, no PEC
 B0 2C / B1 01 10 -> 58 code 2C read 01 10, no PEC
 B0 3F / B1 00 -> 58 code 3F FAN_COMMAND_4 read 00, no PEC
 B0 3F / B1 01 -> 58 code 3F FAN_COMMAND_4 read 01, no PEC
-B0 6B / B1 00 -> 58 code 6B PIN_OP_WARN_LIMIT read 00, no PEC
-B0 6B / B1 01 -> 58 code 6B PIN_OP_WARN_LIMIT read 01, no PEC CHANGED? lines 15 and 16
-B0 6B / B1 02 01 -> 58 code 6B PIN_OP_WARN_LIMIT read 02 01, no PEC
-B0 6B / B1 02 02 -> 58 code 6B PIN_OP_WARN_LIMIT read 02 02, no PEC CHANGED? lines 17 and 18
-B0 6B / B1 02 02 02 -> 58 code 6B PIN_OP_WARN_LIMIT read 02 02 02, no PEC
+* B0 6B / B1 @ -> 58 code 6B PIN_OP_WARN_LIMIT read @
+00 = 00, no PEC; 01 = 01, no PEC CHANGED? lines 15 and 16; 02 01 = 02 01, no PEC
+02 02 = 02 02, no PEC CHANGED? lines 17 and 18; 02 02 02 = 02 02 02, no PEC
 B0 6C / B1 00 -> 58 code 6C read 00, no PEC
 B0 6C / B1 01 -> 58 code 6C read 01, no PEC
 B0 8B / B1 00 10 -> 58 READ_VOUT read 1000, no PEC

@@ -4,112 +4,67 @@
 /// Captures, as `are_told` reads them.
 pub(super) static CODES: &str = r#"
 $ 0 pmb decode --all --values
-B0 7B / B1 80 C0 -> 58 code 7B STATUS_IOUT read 80 IOUT_OC_FAULT, PEC right
-B0 7B / B1 40 8E -> 58 code 7B STATUS_IOUT read 40 IOUT_OC_LV_FAULT, PEC right
-B0 7B / B1 20 A9 -> 58 code 7B STATUS_IOUT read 20 IOUT_OC_WARNING, PEC right
-B0 7B / B1 10 39 -> 58 code 7B STATUS_IOUT read 10 IOUT_UC_FAULT, PEC right
-B0 7B / B1 08 71 -> 58 code 7B STATUS_IOUT read 08 CURRENT_SHARE_FAULT, PEC right
-B0 7B / B1 04 55 -> 58 code 7B STATUS_IOUT read 04 POWER_LIMITING, PEC right
-B0 7B / B1 02 47 -> 58 code 7B STATUS_IOUT read 02 POUT_OP_FAULT, PEC right
-B0 7B / B1 01 4E -> 58 code 7B STATUS_IOUT read 01 POUT_OP_WARNING, PEC right
-B0 7B / B1 00 49 -> 58 code 7B STATUS_IOUT read 00 none, PEC right
+* B0 7B / B1 @ -> 58 code 7B STATUS_IOUT read @, PEC right
+80 C0 = 80 IOUT_OC_FAULT; 40 8E = 40 IOUT_OC_LV_FAULT; 20 A9 = 20 IOUT_OC_WARNING
+10 39 = 10 IOUT_UC_FAULT; 08 71 = 08 CURRENT_SHARE_FAULT; 04 55 = 04 POWER_LIMITING
+02 47 = 02 POUT_OP_FAULT; 01 4E = 01 POUT_OP_WARNING; 00 49 = 00 none
 B0 7B 81 -> 58 code 7B STATUS_IOUT write 81 IOUT_OC_FAULT, POUT_OP_WARNING, no PEC
 B0 7B / B1 01 02 E3 -> 58 code 7B STATUS_IOUT read 01 02, PEC right
-B0 7C / B1 80 D6 -> 58 code 7C STATUS_INPUT read 80 VIN_OV_FAULT, PEC right
-B0 7C / B1 40 98 -> 58 code 7C STATUS_INPUT read 40 VIN_OV_WARNING, PEC right
-B0 7C / B1 20 BF -> 58 code 7C STATUS_INPUT read 20 VIN_UV_WARNING, PEC right
-B0 7C / B1 10 2F -> 58 code 7C STATUS_INPUT read 10 VIN_UV_FAULT, PEC right
-B0 7C / B1 08 67 -> 58 code 7C STATUS_INPUT read 08 UNIT_OFF_LOW_VIN, PEC right
-B0 7C / B1 04 43 -> 58 code 7C STATUS_INPUT read 04 IIN_OC_FAULT, PEC right
-B0 7C / B1 02 51 -> 58 code 7C STATUS_INPUT read 02 IIN_OC_WARNING, PEC right
-B0 7C / B1 01 58 -> 58 code 7C STATUS_INPUT read 01 PIN_OP_WARNING, PEC right
-B0 7C / B1 00 5F -> 58 code 7C STATUS_INPUT read 00 none, PEC right
+* B0 7C / B1 @ -> 58 code 7C STATUS_INPUT read @, PEC right
+80 D6 = 80 VIN_OV_FAULT; 40 98 = 40 VIN_OV_WARNING; 20 BF = 20 VIN_UV_WARNING
+10 2F = 10 VIN_UV_FAULT; 08 67 = 08 UNIT_OFF_LOW_VIN; 04 43 = 04 IIN_OC_FAULT
+02 51 = 02 IIN_OC_WARNING; 01 58 = 01 PIN_OP_WARNING; 00 5F = 00 none
 B0 7C 81 -> 58 code 7C STATUS_INPUT write 81 VIN_OV_FAULT, PIN_OP_WARNING, no PEC
 B0 7C / B1 01 02 81 -> 58 code 7C STATUS_INPUT read 01 02, PEC right
-B0 7D / B1 80 BD -> 58 code 7D STATUS_TEMPERATURE read 80 OT_FAULT, PEC right
-B0 7D / B1 40 F3 -> 58 code 7D STATUS_TEMPERATURE read 40 OT_WARNING, PEC right
-B0 7D / B1 20 D4 -> 58 code 7D STATUS_TEMPERATURE read 20 UT_WARNING, PEC right
-B0 7D / B1 10 44 -> 58 code 7D STATUS_TEMPERATURE read 10 UT_FAULT, PEC right
-B0 7D / B1 08 0C -> 58 code 7D STATUS_TEMPERATURE read 08 bit 3, PEC right
-B0 7D / B1 04 28 -> 58 code 7D STATUS_TEMPERATURE read 04 bit 2, PEC right
-B0 7D / B1 02 3A -> 58 code 7D STATUS_TEMPERATURE read 02 bit 1, PEC right
-B0 7D / B1 01 33 -> 58 code 7D STATUS_TEMPERATURE read 01 bit 0, PEC right
-B0 7D / B1 00 34 -> 58 code 7D STATUS_TEMPERATURE read 00 none, PEC right
+* B0 7D / B1 @ -> 58 code 7D STATUS_TEMPERATURE read @, PEC right
+80 BD = 80 OT_FAULT; 40 F3 = 40 OT_WARNING; 20 D4 = 20 UT_WARNING; 10 44 = 10 UT_FAULT
+08 0C = 08 bit 3; 04 28 = 04 bit 2; 02 3A = 02 bit 1; 01 33 = 01 bit 0; 00 34 = 00 none
 B0 7D 81 -> 58 code 7D STATUS_TEMPERATURE write 81 OT_FAULT, bit 0, no PEC
 B0 7D / B1 01 02 97 -> 58 code 7D STATUS_TEMPERATURE read 01 02, PEC right
-B0 7F / B1 80 6B -> 58 code 7F STATUS_OTHER read 80 bit 7, PEC right
-B0 7F / B1 40 25 -> 58 code 7F STATUS_OTHER read 40 bit 6, PEC right
-B0 7F / B1 20 02 -> 58 code 7F STATUS_OTHER read 20 INPUT_A_FUSE, PEC right
-B0 7F / B1 10 92 -> 58 code 7F STATUS_OTHER read 10 INPUT_B_FUSE, PEC right
-B0 7F / B1 08 DA -> 58 code 7F STATUS_OTHER read 08 INPUT_A_ORING, PEC right
-B0 7F / B1 04 FE -> 58 code 7F STATUS_OTHER read 04 INPUT_B_ORING, PEC right
-B0 7F / B1 02 EC -> 58 code 7F STATUS_OTHER read 02 OUTPUT_ORING, PEC right
-B0 7F / B1 01 E5 -> 58 code 7F STATUS_OTHER read 01 FIRST_TO_ASSERT_SMBALERT, PEC right
-B0 7F / B1 00 E2 -> 58 code 7F STATUS_OTHER read 00 none, PEC right
+* B0 7F / B1 @ -> 58 code 7F STATUS_OTHER read @, PEC right
+80 6B = 80 bit 7; 40 25 = 40 bit 6; 20 02 = 20 INPUT_A_FUSE; 10 92 = 10 INPUT_B_FUSE
+08 DA = 08 INPUT_A_ORING; 04 FE = 04 INPUT_B_ORING; 02 EC = 02 OUTPUT_ORING
+01 E5 = 01 FIRST_TO_ASSERT_SMBALERT; 00 E2 = 00 none
 B0 7F 81 -> 58 code 7F STATUS_OTHER write 81 bit 7, FIRST_TO_ASSERT_SMBALERT, no PEC
 B0 7F / B1 01 02 BB -> 58 code 7F STATUS_OTHER read 01 02, PEC right
-B0 80 / B1 80 40 -> 58 code 80 STATUS_MFR_SPECIFIC read 80 bit 7, PEC right
-B0 80 / B1 40 0E -> 58 code 80 STATUS_MFR_SPECIFIC read 40 bit 6, PEC right
-B0 80 / B1 20 29 -> 58 code 80 STATUS_MFR_SPECIFIC read 20 bit 5, PEC right
-B0 80 / B1 10 B9 -> 58 code 80 STATUS_MFR_SPECIFIC read 10 bit 4, PEC right
-B0 80 / B1 08 F1 -> 58 code 80 STATUS_MFR_SPECIFIC read 08 bit 3, PEC right
-B0 80 / B1 04 D5 -> 58 code 80 STATUS_MFR_SPECIFIC read 04 bit 2, PEC right
-B0 80 / B1 02 C7 -> 58 code 80 STATUS_MFR_SPECIFIC read 02 bit 1, PEC right
-B0 80 / B1 01 CE -> 58 code 80 STATUS_MFR_SPECIFIC read 01 bit 0, PEC right
-B0 80 / B1 00 C9 -> 58 code 80 STATUS_MFR_SPECIFIC read 00 none, PEC right
+* B0 80 / B1 @ -> 58 code 80 STATUS_MFR_SPECIFIC read @, PEC right
+80 40 = 80 bit 7; 40 0E = 40 bit 6; 20 29 = 20 bit 5; 10 B9 = 10 bit 4; 08 F1 = 08 bit 3
+04 D5 = 04 bit 2; 02 C7 = 02 bit 1; 01 CE = 01 bit 0; 00 C9 = 00 none
 B0 80 81 -> 58 code 80 STATUS_MFR_SPECIFIC write 81 bit 7, bit 0, no PEC
 B0 80 / B1 01 02 6A -> 58 code 80 STATUS_MFR_SPECIFIC read 01 02, PEC right
-B0 81 / B1 80 2B -> 58 code 81 STATUS_FANS_1_2 read 80 FAN_1_FAULT, PEC right
-B0 81 / B1 40 65 -> 58 code 81 STATUS_FANS_1_2 read 40 FAN_2_FAULT, PEC right
-B0 81 / B1 20 42 -> 58 code 81 STATUS_FANS_1_2 read 20 FAN_1_WARNING, PEC right
-B0 81 / B1 10 D2 -> 58 code 81 STATUS_FANS_1_2 read 10 FAN_2_WARNING, PEC right
-B0 81 / B1 08 9A -> 58 code 81 STATUS_FANS_1_2 read 08 FAN_1_SPEED_OVERRIDDEN, PEC right
-B0 81 / B1 04 BE -> 58 code 81 STATUS_FANS_1_2 read 04 FAN_2_SPEED_OVERRIDDEN, PEC right
-B0 81 / B1 02 AC -> 58 code 81 STATUS_FANS_1_2 read 02 AIRFLOW_FAULT, PEC right
-B0 81 / B1 01 A5 -> 58 code 81 STATUS_FANS_1_2 read 01 AIRFLOW_WARNING, PEC right
-B0 81 / B1 00 A2 -> 58 code 81 STATUS_FANS_1_2 read 00 none, PEC right
+* B0 81 / B1 @ -> 58 code 81 STATUS_FANS_1_2 read @, PEC right
+80 2B = 80 FAN_1_FAULT; 40 65 = 40 FAN_2_FAULT; 20 42 = 20 FAN_1_WARNING; 10 D2 = 10 FAN_2_WARNING
+08 9A = 08 FAN_1_SPEED_OVERRIDDEN; 04 BE = 04 FAN_2_SPEED_OVERRIDDEN; 02 AC = 02 AIRFLOW_FAULT
+01 A5 = 01 AIRFLOW_WARNING; 00 A2 = 00 none
 B0 81 81 -> 58 code 81 STATUS_FANS_1_2 write 81 FAN_1_FAULT, AIRFLOW_WARNING, no PEC
 B0 81 / B1 01 02 7C -> 58 code 81 STATUS_FANS_1_2 read 01 02, PEC right
-B0 82 / B1 80 96 -> 58 code 82 STATUS_FANS_3_4 read 80 FAN_3_FAULT, PEC right
-B0 82 / B1 40 D8 -> 58 code 82 STATUS_FANS_3_4 read 40 FAN_4_FAULT, PEC right
-B0 82 / B1 20 FF -> 58 code 82 STATUS_FANS_3_4 read 20 FAN_3_WARNING, PEC right
-B0 82 / B1 10 6F -> 58 code 82 STATUS_FANS_3_4 read 10 FAN_4_WARNING, PEC right
-B0 82 / B1 08 27 -> 58 code 82 STATUS_FANS_3_4 read 08 FAN_3_SPEED_OVERRIDDEN, PEC right
-B0 82 / B1 04 03 -> 58 code 82 STATUS_FANS_3_4 read 04 FAN_4_SPEED_OVERRIDDEN, PEC right
-B0 82 / B1 02 11 -> 58 code 82 STATUS_FANS_3_4 read 02 bit 1, PEC right
-B0 82 / B1 01 18 -> 58 code 82 STATUS_FANS_3_4 read 01 bit 0, PEC right
-B0 82 / B1 00 1F -> 58 code 82 STATUS_FANS_3_4 read 00 none, PEC right
+* B0 82 / B1 @ -> 58 code 82 STATUS_FANS_3_4 read @, PEC right
+80 96 = 80 FAN_3_FAULT; 40 D8 = 40 FAN_4_FAULT; 20 FF = 20 FAN_3_WARNING; 10 6F = 10 FAN_4_WARNING
+08 27 = 08 FAN_3_SPEED_OVERRIDDEN; 04 03 = 04 FAN_4_SPEED_OVERRIDDEN; 02 11 = 02 bit 1
+01 18 = 01 bit 0; 00 1F = 00 none
 B0 82 81 -> 58 code 82 STATUS_FANS_3_4 write 81 FAN_3_FAULT, bit 0, no PEC
 B0 82 / B1 01 02 46 -> 58 code 82 STATUS_FANS_3_4 read 01 02, PEC right
 count code 7B 11, code 7C 11, code 7D 11, code 7F 11, code 80 11, code 81 11, code 82 11
 lines 77 accepted 0 other 77 faults 0 bad 0
 $ 0 pmb decode --all --values
-B0 19 / B1 00 5A -> 58 CAPABILITY read 00 100 kHz
-B0 19 / B1 80 D3 -> 58 CAPABILITY read 80 PEC, 100 kHz
-B0 19 / B1 20 BA -> 58 CAPABILITY read 20 400 kHz
-B0 19 / B1 40 9D -> 58 CAPABILITY read 40 1 MHz
-B0 19 / B1 60 7D -> 58 CAPABILITY read 60 reserved speed
-B0 19 / B1 10 2A -> 58 CAPABILITY read 10 100 kHz, SMBALERT#
-B0 19 / B1 08 62 -> 58 CAPABILITY read 08 100 kHz, IEEE half precision
-B0 19 / B1 04 46 -> 58 CAPABILITY read 04 100 kHz, AVSBus
-B0 19 / B1 02 54 -> 58 CAPABILITY read 02 100 kHz, bit 1
-B0 19 / B1 01 5D -> 58 CAPABILITY read 01 100 kHz, bit 0
-B0 19 / B1 B0 43 -> 58 CAPABILITY read B0 PEC, 400 kHz, SMBALERT#
-B0 19 / B1 DF 49 -> 58 CAPABILITY read DF PEC, 1 MHz, SMBALERT#, IEEE half precision, AVSBus, bit 1, bit 0
-B0 02 / B1 00 14 -> 58 code 02 ON_OFF_CONFIG read 00 always on, PEC right
-B0 02 / B1 0F 39 -> 58 code 02 ON_OFF_CONFIG read 0F always on, PEC right
-B0 02 / B1 10 64 -> 58 code 02 ON_OFF_CONFIG read 10 by neither, PEC right
-B0 02 / B1 1B 55 -> 58 code 02 ON_OFF_CONFIG read 1B by OPERATION, PEC right
-B0 02 / B1 14 78 -> 58 code 02 ON_OFF_CONFIG read 14 by CONTROL, CONTROL active low, off with delay, PEC right
-B0 02 / B1 16 76 -> 58 code 02 ON_OFF_CONFIG read 16 by CONTROL, CONTROL active high, off with delay, PEC right
-B0 02 / B1 15 7F -> 58 code 02 ON_OFF_CONFIG read 15 by CONTROL, CONTROL active low, off at once, PEC right
-B0 02 / B1 1F 49 -> 58 code 02 ON_OFF_CONFIG read 1F by OPERATION and CONTROL, CONTROL active high, off at once, PEC right
-B0 02 / B1 1C 40 -> 58 code 02 ON_OFF_CONFIG read 1C by OPERATION and CONTROL, CONTROL active low, off with delay, PEC right
-B0 02 F4 -> 58 code 02 ON_OFF_CONFIG write F4 by CONTROL, CONTROL active low, off with delay, bit 7, bit 6, bit 5, no PEC
-B0 02 FF -> 58 code 02 ON_OFF_CONFIG write FF by OPERATION and CONTROL, CONTROL active high, off at once, bit 7, bit 6, bit 5, no PEC
-B0 02 80 -> 58 code 02 ON_OFF_CONFIG write 80 always on, bit 7, no PEC
-B0 02 40 -> 58 code 02 ON_OFF_CONFIG write 40 always on, bit 6, no PEC
-B0 02 20 -> 58 code 02 ON_OFF_CONFIG write 20 always on, bit 5, no PEC
+* B0 19 / B1 @ -> 58 CAPABILITY read @
+00 5A = 00 100 kHz; 80 D3 = 80 PEC, 100 kHz; 20 BA = 20 400 kHz; 40 9D = 40 1 MHz
+60 7D = 60 reserved speed; 10 2A = 10 100 kHz, SMBALERT#; 08 62 = 08 100 kHz, IEEE half precision
+04 46 = 04 100 kHz, AVSBus; 02 54 = 02 100 kHz, bit 1; 01 5D = 01 100 kHz, bit 0
+B0 43 = B0 PEC, 400 kHz, SMBALERT#
+DF 49 = DF PEC, 1 MHz, SMBALERT#, IEEE half precision, AVSBus, bit 1, bit 0
+* B0 02 @ -> 58 code 02 ON_OFF_CONFIG @
+/ B1 00 14 = read 00 always on, PEC right; / B1 0F 39 = read 0F always on, PEC right
+/ B1 10 64 = read 10 by neither, PEC right; / B1 1B 55 = read 1B by OPERATION, PEC right
+/ B1 14 78 = read 14 by CONTROL, CONTROL active low, off with delay, PEC right
+/ B1 16 76 = read 16 by CONTROL, CONTROL active high, off with delay, PEC right
+/ B1 15 7F = read 15 by CONTROL, CONTROL active low, off at once, PEC right
+/ B1 1F 49 = read 1F by OPERATION and CONTROL, CONTROL active high, off at once, PEC right
+/ B1 1C 40 = read 1C by OPERATION and CONTROL, CONTROL active low, off with delay, PEC right
+F4 = write F4 by CONTROL, CONTROL active low, off with delay, bit 7, bit 6, bit 5, no PEC
+FF = write FF by OPERATION and CONTROL, CONTROL active high, off at once, bit 7, bit 6, bit 5, no PEC
+80 = write 80 always on, bit 7, no PEC; 40 = write 40 always on, bit 6, no PEC
+20 = write 20 always on, bit 5, no PEC
 B0 99 / B1 03 4C 54 43 9F -> 58 code 99 MFR_ID read 03 4C 54 43 "LTC", PEC right
 B0 9A / B1 01 20 7F -> 58 code 9A MFR_MODEL read 01 20 " ", PEC right
 B0 9B / B1 01 7E F4 -> 58 code 9B MFR_REVISION read 01 7E "~", PEC right
@@ -121,18 +76,14 @@ B0 AE / B1 01 41 AE -> 58 code AE IC_DEVICE_REV read 01 41 "A", PEC right
 B0 9F / B1 01 41 11 -> 58 code 9F APP_PROFILE_SUPPORT read 01 41, PEC right
 B0 97 / B1 01 41 A1 -> 58 code 97 READ_PIN read 01 41, PEC right
 B0 AF / B1 01 41 B8 -> 58 code AF read 01 41, PEC right
-B0 99 / B1 03 41 42 00 E9 -> 58 code 99 MFR_ID read 03 41 42 00 "AB", PEC right
-B0 99 / B1 03 41 42 FF 1A -> 58 code 99 MFR_ID read 03 41 42 FF "AB", PEC right
-B0 99 / B1 03 41 00 00 98 -> 58 code 99 MFR_ID read 03 41 00 00, PEC right
-B0 99 / B1 01 00 A5 -> 58 code 99 MFR_ID read 01 00, PEC right
-B0 99 / B1 00 51 -> 58 code 99 MFR_ID read 00, PEC right
-B0 99 / B1 00 -> 58 code 99 MFR_ID read 00, no PEC
-B0 99 / B1 -> 58 code 99 MFR_ID read, no PEC
-B0 99 / B1 02 41 5A -> 58 code 99 MFR_ID read 02 41, PEC right
-B0 99 / B1 01 1F F8 -> 58 code 99 MFR_ID read 01 1F, PEC right
-B0 99 / B1 01 7F DF -> 58 code 99 MFR_ID read 01 7F, PEC right
-B0 99 / B1 01 22 4B -> 58 code 99 MFR_ID read 01 22, PEC right
-B0 99 / B1 01 5C 36 -> 58 code 99 MFR_ID read 01 5C, PEC right
+* B0 99 / @ -> 58 code 99 MFR_ID @
+B1 03 41 42 00 E9 = read 03 41 42 00 "AB", PEC right
+B1 03 41 42 FF 1A = read 03 41 42 FF "AB", PEC right
+B1 03 41 00 00 98 = read 03 41 00 00, PEC right; B1 01 00 A5 = read 01 00, PEC right
+B1 00 51 = read 00, PEC right; B1 00 = read 00, no PEC; B1 = read, no PEC
+B1 02 41 5A = read 02 41, PEC right; B1 01 1F F8 = read 01 1F, PEC right
+B1 01 7F DF = read 01 7F, PEC right; B1 01 22 4B = read 01 22, PEC right
+B1 01 5C 36 = read 01 5C, PEC right
 B0 06 02 03 99 / B1 04 03 4C 54 43 50 -> 58 page 3 code 99 MFR_ID read 03 4C 54 43 "LTC", PEC right
 B0 06 02 03 7B / B1 01 80 7B -> 58 page 3 code 7B STATUS_IOUT read 80 IOUT_OC_FAULT, PEC right
 count CAPABILITY 12, code 02 14, code 7B 1, code 97 1, code 99 14, code 9A 1, code 9B 1

@@ -44,11 +44,9 @@ B0 / B1 / B2 -> X1 Syntax
 lines 18 accepted 0 faults 16 bad 2
 ? no line is a good packet: where lines begin with times, give --times
 $ 0 pmb decode --all
-B0 96 / B1 34 12 B1 -> 58 code 96 READ_POUT read 34 12, PEC right
-B0 96 / B1 34 12 B0 -> 58 code 96 READ_POUT read 34 12 B0, no PEC
-B0 96 / B1 34 12 -> 58 code 96 READ_POUT read 34 12, no PEC
-B0 96 / B1 -> 58 code 96 READ_POUT read, no PEC
-B0 96 / B1 6B -> 58 code 96 READ_POUT read 6B, no PEC
+* B0 96 / @ -> 58 code 96 READ_POUT @
+B1 34 12 B1 = read 34 12, PEC right; B1 34 12 B0 = read 34 12 B0, no PEC
+B1 34 12 = read 34 12, no PEC; B1 = read, no PEC; B1 6B = read 6B, no PEC
 B0 86 02 01 02 / B1 03 04 1E -> 58 code 86 READ_EIN write 02 01 02 read 03 04, PEC right
 B0 86 02 01 02 / B1 -> 58 code 86 READ_EIN write 02 01 02 read, no PEC
 B0 D4 01 02 03 -> 58 code D4 write 01 02 03, no PEC
