@@ -5,7 +5,6 @@ mod example;
 mod rails;
 mod tries;
 
-use crate::checks::equal;
 use crate::{BASE, FIRST};
 use pm_device::{Config, Converter};
 use pm_driver::{Bus, DeadBus, Driver, Fault, Retrying, SimulatedBus, carry_out, driver_over};
@@ -158,50 +157,38 @@ fn limits_refuse_before_a_frame_is_sent(rt: HostRuntime) {
 
 #[test]
 fn buses_of_other_kinds_carry_a_job_out(rt: HostRuntime) {
-    match Converter::new(BASE) {
-        Ok(device) => {
-            let mut bus = DeadBus { device };
-            let end = Some((Some(JobEnd::Unknown), Standing::Unknown));
-            equal(&rt, &carried_out(&mut bus, 2), &end, &1);
-            equal(&rt, &held(&bus.device), &0x1000, &1);
-        }
-        Err(fault) => panic!(rt; "{fault}"),
-    }
-    match Converter::new(BASE) {
-        Ok(device) => {
-            // The first write is lost, and not acknowledged; one pass is enough.
-            let plan = [with! { Fault, lost(); acked: false }];
-            let mut bus = Retrying {
-                bus: SimulatedBus {
-                    device,
-                    plan: &plan,
-                    next: 0,
-                },
-            };
-            let end = Some((Some(JobEnd::Done), Standing::Confirmed(0x34CD)));
-            equal(&rt, &carried_out(&mut bus, 1), &end, &2);
-            equal(&rt, &held(&bus.bus.device), &0x34CD, &2);
-        }
-        Err(fault) => panic!(rt; "{fault}"),
+    let (Ok(device), Ok(other)) = (Converter::new(BASE), Converter::new(BASE)) else {
+        panic!(rt; "refused");
+    };
+    let mut dead = DeadBus { device };
+    // The first write is lost, and not acknowledged; one pass is enough.
+    let plan = [with! { Fault, lost(); acked: false }];
+    let mut retrying = Retrying {
+        bus: SimulatedBus {
+            device: other,
+            plan: &plan,
+            next: 0,
+        },
+    };
+    compare! { &rt;
+        1, carried_out(&mut dead, 2) => Some((Some(JobEnd::Unknown), Standing::Unknown));
+        1, held(&dead.device) => 0x1000;
+        2, carried_out(&mut retrying, 1) => Some((Some(JobEnd::Done), Standing::Confirmed(0x34CD)));
+        2, held(&retrying.bus.device) => 0x34CD;
     }
 }
 
 #[test]
 fn an_idle_host_sends_nothing(rt: HostRuntime) {
-    match (
-        Converter::new(BASE),
-        Guard::new(BASE.addr, BASE.count, 2, [OutputLimits::Unknown; 8]),
-    ) {
-        (Ok(device), Ok(mut guard)) => {
-            let plan = [whole()];
-            let mut bus = SimulatedBus {
-                device,
-                plan: &plan,
-                next: 0,
-            };
-            equal(&rt, &carry_out(&mut guard, &mut bus), &None, &1);
-            equal(&rt, &bus.next, &0, &2);
-        }
-        _ => panic!(rt; "refused"),
-    }
+    let guard = Guard::new(BASE.addr, BASE.count, 2, [OutputLimits::Unknown; 8]);
+    let (Ok(device), Ok(mut guard)) = (Converter::new(BASE), guard) else {
+        panic!(rt; "refused");
+    };
+    let plan = [whole()];
+    let mut bus = SimulatedBus {
+        device,
+        plan: &plan,
+        next: 0,
+    };
+    compare! { &rt; 1, carry_out(&mut guard, &mut bus) => None; 2, bus.next => 0 }
 }

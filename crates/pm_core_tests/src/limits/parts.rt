@@ -93,44 +93,33 @@ fn read_settings(guard: &mut Guard) {
 static ON: [u16; 3] = [0x80, 0xA8, 0x94];
 
 #[test]
-fn a_part_without_vout_min_is_turned_on_and_put_on_both_margins(rt: HostRuntime) {
-    let mut guard = guard_of(without_min());
-    equal(&rt, &guard.registers(), &without_min(), &0);
-    read_settings(&mut guard);
-    read(&mut guard, Reg::VoutMax, 5325);
-    is_band(&rt, &guard, 4096, 4096);
-    for byte in ON {
-        let job = Job::Order(first(Reg::Operation), byte);
-        equal(&rt, &refusal(&mut guard, job), &None, &byte);
-        equal(&rt, &is_within(&rt, &guard), &(Within::Yes, true), &byte);
+fn an_output_is_turned_on_by_the_registers_that_its_part_has(rt: HostRuntime) {
+    // The part's registers, the bound that is read, and its word; the band then; why each byte is refused; and the band at last.
+    #[rattlefmt::skip]
+    let rows = [
+        // A part without VOUT_MIN is turned on and put on both margins.
+        (without_min(), Reg::VoutMax, 5325, (4096, 4096), None, (3892, 4300)),
+        // A part without VOUT_MAX is cut by VOUT_MIN alone.
+        (without_max(), Reg::VoutMin, 4000, (4096, 4096), None, (4000, 4300)),
+        // Nothing is known to lie within the limits if the part has the register and it wasn't read.
+        (PartRegisters::all(), Reg::VoutMax, 5325, (4096, 5325), Some(LimitFault::NotKnownWithin),
+            (4096, 5325)),
+    ];
+    for (part, register, word, before, fault, at_last) in &rows {
+        let mut guard = guard_of(*part);
+        equal(&rt, &guard.registers(), part, &0);
+        read_settings(&mut guard);
+        read(&mut guard, *register, *word);
+        is_band(&rt, &guard, before.0, before.1);
+        for byte in ON {
+            let job = Job::Order(first(Reg::Operation), byte);
+            equal(&rt, &refusal(&mut guard, job), fault, &byte);
+            if fault.is_none() {
+                equal(&rt, &is_within(&rt, &guard), &(Within::Yes, true), &byte);
+            }
+        }
+        is_band(&rt, &guard, at_last.0, at_last.1);
     }
-    is_band(&rt, &guard, 3892, 4300);
-}
-
-#[test]
-fn a_part_without_vout_max_is_cut_by_vout_min_alone(rt: HostRuntime) {
-    let mut guard = guard_of(without_max());
-    read_settings(&mut guard);
-    read(&mut guard, Reg::VoutMin, 4000);
-    for byte in ON {
-        let job = Job::Order(first(Reg::Operation), byte);
-        equal(&rt, &refusal(&mut guard, job), &None, &byte);
-    }
-    is_band(&rt, &guard, 4000, 4300);
-}
-
-// Nothing is known to lie within the limits if the part has the register and it wasn't read.
-#[test]
-fn a_register_that_is_there_has_to_be_read(rt: HostRuntime) {
-    let mut guard = guard_of(PartRegisters::all());
-    read_settings(&mut guard);
-    read(&mut guard, Reg::VoutMax, 5325);
-    let unsure = Some(LimitFault::NotKnownWithin);
-    for byte in ON {
-        let job = Job::Order(first(Reg::Operation), byte);
-        equal(&rt, &refusal(&mut guard, job), &unsure, &byte);
-    }
-    is_band(&rt, &guard, 4096, 5325);
 }
 
 const ABSENT: Option<LimitFault> = Some(LimitFault::Host(HostFault::UnknownOutput));

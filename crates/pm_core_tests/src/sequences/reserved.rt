@@ -2,7 +2,7 @@
 
 use crate::checks::equal;
 use crate::sequences::part::{Part, carried};
-use crate::sequences::{DOWN, LOOKS, PART, UP, guard};
+use crate::sequences::{DOWN, LOOKS, NOT, PART, UP, guard};
 use pm_course::CourseEnd;
 use pm_delivery::Heard;
 use pm_limits::Guard;
@@ -29,8 +29,6 @@ fn bits_that_do_not_count_are_two(rt: HostRuntime) {
             (*wanted, *held, same_command(*wanted, *held)) => (*wanted, *held, *same) }
     }
 }
-
-const NOT: Looks = with! { Looks, LOOKS; is_wanted: false };
 
 // A step to a byte: its rules, whether its rail is looked at, the byte; what OPERATION holds before and the bits that it reads as 1; how it ends, what
 // it holds then, what the host knows of it, and the writes.
