@@ -67,7 +67,7 @@ fn each_question_and_each_bit_of_status_word_has_its_meaning(rt: HostRuntime) {
     for (question, code, size) in &CODES {
         compare! { &rt, question; (question.code().0, question.size()) => (*code, *size) }
     }
-    // Each bit of status word decides or is told.
+    // Each bit of STATUS_WORD decides or is told.
     for (status, verdict) in &WORDS {
         equal(&rt, &said(*status), verdict, status);
     }

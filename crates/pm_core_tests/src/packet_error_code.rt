@@ -48,7 +48,7 @@ fn pec_of_known_messages(rt: HostRuntime) {
     for (row, (message, code)) in MESSAGES.iter().enumerate() {
         agrees(&rt, row, &found(message), code);
     }
-    // Pec of each single bit.
+    // Each single bit has its PEC.
     for (row, (byte, code)) in BITS.iter().enumerate() {
         agrees(&rt, row, &found(&[*byte]), code);
     }
@@ -58,7 +58,7 @@ fn pec_of_known_messages(rt: HostRuntime) {
     bytes[0] = 0x80;
     bytes[15] = 0x01;
     agrees(&rt, 1, &found(&bytes), &0x00);
-    // Pec carries on over the parts of a message.
+    // The PEC carries on over the parts of a message.
     let front = found(&[0xB0, 0x05, 0x04]);
     let whole = found_after(front, &[0x00, 0x21, 0xCD, 0x34]);
     agrees(&rt, 0, &whole, &0x5A);

@@ -158,7 +158,7 @@ fn a_replay_goes_on_to_the_first_event_that_is_not_taken(rt: HostRuntime) -> Res
     for &(events, said) in &STOPS {
         is_reported(&rt, events, said)?;
     }
-    // A restart of either end at each place of an order.
+    // Either end restarts at each place of an order.
     for &(end, place, said) in &RESTARTS {
         is_reported(&rt, &with_restart(rt.alloc(), end, place)?, said)?;
     }

@@ -176,7 +176,7 @@ fn every_status_has_its_texts(rt: HostRuntime) {
     ends(&rt, &hear, "\n\nB0 0", 1, ("", "pmb: X2 BadHex line 3\n"));
     ends_unread(&rt, ErrorKind::OutOfMemory, 1, "pmb: X6 Memory\n");
     ends_unread(&rt, ErrorKind::InvalidData, 2, "pmb: bad arguments\n");
-    // Every status of number has its texts.
+    // Every status of `number` has its texts.
     for &(option, status, output, errors) in &NUMBERS {
         let words = ["pmb", "number", "--format=linear11", option];
         ends(&rt, &words, FRAME, status, (output, errors));

@@ -102,7 +102,7 @@ fn stored_words_come_back_but_for_write_protect(rt: HostRuntime) -> Result<(), F
         let told = std::str::from_utf8(&written)?;
         is_true(&rt, is_told(told, first, output, last), &events);
     }
-    // Write protect is not stored.
+    // WRITE_PROTECT isn't stored.
     for &(protect, events, first) in &PROTECTED {
         let text = text_with(rt.alloc(), protect, events)?;
         let (end, written) = Engine::Replay.text_of(rt.alloc(), in_pieces(text.as_bytes(), 4096));

@@ -199,7 +199,7 @@ fn lines_of_version_2_are_faulty_in_it_or_in_version_1(rt: HostRuntime) -> Resul
         let text = text_with(rt.alloc(), place, line, "")?;
         is_refused(&rt, &text, fault);
     }
-    // No event of version 1 names vout min.
+    // No event of version 1 names VOUT_MIN.
     for &event in &UNKNOWN_TO_VERSION_1 {
         let text = joined(rt.alloc(), &[SCENARIO, event, "\n"])?;
         is_refused(&rt, &text, Syntax(13));
@@ -245,11 +245,11 @@ fn has_least(
 
 #[test]
 fn each_version_has_its_vout_min(rt: HostRuntime) -> Result<(), Fail> {
-    // Version 1 has the least vout min.
+    // Version 1 has the least VOUT_MIN.
     for &(mode, m, wanted) in &LEAST {
         has_least(&rt, mode, m, wanted)?;
     }
-    // Version 2 has vout min of each output.
+    // Version 2 has VOUT_MIN of each output.
     let alloc = rt.alloc();
     let text = text_with(alloc, 8, "", "check 1 VOUT_MIN\n")?;
     equal(&rt, &least(alloc, &text)?, &(2, 0x0800, 0x07D0), &1);

@@ -143,7 +143,7 @@ fn a_run_holds_what_orders_alone_make(rt: HostRuntime) -> Result<(), SetupFault>
     is_true(&rt, bytes.try_extend_from_slice(&row).is_ok(), &row);
     let other = Event::Deliver(Arrival::Bytes(bytes, Ending::Stop));
     runs(&rt, 0x00, open(), &[ORDER, other, ACKED, READ])?;
-    // A run of a blocked order holds what orders alone make.
+    // A run of a blocked order holds what orders make, too.
     let events = [ORDER, WHOLE, ACKED, READ, WHOLE, ACKED, READ, CHECK];
     runs(&rt, 0x40, blocked(), &events)?;
     Ok(())

@@ -74,7 +74,7 @@ fn an_order_goes_through_by_its_bytes(rt: HostRuntime) -> Result<(), SetupFault>
     is_heard_whole(&rt, "stop: B0 05 04 00 21 CD 34 5A")?;
     is_heard_whole(&rt, "cut 8")?;
     is_heard_whole(&rt, "cut 200")?;
-    // Damage that the pec does not betray stops a run.
+    // Damage that the PEC doesn't betray stops a run.
     let other = Arrival::Bytes(frame(&rt, "B0 05 04 01 21 CD 34 4C"), Ending::Stop);
     let events = [ORDER, Event::Deliver(other), ACKED];
     let (world, stop) = World::live(World::base(), 2, &events)?;

@@ -133,7 +133,7 @@ fn each_cell_is_ordered_and_confirmed_and_each_output_is_cleared(
     for (cell, word, write, request) in &ORDERS {
         is_confirmed(&rt, *cell, *word, write, request)?;
     }
-    // A clear sends clear faults until it is acknowledged.
+    // A clear sends CLEAR_FAULTS until it is acknowledged.
     let mut world = World::begin(mixed(), PASSES)?;
     is_cleared(&rt, &mut world, &Event::Clear(0), "B0 05 02 00 03 50");
     is_cleared(&rt, &mut world, &Event::Clear(1), "B0 05 02 01 03 45");

@@ -47,19 +47,19 @@ static VOLTAGES: [Cell; 5] = [
 
 #[test]
 fn each_cell_takes_its_words(rt: HostRuntime) {
-    // Operation takes the bytes that have a meaning.
+    // OPERATION takes the bytes that have a meaning.
     let cell = Cell::Out(1, Reg::Operation);
     for word in 0..=0x1FF {
         let means = |row: &(u16, u16)| word & row.0 == row.1;
         let wanted = word <= 0xFF && OPERATIONS.iter().any(means);
         agrees(&rt, usize::from(word), &takes(cell, word), &wanted);
     }
-    // Write protect takes four bytes.
+    // WRITE_PROTECT takes four bytes.
     for word in 0..=0x1FF {
         let wanted = [0x00, 0x20, 0x40, 0x80].contains(&word);
         agrees(&rt, usize::from(word), &takes(Cell::Protect, word), &wanted);
     }
-    // A word above a byte is a voltage alone.
+    // Only a voltage takes a word above a byte.
     for word in &ABOVE_A_BYTE {
         for (row, (cell, wanted)) in TAKERS.iter().enumerate() {
             agrees(&rt, row, &takes(*cell, *word), wanted);

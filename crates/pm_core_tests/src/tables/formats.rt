@@ -35,7 +35,7 @@ fn value_in(mode: VoutMode) -> Result<(i128, i128), NumFault>
 
 #[test]
 fn a_mode_has_its_format(rt: HostRuntime) {
-    // A direct mode takes the coefficients and a linear one ignores them.
+    // A mode of DIRECT takes the coefficients, and a linear one ignores them.
     for (row, ((m, b, r), fault)) in ROWS.iter().enumerate() {
         agrees(&rt, row, &fault_of(VoutMode::Direct, *m, *b, *r), fault);
         let linear = fault_of(VoutMode::Linear(-12), *m, *b, *r);

@@ -33,7 +33,7 @@ fn each_value_allows_its_codes_and_no_other(rt: HostRuntime) {
     for (protect, allowed) in &PROTECTED {
         allows_only(&rt, *protect, allowed);
     }
-    // A word above a byte allows clear faults alone.
+    // A word above a byte allows only CLEAR_FAULTS.
     for protect in &ABOVE_A_BYTE {
         allows_only(&rt, *protect, &[]);
     }
