@@ -17,7 +17,7 @@ UNITS = {name for each in os.listdir(SOURCES) for name in re.findall(r"#\[test\]
 PROGRAMS = {
     "run_rows.c": (["trials/c/rows/run_rows.c"], []),
     "on_off_rows.c": (["trials/c/rows/on_off_rows.c"], ["trials/c/rows/on_off.txt"]),
-    "patient_rows.c": (["trials/c/rows/patient_rows.c"], []),
+    "patient_rows.c": (["trials/c/rows/patient_rows.c"], ["trials/c/rows/patient.txt"]),
     "target_rows.c": (["trials/c/rows/target_rows.c"], []),
     "course rows": (["trials/course/rows.c"], ["trials/course/rows.txt"]),
     "sequence rows": (["trials/sequences_c/rows.c"], []),
@@ -30,7 +30,6 @@ EXAMPLES = {
                  "examples/firmware/console.expected"),
 }
 HEADERS = ("-Icrates/pm_host_c/include", "-Icrates/pm_device_c/include")
-WRAPPED = "-Wl," + ",".join(f"--wrap={name}" for name in ("open", "ioctl", "close", "fcntl", "clock_gettime", "nanosleep"))
 # Within which a run ends.
 SECONDS = 300
 # Nobody looks at a test that fails here in a debugger.
@@ -144,9 +143,13 @@ class Copy:
         return self.run("gcc", "-Icrates/pm_host_c/include", "-Werror=unused-result", "-c", "drops.c")[0] != 0
 
     def transfers(self, words, mishaps):
-        """The status of i2c_dev.c over the stand-in for the kernel, and what it prints."""
-        self.program("bus", WRAPPED, "examples/c/i2c_dev.c", "trials/c/rows/stand_in.c")
-        return self.run("timeout", "60", "./bus", *words.split(), MISHAPS=mishaps)
+        """The status of i2c_dev.c over the bench of `pmhost torture`, and what it prints."""
+        self.program("bus", "examples/c/i2c_dev.c")
+        if not os.path.exists(os.path.join(self.folder, "clock.so")):
+            self.run("gcc", "-shared", "-fPIC", "trials/c/clock.c", "-o", "clock.so", "-ldl")
+            shared(self.built, self.folder)
+        return self.run("timeout", "60", "python3", "trials/c/bus.py", "./clock.so", "once", mishaps, "./bus", *words.split(),
+                        PMHOST_LIBRARY=os.path.join(self.folder, "libpmhost.so"))
 
     def cargo(self, *words):
         return cargo(self.folder, self.built, *words)

@@ -11,7 +11,7 @@
     status: its status, where that counts
 
 `kind` stands where a definition changes together with its code. Of a crate's bug `test` names the crate whose tests are tried first.
-`mishaps` and `prints` stand where the test is a row of i2c_dev.c over the stand-in for the kernel, as `test: i2c_dev.c, ARGUMENTS`.
+`mishaps` and `prints` stand where the test is a row of i2c_dev.c over the bench of `pmhost torture`, as `test: i2c_dev.c, ARGUMENTS`.
 Lines `old:` behind one another are one text of several lines, and so are lines `new:` and others; a text that is to end in a line's
 end has an empty last one. Files are those of the crate, or of the repository. Lines before the first bug, and those that begin with
 #, are comments.

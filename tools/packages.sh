@@ -1,6 +1,6 @@
 #!/usr/bin/env bash
 # Tries what stands above the proof over the proved libraries: the C programs by gcc (trials/c/run.sh --gcc), the Rust crate
-# (cargo test) and the Python package (tools/python_tests.py).
+# (cargo test, and its example by trials/c/bus.py) and the Python package (tools/python_tests.py).
 #
 #   tools/packages.sh [--after-ci | --built FOLDER]
 #
@@ -114,6 +114,17 @@ elif ! gcc -shared -Wl,--whole-archive "$built/libpm_host_c.a" "$built/libpm_dev
     -o "$folder/libpmhost.so" > "$folder/log" 2>&1; then
     counted "Python" 0 0 1
 else
+    if command -v cargo > /dev/null; then
+        # (why the host refuses stands in the C program in more words)
+        PM_ARCHIVES=$built CARGO_TARGET_DIR=$folder/cargo CARGO_PROFILE_DEV_DEBUG=0 CARGO_INCREMENTAL=0 \
+            cargo build -q --offline --features linux --example i2c_dev --manifest-path rust/Cargo.toml > "$folder/log" 2>&1 &&
+            gcc -O2 -shared -fPIC trials/c/clock.c -o "$folder/clock.so" -ldl > "$folder/log" 2>&1 &&
+            PMHOST_LIBRARY=$folder/libpmhost.so python3 -B trials/c/bus.py "$folder/clock.so" rows Rust --without '|refused: ' \
+                "$folder/cargo/debug/examples/i2c_dev" > "$folder/log" 2>&1
+        status=$?
+        read -r good bad < <(sed -n 's/^\([0-9]*\) passed, \([0-9]*\) failed$/\1 \2/p' "$folder/log" | tail -1)
+        counted "Rust, over the bench of torture" "${good:-0}" "${bad:-0}" $status
+    fi
     # (the processes that the tests start share what is compiled, in a folder that goes with this one)
     pmb=${PMB-$PWD/crates/pmb/out/pmb}
     # Each fifth transfer of margin tests and of probes is tried, each fifth start of a plan, and half of the random boards, lives and

@@ -42,14 +42,16 @@ def library():
 
 
 class Field:
-    """A part. `set` and `get` take a register or a field of trials/field/field.h by its name. Each transfer takes `transfer_us` of
-    the tests' clock."""
+    """A part. `set` and `get` take a register or a field of trials/field/field.h by its name, of which `words` are those at first. Each transfer takes
+    `transfer_us` of the tests' clock."""
 
-    def __init__(self, address=ADDRESS, outputs=2):
+    def __init__(self, address=ADDRESS, outputs=2, **words):
         self.address, self.outputs, self.lines, self.refusal = address, outputs, [], errno.EREMOTEIO
         self._memory = ctypes.create_string_buffer(library().field_size())
         assert library().field_new(self._memory, address, outputs) == 0
         self.now()
+        for name, value in words.items():
+            self.set(name, value)
 
     @property
     def converter(self):

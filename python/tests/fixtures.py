@@ -1,4 +1,4 @@
-"""A part with two outputs on a bus that keeps what was sent, and a bus with faults."""
+"""A part with two outputs on a bus that keeps what was sent, and that has faults."""
 from pmhost import Device, ModelPart, ModelPartBus, Output
 
 ADDRESS = 0x58
@@ -7,23 +7,7 @@ RAILS = (Output(command=0x34CD, max=0x3770, high=0x3600, low=0x3400, min=0x3334)
 
 
 class Recorded(ModelPartBus):
-    """It keeps each frame."""
-
-    def __init__(self, part):
-        super().__init__(part)
-        self.frames = []
-
-    def write(self, frame):
-        self.frames.append(frame)
-        return super().write(frame)
-
-    def read(self, request, count):
-        self.frames.append(request)
-        return super().read(request, count)
-
-
-class Faulty(ModelPartBus):
-    """Each transfer meets the next fate of a list; at its end all goes well.
+    """It keeps each frame, and each transfer meets the next fate of a list; at its end all goes well.
 
     `ok`, `lost` (heard, and the acknowledgement or the answer is lost), `deaf` (not heard), `error` (an OSError), `cut` (the
     answer ends early), `bit` (a bit of the answer is another), `long` (a byte too many), `acked` (not heard, and acknowledged
@@ -31,23 +15,27 @@ class Faulty(ModelPartBus):
 
     def __init__(self, part, fates=()):
         super().__init__(part)
-        self.fates = list(fates)
+        self.fates, self.frames = list(fates), []
 
     def fate(self):
         return self.fates.pop(0) if self.fates else "ok"
 
-    def write(self, frame):
+    def met(self, frame):
+        """The fate of a frame."""
+        self.frames.append(frame)
         fate = self.fate()
         if fate == "error":
             raise OSError(121, "Remote I/O error")
+        return fate
+
+    def write(self, frame):
+        fate = self.met(frame)
         if fate in ("deaf", "acked"):
             return fate == "acked"
         return super().write(frame) and fate != "lost"
 
     def read(self, request, count):
-        fate = self.fate()
-        if fate == "error":
-            raise OSError(121, "Remote I/O error")
+        fate = self.met(request)
         if fate == "deaf":
             return b""
         answer = super().read(request, count)

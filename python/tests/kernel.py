@@ -7,6 +7,7 @@ A mishap befalls one transfer, in their order:
 
     ok         none
     deaf       the frame isn't heard, and the address isn't acknowledged
+    nacked     the frame isn't heard, and a byte behind the address isn't acknowledged
     hung       a line of the bus is held low
     lost       the frame is heard, and the transfer fails
     false      a write isn't heard, and succeeds
@@ -16,6 +17,7 @@ A mishap befalls one transfer, in their order:
     short0h    the same, and the part has heard the frame
     short1     of two messages the first goes, and there is no error: 1 of 2
     twice      the kernel sends the frame once more, as after a lost arbitration
+    high       what comes back is nothing but FFh: nobody drives the line
     empty      the transfer succeeds, and nothing was written into the buffer for the answer
     sigint     Ctrl-C comes while the transfer is under way
     sigterm    the same of SIGTERM
@@ -362,8 +364,8 @@ class FakeKernel(Calls):
         SIGNALS.get(mishap, int)()
         if mishap == "false" and back is None:
             return 1, []
-        if mishap in ("deaf", "false", "hung"):
-            self.fail(errno.ETIMEDOUT if mishap == "hung" else errno.ENXIO)
+        if mishap in ("deaf", "false", "hung", "nacked"):
+            self.fail({"hung": errno.ETIMEDOUT, "nacked": errno.EREMOTEIO}.get(mishap, errno.ENXIO))
         if mishap in ("short0", "short1"):
             return int(mishap == "short1"), []
         if mishap == "twice":
@@ -373,7 +375,7 @@ class FakeKernel(Calls):
             self.fail(part.refusal)
         if back is None or mishap in ("short0h", "empty"):
             return 0 if mishap == "short0h" else len(messages), []
-        got = bytearray([*answer[1:], *[0xFF] * 300][:back.length])
+        got = bytearray([*(answer[1:] if mishap != "high" else []), *[0xFF] * 300][:back.length])
         if mishap == "damaged":
             got[-1] ^= 4
         return 2, [bytes(got)]

@@ -74,14 +74,6 @@ class PageBlindTwice(PageBlind):
     starts = Proved.starts
 
 
-class WithoutPec(Proved):
-    """No answer has a packet error code: the lines are high in its place."""
-
-    def hear(self, frame, ending):
-        found = super().hear(frame, ending)
-        return found and found[:-1]
-
-
 class PageBlindWithoutPec(PageBlind):
     """It looks at no page, and sends no packet error code."""
 

@@ -34,6 +34,12 @@ def with_signals():
         signal.signal(each, signal.SIG_DFL)
 
 
+def hear_signals(case):
+    """The same in this process, as long as a test lasts."""
+    for each in ENDING:
+        case.addCleanup(signal.signal, each, signal.signal(each, signal.default_int_handler))
+
+
 def command(*words):
     """The words of a call of pmhost."""
     return [sys.executable, "-m", "pmhost", *words]

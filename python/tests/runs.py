@@ -68,6 +68,11 @@ HEAD = re.compile(r"# \d{4}-\d\d-\d\dT[0-9:.]*Z pmhost ")
 DATA = os.path.join(os.path.dirname(os.path.abspath(__file__)), "data")
 
 
+def mishaps_of(text):
+    """The words of a list, in which `ok*6` stands for six of them."""
+    return [each for word, _, count in (it.partition("*") for it in text.split()) for each in [word] * int(count or 1)]
+
+
 @dataclass
 class Run:
     """A block of a file."""
@@ -96,9 +101,7 @@ class Run:
     def take(self, key, text):
         """A line of the block."""
         if key == "mishaps":
-            # `ok*6` stands for six of them.
-            several = (word.partition("*") for word in text.split())
-            self.mishaps = " ".join(" ".join([word] * int(count or 1)) for word, _, count in several)
+            self.mishaps = " ".join(mishaps_of(text))
         elif key in ("name", "words", "part", "held", "writes", "looks", "volts", "transfers", "operation"):
             setattr(self, key, text)
         elif key in ("out", "err"):

@@ -19,7 +19,7 @@ from .drawn_rails import Rail, Watched
 from .kernel import BoardKernel
 from .runs import called
 from .seeded import seeded
-from .test_runs import Blocks
+from .test_runs import OfBoards
 
 # Three parts with eight outputs: two on one bus at addresses beside one another, and one behind a multiplexer that the kernel drives.
 PLACES = {"u1": (7, 0x58, (0x14, 0x40, 0x14)), "u2": (7, 0x59, (0x40, 0x14, 0x14)), "u3": (8, 0x58, (0x14, 0x40))}
@@ -173,12 +173,7 @@ class RandomBoards(unittest.TestCase):
         self.assertGreater(len(seen), 1)
 
 
-class Rows(Blocks):
-    def look_at(self, trace, mishaps, part):
-        """Every line of the trace is a frame or a comment."""
-        for line in trace.splitlines():
-            self.assertTrue(line.startswith("#") or re.fullmatch("[0-9A-F ]+( / [0-9A-F ]+)?", line), line)
-
+class Rows(OfBoards):
     def test_boards(self):
         self.carry_out("boards.txt")
 

@@ -294,18 +294,23 @@ class Rows(unittest.TestCase):
 
 
 class Costs(unittest.TestCase):
+    def carried_out(self, *words):
+        """The status of a command over a model part, what it prints, and its frames."""
+        frames = []
+        with contextlib.ExitStack() as stack:
+            for name in ("write", "read"):
+                call = getattr(ModelBus, name)
+                stack.enter_context(mock.patch.object(ModelBus, name, lambda *words, call=call: frames.append(words[1]) or call(*words)))
+            out = stack.enter_context(contextlib.redirect_stdout(io.StringIO()))
+            status = cli.main(["-b", "model", "--outputs", "2", "--no-limit", *words])
+        return status, out.getvalue(), frames
+
     def test_a_good_voltage_costs_seven_transfers_more_than_its_order(self):
         """Fourteen are the course's. STATUS_WORD and the four limits are read before the order, STATUS_WORD and READ_VOUT behind it; where the
         limits are skipped three remain."""
         for more, wanted in (([], 21), (["--fault-limits", "skip"], 17), (["--fault-limits", "tell"], 21)):
-            frames = []
-            with contextlib.ExitStack() as stack:
-                for name in ("write", "read"):
-                    call = getattr(ModelBus, name)
-                    stack.enter_context(mock.patch.object(ModelBus, name, lambda *words, call=call: frames.append(words[1]) or call(*words)))
-                with contextlib.redirect_stdout(io.StringIO()) as out:
-                    status = cli.main(["-b", "model", "--outputs", "2", "--no-limit", *more, "set", "0", "3.3V"])
-            self.assertEqual((status, len(frames)), (0, wanted), out.getvalue())
+            status, out, frames = self.carried_out(*more, "set", "0", "3.3V")
+            self.assertEqual((status, len(frames)), (0, wanted), out)
             written = next(at for at, frame in enumerate(frames) if frame[1] == 0x05)
             self.assertEqual([frame[4] for frame in frames[-2:]], [0x79, 0x8B])
             self.assertEqual([frame[4] for frame in frames[written - (wanted - 16):written]], [0x79, 0x40, 0x42, 0x43, 0x44][:wanted - 16])
@@ -314,14 +319,8 @@ class Costs(unittest.TestCase):
         """A survey and a word that is held take STATUS_WORD and READ_VOUT with what they read; nothing is read before an output goes off."""
         for words, codes in ((["survey", "0"], "20 01 21 24 2B 79 8B"), (["word", "0", "VOUT_COMMAND", "1000"], "20 01 21 24 2B 10 79 8B"),
                              (["set", "0", "1V"], "20 01 21 24 2B 10 79 8B"), (["off", "0"], "01 01 79")):
-            frames = []
-            with contextlib.ExitStack() as stack:
-                for name in ("write", "read"):
-                    call = getattr(ModelBus, name)
-                    stack.enter_context(mock.patch.object(ModelBus, name, lambda *words, call=call: frames.append(words[1]) or call(*words)))
-                with contextlib.redirect_stdout(io.StringIO()) as out:
-                    status = cli.main(["-b", "model", "--outputs", "2", "--no-limit", *words])
-            self.assertEqual((status, " ".join(f"{frame[4] if len(frame) > 4 else frame[1]:02X}" for frame in frames)), (0, codes), out.getvalue())
+            status, out, frames = self.carried_out(*words)
+            self.assertEqual((status, " ".join(f"{frame[4] if len(frame) > 4 else frame[1]:02X}" for frame in frames)), (0, codes), out)
 
     def test_a_device_takes_as_many(self):
         for more, call, wanted in (({}, lambda it: it.set_voltage(0, "3.3V"), 21), ({"looks": Looks(fault_limits="skip")}, lambda it: it.set_voltage(0, "3.3V"), 17),

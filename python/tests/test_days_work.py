@@ -120,8 +120,7 @@ class SwitchedOn(unittest.TestCase):
     """A part whose packet error code may be left out, until bit 2 of D1h is set."""
 
     def test_a_packet_error_code_that_is_switched_on(self):
-        part = Field()
-        part.set("MFR_CONFIG_ALL", 0)
+        part = Field(MFR_CONFIG_ALL=0)
         over, words = BoardKernel({7: {0x58: part}}, []), ["-b", "7", "-a", "58", "probe", "--writes"]
         status, out, _ = called(words, over)
         self.assertEqual(status, 0)

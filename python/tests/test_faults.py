@@ -7,13 +7,13 @@ from unittest import mock
 from pmhost import Course, Device, Differs, Host, ModelPart, ModelPartBus, Output, Unknown
 
 from .runs import called
-from .fixtures import ADDRESS, RAILS, Faulty, free
+from .fixtures import ADDRESS, RAILS, Recorded, free
 
 FATES = ("ok", "lost", "deaf", "error", "cut", "bit", "long", "acked")
 
 
 def faulty(fates, passes=2):
-    pmbus = free(Device(Faulty(ModelPart(ADDRESS, RAILS)), ADDRESS, outputs=2, passes=passes))
+    pmbus = free(Device(Recorded(ModelPart(ADDRESS, RAILS)), ADDRESS, outputs=2, passes=passes))
     pmbus.learn_all()
     pmbus.bus.fates = list(fates)
     return pmbus

@@ -17,13 +17,13 @@ from .kernel import FakeKernel
 from .running import ROOT
 from .runs import blocks, called
 from .seeded import seeded
-from .test_runs import Blocks
+from .test_runs import OfBoards
 
 # How many random boards there are, and how many calls of each command.
 BOARDS, CALLS = int(os.environ.get("PMHOST_FIELD_BOARDS", "60")), int(os.environ.get("PMHOST_FIELD_CALLS", "12"))
 
 
-class Rows(Blocks):
+class Rows(OfBoards):
     """Each block of field.txt has a name, its words and its status, and at how many volts the rails are then."""
 
     def test_what_pmhost_says_of_parts_in_the_field(self):
@@ -38,23 +38,12 @@ class Rows(Blocks):
                 if run.status == 0 and run.volts and run.volts.split()[0] == "0":
                     self.assertRegex(run.words + line, "commanded off| off 0|OPERATION turns it off")
 
-    def look_at(self, trace, mishaps, part):
-        """The frames of the trace, whatever bus they are of."""
-        super().look_at("".join(f"{line}\n" for line in trace.splitlines() if not line.startswith("#")), mishaps, part)
-
-    def look_at_rails(self, run, got):
-        """The rails are at the volts of the row."""
-        volts = [part.volts(output) for part in got.parts if isinstance(part, Field) for output in range(part.outputs)]
-        self.assertEqual(" ".join(f"{each / 1e6:.6f}".rstrip("0").rstrip(".") for each in volts), run.volts)
-
 
 class Api(unittest.TestCase):
     """A Device raises where a rail doesn't deliver, or would trip."""
 
     def device(self, *fields, **named):
-        part = Field()
-        for name, value in fields:
-            part.set(name, value)
+        part = Field(**dict(fields))
         part.lines.clear()
         return part, Device(FieldBus(part), ADDRESS, 2, limits={0: ("0.8V", "1.3V")}, **named)
 
@@ -264,9 +253,7 @@ class Transfers(unittest.TestCase):
     """How many transfers a set takes where the part answers all, and nothing has to be asked again: 14 of them are the course's own."""
 
     def counted(self, *words, **fields):
-        part = Field()
-        for name, value in fields.items():
-            part.set(name, value)
+        part = Field(**fields)
         before = part.get("transfers")
         status, out, err = called(["-b", "7", "-a", "58", "--outputs", "2", "--limit=0:0.8V:1.3V", *words, "set", "0", "1.05V"], FakeKernel(part))
         self.assertEqual((status, err), (0, ""), out)

@@ -11,7 +11,7 @@ from pmhost import Device, Host, Looks, ModelPart, ModelPartBus, Output, Rules, 
 from pmhost.operation import ON
 from pmhost.step_run import MOST_HOSTS, StepLists, StepRun
 
-from .fixtures import Faulty, free
+from .fixtures import Recorded, free
 from .running import ROOT, stored
 from .seeded import seeded
 from .test_board_page import blocks
@@ -29,7 +29,7 @@ class Board:
 
     def __init__(self, fates=(), passes=3):
         self.parts = [ModelPart(0x40, [Output(operation=0), Output()]), ModelPart(0x41, [Output(operation=0)])]
-        self.buses, self.hosts = [Faulty(part) for part in self.parts], [Host(0x40, 2, passes), Host(0x41, 1, passes)]
+        self.buses, self.hosts = [Recorded(part) for part in self.parts], [Host(0x40, 2, passes), Host(0x41, 1, passes)]
         self.fates, self.seen, self.count = list(fates), [self.held()], 0
         for bus in self.buses:
             bus.fate = self.next_fate
@@ -272,7 +272,7 @@ class Random(unittest.TestCase):
 
 
 def device(address, fates=()):
-    return free(Device(Faulty(ModelPart(address, [Output()]), fates), address, looks=None))
+    return free(Device(Recorded(ModelPart(address, [Output()]), fates), address, looks=None))
 
 
 class Runs(unittest.TestCase):

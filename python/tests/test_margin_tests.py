@@ -4,17 +4,16 @@ transfers the bus is away, as 1-30; without it some. PMHOST_EVERY takes each so 
 import errno
 import os
 import re
-import signal
 import tempfile
 import unittest
 from unittest import mock
 
 from pmhost import ModelPart, ModelPartBus, Output
-from pmhost.bus.linux import ENDING
 from pmhost.cli.call import Call
 from pmhost.cli.signals import Interrupted
 
 from .kernel import BoardKernel
+from .running import hear_signals
 from .runs import called
 from .test_board_files import table_of
 
@@ -62,10 +61,7 @@ class Broken(unittest.TestCase):
     starts, board = (ON, ON), BOARD
 
     def setUp(self):
-        # A shell may have started the tests with signals ignored, which pmhost goes by.
-        for each in ENDING:
-            before = signal.signal(each, signal.default_int_handler)
-            self.addCleanup(signal.signal, each, before)
+        hear_signals(self)
 
     def run_once(self, mishaps, words=None):
         """The status, what is printed, and the part."""

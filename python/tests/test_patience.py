@@ -1,6 +1,6 @@
 """A bus that waits for a busy part, over a clock that nobody waits for."""
-import contextlib
 import errno
+import os
 import re
 import tempfile
 import time
@@ -9,13 +9,17 @@ from unittest import mock
 
 from pmhost import Host, LinuxBus, PatientBus, Transfers, clock, pec
 from pmhost.bus import patient
+from pmhost.bus.ones import given
 
 from . import runs
 from .field import Field
+from .fixtures import free
 from .kernel import BoardKernel, FakeKernel, Part
 from .odd_parts import Proved
+from .running import ROOT
 
 FRAME, REQUEST = bytes.fromhex("B0050400 21CD345A"), bytes.fromhex("B006020021")
+ON, OFF = (frame + bytes([pec(frame)]) for frame in map(bytes.fromhex, ("B00503000180", "B00503000100")))
 CLEAR, STORE, RESTORE = bytes.fromhex("B00346"), bytes.fromhex("B01524"), bytes.fromhex("B0162D")
 
 
@@ -54,14 +58,6 @@ JOBS = " + ".join([*(f"word {output} VOUT_COMMAND {word:04X}" for output, word i
 WAYS = (0, 1, 2)
 
 
-def busy(milliseconds, **fields):
-    """A part that is busy for so long behind each write."""
-    part = Field()
-    for name, value in {"busy_ms": milliseconds, **fields}.items():
-        part.set(name, value)
-    return part
-
-
 def as_shipped():
     """The times for a busy part are those of the package."""
     return mock.patch.multiple(patient, TIMEOUT=runs.TIMEOUT, LONG_TIMEOUT=runs.LONG_TIMEOUT, STORE_TIMEOUT=runs.STORE_TIMEOUT)
@@ -72,7 +68,7 @@ class EightOrders(unittest.TestCase):
 
     def carry_out(self, milliseconds, way, patience):
         """The status, and whether what `known` says is held."""
-        part = busy(milliseconds, busy_kind=way, store_ms=400)
+        part = Field(busy_ms=milliseconds, busy_kind=way, store_ms=400)
         given = ["--busy-timeout", f"{patience}ms"] if patience is not None else []
         status, out, _ = runs.called(["-b", "7", "-a", "58", "--outputs", "2", "--no-limit", *given, *JOBS.split()], FakeKernel(part))
         for output, word, possible in re.findall("^([01]) VOUT_COMMAND (?:([0-9A-F]{4}) .*confirmed|possible (.*))$", out, re.M):
@@ -92,24 +88,83 @@ class EightOrders(unittest.TestCase):
         self.assertLessEqual(set(ends.values()), {0, 1})
 
 
+class OfRow:
+    """A bus whose transfers do what the letters of a row of patient.txt say, and which keeps each as the rows do. What isn't acknowledged, by `n`,
+    is an errno or an answer of its own."""
+
+    def __init__(self, frames, ready, does, unacknowledged):
+        self.frames, self.ready, self.does, self.unacknowledged = frames, ready, does, unacknowledged
+        self.count, self.begun, self.last, self.calls = 0, runs.CLOCK.until(), 0, ""
+
+    @property
+    def passed(self):
+        return round(1000 * (runs.CLOCK.until() - self.begun))
+
+    def next(self, letter):
+        """The letter of the transfer; an OSError where the address, or a byte, isn't acknowledged."""
+        does, passed = self.does[min(self.count, len(self.does) - 1)], self.passed
+        self.count, self.calls, self.last = self.count + 1, self.calls + letter + str(passed) * (passed != self.last), passed
+        if does == "u" or passed < {"k": 440, "l": 4100}.get(does, 0):
+            raise OSError(errno.ENXIO, "failed")
+        if does == "n" and self.unacknowledged:
+            raise OSError(self.unacknowledged, "failed")
+        return does
+
+    def write(self, frame):
+        assert frame == self.frames[0]
+        return self.next("W") != "n"
+
+    def read(self, request, count):
+        is_question = request == bytes([request[0], 0xEF if self.ready else 0x19])
+        assert is_question or request == self.frames[-1]
+        does = self.next("Q" if is_question else "R")
+        if does in "no":
+            return given(b"\xFF" * count * (does == "o"))
+        if is_question and self.ready:
+            asked = bytes([request[0], 0xEF, request[0] | 1, 0x20 if does == "b" else 0x60])
+            return asked[3:] + bytes([pec(asked) ^ (does == "x")])
+        return b"\xFF\xD3" if does == "f" else b"\x80\xD3" if is_question else bytes.fromhex("02CD34B9")[:count]
+
+
+# Of each job how it begins, and its frames.
+BEGINS = {
+    "o": (lambda host: host.order(0, "VOUT_COMMAND", 0x34CD), (FRAME, REQUEST)),
+    "n": (lambda host: host.order(0, "OPERATION", 0x80), (ON, bytes.fromhex("B006020001"))),
+    "f": (lambda host: host.order(0, "OPERATION", 0x00), (OFF, bytes.fromhex("B006020001"))),
+    "v": (lambda host: host.check(0, "VOUT_COMMAND"), (None, REQUEST)),
+    "p": (lambda host: host.check(0, "WRITE_PROTECT"), (None, bytes.fromhex("9410"))),
+    "s": (Host.store, (STORE,)), "t": (Host.store, (STORE,)), "r": (Host.restore, (RESTORE,)),
+}
+# A host here sends an order that turns an output on once in all its passes, and one in C or Rust once in each.
+SENT_ONCE = {"an order that turns on and that nobody hears": ("WQ10Q30Q70Q150Q200RR", "200")}
+# What a part says that doesn't acknowledge a byte behind its address: False of a write and no bytes of a read, or an error.
+UNACKNOWLEDGED = (None, errno.EREMOTEIO, errno.EIO, errno.ETIMEDOUT, errno.EAGAIN, errno.ENODEV)
+
+
 class Patience(unittest.TestCase):
-    def test_a_write_is_followed_by_one_question(self):
-        below = Scripted()
-        self.assertIs(below.over(0, 200).write(FRAME), True)
-        self.assertEqual((below.frames, below.times), ([FRAME, ASK], [0, 10]))
+    def test_the_rows(self):
+        """Those of trials/c/rows/patient.txt, which C and Rust run, too: a bus here has no deadline, and an answer no room for another byte."""
+        with open(os.path.join(ROOT, "trials", "c", "rows", "patient.txt"), encoding="utf-8") as file:
+            rows = [line.rstrip("\n").split(" ", 10) for line in file if not line.startswith("#")]
+        rows = [row for row in rows if row[4] == "-" and "m" not in row[5]]
+        self.assertEqual(len(rows), 38)
+        for job, passes, patience, ready, _, does, kind, _, calls, over, name in rows:
+            calls, over = SENT_ONCE.get(name, (calls, over))
+            for number in UNACKNOWLEDGED if "n" in does else UNACKNOWLEDGED[:1]:
+                (begin, frames), host, transfers = BEGINS[job], free(Host(0x4A if job == "p" else 0x58, 1, int(passes))), Transfers()
+                below = OfRow(frames, ready != "-", does, number)
+                bus = PatientBus(below, 0, None if patience == "-" else int(patience), None if ready == "-" else (0xEF, int(ready, 16)))
+                with as_shipped(), self.subTest(name, number=number):
+                    for _ in range(1 + (job == "t")):
+                        begin(host)
+                        step = host.run(bus, transfers)
+                    self.assertEqual((step.kind, below.calls, below.passed), ("done" if kind == "1" else "unknown", calls, int(over)))
 
-    def test_each_wait_is_twice_as_long_until_the_part_answers(self):
-        for ends in ((errno.ENXIO, errno.EREMOTEIO, errno.EIO, b""), (b"", b"", b"", errno.ETIMEDOUT)):
-            below = Scripted(True, *ends)
-            self.assertIs(below.over(0, 200).write(FRAME), True)
-            self.assertEqual((below.frames, below.times), ([FRAME] + [ASK] * 5, [0, 10, 30, 70, 150, 200]))
-
-    def test_the_patience_has_an_end(self):
-        for milliseconds, asked in ((0, 0), (1, 1), (5, 1), (20, 2), (200, 5), (5000, 9)):
-            below = Scripted(True, *[errno.ENXIO] * 1000)
-            self.assertIs(below.over(0, milliseconds).write(FRAME), True)
-            with self.subTest(milliseconds=milliseconds):
-                self.assertEqual((len(below.frames) - 1, below.times[-1]), (asked, milliseconds))
+    def test_a_write_that_failed_says_why(self):
+        for number in (errno.ENXIO, errno.EREMOTEIO, errno.ENODEV):
+            with self.subTest(number=number), self.assertRaises(OSError) as raised:
+                Scripted(*[number] * 9).over(0, 50).write(FRAME)
+            self.assertEqual(raised.exception.errno, number)
 
     def test_how_long_where_nothing_is_given(self):
         self.assertEqual((runs.TIMEOUT, runs.LONG_TIMEOUT, runs.STORE_TIMEOUT), (200, 1000, 5000))
@@ -118,59 +173,6 @@ class Patience(unittest.TestCase):
             self.assertEqual([bus.busy_timeout(each) for each in (FRAME, CLEAR, STORE, RESTORE)], [200, 200, 5000, 1000])
             bus = PatientBus(Scripted(), 0, 30)
             self.assertEqual([bus.busy_timeout(each) for each in (FRAME, CLEAR, STORE, RESTORE)], [30] * 4)
-
-    def test_a_write_whose_address_nobody_acknowledged_is_sent_again(self):
-        below = Scripted(errno.ENXIO, errno.ENXIO, True)
-        self.assertIs(below.over(0, 200).write(FRAME), True)
-        self.assertEqual((below.frames, below.times), ([FRAME] * 3 + [ASK], [0, 10, 30, 40]))
-
-    def test_a_store_is_sent_once(self):
-        below = Scripted(errno.ENXIO)
-        with self.assertRaises(OSError):
-            below.over(0, 200).write(STORE)
-        self.assertEqual(below.frames, [STORE, ASK])
-        below = Scripted(errno.ENXIO)
-        self.assertIs(below.over(0, 200).write(RESTORE), True)
-        self.assertEqual(below.frames, [RESTORE, RESTORE, ASK])
-
-    def test_an_order_that_turns_an_output_on_is_sent_once(self):
-        """The part may come up meanwhile, with other words than those that were judged."""
-        on, off = (bytes.fromhex(f"B005030001{byte}") for byte in ("80", "00"))
-        for frame, count in ((on, 1), (off, 2)):
-            below, frame = Scripted(errno.ENXIO), frame + bytes([pec(frame)])
-            with contextlib.suppress(OSError):
-                below.over(0, 200).write(frame)
-            self.assertEqual(below.frames, [frame] * count + [ASK])
-
-    def test_another_write_that_failed_is_not(self):
-        for number in (errno.EREMOTEIO, errno.EIO, errno.ETIMEDOUT, errno.EAGAIN, errno.ENODEV):
-            below = Scripted(number)
-            with self.subTest(number=number), self.assertRaises(OSError) as raised:
-                below.over(0, 200).write(FRAME)
-            self.assertEqual((raised.exception.errno, below.frames), (number, [FRAME, ASK]))
-        below = Scripted(False)
-        self.assertIs(below.over(0, 200).write(FRAME), False)
-        self.assertEqual(below.frames, [FRAME, ASK])
-
-    def test_a_write_that_nobody_ever_acknowledges_fails_when_the_patience_is_spent(self):
-        below = Scripted(*[errno.ENXIO] * 1000)
-        with self.assertRaises(OSError) as raised:
-            below.over(0, 50).write(FRAME)
-        self.assertEqual(raised.exception.errno, errno.ENXIO)
-        self.assertLessEqual(below.times[-1], 50)
-        below = Scripted(errno.ENXIO)
-        with self.assertRaises(OSError):
-            below.over(0, 0).write(FRAME)
-        self.assertEqual(below.frames, [FRAME])
-
-    def test_a_read_is_never_repeated(self):
-        for end in (errno.ENXIO, errno.EREMOTEIO):
-            below = Scripted(end)
-            with self.assertRaises(OSError):
-                below.over(0, 200).read(REQUEST, 4)
-            self.assertEqual(below.frames, [REQUEST])
-        below = Scripted(b"")
-        self.assertEqual((below.over(0, 200).read(REQUEST, 4), below.frames), (b"", [REQUEST]))
 
     def test_a_wait_stands_before_each_transfer(self):
         below = Scripted()
@@ -191,7 +193,7 @@ class Patience(unittest.TestCase):
         self.assertEqual(below.frames, [FRAME])
 
     def test_over_the_bus_of_linux(self):
-        for part, went in ((busy(30), True), (Part(), True)):
+        for part, went in ((Field(busy_ms=30), True), (Part(), True)):
             with LinuxBus(7, 0x58, kernel=FakeKernel(part)) as bus:
                 over = PatientBus(bus, 0, 200)
                 self.assertIs(over.write(FRAME), went)
@@ -205,19 +207,11 @@ class Patience(unittest.TestCase):
         runs.called("-b 7 -a 58 --outputs 2 --busy-timeout 200ms clear 0".split(), FakeKernel(part))
         self.assertIn("B0 19 /", part.lines)
 
-    def test_each_store_is_sent_once(self):
-        """A store that wasn't acknowledged isn't sent in a later pass; a further job's is, with the same transfers, too."""
-        below, host, transfers = Scripted(False, False), Host(0x58), Transfers()
-        below.begun = 0
-        for sent in (1, 2):
-            host.store()
-            self.assertEqual((host.run(below, transfers).kind, len(below.frames)), ("unknown", sent))
-
     def test_how_many_questions_a_busy_part_is_asked(self):
         """Behind a store of 440 ms and of 4.1 s; by CAPABILITY, and by the part's own byte, which it answers while it is busy."""
         for milliseconds, most in ((440, 8), (4100, 12)):
             for more, noted in (([], True), (["--ready", "EF:60"], False)):
-                part = busy(0, store_ms=milliseconds, busy_kind=1)
+                part = Field(store_ms=milliseconds, busy_kind=1)
                 with as_shipped(), self.subTest(milliseconds=milliseconds, more=more):
                     status, out, _ = runs.called(["-b", "7", "-a", "58", "--outputs", "2", *more, "store"], FakeKernel(part))
                     self.assertEqual((status, out, part.get("stores")), (0, "store: acknowledged\n", 1))
@@ -229,7 +223,7 @@ class Patience(unittest.TestCase):
     def test_the_ready_of_a_board_file_is_what_the_part_is_asked(self):
         """The byte EF of a part of the file is asked behind a write, as often as by --ready; without it CAPABILITY is."""
         for ready, asked in ('ready = "EF:60"', "B0 EF /"), ("", "B0 19 /"):
-            part = busy(60, busy_kind=1)
+            part = Field(busy_ms=60, busy_kind=1)
             with as_shipped(), tempfile.NamedTemporaryFile("w", suffix=".toml") as file, self.subTest(ready):
                 file.write(f'[parts.u1]\nbus = 7\naddress = "58"\noutputs = 2\n{ready}\n'
                            '[rails.core]\npart = "u1"\noutput = 0\nvolts = "1.05V"\nlimits = ["0.8V", "1.3V"]\n')
@@ -237,14 +231,6 @@ class Patience(unittest.TestCase):
                 self.assertEqual(runs.called(["apply", file.name], BoardKernel({7: {0x58: part}}))[0], 0)
                 self.assertGreater(part.get("questions"), 1)
                 self.assertEqual({line for line in part.lines if line in ("B0 EF /", "B0 19 /")}, {asked})
-
-    def test_a_part_is_ready_by_its_own_byte(self):
-        good = bytes.fromhex("40") + bytes([pec(bytes.fromhex("B0EFB140"))])
-        ready = bytes.fromhex("60") + bytes([pec(bytes.fromhex("B0EFB160"))])
-        for answers, asked in (([good, ready], 2), ([ready], 1), ([b"\x60\x00", ready], 2), ([errno.ENXIO, b"", ready], 3)):
-            below = Scripted(True, *answers)
-            self.assertIs(below.over(0, 200, (0xEF, 0x60)).write(FRAME), True)
-            self.assertEqual(below.frames, [FRAME] + [bytes.fromhex("B0EF")] * asked)
 
     def test_no_test_waits(self):
         begun = time.monotonic()

@@ -9,7 +9,7 @@ from pmhost import Band, Course, CourseEnd, Differs, Host, Job, RailState, Seque
 from pmhost.cuts import cuts
 from pmhost.transfers import Transfers
 
-from .fixtures import Faulty, Recorded, free, rails
+from .fixtures import Recorded, free, rails
 
 VOLTS = {"VOUT_COMMAND": 0x3500}
 AT_3V3 = RailState(True, Band(Voltage("3300048uV"), Voltage("3300049uV")), "within")
@@ -52,7 +52,7 @@ class Rails(unittest.TestCase):
         self.assertEqual(free(Host(0x58)).rail(0), RailState(None, None, "no limits"))
 
     def test_a_survey_is_spent_and_says_so(self):
-        pmbus = rails(Faulty)
+        pmbus = rails(Recorded)
         pmbus.bus.fates = ["deaf"] * 99
         with self.assertRaises(Spent) as it:
             pmbus.survey(0, tries=3)
@@ -227,7 +227,7 @@ class Applies(unittest.TestCase):
             self.assertEqual([words[0] for words in seen], [Job("order", "VOUT_COMMAND", 0x3500)], name)
 
     def test_an_order_that_differs_is_given_once_again(self):
-        pmbus = rails(Faulty, passes=1)
+        pmbus = rails(Recorded, passes=1)
         begun = []
         pmbus.bus.fates = ["ok"] * 6 + ["deaf"]
         pmbus.apply(0, VOLTS, before_order=begun.append)
@@ -321,7 +321,7 @@ class Applies(unittest.TestCase):
             recorded().set_voltage(0, "3.3125V", tries=3)
 
     def test_an_end_says_what_was_wrong(self):
-        errors = rails(Faulty, passes=1)
+        errors = rails(Recorded, passes=1)
         errors.bus.fates = ["error"] * 99
         with self.assertRaises(Spent) as it:
             errors.set_voltage(0, "3.25V", tries=2)
@@ -354,7 +354,7 @@ class Applies(unittest.TestCase):
         self.assertEqual((margin.band, pmbus.bus.part.voltage(0)), (Band(Voltage("3375000uV"), Voltage("3375000uV")), Decimal("3.375")))
         with self.assertRaises(pmhost.LimitRefused):
             pmbus.set_voltage(0, "3.6V")
-        lossy = rails(Faulty, passes=1)
+        lossy = rails(Recorded, passes=1)
         lossy.bus.fates = ["ok"] * 6 + ["acked", "ok", "acked"]
         with self.assertRaises(Differs) as it:
             lossy.set_voltage(0, "3.25V")

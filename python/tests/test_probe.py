@@ -46,7 +46,7 @@ class Rows(Blocks):
     def test_each_part_that_is_not_as_it_should_be_has_a_row(self):
         """What the row of a part says, and its status."""
         wanted = {
-            "odd.PageBlind": ("the part doesn't look at the page", 1), "odd.WithoutPec": ("no PEC (PMBUS_REVISION gave", 1),
+            "odd.PageBlind": ("the part doesn't look at the page", 1), "WithoutPec": ("no PEC (PMBUS_REVISION gave", 1),
             "odd.PecOptional": ("fits but for a frame that is both damaged and cut before its last byte, which is not proved", 0),
             "odd.AnyPec": ("this host can't drive the part: a write with a wrong PEC is taken", 1),
             "odd.WithoutMinimum": ("--lacks VOUT_MIN", 0), "odd.Vid": ("1 VID (VOUT_MODE 21)", 1),

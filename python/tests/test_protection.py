@@ -29,8 +29,7 @@ LIFTED, LOCKED = "protect: u12: WRITE_PROTECT 00 confirmed, and was 80\n", "prot
 
 class Protected(unittest.TestCase):
     def setUp(self):
-        self.part = Field()
-        self.part.set("WRITE_PROTECT", 0x80)
+        self.part = Field(WRITE_PROTECT=0x80)
         self.over = BoardKernel({7: {0x58: self.part}}, [])
 
     def ran(self, *words, board=BOARD, before=()):

@@ -8,20 +8,15 @@ from pmhost.operation import same_command, uncounted
 from .field import ADDRESS, Field, FieldBus
 from .kernel import FakeKernel
 from .runs import called
-from .test_runs import Blocks
+from .test_runs import OfBoards
 
 
-class Rows(Blocks):
+class Rows(OfBoards):
     """Each block has what OPERATION of each output was written to hold, and at how many volts the rails are then."""
 
-    def look_at(self, trace, mishaps, part):
-        """The frames of the trace, whatever bus they are of."""
-        super().look_at("".join(f"{line}\n" for line in trace.splitlines() if not line.startswith("#")), mishaps, part)
-
     def look_at_rails(self, run, got):
-        outputs = range(got.part.outputs)
-        volts = [f"{got.part.volts(output) / 1e6:.6f}".rstrip("0").rstrip(".") for output in outputs]
-        self.assertEqual((" ".join(volts), " ".join(f"{got.part.get('OPERATION', output):02X}" for output in outputs)), (run.volts, run.operation))
+        super().look_at_rails(run, got)
+        self.assertEqual(" ".join(f"{got.part.get('OPERATION', output):02X}" for output in range(got.part.outputs)), run.operation)
 
     def test_what_is_told_of_them(self):
         self.carry_out("reserved_bits.txt")
@@ -32,9 +27,7 @@ class Restarts(unittest.TestCase):
 
     def test_none_is_told_at_another_voltage(self):
         for frame in range(1, 45):
-            part = Field()
-            for name, value in (("OPERATION", 0), ("reserved", 1), ("pin_command", 0x1100), ("restart_at", frame)):
-                part.set(name, value)
+            part = Field(OPERATION=0, reserved=1, pin_command=0x1100, restart_at=frame)
             status, out, _ = called(["-b", "7", "-a", "58", "--outputs", "2", "--limit=0:0.8V:1.1V", "on", "0"], FakeKernel(part))
             with self.subTest(frame=frame, status=status, out=out):
                 volts = f"{part.volts() / 1e6:.6f}".rstrip("0").rstrip(".")
@@ -58,10 +51,7 @@ class Bytes(unittest.TestCase):
 
 class Api(unittest.TestCase):
     def device(self, reserved, **fields):
-        part = Field()
-        part.set("reserved", reserved)
-        for name, value in fields.items():
-            part.set(name, value)
+        part = Field(reserved=reserved, **fields)
         return part, Device(FieldBus(part), ADDRESS, 2, limits={0: ("0.8V", "1.1V")})
 
     def test_no_restart_is_seen(self):

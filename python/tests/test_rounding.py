@@ -34,8 +34,7 @@ class Lines(unittest.TestCase):
     """Two rails of one part."""
 
     def setUp(self):
-        self.part = Field()
-        self.part.set("step", 8)
+        self.part = Field(step=8)
         self.over = BoardKernel({7: {ADDRESS: self.part}}, [])
 
     def ran(self, *words, core="", io=""):
@@ -132,8 +131,7 @@ class Lines(unittest.TestCase):
 
 class Api(unittest.TestCase):
     def device(self, **named):
-        part = Field()
-        part.set("step", 8)
+        part = Field(step=8)
         return part, Device(FieldBus(part), ADDRESS, 2, limits={0: ("0.8V", "1.3V")}, **named)
 
     def test_a_voltage_is_set_near_enough_twice(self):

@@ -1,20 +1,19 @@
 """Whole runs of `pmhost` over a stand-in for the kernel with a part behind it, each with its exact words and its status."""
 import re
-import signal
 import tempfile
 import unittest
 
 from pmhost import FrameRefused, read_answer, read_plain, read_request, read_write
 from pmhost.packets import Packet, read_paged
 from pmhost.reads import is_known
-from pmhost.bus.linux import ENDING
 
+from .field import Field
+from .running import hear_signals
 from .runs import blocks, ran
 
 # The parts of which answers aren't good ones.
-NOT_WHOLE = ("WithoutPec", "FloatingPagePlus", "ones", "busy.OnesAlone", "busy.Zeros0At48",
-             "busy.Zeros1At48", "busy.Zeros2At48", "busy.ProtectedAt48", "busy.ZerosFromProtectAt48", "busy.ZerosToProtectAt48",
-             "busy.ZerosOnceAt48")
+NOT_WHOLE = {"WithoutPec", "FloatingPagePlus", "ones", "busy.OnesAlone", "busy.Zeros0At48", "busy.Zeros1At48", "busy.Zeros2At48",
+             "busy.ProtectedAt48", "busy.ZerosFromProtectAt48", "busy.ZerosToProtectAt48", "busy.ZerosOnceAt48"}
 
 
 # The codes that the library reads by a packet of its table.
@@ -28,10 +27,7 @@ class Blocks(unittest.TestCase):
     maxDiff = None
 
     def setUp(self):
-        # A shell may have started the tests with signals ignored, which pmhost goes by.
-        for each in ENDING:
-            before = signal.signal(each, signal.default_int_handler)
-            self.addCleanup(signal.signal, each, before)
+        hear_signals(self)
 
     def carry_out(self, name):
         found = blocks(name)
@@ -47,14 +43,14 @@ class Blocks(unittest.TestCase):
                 self.assertEqual(got.kernel.mishaps, [], "transfers are missing")
                 for comment in run.comments:
                     self.assertRegex(got.trace, rf"(?m)^# failed \(-\d+\): {re.escape(comment)}$")
-                self.look_at(got.trace, run.mishaps, "ones" if ["-", "busy_kind", "2"] in run.fields else run.part)
+                self.look_at(got.trace, run.mishaps, "ones" if ["-", "busy_kind", "2"] in run.fields else " ".join(run.board) or run.part)
 
     def look_at_rails(self, run, got):
         """What the rails do; the rows of other files have none."""
 
     def look_at(self, trace, mishaps, part):
         """Each line of the trace is a frame, or a comment; and without damage each is a good one."""
-        is_whole = not {"damaged", "empty"} & set(mishaps.split()) and part.split()[0] not in NOT_WHOLE
+        is_whole = not {"damaged", "empty"} & set(mishaps.split()) and NOT_WHOLE.isdisjoint(part.split())
         for line in trace.splitlines():
             if line.startswith("# failed "):
                 continue
@@ -74,6 +70,18 @@ class Blocks(unittest.TestCase):
                     read_write(frame[0] >> 1, frame)
             except FrameRefused:
                 self.assertFalse(is_whole, line)
+
+
+class OfBoards(Blocks):
+    """Rows over several parts, or parts of trials/field, whose rails are at the volts of the row if it has any."""
+
+    def look_at(self, trace, mishaps, part):
+        """The frames of the trace, whatever bus they are of."""
+        super().look_at("".join(f"{line}\n" for line in trace.splitlines() if not line.startswith("#")), mishaps, part)
+
+    def look_at_rails(self, run, got):
+        volts = [part.volts(output) for part in got.parts if isinstance(part, Field) for output in range(part.outputs)]
+        self.assertEqual(" ".join(f"{each / 1e6:.6f}".rstrip("0").rstrip(".") for each in volts), run.volts)
 
 
 class Runs(Blocks):

@@ -20,7 +20,7 @@ from .runs import called
 from .test_board_page import blocks
 from .test_margin_tests import Part, rail_of
 from .test_board_files import table_of
-from .test_runs import Blocks
+from .test_runs import OfBoards
 
 # PAGE_PLUS_WRITE of OPERATION: its output and its byte.
 ORDER = re.compile(r"B0 05 03 0(\d) 01 (\w\w) ")
@@ -28,12 +28,7 @@ STATUS_WORD, READ_VOUT = 0x79, 0x8B
 TIMES = {"0ms": 0, "5ms": 5, " 5 ms": 5, "12s": 12_000, "5": None, "ms": None, "5us": None, "1.5s": None, "-5ms": None}
 
 
-class Rows(Blocks):
-    def look_at(self, trace, mishaps, part):
-        """Every line of the trace is a frame or a comment."""
-        for line in trace.splitlines():
-            self.assertTrue(line.startswith("#") or re.fullmatch("[0-9A-F ]+( / [0-9A-F ]+)?", line), line)
-
+class Rows(OfBoards):
     def test_files_without_an_order_are_refused_before_the_first_frame(self):
         self.carry_out("wrong_sequences.txt")
 

@@ -6,7 +6,7 @@ from unittest import mock
 from pmhost import clock
 from pmhost.step_way import StepWay
 
-from .fixtures import Faulty, rails
+from .fixtures import Recorded, rails
 
 CORE, AUX = SimpleNamespace(name="core", output=0), SimpleNamespace(name="aux", output=1)
 ON, OFF, MARGIN = 0x80, 0x00, 0x98
@@ -14,7 +14,7 @@ ON, OFF, MARGIN = 0x80, 0x00, 0x98
 
 class Ways(unittest.TestCase):
     def setUp(self):
-        self.part = rails(Faulty, passes=1, limits={})
+        self.part = rails(Recorded, passes=1, limits={})
         for output in (0, 1):
             self.part.check(output, "OPERATION")
         self.way = StepWay([CORE, AUX], lambda _: self.part)

@@ -1,5 +1,7 @@
 """The bench for anybody's host: what it says of programs whose faults are known, and each part of its verdict by itself."""
 import contextlib
+import copy
+import errno
 import fcntl
 import io
 import json
@@ -115,14 +117,20 @@ def setUpModule():
         unittest.enterModuleContext(unittest.mock.patch("pmhost.cli.torture.preload", lambda: contextlib.nullcontext(below)))
 
 
-def tortured(script, *options):
-    """The status, what it prints and what it complains of, of a bench over a script."""
-    out, err = io.StringIO(), io.StringIO()
+@contextlib.contextmanager
+def words_of(script):
+    """The words that run a script."""
     with tempfile.NamedTemporaryFile("w", suffix=".py") as file:
         file.write(textwrap.dedent(script))
         file.flush()
-        with contextlib.redirect_stdout(out), contextlib.redirect_stderr(err):
-            status = cli.main(["torture", *options, "--", sys.executable, "-S", "-E", file.name])
+        yield [sys.executable, "-S", "-E", file.name]
+
+
+def tortured(script, *options):
+    """The status, what it prints and what it complains of, of a bench over a script."""
+    out, err = io.StringIO(), io.StringIO()
+    with words_of(script) as words, contextlib.redirect_stdout(out), contextlib.redirect_stderr(err):
+        status = cli.main(["torture", *options, "--", *words])
     return status, out.getvalue(), err.getvalue()
 
 
@@ -493,21 +501,14 @@ class Preloading(unittest.TestCase):
 
     def test_a_program_that_closes_and_opens_again_is_on_the_same_part(self):
         script = HOST + "write(0x05, 0x04, 0, 0x21, 0x34, 0x12)\nos.close(file)\nfile = os.open('/dev/i2c-7', os.O_RDWR)\nprint(read([0x06, 2, 0, 0x21], 3).hex())\n"
-        with tempfile.TemporaryDirectory() as folder:
-            path = os.path.join(folder, "host.py")
-            with open(path, "w", encoding="utf-8") as file:
-                file.write(script)
-            found = Program([sys.executable, "-S", "-E", path], 2, said="^023412$").run(self.below)
+        found = self.ran(script, "^023412$")
         self.assertTrue(found.is_success)
         self.assertEqual((found.status, [each.word for each in found.took], found.named), (None, [0x1234], {ONE: 2}))
 
-    def ran(self, script, said=None, seconds=10):
-        """The run of a script without a fault, and what it prints, to which its standard error belongs."""
-        with tempfile.TemporaryDirectory() as folder:
-            path = os.path.join(folder, "host.py")
-            with open(path, "w", encoding="utf-8") as file:
-                file.write(script)
-            return Program([sys.executable, "-S", "-E", path], 2, seconds, said).run(self.below)
+    def ran(self, script, said=None, seconds=10, faults=()):
+        """The run of a script, and what it prints, to which its standard error belongs."""
+        with words_of(script) as words:
+            return Program(words, 2, seconds, said).run(self.below, faults)
 
     def test_pmhost_by_the_calls_of_the_kernel_itself(self):
         """Each word reaches its own output whatever befalls a transfer, and success is what the part holds."""
@@ -538,6 +539,61 @@ print("all told", file=sys.stderr)
         self.assertTrue(found.is_success)
         self.assertEqual((found.status, found.transfers), (None, []))
 
+    def test_a_lock_is_the_kernels_own(self):
+        """An address that is locked for one open file is locked for no other, until that is closed; another bus has its own locks, and one that is
+        open for reading alone has none for writing."""
+        script = HOST + """
+import errno, struct
+def locked(at, place):
+    try:
+        fcntl.fcntl(at, 37, struct.pack("hhqqi0q", fcntl.F_WRLCK, os.SEEK_SET, place, 1, 0))
+        return "locked"
+    except OSError as fault:
+        return errno.errorcode[fault.errno]
+other, elsewhere, reading = (os.open(path, flags) for path, flags in (("/dev/i2c-1", os.O_RDWR), ("/dev/i2c-2", os.O_RDWR), ("/dev/i2c-3", os.O_RDONLY)))
+said = [locked(file, 0x58), locked(other, 0x58), locked(other, 0x59), locked(elsewhere, 0x58), locked(reading, 0x58)]
+os.close(file)
+print(*said, locked(other, 0x58))
+"""
+        self.assertTrue(self.ran(script, "^locked EAGAIN locked locked EBADF locked$").is_success)
+
+    def test_a_bus_and_an_address_may_be_refused(self):
+        """By what serves them; a transfer of which only the first message went has no answer."""
+        class Refusing(Server):
+            is_opened = False
+
+            def opened(self, number):
+                if number != 1:
+                    raise OSError(errno.EACCES, "")
+                found = copy.copy(self)
+                found.is_opened = True
+                return found
+
+            def asked(self, request, argument):
+                if argument == 0x57:
+                    raise OSError(errno.EBUSY, "")
+                return super().asked(request, argument)
+
+            def transfer(self, messages):
+                return len(messages) - self.is_opened, []
+
+        script = HOST + """
+import errno
+def said(call):
+    try:
+        return call()
+    except OSError as fault:
+        return errno.errorcode[fault.errno]
+functions = ctypes.c_ulong(0)
+fcntl.ioctl(file, 0x0705, functions)
+back, sent = ctypes.create_string_buffer(2), ctypes.create_string_buffer(b"!", 1)
+heads = (Message * 2)(Message(0x58, 0, 1, ctypes.addressof(sent)), Message(0x58, 1, 2, ctypes.addressof(back)))
+print(said(lambda: os.open("/dev/i2c-2", os.O_RDWR)), said(lambda: fcntl.ioctl(file, 0x0703, 0x57)), said(lambda: fcntl.ioctl(file, 0x0706, 0x56)),
+      hex(functions.value), fcntl.ioctl(file, 0x0707, Messages(heads, 2)), back.raw)
+"""
+        with unittest.mock.patch("pmhost.torture.program.Server", Refusing):
+            self.assertTrue(self.ran(script, r"^EACCES EBUSY 0 0xfff8009 1 b'\\x00\\x00'$").is_success)
+
     def test_a_wrong_packet_error_code_is_the_kernels_error(self):
         """EBADMSG of a call of SMBus, and not the word."""
         script = HOST + SMBUS + """
@@ -548,12 +604,8 @@ try:
 except OSError as fault:
     print(fault.errno)
 """
-        with tempfile.TemporaryDirectory() as folder:
-            path = os.path.join(folder, "host.py")
-            with open(path, "w", encoding="utf-8") as file:
-                file.write(script)
-            for fault, said in (("ok", f"^{start_of(2)[0].command:#x}$"), ("garbled:1:0", "^74$")):
-                self.assertTrue(Program([sys.executable, "-S", "-E", path], 2, said=said).run(self.below, [(1, fault)]).is_success, fault)
+        for fault, said in (("ok", f"^{start_of(2)[0].command:#x}$"), ("garbled:1:0", "^74$")):
+            self.assertTrue(self.ran(script, said, faults=[(1, fault)]).is_success, fault)
 
     def test_a_program_that_breaks_off_in_a_call(self):
         """The next one is served all the same."""

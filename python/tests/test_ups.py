@@ -12,7 +12,7 @@ from .running import ROOT, stored
 from .runs import CLOCK, blocks, called
 from .seeded import seeded
 from .test_patience import as_shipped
-from .test_runs import Blocks
+from .test_runs import OfBoards
 
 # How many random boards there are.
 BOARDS = int(os.environ.get("PMHOST_UPS", "40"))
@@ -20,17 +20,8 @@ PLACES = ((0x58, 0), (0x58, 1), (0x59, 0))
 NAMES = ("vccint", "vccaux", "vcco")
 
 
-class Rows(Blocks):
+class Rows(OfBoards):
     """Each block has its words and its status, and at how many volts the rails are then."""
-
-    def look_at(self, trace, mishaps, part):
-        """The frames of the trace, whatever bus they are of."""
-        super().look_at("".join(f"{line}\n" for line in trace.splitlines() if not line.startswith("#")), mishaps, part)
-
-    def look_at_rails(self, run, got):
-        """The rails are at the volts of the row."""
-        volts = [part.volts(output) for part in got.parts for output in range(part.outputs)]
-        self.assertEqual(" ".join(f"{each / 1e6:.6f}".rstrip("0").rstrip(".") for each in volts), run.volts)
 
     def test_boards_come_up_and_go_down(self):
         self.carry_out("ups.txt")

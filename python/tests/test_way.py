@@ -15,7 +15,7 @@ from pmhost.picture.way import COMMANDED
 
 from . import runs
 from .drawn import SVG, Drawn, colour_faults, layout_faults
-from .fixtures import Faulty
+from .fixtures import Recorded
 
 UP = """[rails.core]
 output = 0
@@ -40,13 +40,12 @@ HEADS = ["limits 0.9 V to 3.6 V, wanted 3.3 V", "min 0 V, max 2.5 V"]
 IO_HEADS = ["limits 0.9 V to 1.6 V, wanted 1.25 V", "min 0 V, max 4 V"]
 
 
-class Desk(Faulty):
-    """A part on a desk, whose transfers meet fates from the first write on; Ctrl-C comes in the place of `signal`. It keeps each
-    frame."""
+class Desk(Recorded):
+    """A part on a desk, whose transfers meet fates from the first write on; Ctrl-C comes in the place of `signal`."""
 
     def __init__(self, starts, fates):
         super().__init__(ModelPart(0x58, starts), fates)
-        self.frames, self.has_written = [], False
+        self.has_written = False
 
     def fate(self):
         found = super().fate() if self.has_written else "ok"
@@ -55,13 +54,8 @@ class Desk(Faulty):
         return found
 
     def write(self, frame):
-        self.frames.append(frame)
         self.has_written = True
         return super().write(frame)
-
-    def read(self, request, count):
-        self.frames.append(request)
-        return super().read(request, count)
 
     def close(self):
         """Nothing is open."""

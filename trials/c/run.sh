@@ -11,8 +11,8 @@
 #
 # The examples build with no warning. A program that drops an answer that must be asked builds with one. Random calls of every
 # export (trials/c/same.c) over the archives of Rattle's own compiler and over LLVM's answer and write the same. Programs
-# of gcc and clang are run once more with their sanitizers, where they have them. The order over a Linux bus runs over a
-# stand-in for the kernel, with all that a user or a bus does wrong.
+# of gcc and clang are run once more with their sanitizers, where they have them. The order over a Linux bus runs over the
+# bench of `pmhost torture`, with all that a user or a bus does wrong (bus.py).
 # The stack that the archive says it needs must be what the header promises. Says a line for each program, what isn't on this
 # machine, and last how many passed and failed.
 set -u
@@ -82,173 +82,41 @@ promised() {
     fi
 }
 
-# What becomes of orders over the Linux bus: the mishaps of the transfers, the arguments in a shell's words, the
-# status, and what is written on standard output and on standard error.
+# bench: what bus.py needs, the bus of `pmhost torture` as a shared object and the library of the package of python/, where gcc and python3 are
+bench() {
+    command -v gcc > /dev/null && command -v python3 > /dev/null || { echo "the bench below programs: no gcc or no python3 here"; return 1; }
+    [ -f "$folder/clock.so" ] || {
+        gcc -O2 -Wall -Wextra -Werror -shared -fPIC trials/c/clock.c -o "$folder/clock.so" -ldl &&
+        gcc -shared -Wl,--whole-archive "${archives[@]}" -Wl,--no-whole-archive -Wl,-z,noexecstack -o "$folder/libpmhost.so"
+    } > "$folder/log" 2>&1 || { told "the bench below programs" build; return 1; }
+}
+
+# bus_rows NAME [--without TEXT] PROGRAM: the orders of a program over the Linux bus (bus.py)
 bus_rows() {
-    cat << 'END'
-lost ok ok lost ok ok|--no-limit /dev/i2c-1 58 0 3300000|0|ended done, confirmed 34CD, 3300048 uV|
-|--no-limit /dev/i2c-1 0x58 0 3300000|0|ended done, confirmed 34CD, 3300048 uV|
-|--no-limit /dev/i2c-1 58 0 0|0|ended done, confirmed 0000, 0 uV|
-||2||give BUS ADDRESS OUTPUT MICROVOLTS, as /dev/i2c-1 58 0 3300000, or BUS ADDRESS store
-|/dev/i2c-1 58 0|2||give BUS ADDRESS OUTPUT MICROVOLTS, as /dev/i2c-1 58 0 3300000, or BUS ADDRESS store
-|--no-limit /dev/i2c-1 58 0 3.3|2||microvolts '3.3': give a whole number, as 3300000 for 3.3 V
-|--no-limit /dev/i2c-1 58 0 3,3|2||microvolts '3,3': give a whole number, as 3300000 for 3.3 V
-|--no-limit /dev/i2c-1 58 0 abc|2||microvolts 'abc': give a whole number, as 3300000 for 3.3 V
-|--no-limit /dev/i2c-1 58 0 3300mV|2||microvolts '3300mV': give a whole number, as 3300000 for 3.3 V
-|--no-limit /dev/i2c-1 58 0 ''|2||microvolts '': give a whole number, as 3300000 for 3.3 V
-|--no-limit /dev/i2c-1 58 0 ' 5'|2||microvolts ' 5': give a whole number, as 3300000 for 3.3 V
-|--no-limit /dev/i2c-1 58 0 '5 '|2||microvolts '5 ': give a whole number, as 3300000 for 3.3 V
-|--no-limit /dev/i2c-1 58 0 +5|2||microvolts '+5': give a whole number, as 3300000 for 3.3 V
-|--no-limit /dev/i2c-1 58 0 9223372036854775808|2||microvolts '9223372036854775808': give a whole number, as 3300000 for 3.3 V
-|--no-limit /dev/i2c-1 78 0 3300000|2||address '78': give 08 to 77, in hexadecimal
-|--no-limit /dev/i2c-1 07 0 3300000|2||address '07': give 08 to 77, in hexadecimal
-|--no-limit /dev/i2c-1 158 0 3300000|2||address '158': give 08 to 77, in hexadecimal
-|--no-limit /dev/i2c-1 5G 0 3300000|2||address '5G': give 08 to 77, in hexadecimal
-|--no-limit /dev/i2c-1 -58 0 3300000|2||address '-58': give 08 to 77, in hexadecimal
-|--no-limit /dev/i2c-1 '' 0 3300000|2||address '': give 08 to 77, in hexadecimal
-|--no-limit /dev/i2c-1 58 9 3300000|2||output '9': give 0 to 7
-|--no-limit /dev/i2c-1 58 -1 3300000|2||output '-1': give 0 to 7
-|--no-limit /dev/i2c-1 58 256 3300000|2||output '256': give 0 to 7
-|--no-limit /dev/i2c-1 58 0x 3300000|2||output '0x': give 0 to 7
-|--no-limit /dev/i2c-2 58 0 3300000|2||2-0058 is held by a driver of the kernel: unbind it, echo 2-0058 > /sys/bus/i2c/devices/2-0058/driver/unbind
-|--no-limit /dev/i2c-3 58 0 3300000|2||/dev/i2c-3: Permission denied: be root, or ask for leave to open it (ls -l /dev/i2c-3)
-|--no-limit /dev/i2c-4 58 0 3300000|2||/dev/i2c-4: Inappropriate ioctl for device: it is no I2C bus
-|--no-limit /dev/i2c-9 58 0 3300000|2||/dev/i2c-9: No such file or directory: load i2c-dev (modprobe i2c-dev), and look for the bus (ls /dev/i2c-*)
-|--no-limit /dev/i2c-5 58 0 3300000|2||another program drives 5-0058: fuser /dev/i2c-5 names who has the bus open
-|/dev/i2c-5 0x58 store|2||another program drives 5-0058: fuser /dev/i2c-5 names who has the bus open
-count|--no-limit --share-bus /dev/i2c-5 58 0 3300000|0|ended done, confirmed 34CD, 3300048 uV\n4 transfers, 10 ms|
-|--no-limit /dev/i2c-5 59 0 3300000|1||learn: 3 of 3 transfers failed, the last: Remote I/O error
-|--no-limit /dev/i2c-5 57 0 3300000|1||learn: 3 of 3 transfers failed, the last: Remote I/O error
-|--no-limit /dev/i2c-6 58 0 3300000|2||a line is held low: address 02, which no part may have, acknowledges
-|/dev/i2c-6 58 store|2||a line is held low: address 02, which no part may have, acknowledges
-low|/dev/i2c-1 58 store|2||a line is held low: address 02, which no part may have, acknowledges
-|--no-limit --patience=x /dev/i2c-1 58 0 3300000|2||patience 'x': give milliseconds, 0 to 60000
-|--no-limit --patience=-1 /dev/i2c-1 58 0 3300000|2||patience '-1': give milliseconds, 0 to 60000
-|/dev/i2c-1 58 0 3300000|2||give what the load tolerates, as --limit=3135000:3465000 in microvolts, or --no-limit
-|--limit=3135000:3465000 /dev/i2c-1 58 0 3300000|0|ended done, confirmed 34CD, 3300048 uV|
-|--limit=3135000:3465000 /dev/i2c-1 58 0 3500000|1||refused: L4 AboveLimit: above the output's limits
-|--limit=3135000:3465000 /dev/i2c-1 58 0 3100000|1||refused: L3 BelowLimit: below the output's limits
-|--limit=3465000:3135000 /dev/i2c-1 58 0 3300000|2||limit '3465000:3135000': give LEAST:MOST in microvolts, as 3135000:3465000
-|--limit=3.1V:3.5V /dev/i2c-1 58 0 3300000|2||limit '3.1V:3.5V': give LEAST:MOST in microvolts, as 3135000:3465000
-|--limit=3300000 /dev/i2c-1 58 0 3300000|2||limit '3300000': give LEAST:MOST in microvolts, as 3135000:3465000
-count ok ok deaf*4|--no-limit /dev/i2c-1 58 0 3300000|0|ended done, confirmed 34CD, 3300048 uV\n8 transfers, 200 ms|
-count ok ok deaf*6|--no-limit /dev/i2c-1 58 0 3300000|0|ended done, confirmed 34CD, 3300048 uV\n11 transfers, 210 ms|
-count ok ok ones*4|--no-limit /dev/i2c-1 58 0 3300000|0|ended done, confirmed 34CD, 3300048 uV\n8 transfers, 200 ms|
-count ok ok nacked*3|--no-limit /dev/i2c-1 58 0 3300000|0|ended done, confirmed 34CD, 3300048 uV\n7 transfers, 150 ms|
-count ok deaf*5|--no-limit /dev/i2c-1 58 0 3300000|0|ended done, confirmed 34CD, 3300048 uV\n8 transfers, 200 ms|
-count ok deaf*3 ok ones|--no-limit /dev/i2c-1 58 0 3300000|0|ended done, confirmed 34CD, 3300048 uV\n8 transfers, 100 ms|
-count ok ok deaf*20|--no-limit /dev/i2c-1 58 0 3300000|1|ended unknown, the output may hold the old or the ordered word\n22 transfers, 600 ms|order: 5 of 6 transfers failed, the last: No such device or address; no answer was good
-count ok deaf|--no-limit /dev/i2c-1 58 0 3300000|0|ended done, confirmed 34CD, 3300048 uV\n5 transfers, 20 ms|
-count ok ok short1|--no-limit /dev/i2c-1 58 0 3300000|0|ended done, confirmed 34CD, 3300048 uV\n5 transfers, 30 ms|
-count ok nacked ok ok|--no-limit /dev/i2c-1 58 0 3300000|0|ended done, confirmed 34CD, 3300048 uV\n7 transfers, 20 ms|
-count|--no-limit --patience=0 /dev/i2c-1 58 0 3300000|0|ended done, confirmed 34CD, 3300048 uV\n3 transfers, 0 ms|
-count ok deaf ok deaf ok deaf|--no-limit --patience=0 /dev/i2c-1 58 0 3300000|1|ended differs, confirmed 1000, 1000000 uV\n7 transfers, 0 ms|order: 3 of 6 transfers failed, the last: No such device or address; the write was lost, or the part refused, limited or rounded the word
-count ok ok deaf*8|--no-limit --patience=30 /dev/i2c-1 58 0 3300000|0|ended done, confirmed 34CD, 3300048 uV\n13 transfers, 80 ms|
-ok ok ones*3 ok ones ok ok ones ok ok ones|--no-limit /dev/i2c-1 58 0 3300000|1|ended unknown, the output may hold the old or the ordered word|order: 3 of 6 transfers failed, the last: nothing but FFh; no answer was good
-ones*3|--no-limit /dev/i2c-1 58 0 3300000|1||learn: 3 of 3 transfers failed, the last: nothing but FFh
-count|/dev/i2c-1 58 store|0|store acknowledged\n2 transfers, 10 ms|
-count ok deaf*8|/dev/i2c-1 58 store|0|store acknowledged\n10 transfers, 5000 ms|
-count deaf|/dev/i2c-1 58 store|1|store unknown\n2 transfers, 10 ms|store: 1 of 1 transfers failed, the last: No such device or address
-count nacked ones*2|/dev/i2c-1 58 store|1|store unknown\n4 transfers, 70 ms|store: 1 of 1 transfers failed, the last: Remote I/O error
-deaf deaf deaf|--no-limit /dev/i2c-1 58 0 3300000|1||learn: 3 of 3 transfers failed, the last: No such device or address
-|--no-limit /dev/i2c-1 59 0 3300000|1||learn: 3 of 3 transfers failed, the last: Remote I/O error
-|--no-limit /dev/i2c-1 58 1 3300000|1||learn: 3 of 3 transfers failed, the last: Remote I/O error
-damaged empty damaged|--no-limit /dev/i2c-1 58 0 3300000|1||learn: the last answer: F4 WrongCount
-damaged deaf damaged|--no-limit /dev/i2c-1 58 0 3300000|1||learn: 1 of 3 transfers failed, the last: No such device or address; the last answer: F4 WrongCount
-damaged damaged deaf|--no-limit /dev/i2c-1 58 0 3300000|1||learn: 1 of 3 transfers failed, the last: No such device or address; no answer was good, or its format is neither ULINEAR16 nor DIRECT
-short0 short1 short0|--no-limit /dev/i2c-1 58 0 3300000|1||learn: 3 of 3 transfers failed, the last: 0 of 2 messages went
-short0 short0 short1|--no-limit /dev/i2c-1 58 0 3300000|1||learn: 3 of 3 transfers failed, the last: 1 of 2 messages went
-|--no-limit /dev/i2c-1 58 0 99000000|1||refused: N4 AboveGreatest: above all values of the output's format
-|--no-limit /dev/i2c-1 58 0 -1|1||refused: N3 BelowLeast: below all values of the output's format
-|--no-limit /dev/i2c-1 58 0 9223372036854775807|1||refused: N5 TooLarge: beyond 10^15 microvolts
-ok short0 ok short0h ok|--no-limit /dev/i2c-1 58 0 3300000|0|ended done, confirmed 34CD, 3300048 uV|
-ok short0 ok short0 ok short0|--no-limit --patience=0 /dev/i2c-1 58 0 3300000|1|ended differs, confirmed 1000, 1000000 uV|order: 3 of 6 transfers failed, the last: 0 of 1 message went; the write was lost, or the part refused, limited or rounded the word
-ok false ok false ok false|--no-limit --patience=0 /dev/i2c-1 58 0 3300000|1|ended differs, confirmed 1000, 1000000 uV|order: the write was lost, or the part refused, limited or rounded the word
-ok int|--no-limit /dev/i2c-1 58 0 3300000|130|transfer 2 went on|
-ok ok term|--no-limit /dev/i2c-1 58 0 3300000|143|transfer 3 went on|
-quit|--no-limit /dev/i2c-1 58 0 3300000|131|transfer 1 went on|
-ok hup|--no-limit /dev/i2c-1 58 0 3300000|129|transfer 2 went on|
-ok ok int|--no-limit /dev/i2c-1 58 0 3300000|130|transfer 3 went on|
-ok short0 short1 short0 short0 short0 short1|--no-limit --patience=0 /dev/i2c-1 58 0 3300000|1|ended unknown, the output may hold the old or the ordered word|order: 6 of 6 transfers failed, the last: 1 of 2 messages went
-ok false ok false ok false empty|--no-limit --patience=0 /dev/i2c-1 58 0 3300000|1|ended unknown, the output may hold the old or the ordered word|order: the last answer: F4 WrongCount
-ok ok deaf ok damaged ok deaf|--no-limit --patience=0 /dev/i2c-1 58 0 3300000|1|ended unknown, the output may hold the old or the ordered word|order: 2 of 6 transfers failed, the last: No such device or address; no answer was good
-ok ok empty ok empty ok damaged|--no-limit --patience=0 /dev/i2c-1 58 0 3300000|1|ended unknown, the output may hold the old or the ordered word|order: the last answer: F4 WrongCount
-END
+    local good bad
+    # (an object stands in front of the sanitizers' own)
+    PMHOST_LIBRARY=$folder/libpmhost.so ASAN_OPTIONS=verify_asan_link_order=0 \
+        python3 -B trials/c/bus.py "$folder/clock.so" rows "$@" > "$folder/log" 2>&1
+    read -r good bad < <(sed -n 's/^\([0-9]*\) passed, \([0-9]*\) failed$/\1 \2/p' "$folder/log" | tail -1)
+    passed=$((passed + ${good:-0})) failed=$((failed + ${bad:-1}))
+    [ "${bad:-1}" = 0 ] || cat "$folder/log"
+    echo "$1 Linux bus: ${good:-no} rows"
 }
 
-# rows NAME PREFIX PROGRAM ..: runs a program on each row of standard input; PREFIX begins what it says on standard error
-rows() {
-    local name=$1 prefix=$2 row=0 mishaps arguments status out err ended
-    shift 2
-    while IFS='|' read -r mishaps arguments status out err; do
-        row=$((row + 1))
-        printf '%b' "${out:+$out\n}${err:+$prefix: $err\n}" > "$folder/wanted"
-        # (what the shell itself says of a program that a signal ended is not heard)
-        { (eval "MISHAPS=\$mishaps exec timeout 60 \"\$@\" $arguments" > "$folder/out" 2> "$folder/log" < /dev/null); } 2> /dev/null
-        ended=$?
-        cat "$folder/log" >> "$folder/out"
-        if [ "$ended" = "$status" ] && cmp -s "$folder/wanted" "$folder/out"; then
-            tell 0
-        else
-            tell 1; echo "$name, $arguments with '$mishaps': FAILED (status $ended)"; cat "$folder/out"
-        fi
-    done
-    echo "$name: $row rows"
-}
-
-# bus_program NAME COMPILER: the order over the Linux bus, and each row of it
+# bus_program NAME COMPILER: the order over the Linux bus
 bus_program() {
-    program "$1 Linux bus" examples/c/i2c_dev.expected "$2 $strict $wraps" examples/c/i2c_dev.c trials/c/rows/stand_in.c \
-        -- --no-limit /dev/i2c-1 58 0 3300000
-    bus_rows > "$folder/rows"
-    rows "$1 Linux bus" i2c_dev "$folder/program" < "$folder/rows"
-    locked "$1 Linux bus" "$folder/program"
+    bench || return
+    $2 $strict $headers examples/c/i2c_dev.c "${archives[@]}" -o "$folder/program" > "$folder/log" 2>&1 || { told "$1 Linux bus" build; return; }
+    bus_rows "$1" "$folder/program"
 }
 
-# locked NAME PROGRAM ..: the kernel's own lock, over a plain file: another program has locked the byte of an address
-locked() {
-    local name=$1; shift
-    command -v python3 > /dev/null || { echo "$name, locks: no python3 here"; return; }
-    : > "$folder/locks"
-    echo 'i2c_dev: another program drives 1-0058: fuser /dev/i2c-1 names who has the bus open' > "$folder/wanted"
-    python3 -B - "$folder/locks" "$@" --no-limit /dev/i2c-1 58 0 3300000 > "$folder/out" 2> "$folder/log" << 'END'
-import fcntl, os, struct, subprocess, sys
-
-def run(place):
-    """What the program says where the byte at a place of the file is locked, and its status."""
-    file = os.open(sys.argv[1], os.O_RDWR)
-    fcntl.fcntl(file, 37, struct.pack("hhqqi0q", fcntl.F_WRLCK, os.SEEK_SET, place, 1, 0))
-    ran = subprocess.run(sys.argv[2:], env={**os.environ, "LOCKS": sys.argv[1]}, capture_output=True, text=True, timeout=60)
-    os.close(file)
-    return ran.stdout + ran.stderr, ran.returncode
-
-well = "ended done, confirmed 34CD, 3300048 uV\n", 0
-if run(0x57) != well or run(0x59) != well:
-    sys.exit("a lock of another address counts")
-said, status = run(0x58)
-print(said, end="")
-sys.exit(status != 2)
-END
-    told "$name, locks" $?
-}
-
-# preloaded: the stand-in as a shared object for programs that are there already, where gcc is
-preloaded() {
-    command -v gcc > /dev/null || { echo "the stand-in below programs: no gcc here"; return 1; }
-    [ -f "$folder/preload.so" ] || gcc -O2 -Wall -Wextra -Werror -shared -fPIC $headers trials/c/preload.c "${archives[@]}" \
-        -o "$folder/preload.so" -ldl > "$folder/log" 2>&1 || { told "the stand-in below programs" build; return 1; }
-}
-
-# rust_bus: the order of the Rust crate over the stand-in; why the host refuses stands in the C program in more words
+# rust_bus: the order of the Rust crate; why the host refuses stands in the C program in more words
 rust_bus() {
-    preloaded || return
+    bench || return
     if ! cargo build -q --offline --manifest-path rust/Cargo.toml --features linux --example i2c_dev > "$folder/log" 2>&1; then
         told "Rust Linux bus" build; return
     fi
-    bus_rows | grep -v '|refused: ' > "$folder/rows"
-    local order=(env "LD_PRELOAD=$folder/preload.so" "$CARGO_TARGET_DIR/debug/examples/i2c_dev")
-    rows "Rust Linux bus" i2c_dev "${order[@]}" < "$folder/rows"
-    locked "Rust Linux bus" "${order[@]}"
+    bus_rows Rust --without '|refused: ' "$CARGO_TARGET_DIR/debug/examples/i2c_dev"
 }
 
 # program NAME WANTED COMPILER SOURCES .. -- ARGUMENTS ..
@@ -363,7 +231,6 @@ if [ ${#llvm[@]} = 0 ]; then
     fi
 fi
 printf 'first' > "$folder/same.wanted"
-wraps="-Wl,--wrap=open,--wrap=ioctl,--wrap=close,--wrap=fcntl,--wrap=clock_gettime,--wrap=nanosleep"
 strict="-Wconversion -Wpedantic"
 firmware="examples/firmware/main.c examples/firmware/simulated_bus.c examples/firmware/hosted.c"
 compilers="gcc clang g++ clang++"
@@ -393,7 +260,7 @@ for each in $compilers; do
         program "$name ON_OFF_CONFIG" trials/c/rows/on_off_rows.expected "$compiler $strict" trials/c/rows/on_off_rows.c $rest -- trials/c/rows/on_off.txt
         program "$name courses" trials/course/rows.expected "$compiler $strict" trials/course/rows.c $rest -- trials/course/rows.txt trials/course/accept.txt
         program "$name sequences" trials/sequences_c/rows.expected "$compiler $strict" trials/sequences_c/rows.c $rest --
-        program "$name pm_patient_run" trials/c/rows/patient_rows.expected "$compiler $strict" trials/c/rows/patient_rows.c $rest --
+        program "$name pm_patient_run" trials/c/rows/patient_rows.expected "$compiler $strict" trials/c/rows/patient_rows.c $rest -- trials/c/rows/patient.txt
         program "$name both ends" examples/c/faults.expected "$compiler $strict" examples/c/faults.c $rest --
         program "$name HAL" examples/c/hal_bus.expected "$compiler $strict" examples/c/hal_bus.c $rest --
         program "$name rail" examples/c/rail.expected "$compiler $strict" examples/c/rail.c $rest --

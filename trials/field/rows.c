@@ -9,6 +9,7 @@
 #include <string.h>
 
 #include "../../examples/c/delivered.h"
+#include "pmhost_patient.h"
 #include "field.h"
 
 enum { ADDRESS = 0x58, TRIES = 40, PASSES = 3, LINES = 24, CALLS = 4, ROOM = 400 };
@@ -303,6 +304,52 @@ static int is_said_after_an_order(void) {
     return (strstr(with, "is at or beyond") && !strstr(without, "is at or beyond")) || (printf("%s: %s\n", from.name, without), 0);
 }
 
+/* ---- A part that comes up anew ---- */
+
+static int sent;
+
+static uint8_t put_counted(void *context, const uint8_t *bytes, uint64_t count) {
+    sent++;
+    return field_write(context, bytes, count);
+}
+
+static uint32_t now(void *context) { return (uint32_t)(((field_part *)context)->now / 1000); }
+
+static void pass(void *context, uint32_t milliseconds) { ((field_part *)context)->now += (uint64_t)milliseconds * 1000; }
+
+/* A rail is turned on by a list with these rules over a patient bus, whose transfers take 10 ms. The part restarts before any one frame, hears nothing
+ * for 100 ms, and comes up off, at 1 V: the limits allow 0.8 to 0.9 V. It's never on at 1 V, the order is sent once, and where the last look is
+ * over before, the list is. */
+static int comes_up_anew(uint8_t rules, uint32_t frames) {
+    int is_right = 1, reached = 0;
+    for (uint32_t at = 0; at <= frames; at++) {
+        field_part part;
+        pm_host host;
+        pm_sequence list;
+        pm_sequence_record record;
+        pm_sequence_step step = pm_turns(0, 0, 0x80);
+        pm_patient patient = {put_counted, field_read, &part, now, pass, 0, 0, 0, 0, 0, 0, 0};
+        pm_host *const hosts[] = {&host};
+        void *const buses[] = {&patient};
+        const struct { const char *name; int64_t value; } words[] = {
+            {"OPERATION", 0x00}, {"VOUT_COMMAND", 0x0DC3}, {"pin_command", 0x1000}, {"transfer_us", 10000}, {"boot_ms", 100}, {"restart_at", at}};
+        int64_t command = 0, operation = 0;
+        is_right &= field_new(&part, ADDRESS, 1) == 0 && pm_host_new(&host, ADDRESS, 1, 3) == PM_OK && pm_host_set_limits(&host, 0, 800000, 900000) == PM_OK;
+        for (size_t each = 0; each < sizeof words / sizeof *words; each++)
+            is_right &= field_set(&part, 0, words[each].name, words[each].value) == 0;
+        if (at == 0) field_restart(&part);
+        step.looks = 1;
+        sent = 0;
+        pm_sequence_new(&list, 60, rules);
+        is_right &= pm_run_sequence(&list, hosts, buses, 1, &step, 1, &record, 1, pm_patient_write, pm_patient_read, pm_patient_wait, NULL) == PM_ENDED && sent <= 1;
+        is_right &= field_get(&part, 0, "VOUT_COMMAND", &command) == 0 && field_get(&part, 0, "OPERATION", &operation) == 0;
+        is_right &= !(command == 0x1000 && operation & 0x80);
+        reached += list.said.kind == PM_REACHED;
+    }
+    if (!is_right || reached != 1) printf("a part that comes up anew, rules %u: reached %d times\n", (unsigned)rules, reached);
+    return is_right && reached == 1;
+}
+
 int main(int count, char **words) {
     FILE *file = fopen(count > 1 ? words[1] : "trials/field/rows.txt", "r");
     static char line[ROOM];
@@ -326,6 +373,10 @@ int main(int count, char **words) {
     }
     int is_good = is_said_after_an_order();
     passed += is_good, failed += !is_good;
+    for (uint8_t rules = 0; rules <= 3; rules += 3) {
+        is_good = comes_up_anew(rules, 27);
+        passed += is_good, failed += !is_good;
+    }
     printf("%d passed, %d failed\n", passed, failed);
     return failed != 0 || passed == 0;
 }

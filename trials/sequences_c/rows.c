@@ -1,7 +1,7 @@
 /* pm_run_sequence over parts that are written by hand: how each list ends, what is said, what was sent and what is kept. It prints each row that
  * differs, and a count. The numbers are those that firmware compiles in: they stand here by hand. Words are of ULINEAR16 with the exponent
  * -12: 1000h is 1 V. */
-#include "pmhost_patient.h"
+#include "pmhost.h"
 #include <stdio.h>
 #include <stdlib.h>
 #include <string.h>
@@ -554,84 +554,6 @@ static void refusals(void) {
     row("a host beyond the array", "answer", run(steps, 1), 0xEF);
 }
 
-/* Over a patient bus the part of output 0 acknowledges no address for 100 ms once it has seen so many frames, and comes up anew: off, at 1 V, of which the
- * limits allow 0.8 to 0.9 V. Each transfer takes 10 ms. */
-static int away_at;
-static uint32_t clock_now, away_until;
-static pm_patient patients[2];
-
-static int is_away(part *on) {
-    clock_now += 10;
-    if (on->frames >= away_at && away_until == 0)
-        away_until = clock_now + 100;
-    if (away_until == 0 || clock_now < away_until)
-        return away_until != 0;
-    if (away_until != 1) {
-        away_until = 1;
-        on->words[0][0] = 0;
-        on->words[0][1] = 0x1000;
-    }
-    return 0;
-}
-
-static uint8_t put_away(void *context, const uint8_t *bytes, uint64_t count) {
-    part *on = (part *)context;
-    if (!is_away(on))
-        return put(context, bytes, count);
-    on->frames++;
-    on->writes++;
-    return PM_UNHEARD;
-}
-
-static uint64_t ask_away(void *context, const uint8_t *request, uint64_t count, uint8_t *answer, uint64_t room) {
-    part *on = (part *)context;
-    int gone = is_away(on);
-    if (request[1] == 0x19) {
-        if (!gone)
-            answer[0] = 0xB0;
-        return gone ? 0 : 1;
-    }
-    if (!gone)
-        return ask(context, request, count, answer, room);
-    on->frames++;
-    return 0;
-}
-
-static uint32_t now(void *context) {
-    (void)context;
-    return clock_now;
-}
-
-static void pass(void *context, uint32_t milliseconds) {
-    (void)context;
-    clock_now += milliseconds;
-}
-
-static void comes_up_anew(uint8_t rules, int frames) {
-    static const part is_off = {{{0x00, 0x0DC3, 0x4000, 0x1100, 0x0F00, 0}, {0x80, 0x1000, 0x4000, 0x1100, 0x0F00, 0}},
-                                1, 1, 0x2000, 100000, 0, 0, 0, 0, 0, 0, 0, NULL, 0, 0};
-    void *const at_patients[2] = {&patients[0], &patients[1]};
-    int at, reached = 0;
-    steps[0] = off(0, 0, 1);
-    steps[0].byte = 0x80;
-    for (away_at = 0; away_at <= frames; away_at++) {
-        begin(&is_off, &good, rules);
-        clock_now = away_until = 0;
-        for (at = 0; at < 2; at++) {
-            pm_patient bus = {put_away, ask_away, &parts[at], now, pass, 0, 0, 0, 0, 0, 0, 0};
-            patients[at] = bus;
-        }
-        if (pm_host_new(&hosts[0], 0x58, 2, 3) || pm_host_set_limits(&hosts[0], 0, 800000, 900000))
-            exit(1);
-        row("a part that comes up anew", "answer",
-            pm_run_sequence(&sequence, at_hosts, at_patients, 2, steps, 1, records, 3, pm_patient_write, pm_patient_read, pass, NULL), 0x95);
-        row("a part that comes up anew", "is on outside its limits", (parts[0].words[0][0] & 0x80) && parts[0].words[0][1] == 0x1000, 0);
-        row("a part that comes up anew", "writes", parts[0].writes > 1, 0);
-        reached += sequence.said.kind == 1;
-    }
-    row("a part that comes up anew", "reached", reached, 1);
-}
-
 /* Any bytes are safe: each call answers, and a sequence that is run ends. */
 static void any_bytes(void) {
     int at, turn;
@@ -715,8 +637,6 @@ int main(void) {
     surveys();
     stands();
     ways_back();
-    comes_up_anew(3, 32);
-    comes_up_anew(0, 32);
     verdicts();
     refusals();
     any_bytes();

@@ -1,9 +1,10 @@
 //! The rows of trials/field/rows.txt, whose head says what they are, over the part of that folder, which is C: what the rail does behind
 //! each call, in words, and at how many microvolts it is.
 
-use std::cell::RefCell;
+use std::cell::{Cell as Kept, RefCell};
 use std::ffi::{c_char, c_void, CString};
 
+use super::patience::Failed;
 use pmhost::*;
 
 const ROWS: &str = include_str!("../../../trials/field/rows.txt");
@@ -12,19 +13,20 @@ const ADDRESS: u8 = 0x58;
 extern "C" {
     fn field_size() -> u64;
     fn field_new(part: *mut c_void, address: u8, outputs: u8) -> u8;
+    fn field_restart(part: *mut c_void);
     fn field_set(part: *mut c_void, output: u8, name: *const c_char, value: i64) -> u8;
     fn field_get(part: *mut c_void, output: u8, name: *const c_char, value: *mut i64) -> u8;
     fn field_write(part: *mut c_void, bytes: *const u8, count: u64) -> u8;
     fn field_read(part: *mut c_void, request: *const u8, count: u64, answer: *mut u8, room: u64) -> u64;
 }
 
-/// A part, in memory of its own.
-struct Field(RefCell<Vec<u64>>);
+/// A part, in memory of its own, and how many writes were sent to it.
+struct Field(RefCell<Vec<u64>>, Kept<u32>);
 
 impl Field {
     fn new() -> Field {
         let size = usize::try_from(unsafe { field_size() }).unwrap();
-        let field = Field(RefCell::new(vec![0; size.div_ceil(8)]));
+        let field = Field(RefCell::new(vec![0; size.div_ceil(8)]), Kept::new(0));
         assert_eq!(unsafe { field_new(field.at(), ADDRESS, 2) }, 0);
         field
     }
@@ -46,26 +48,40 @@ impl Field {
 }
 
 impl Bus for &Field {
-    type Error = NoAnswer;
+    type Error = Failed;
 
-    fn transaction(&mut self, address: u8, operations: &mut [Operation<'_>]) -> Result<(), NoAnswer> {
+    fn transaction(&mut self, address: u8, operations: &mut [Operation<'_>]) -> Result<(), Failed> {
         let framed = |bytes: &[u8]| [&[address << 1], bytes].concat();
-        let went = match operations {
+        match operations {
             [Operation::Write(bytes)] => {
                 let frame = framed(bytes);
-                unsafe { field_write(self.at(), frame.as_ptr(), frame.len() as u64) == 0xA5 }
+                self.1.set(self.1.get() + 1);
+                match unsafe { field_write(self.at(), frame.as_ptr(), frame.len() as u64) } {
+                    0xA5 => Ok(()),
+                    0x3C => Err(Failed::Address),
+                    _ => Err(Failed::Byte),
+                }
             }
             [Operation::Write(bytes), Operation::Read(answer)] => {
                 let (frame, room) = (framed(bytes), answer.len() as u64);
-                unsafe { field_read(self.at(), frame.as_ptr(), frame.len() as u64, answer.as_mut_ptr(), room) != 0 }
+                match unsafe { field_read(self.at(), frame.as_ptr(), frame.len() as u64, answer.as_mut_ptr(), room) } {
+                    0 => Err(Failed::Byte),
+                    _ => Ok(()),
+                }
             }
             _ => panic!("no such transaction"),
-        };
-        if went {
-            Ok(())
-        } else {
-            Err(NoAnswer)
         }
+    }
+}
+
+/// The part's own time.
+impl Clock for &Field {
+    fn now(&mut self) -> u32 {
+        u32::try_from(self.get(0, "now") / 1000).unwrap()
+    }
+
+    fn wait(&mut self, milliseconds: u32) {
+        self.set(0, "now", self.get(0, "now") + 1000 * i64::from(milliseconds));
     }
 }
 
@@ -219,7 +235,7 @@ fn kind_of(verdict: &Verdict) -> &'static str {
     }
 }
 
-fn end_of(why: NotReached<NoAnswer>) -> String {
+fn end_of(why: NotReached<Failed>) -> String {
     match why {
         NotReached::Refused { refusal, cell } => {
             format!("refused {} {}", refusal.to_string().split(' ').next().unwrap(), name_of(cell))
@@ -232,7 +248,7 @@ fn end_of(why: NotReached<NoAnswer>) -> String {
 }
 
 /// What a call is, its end where it isn't reached, what it says, and its status.
-fn ended(found: Result<Delivered, NotDelivered<NoAnswer>>) -> (&'static str, Option<String>, String, &'static str) {
+fn ended(found: Result<Delivered, NotDelivered<Failed>>) -> (&'static str, Option<String>, String, &'static str) {
     match found {
         Ok(found) => (kind_of(&found.verdict), None, found.to_string(), "0"),
         Err(NotDelivered::Does(found)) => (kind_of(&found.verdict), None, found.to_string(), "1"),
@@ -280,7 +296,7 @@ fn is_as_its_row_says(row: &Row) {
         }
         let step = step_of(wanted.call, row.looks());
         let output = step.output();
-        let wait = |milliseconds| part.set(0, "now", part.get(0, "now") + 1000 * i64::from(milliseconds));
+        let wait = |milliseconds| (&part).wait(milliseconds);
         let found = host.deliver(&step, &mut records[usize::from(output)], &mut &part, wait);
         let (kind, end, says, status) = ended(found);
         let is = format!("{kind} {}", part.get(output, "microvolts"));
@@ -310,4 +326,34 @@ fn each_call_in_the_field_does_and_says_what_its_row_has() {
         bad += i32::from(std::panic::catch_unwind(|| is_as_its_row_says(row)).is_err());
     }
     assert_eq!(bad, 0);
+}
+
+// The part restarts before any one frame, each of which takes 10 ms, hears nothing for 100 ms, and comes up off, at 1 V: 0.8 to 0.9 V are allowed.
+#[test]
+fn a_part_that_comes_up_anew_is_not_turned_on() {
+    let steps = [SequenceStep::turns(0, 0, 0x80).with_looks(None)];
+    let mut reached = 0;
+    for (at, rules) in (0..=20).flat_map(|at| [(at, Rules::UP), (at, Rules::DOWN)]) {
+        let part = Field::new();
+        for (name, value) in [("OPERATION", 0), ("VOUT_COMMAND", 0x0DC3), ("pin_command", 0x1000), ("boot_ms", 100)] {
+            part.set(0, name, value);
+        }
+        part.set(0, "transfer_us", 10_000);
+        part.set(0, "restart_at", at);
+        if at == 0 {
+            unsafe { field_restart(part.at()) };
+        }
+        let mut bus = Patient::new(&part, &part);
+        let mut host = Host::new(ADDRESS, 1, 3).unwrap();
+        host.set_limits(0, Limits { least: 800_000, most: 900_000 }).unwrap();
+        let mut list = Sequence::new(COURSE_TRIES, rules).unwrap();
+        let mut records = [SequenceRecord::default()];
+        let send = |_: usize, frame: &Sending, answer: &mut [u8]| bus.send(frame, answer).ok();
+        let end = list.run(&steps, &mut records, &mut [&mut host], send, |_| {}, |_| true).unwrap();
+        let is_as_before = part.get(0, "VOUT_COMMAND") == 0x0DC3;
+        assert!(is_as_before || part.get(0, "OPERATION") & 0x80 == 0, "{at}: {end:?}");
+        assert!(part.1.get() < 2, "{at}: {} writes", part.1.get());
+        reached += usize::from(is_as_before);
+    }
+    assert_eq!(reached, 2);
 }

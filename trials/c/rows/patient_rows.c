@@ -1,69 +1,17 @@
-/* pm_patient_run beside rows of its own: when it asks a part whether it is ready, what it sends again, and what it hands over.
- * Each row has the job's end and the calls that the bus below must have seen. It prints each row that differs, and a count. */
+/* pm_patient_run beside the rows of patient.txt, whose head says what they are: when it asks a part whether it is ready, what it sends again, and
+ * what it hands over. It prints each row that differs, and a count. */
 #include "pmhost_patient.h"
 #include <stdio.h>
+#include <stdlib.h>
 #include <string.h>
 
-/* What the calls of the bus do one after another, the last letter of a row for ever:
- *   a  a write is acknowledged, a read has a good answer    u  nobody acknowledges the address, nothing comes
- *   n  a byte isn't acknowledged, nothing comes             o  a read has nothing but FFh
- *   m  a read says one byte more than its room              k, l  as a from 440 ms and from 4,100 ms on, and as u before
- *   b  the byte of readiness is 20h                         x  it is 60h, with a wrong packet error code
- *   f  CAPABILITY is FFh, and its packet error code isn't */
 typedef struct {
-    const char *name;
-    uint8_t address;
-    char job;               /* o order of 34CDh, n of OPERATION 80h, f of OPERATION 00h, v check of VOUT_COMMAND, p check of WRITE_PROTECT,
-                             * s store, r restore, t two stores */
-    uint8_t passes;
+    char name[80], job, does[16], calls[160];
+    unsigned passes, kind, word, ends;
     int32_t patience;
-    const char *does;
-    uint16_t kind, word;    /* how it ends */
-    int writes, questions, reads;
-    uint32_t last;          /* milliseconds from the first call to the last one */
-    uint8_t mask;           /* the bits of EFh by which the part is ready; 0 to ask for CAPABILITY */
+    uint8_t mask, has_deadline;
+    uint32_t deadline;
 } row;
-
-/* The numbers are those that firmware compiles in: they stand here by hand. */
-static const row rows[] = {
-    {"a part that is ready", 0x58, 'o', 3, 0, "a", 1, 0, 1, 1, 1, 10, 0},
-    {"it doesn't acknowledge for a while", 0x58, 'o', 1, 0, "aunua", 1, 0, 1, 4, 1, 150, 0},
-    {"it reads as ones for a while", 0x58, 'o', 1, 0, "aoooa", 1, 0, 1, 4, 1, 150, 0},
-    {"a write that nobody heard", 0x58, 'o', 1, 0, "uua", 1, 0, 3, 1, 1, 40, 0},
-    {"a write of which a byte isn't acknowledged", 0x58, 'o', 1, 0, "na", 1, 0, 1, 1, 1, 10, 0},
-    {"an order that turns on and that nobody heard", 0x58, 'n', 1, 0, "ua", 3, 0x34, 1, 1, 1, 10, 0},
-    {"an order that turns on and that nobody hears", 0x58, 'n', 2, 0, "u", 3, 0, 2, 10, 2, 400, 0},
-    {"an order that turns off and that nobody heard", 0x58, 'f', 1, 0, "uua", 3, 0x34, 3, 1, 1, 40, 0},
-    {"a write that nobody hears", 0x58, 'o', 1, 0, "u", 3, 0, 6, 0, 1, 200, 0},
-    {"a part that is never ready again", 0x58, 'o', 1, 0, "au", 3, 0, 1, 5, 1, 200, 0},
-    {"the same by ones", 0x58, 'o', 1, 0, "ao", 3, 0, 1, 5, 1, 200, 0},
-    {"the same of a store", 0x58, 's', 3, 0, "au", 1, 0, 1, 9, 0, 5000, 0},
-    {"the same of a restore", 0x58, 'r', 3, 0, "au", 1, 0, 1, 7, 0, 1000, 0},
-    {"the same with 30 ms", 0x58, 'o', 1, 30, "au", 3, 0, 1, 2, 1, 30, 0},
-    {"a store with 30 ms", 0x58, 's', 3, 30, "au", 1, 0, 1, 2, 0, 30, 0},
-    {"a store of 440 ms", 0x58, 's', 3, 0, "ak", 1, 0, 1, 6, 0, 630, 0},
-    {"a store of 4.1 s", 0x58, 's', 3, 0, "al", 1, 0, 1, 9, 0, 5000, 0},
-    {"without patience", 0x58, 'o', 1, -1, "a", 1, 0, 1, 0, 1, 0, 0},
-    {"without patience nothing is sent again", 0x58, 'o', 1, -1, "u", 3, 0, 1, 0, 1, 0, 0},
-    {"a store that nobody heard is sent once", 0x58, 's', 3, 0, "ua", 3, 0, 1, 1, 0, 10, 0},
-    {"a store that isn't acknowledged is sent once", 0x58, 's', 3, 0, "na", 3, 0, 1, 1, 0, 10, 0},
-    {"two stores are sent once each", 0x58, 't', 3, 0, "nana", 3, 0, 2, 2, 0, 20, 0},
-    {"a restore that nobody heard", 0x58, 'r', 3, 0, "uua", 1, 0, 3, 1, 0, 40, 0},
-    {"a restore that isn't acknowledged", 0x58, 'r', 3, 0, "nanana", 3, 0, 3, 3, 0, 30, 0},
-    {"a read waits for nothing", 0x58, 'v', 1, 0, "a", 1, 0, 0, 0, 1, 0, 0},
-    {"a read isn't repeated within its pass", 0x58, 'v', 3, 0, "u", 3, 0, 0, 0, 3, 0, 0},
-    {"ones are no answer", 0x58, 'v', 3, 0, "o", 3, 0, 0, 0, 3, 0, 0},
-    {"nor where their packet error code is right", 0x4A, 'p', 1, 0, "o", 3, 0, 0, 0, 1, 0, 0},
-    {"more bytes than there is room for", 0x58, 'v', 1, 0, "m", 3, 0, 0, 0, 1, 0, 0},
-    {"CAPABILITY of FFh", 0x58, 'o', 1, 0, "afa", 1, 0, 1, 1, 1, 10, 0},
-    {"more of a question", 0x58, 'o', 1, 0, "amaa", 1, 0, 1, 2, 1, 30, 0},
-    {"a byte of readiness", 0x58, 'o', 1, 0, "abba", 1, 0, 1, 3, 1, 70, 0x60},
-    {"a byte of readiness of which one bit is asked for", 0x58, 'o', 1, 0, "aba", 1, 0, 1, 1, 1, 10, 0x20},
-    {"a byte of readiness that is damaged", 0x58, 'o', 1, 0, "axa", 1, 0, 1, 2, 1, 30, 0x60},
-    {"a byte of readiness that is all ones", 0x58, 'o', 1, 0, "aoa", 1, 0, 1, 2, 1, 30, 0x60},
-    {"a byte of readiness that never comes", 0x58, 's', 3, 0, "ab", 1, 0, 1, 9, 0, 5000, 0x60},
-};
-enum { ROWS = sizeof rows / sizeof rows[0] };
 
 /* Good answers behind the read address, to VOUT_COMMAND of output 0 and to CAPABILITY, both of 58h. */
 static const uint8_t word_answer[] = {0x02, 0xCD, 0x34, 0xB9}, capability[] = {0x80, 0xD3};
@@ -73,22 +21,25 @@ enum { BEGIN = -10 };
 
 typedef struct {
     const row *of;
-    int calls, writes, questions, reads;
+    int count;
+    char calls[160];
     uint32_t clock, last;
 } bus;
 
-static char next(bus *to) {
-    size_t end = strlen(to->of->does) - 1, at = (size_t)to->calls++;
-    to->last = to->clock;
+/* Notes a call by its letter, behind which stands its time if it isn't that of the call before: what the call does. */
+static char next(bus *to, char letter) {
+    size_t end = strlen(to->of->does) - 1, at = (size_t)to->count++, used = strlen(to->calls);
+    uint32_t passed = to->clock - (uint32_t)BEGIN;
+    snprintf(to->calls + used, sizeof to->calls - used, passed == to->last ? "%c" : "%c%u", letter, (unsigned)passed);
+    to->last = passed;
     return to->of->does[at < end ? at : end];
 }
 
 static uint8_t put(void *context, const uint8_t *bytes, uint64_t count) {
     bus *to = (bus *)context;
-    char does = next(to);
+    char does = next(to, 'W');
     (void)bytes;
     (void)count;
-    to->writes++;
     return does == 'a' ? PM_ACKED : does == 'u' ? PM_UNHEARD : PM_NOT_ACKED;
 }
 
@@ -106,11 +57,9 @@ static void say(const row *of, const uint8_t *request, char does, uint8_t *answe
 
 static uint64_t ask(void *context, const uint8_t *request, uint64_t count, uint8_t *answer, uint64_t room) {
     bus *to = (bus *)context;
-    char does = next(to);
     int is_question = count == 2 && request[1] == (to->of->mask != 0 ? 0xEF : 0x19) && room == 2;
+    char does = next(to, is_question ? 'Q' : 'R');
     uint32_t passed = to->clock - (uint32_t)BEGIN;
-    to->questions += is_question;
-    to->reads += !is_question;
     if (does == 'u' || does == 'n' || (does == 'k' && passed < 440) || (does == 'l' && passed < 4100))
         return 0;
     if (does == 'o')
@@ -142,66 +91,46 @@ static uint8_t begin(pm_host *host, char job) {
     }
 }
 
-/* Whether a row came as it must. */
+/* Whether a row came as it must. Behind a deadline nothing is waited for, and before it no longer than to it. */
 static int is_right(const row *of) {
     pm_host host;
-    bus to = {of, 0, 0, 0, 0, (uint32_t)BEGIN, (uint32_t)BEGIN};
-    pm_patient patient = {put, ask, &to, now, wait, of->patience, 0, (uint8_t)(of->mask != 0 ? 0xEF : 0), of->mask, 0, 0, 0};
+    bus to = {of, 0, {0}, (uint32_t)BEGIN, 0};
+    pm_patient patient = {put, ask, &to, now, wait, of->patience, 0, (uint8_t)(of->mask != 0 ? 0xEF : 0), of->mask, of->has_deadline, 0,
+                          (uint32_t)BEGIN + of->deadline};
     pm_step step = {0, 0};
-    if (pm_host_new(&host, of->address, 1, of->passes) != PM_OK || pm_host_no_limits(&host, 0) != PM_OK)
+    if (pm_host_new(&host, of->job == 'p' ? 0x4A : 0x58, 1, (uint8_t)of->passes) != PM_OK || pm_host_no_limits(&host, 0) != PM_OK)
         return 0;
     for (int times = of->job == 't' ? 2 : 1; times > 0; times--) {
         if (begin(&host, of->job) != PM_OK)
             return 0;
         step = pm_patient_run(&host, &patient);
     }
-    uint32_t last = to.last - (uint32_t)BEGIN;
-    if (step.kind == of->kind && step.word == of->word && to.writes == of->writes && to.questions == of->questions &&
-        to.reads == of->reads && last == of->last)
+    uint32_t ends = to.clock - (uint32_t)BEGIN;
+    uint8_t is_late = of->has_deadline && (int32_t)ends >= (int32_t)of->deadline;
+    pm_patient_wait(&patient, 1000);
+    uint32_t most = to.clock - (uint32_t)BEGIN, wanted = !of->has_deadline ? ends + 1000 : is_late ? ends : of->deadline;
+    if (step.kind == of->kind && step.word == of->word && strcmp(to.calls, of->calls) == 0 && ends == of->ends && most == wanted &&
+        patient.is_late == is_late)
         return 1;
-    printf("%s: ended %u %04X after %d writes, %d questions and %d reads, the last at %u ms; wanted %u %04X after %d, %d and %d, %u ms\n",
-           of->name, (unsigned)step.kind, (unsigned)step.word, to.writes, to.questions, to.reads, (unsigned)last,
-           (unsigned)of->kind, (unsigned)of->word, of->writes, of->questions, of->reads, (unsigned)of->last);
+    printf("%s: ended %u %02X after %s, at %u ms, late %u; then %u ms\n", of->name, (unsigned)step.kind, (unsigned)step.word, to.calls,
+           (unsigned)ends, (unsigned)patient.is_late, (unsigned)most);
     return 0;
 }
 
-/* Nothing is sent or waited for behind the deadline: the job and what is sent of it, the milliseconds from the first call to the last one and
- * to the end, and whether it was late. */
-typedef struct {
-    row is;
-    uint32_t deadline, ends;
-    uint8_t is_late;
-} late_row;
-
-static const late_row late_rows[] = {
-    {{"a write that nobody hears, to a deadline", 0x58, 'o', 3, 0, "u", 3, 0, 4, 0, 0, 70, 0}, 100, 100, 1},
-    {{"a part that isn't ready, to a deadline", 0x58, 'o', 3, 0, "au", 3, 0, 1, 3, 0, 70, 0}, 100, 100, 1},
-    {{"a deadline in the moment of a write", 0x58, 'o', 3, 0, "uua", 3, 0, 1, 0, 0, 0, 0}, 10, 10, 1},
-    {{"a deadline that is now", 0x58, 'o', 3, 0, "a", 3, 0, 0, 0, 0, 0, 0}, 0, 0, 1},
-    {{"one that passed 5 ms ago", 0x58, 'o', 3, 0, "a", 3, 0, 0, 0, 0, 0, 0}, (uint32_t)-5, 0, 1},
-    {{"a read behind it", 0x58, 'v', 3, 0, "a", 3, 0, 0, 0, 0, 0, 0}, 0, 0, 1},
-    {{"a store behind it", 0x58, 's', 3, 0, "a", 3, 0, 0, 0, 0, 0, 0}, 0, 0, 1},
-    {{"a deadline that nothing reaches", 0x58, 'o', 3, 0, "a", 1, 0, 1, 1, 1, 10, 0}, 11, 10, 0},
-};
-enum { LATE_ROWS = sizeof late_rows / sizeof late_rows[0] };
-
-static int is_late_right(const late_row *of) {
-    pm_host host;
-    bus to = {&of->is, 0, 0, 0, 0, (uint32_t)BEGIN, (uint32_t)BEGIN};
-    pm_patient patient = {put, ask, &to, now, wait, of->is.patience, 0, 0, 0, 1, 0, (uint32_t)BEGIN + of->deadline};
-    if (pm_host_new(&host, of->is.address, 1, of->is.passes) != PM_OK || pm_host_no_limits(&host, 0) != PM_OK ||
-        begin(&host, of->is.job) != PM_OK)
+/* Reads a row; 0 of a line that is none. */
+static int is_row(const char *line, row *of) {
+    char patience[12], mask[4], deadline[12], word[4], calls[160];
+    memset(of, 0, sizeof *of);
+    if (line[0] == '#' || sscanf(line, "%c %u %11s %3s %11s %15s %u %3s %159s %u %79[^\n]", &of->job, &of->passes, patience, mask, deadline, of->does,
+                                 &of->kind, word, calls, &of->ends, of->name) != 11)
         return 0;
-    pm_step step = pm_patient_run(&host, &patient);
-    uint32_t last = to.last - (uint32_t)BEGIN, ends = to.clock - (uint32_t)BEGIN;
-    pm_patient_wait(&patient, 1000); /* no longer than to the deadline */
-    uint32_t most = to.clock - (uint32_t)BEGIN;
-    if (step.kind == of->is.kind && to.writes == of->is.writes && to.questions == of->is.questions && to.reads == of->is.reads &&
-        last == of->is.last && ends == of->ends && most == (of->is_late ? of->ends : of->deadline) && patient.is_late == of->is_late)
-        return 1;
-    printf("%s: ended %u after %d writes, %d questions and %d reads, the last at %u ms, at %u ms, late %u; then %u ms\n", of->is.name,
-           (unsigned)step.kind, to.writes, to.questions, to.reads, (unsigned)last, (unsigned)ends, (unsigned)patient.is_late, (unsigned)most);
-    return 0;
+    of->patience = *patience == '-' ? 0 : *patience == '0' ? PM_NO_PATIENCE : (int32_t)strtol(patience, NULL, 10);
+    of->mask = *mask == '-' ? 0 : (uint8_t)strtoul(mask, NULL, 16);
+    of->has_deadline = strcmp(deadline, "-") != 0;
+    of->deadline = (uint32_t)strtol(deadline, NULL, 10);
+    of->word = *word == '-' ? 0 : (unsigned)strtoul(word, NULL, 16);
+    strcpy(of->calls, *calls == '-' ? "" : calls);
+    return 1;
 }
 
 /* How long a list of one step takes over a bus that nobody answers, where each transfer needs 35 ms to fail: the table of docs/c.md. */
@@ -236,7 +165,7 @@ static int is_dead_right(const dead_row *of) {
     pm_host host;
     pm_sequence list;
     pm_sequence_record record;
-    bus to = {NULL, 0, 0, 0, 0, (uint32_t)BEGIN, (uint32_t)BEGIN};
+    bus to = {NULL, 0, {0}, (uint32_t)BEGIN, 0};
     pm_patient patient = {dead_put, dead_ask, &to, now, wait, of->patience, 0, 0, 0, 0, 0, 0};
     pm_host *const hosts[] = {&host};
     void *const buses[] = {&patient};
@@ -251,20 +180,27 @@ static int is_dead_right(const dead_row *of) {
     return 0;
 }
 
-int main(void) {
+int main(int count, char **words) {
     const dead_row dead_rows[DEAD_ROWS] = {
         {"off", pm_turns(0, 0, 0x00), 4, 3, PM_NO_PATIENCE, 840},
         {"off, with patience", pm_turns(0, 0, 0x00), 4, 3, 0, 2940},
         {"off, with the tries of a set", pm_turns(0, 0, 0x00), 64, 3, 0, 47040},
         {"a set", pm_sets(0, 0, 1000000), 64, 3, 0, 6720},
     };
-    int passed = 0;
-    for (int i = 0; i < ROWS; i++)
-        passed += is_right(&rows[i]);
-    for (int i = 0; i < LATE_ROWS; i++)
-        passed += is_late_right(&late_rows[i]);
+    int passed = 0, rows = DEAD_ROWS;
+    char line[400];
+    row is;
+    FILE *file = fopen(count > 1 ? words[1] : "trials/c/rows/patient.txt", "r");
+    if (!file)
+        return puts("give trials/c/rows/patient.txt"), 2;
+    while (fgets(line, sizeof line, file))
+        if (is_row(line, &is)) {
+            rows++;
+            passed += is_right(&is);
+        }
+    fclose(file);
     for (int i = 0; i < DEAD_ROWS; i++)
         passed += is_dead_right(&dead_rows[i]);
-    printf("pm_patient_run: %d rows passed, %d failed\n", passed, ROWS + LATE_ROWS + DEAD_ROWS - passed);
-    return passed != ROWS + LATE_ROWS + DEAD_ROWS;
+    printf("pm_patient_run: %d rows passed, %d failed\n", passed, rows - passed);
+    return passed != rows;
 }

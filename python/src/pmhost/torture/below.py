@@ -2,6 +2,7 @@
 from __future__ import annotations
 
 import contextlib
+import errno
 import os
 import selectors
 import shlex
@@ -17,9 +18,9 @@ from .server import Server
 
 HERE = os.path.dirname(os.path.abspath(__file__))
 VARIABLE = "PMHOST_TORTURE"
-# In the place of a number of messages: a call of SMBus.
-SMBUS = 0xFF
-CALL = struct.Struct(f"=BBBH2xI{DATA}s2x")
+# In the place of a number of messages: a call of SMBus, another call of a file, and that a bus is opened.
+SMBUS, ASKED, OPENED = 0xFF, 0xFE, 0
+CALL, CALL_OF_FILE = struct.Struct(f"=BBBH2xI{DATA}s2x"), struct.Struct("=3xII")
 
 
 class NoBench(PmhostError):
@@ -69,6 +70,8 @@ class Connections:
 
     def __init__(self, door: socket.socket, server: Server) -> None:
         self.door, self.server, self.waiting = door, server, selectors.DefaultSelector()
+        # What serves the bus of a connection.
+        self.buses: dict[socket.socket, Server] = {}
         self.waiting.register(door, selectors.EVENT_READ)
 
     def close(self) -> None:
@@ -84,7 +87,9 @@ class Connections:
 
     def _ready(self, at: socket.socket) -> None:
         if at is self.door:
-            self.waiting.register(at.accept()[0], selectors.EVENT_READ)
+            made = at.accept()[0]
+            self.buses[made] = self.server
+            self.waiting.register(made, selectors.EVENT_READ)
             return
         try:
             is_open = self._call(at)
@@ -92,24 +97,41 @@ class Connections:
             is_open = False
         if not is_open:
             self.waiting.unregister(at)
+            del self.buses[at]
             at.close()
+
+    def _asked(self, at: socket.socket, request: int, argument: int) -> int:
+        """The answer to a call of a file, or minus the error."""
+        try:
+            if request != OPENED:
+                return self.buses[at].asked(request, argument)
+            self.buses[at] = self.server.opened(argument)
+            return 0
+        except OSError as fault:
+            return -(fault.errno or errno.EIO)
 
     def _call(self, at: socket.socket) -> bool:
         """One call; False once the program has closed its end."""
         head = at.recv(1)
         if not head:
             return False
+        if head[0] == ASKED:
+            at.sendall(struct.pack("=i", self._asked(at, *CALL_OF_FILE.unpack(whole(at, CALL_OF_FILE.size)))))
+            return True
+        server = self.buses[at]
         if head[0] == SMBUS:
             is_read, code, has_pec, address, size, data = CALL.unpack(whole(at, CALL.size))
-            result, back = smbus(self.server.transfer, address, bool(has_pec), bool(is_read), code, size, data)
+            result, back = smbus(server.transfer, address, bool(has_pec), bool(is_read), code, size, data)
             at.sendall(struct.pack(f"=i{DATA}s2x", result, back))
             return True
         messages = []
         for _ in range(head[0]):
             address, flags, length = struct.unpack("=HHH", whole(at, 6))
             messages.append(Message(address, flags, length, b"" if flags & READS else whole(at, length)))
-        result, reads = self.server.transfer(messages)
-        at.sendall(struct.pack("=i", result) + b"".join(struct.pack("=H", len(each)) + each for each in reads if result >= 0))
+        result, reads = server.transfer(messages)
+        # (of a read that didn't go there is nothing)
+        came = [*reads, *[b""] * len(messages)][:sum(each.is_read for each in messages)]
+        at.sendall(struct.pack("=i", result) + b"".join(struct.pack("=H", len(each)) + each for each in came if result >= 0))
         return True
 
 

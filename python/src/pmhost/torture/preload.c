@@ -1,6 +1,7 @@
 /* Puts the bus of `pmhost torture` below a program that is there already, by LD_PRELOAD: what it opens as /dev/i2c-N is a
  * connection to the bench, which the variable PMHOST_TORTURE names. Its I2C_RDWR, I2C_SMBUS (with I2C_PEC) and plain reads and writes
- * go there, as they go to the kernel's i2c-dev; locks succeed. All else goes to the C library. */
+ * go there, as they go to the kernel's i2c-dev, and the bench may refuse a bus and an address. Locks are the kernel's own, of a file
+ * beside the bench. All else goes to the C library. */
 #define _GNU_SOURCE
 #include <dlfcn.h>
 #include <errno.h>
@@ -9,6 +10,7 @@
 #include <linux/i2c.h>
 #include <stdarg.h>
 #include <stdint.h>
+#include <stdio.h>
 #include <stdlib.h>
 #include <string.h>
 #include <sys/socket.h>
@@ -16,14 +18,15 @@
 #include <unistd.h>
 
 #define FILES 1024
-/* In the place of a number of messages: a call of SMBus. */
+/* In the place of a number of messages: a call of SMBus, another call of a file, and that a bus is opened. */
 #define SMBUS 0xFF
-#define FUNCTIONS (I2C_FUNC_I2C | I2C_FUNC_SMBUS_EMUL | I2C_FUNC_SMBUS_READ_BLOCK_DATA | I2C_FUNC_SMBUS_BLOCK_PROC_CALL)
+#define ASKED 0xFE
+#define OPENED 0
 /* The C library's own function of a name. */
 #define NEXT(name, ...) ((int (*)(__VA_ARGS__))dlsym(RTLD_NEXT, name))
 
 /* What is known of a file of a bus. */
-static struct { uint8_t is_bus, has_pec; uint16_t address; } files[FILES];
+static struct { uint8_t is_bus, has_pec; uint16_t address; int locks; } files[FILES];
 
 static int is_bus(int file) { return file >= 0 && file < FILES && files[file].is_bus; }
 
@@ -41,6 +44,13 @@ static int is_moved(int file, void *bytes, size_t count, int is_read) {
         count -= (size_t)went;
     }
     return 1;
+}
+
+/* What the bench answers to a call of a file: a number, or minus the error. */
+static int asked(int file, uint32_t request, uint32_t argument) {
+    struct { uint8_t head, spare[3]; uint32_t request, argument; } call = {ASKED, {0}, request, argument};
+    int32_t result;
+    return is_moved(file, &call, sizeof call, 0) && is_moved(file, &result, sizeof result, 1) ? result : -EIO;
 }
 
 /* Carries messages out: how many went, or minus the error. A read message's length becomes the number of bytes that came. */
@@ -110,18 +120,25 @@ static int answered(int result) {
 
 /* ---- The calls of a program ---- */
 
-static int connected(void) {
+static int closed(int file) { return NEXT("close", int)(file); }
+
+/* The number of a bus is what its path ends in; its locks are in a file of this number. */
+static int connected(const char *path, int flags) {
     struct sockaddr_un place = {.sun_family = AF_UNIX};
-    const char *path = getenv("PMHOST_TORTURE");
-    int file = path == NULL || strlen(path) >= sizeof place.sun_path ? -1 : socket(AF_UNIX, SOCK_STREAM, 0);
+    const char *bench = getenv("PMHOST_TORTURE"), *number = path + strlen("/dev/i2c-");
+    char locks[sizeof place.sun_path + 16];
+    int file = bench == NULL || strlen(bench) >= sizeof place.sun_path ? -1 : socket(AF_UNIX, SOCK_STREAM, 0);
     if (file < 0 || file >= FILES)
         return answered(-ENOENT);
-    strcpy(place.sun_path, path);
-    if (connect(file, (struct sockaddr *)&place, sizeof place) < 0) {
-        NEXT("close", int)(file);
-        return answered(-ENOENT);
+    strcpy(place.sun_path, bench);
+    int result = connect(file, (struct sockaddr *)&place, sizeof place) < 0 ? -ENOENT : asked(file, OPENED, (uint32_t)strtoul(number, NULL, 10));
+    if (result < 0) {
+        closed(file);
+        return answered(result);
     }
+    snprintf(locks, sizeof locks, "%s.%.15s", bench, number);
     memset(&files[file], 0, sizeof files[file]);
+    files[file].locks = NEXT("open", const char *, int, ...)(locks, (flags & O_ACCMODE) | O_CREAT | O_CLOEXEC, 0600);
     files[file].is_bus = 1;
     return file;
 }
@@ -134,7 +151,7 @@ static int is_path(const char *path) { return strncmp(path, "/dev/i2c-", 9) == 0
         va_start(rest, flags);                                                                                                 \
         mode_t mode = flags & (O_CREAT | O_TMPFILE) ? va_arg(rest, mode_t) : 0;                                                \
         va_end(rest);                                                                                                          \
-        return is_path(path) ? connected() : NEXT(#name, const char *, int, ...)(path, flags, mode);                          \
+        return is_path(path) ? connected(path, flags) : NEXT(#name, const char *, int, ...)(path, flags, mode);                          \
     }
 OPENS(open)
 OPENS(open64)
@@ -145,15 +162,17 @@ OPENS(open64)
         va_start(rest, flags);                                                                                                 \
         mode_t mode = flags & (O_CREAT | O_TMPFILE) ? va_arg(rest, mode_t) : 0;                                                \
         va_end(rest);                                                                                                          \
-        return is_path(path) ? connected() : NEXT(#name, int, const char *, int, ...)(folder, path, flags, mode);             \
+        return is_path(path) ? connected(path, flags) : NEXT(#name, int, const char *, int, ...)(folder, path, flags, mode);             \
     }
 OPENS_AT(openat)
 OPENS_AT(openat64)
 
 int close(int file) {
-    if (is_bus(file))
+    if (is_bus(file)) {
         files[file].is_bus = 0;
-    return NEXT("close", int)(file);
+        closed(files[file].locks);
+    }
+    return closed(file);
 }
 
 #define LOCKS(name)                                                                                                            \
@@ -162,9 +181,8 @@ int close(int file) {
         va_start(rest, request);                                                                                               \
         void *argument = va_arg(rest, void *);                                                                                 \
         va_end(rest);                                                                                                          \
-        if (is_bus(file) && (request == F_SETLK || request == F_SETLKW || request == F_OFD_SETLK || request == F_OFD_SETLKW)) \
-            return 0;                                                                                                          \
-        return NEXT(#name, int, int, ...)(file, request, argument);                                                           \
+        int is_lock = request == F_SETLK || request == F_SETLKW || request == F_OFD_SETLK || request == F_OFD_SETLKW;           \
+        return NEXT(#name, int, int, ...)(is_lock && is_bus(file) ? files[file].locks : file, request, argument);              \
     }
 LOCKS(fcntl)
 LOCKS(fcntl64)
@@ -176,16 +194,17 @@ int ioctl(int file, unsigned long request, ...) {
     va_end(rest);
     if (!is_bus(file))
         return NEXT("ioctl", int, unsigned long, ...)(file, request, argument);
+    int result;
     switch (request) {
     case I2C_SLAVE:
     case I2C_SLAVE_FORCE:
-        if ((uintptr_t)argument > 0x7F)
-            return answered(-EINVAL);
-        files[file].address = (uint16_t)(uintptr_t)argument;
-        return 0;
+        if ((result = (uintptr_t)argument > 0x7F ? -EINVAL : asked(file, request, (uint32_t)(uintptr_t)argument)) >= 0)
+            files[file].address = (uint16_t)(uintptr_t)argument;
+        return answered(result);
     case I2C_FUNCS:
-        *(unsigned long *)argument = FUNCTIONS;
-        return 0;
+        if ((result = asked(file, request, 0)) >= 0)
+            *(unsigned long *)argument = (unsigned long)result;
+        return answered(result < 0 ? result : 0);
     case I2C_PEC:
         files[file].has_pec = argument != NULL;
         return 0;

@@ -5,7 +5,7 @@ import errno
 from collections.abc import Callable, Sequence
 
 from ..faults.bus import FaultyBus
-from .i2c_dev import HAS_COUNT, MOST_BLOCK, Message
+from .i2c_dev import FUNCTIONS, HAS_COUNT, I2C_FUNCS, MOST_BLOCK, Message
 from .watched import ADDRESS, WatchedPart
 
 
@@ -14,6 +14,14 @@ class Server:
 
     def __init__(self, part: WatchedPart, bus: FaultyBus, before: Callable[[], object] = lambda: None) -> None:
         self.part, self.bus, self.before = part, bus, before
+
+    def opened(self, number: int) -> Server:
+        """What serves the bus of a number: each is the same one. An OSError would refuse it."""
+        return self
+
+    def asked(self, request: int, argument: int) -> int:
+        """The answer to I2C_SLAVE with an address, and to I2C_FUNCS. An OSError would refuse it."""
+        return FUNCTIONS if request == I2C_FUNCS else 0
 
     def transfer(self, messages: Sequence[Message]) -> tuple[int, list[bytes]]:
         """How many messages went, or minus the error, and what the reads have."""
