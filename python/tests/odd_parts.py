@@ -68,6 +68,14 @@ class PageBlind(Proved):
         return found and self.answer(request, found[1:-1])
 
 
+class GarbledPages(Proved):
+    """Each answer by PAGE_PLUS is damaged."""
+
+    def asked(self, request):
+        found = super().asked(request)
+        return [*found[:-1], found[-1] ^ 1] if found and request[1] == PAGE_PLUS_READ else found
+
+
 class PageBlindTwice(PageBlind):
     """Output 0 answers in the place of each of two outputs."""
 

@@ -47,6 +47,7 @@ class Rows(Blocks):
         """What the row of a part says, and its status."""
         wanted = {
             "odd.PageBlind": ("the part doesn't look at the page", 1), "WithoutPec": ("no PEC (PMBUS_REVISION gave", 1),
+            "odd.GarbledPages": ("PEC yes, no PAGE_PLUS (F5 WrongPec): this host can't drive the part", 1),
             "odd.PecOptional": ("fits but for a frame that is both damaged and cut before its last byte, which is not proved", 0),
             "odd.AnyPec": ("this host can't drive the part: a write with a wrong PEC is taken", 1),
             "odd.WithoutMinimum": ("--lacks VOUT_MIN", 0), "odd.Vid": ("1 VID (VOUT_MODE 21)", 1),
