@@ -30,7 +30,8 @@ use Rattle.pm_trace.specs.TraceText.{end_of, count_line, counts_text as trace_co
 use Rattle.pm_trace.specs.TraceText.{told_text, totals_line as trace_totals, trace_text, page_text, payload_text}
 use Rattle.pm_trace.specs.TraceText.{plain_text as trace_text_plain_text}
 use Rattle.pm_trace.specs.declared.formats.GivenFormats.{GivenFormats}
-use Rattle.pm_trace.specs.Taught.{Taught, taught_by}
+use Rattle.pm_trace.specs.Taught.{Taught, changed_by, taught_by}
+use Rattle.pm_trace.specs.declared.mode_changes.ModeChange.TheVariants.{OfNone}
 use Rattle.pm_trace.specs.{declared.answers.Ones.Ones, declared.answers.Ones.TheVariants.Answer, declared.packet.Packet.Packet}
 use Rattle.pm_trace.specs.Otherwise.{is_refused, is_accepted, lacks_pec, IsCompleted, address_otherwise, completed_judged, is_nobody}
 use Rattle.pm_trace.specs.Otherwise.{is_short, judged_with, last_part}
@@ -43,7 +44,9 @@ use Rattle.pm_decode.specs.CaptureText.{capture_end, capture_text, counts_text, 
 use Rattle.pm_decode.specs.CaptureText.{totals_line, other_line, other_lines}
 use Rattle.pm_decode.specs.Capturing.{said, said_text}
 use Rattle.pm_decode.specs.Hearing.{Heard, HeardLines, Known, asides, heard_all, heard_as, heard_of, is_aside, known_by, ones_in, other_code, refusals}
-use Rattle.pm_decode.specs.Hearing.{told_in, unknown, heard_with}
+use Rattle.pm_decode.specs.Hearing.{told_in, unknown, heard_with, marks_with}
+use Rattle.pm_decode.specs.Words.{Words, changed_since, word_read}
+use Rattle.pm_decode.specs.declared.page_steps.Marks.{Marks}
 use Rattle.pm_decode.specs.Hints.{first_if, is_timed}
 use Rattle.pm_decode.specs.JsonCounts.{other_json, other_jsons}
 use Rattle.pm_decode.specs.UsualLines.{IsUsual, code_counted, usual_text}
@@ -326,7 +329,7 @@ usual_told options known number usual parts plain is =
     ∙ ap (λ o. line_text o known (number, Told (record { time = None; parts = Ok parts }))) (plain_is options plain)
 
 -- a packet without a time leaves the first one
-no_time : (first : Option ℕ) → option_or first None ≡ first
+pub no_time : (first : Option ℕ) → option_or first None ≡ first
 no_time None = refl
 no_time (Some time) = refl
 
@@ -624,6 +627,28 @@ pub usual_said : (all : Bool) (ones : Ones) (write : List ℕ) (read : Option (L
     → parts_judged write read ≡ judged_by all ones (record { write = write; read = read })
 usual_said false ones write read lacks = refl
 usual_said true ones write read lacks = sym (left (lacks_pec ones write read) (completed_judged write read) (parts_judged write read) lacks)
+
+-- one that is good and has its PEC is good as it is
+pub whole_good : (all : Bool) (ones : Ones) (write : List ℕ) (read : Option (List ℕ)) (judged : Judged)
+    → is_without_pec all ones (record { write = write; read = read }) ≡ false
+    → judged ≡ judged_by all ones (record { write = write; read = read }) → is_accepted judged ≡ true
+    → is_accepted (parts_judged write read) ≡ true
+whole_good all ones write read judged lacks is good = ap is_accepted (usual_said all ones write read lacks ∙ sym is) ∙ good
+
+-- without words that changed a packet has the marks that it has
+pub unchanged : (options : TellOptions) (words : Words) (marks : Marks) (parts : TraceLine) → options.explain ≡ false → marks.changed ≡ None
+    → marks ≡ marks_with options words marks parts
+unchanged options words marks parts plain none =
+    (λ i. record marks { changed = none i })
+    ∙ ap (λ e. record marks {
+      changed = changed_since words (cond e (word_read words marks
+          (other_address options.all marks.ones parts) (judged_by options.all marks.ones parts) parts) None);
+    }) (sym plain)
+
+-- a packet that changes no mode leaves what was taught
+pub none_changed : (number : ℕ) (addr : Option ℕ) (taught : Taught) → changed_by number addr OfNone taught ≡ taught
+none_changed number None taught = refl
+none_changed number (Some addr) taught = refl
 
 -- ---- a packet that is good, or of those that are shown as the command table has them
 

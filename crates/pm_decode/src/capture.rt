@@ -2,7 +2,7 @@
 ghost use Rattle.std.specs.Prelude.{[], ◌≡◌, ◌+◌, ◌≤◌, ◌<◌, ◌^◌, ◌++◌, ◌&&◌, if◌then◌else◌, OnOk, OnErr};
 ghost use Rattle.pm_decode.specs.CaptureText.{line_text};
 ghost use Rattle.pm_decode.specs.Hearing.{heard_lines, heard_with};
-ghost use Rattle.pm_decode.specs.Options.{notes_comments};
+ghost use Rattle.pm_decode.specs.Options.{is_plain, notes_comments};
 ghost use Rattle.pm_decode.specs.TimedLines.{passes_timed, timed_said};
 
 use crate::counts_text::push_counts;
@@ -20,6 +20,8 @@ use std::marker::Model;
 #[derive(Debug, Drop)]
 pub(crate) struct Capture {
     options: TellOptions,
+    // No option changes what is shown.
+    is_plain: bool,
     heard: HeardLines,
     line: TimedLine,
     // How many bytes were taken.
@@ -31,12 +33,14 @@ pub(crate) struct Capture {
 impl Model for Capture {
     ghost use Rattle.pm_decode.specs.Capturing.{IsBounded, Kept};
     ghost use Rattle.pm_decode.specs.Captures.{kept_in};
+    ghost use Rattle.pm_decode.specs.Options.{is_plain as spec_is_plain};
+    ghost use Rattle.std.specs.Prelude.{◌≡◌};
 
     ghost Value = { Kept };
 
     ghost view = { kept_in };
 
-    ghost invariant = { λ c. IsBounded (kept_in c) };
+    ghost invariant = { λ c. IsBounded (kept_in c) × (c.is_plain ≡ spec_is_plain c.options) };
 }
 
 impl Capture {
@@ -52,6 +56,7 @@ impl Capture {
     {
         Capture {
             options: *options,
+            is_plain: options.is_plain(),
             heard: HeardLines::new(alloc),
             line: TimedLine::new(options.times),
             taken: 0,
@@ -129,6 +134,7 @@ impl Capture {
         let heard = hear_line(
             &mut self.heard,
             &self.options,
+            self.is_plain,
             self.ended + 1,
             &self.line,
             gathered,
@@ -193,11 +199,13 @@ impl Capture {
 fn hear_line(
     heard: &mut HeardLines,
     options: &TellOptions,
+    plain: bool,
     number: u64,
     line: &TimedLine,
     gathered: &mut ToldText,
 ) -> Result<(), AllocError>
-    requires { heard_lines heard.old + 1 < 2 ^ 64 }
+    requires few { heard_lines heard.old + 1 < 2 ^ 64 }
+    requires plain { plain ≡ is_plain options.now }
     ensures heard { OnOk result (heard.new ≡ (if passes_timed (notes_comments options.now) line.now then heard.old
         else heard_with options.now heard.old (number, timed_said (notes_comments options.now) line.now))) }
     ensures told { OnOk result (gathered.new ≡ gathered.old ++ (if passes_timed (notes_comments options.now) line.now then []
@@ -212,7 +220,7 @@ fn hear_line(
     if line.is_skipped() {
         return Ok(());
     }
-    gathered.hear(heard, options, number, &line.reading())
+    gathered.hear(heard, options, plain, number, &line.reading())
 }
 
 // Whether a line is a comment that is noted.

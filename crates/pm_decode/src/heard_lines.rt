@@ -93,7 +93,7 @@ impl HeardLines {
                     time: line.time,
                     packet: *packet,
                     shown: &shown,
-                    ones: self.known.ones(options, packet, &shown),
+                    ones: self.known.ones(options, *packet, &shown),
                     other: None,
                 };
                 self.hear_readable(options, &line, text)
@@ -178,12 +178,13 @@ impl HeardLines {
             ≡ heard_told options.now line.now.number (record { time = line.now.time; parts = Ok (packet_in line.now.packet) }) self.old) }
         ensures few { heard_lines self.new ≤ heard_lines self.old + 1 }
     {
-        if options.pages
-            || line.ones.is_refused()
-            || !is_plain(options.all, line.shown)
-            || (options.notes_comments() && is_to_all(line.packet.write, line.packet.is_read()))
-        {
+        if line.ones.is_refused() || !is_plain(options.all, line.shown) {
             return self.hear_closely(options, line, text);
+        }
+        if options.pages
+            || (is_to_all(line.packet.write, line.packet.is_read()) && options.notes_comments())
+        {
+            return self.hear_told(options, line, false, text);
         }
         let marks = Marks::without_page(line.ones, false);
         self.known.tell_packet(options, &marks, line, text)?;
@@ -288,7 +289,7 @@ impl HeardLines {
             let marks = Marks::without_page(line.ones, lacks);
             self.known.tell_packet(options, &marks, line, text)?;
         }
-        if options.notes_comments() && is_to_all(line.packet.write, line.packet.is_read()) {
+        if is_to_all(line.packet.write, line.packet.is_read()) && options.notes_comments() {
             self.known.lose(line.number);
         }
         self.count(line)

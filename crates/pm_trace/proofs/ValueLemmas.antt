@@ -1,11 +1,16 @@
--- The whole millionths of a fraction, and their text.
-use Rattle.std.proofs.Common.{◌≡◌, ◌<◌, ◌*ℤ◌, ◌<ℤ◌, ◌≤ℤ◌, ◌++◌, ℤ, pos, negsuc, neg_ℤ, add-one, ap, arith, refl}
+-- The whole millionths of a fraction, and their text; the text of a packet that asks for no coefficients.
+use Rattle.std.proofs.Common.{◌≡◌, ◌≢◌, ◌<◌, ℕ, List, Option, ◌*ℤ◌, ◌<ℤ◌, ◌≤ℤ◌, ◌++◌, ℤ, pos, negsuc, neg_ℤ, add-one, ap, arith, refl}
 use Rattle.std.specs.Prelude.{unsigned_abs}
 use Rattle.pm_trace.specs.ValueText.{decimal_of, minus, size_text}
 use Rattle.std.proofs.lemmas.Int.{ints, by_lt_z}
+use Rattle.pm_frame.specs.View.{message_code}
+use Rattle.pm_frame.specs.declared.message.Message.{Message}
+use Rattle.pm_frame.specs.declared.message.Message.TheVariants.{SendByte, WriteByte, WriteWord, PagePlusWrite, ReadCommand, PagePlusRead, ReadCoefficients}
 use Rattle.pm_num.specs.Lemmas.Integers.{lt-times}
 use Rattle.pm_num.specs.Ratio.{IsMicroFloor, Ratio}
 use Rattle.pm_trace.specs.Lemmas.Floor.{passed, reached}
+use Rattle.pm_table.specs.Codes as command
+use Rattle.pm_trace.specs.TraceText.{message_text, plain_text}
 use Rattle.pm_trace.specs.Values.{millionths}
 
 -- the millionths of a fraction with a denominator above 0 are the most whole ones that aren't above it
@@ -27,3 +32,14 @@ negative_text (negsuc below) less = ap (λ n. minus ++ size_text n) (add-one bel
 pub positive_text : (size : ℤ) → pos 0 ≤ℤ size → decimal_of size ≡ size_text (unsigned_abs size)
 positive_text (pos n) above = refl
 positive_text (negsuc below) above = absurd (omega (arith, ints))
+
+-- coefficients are asked for by their own code alone
+pub other_code : (message : Message) (answer : Option (List ℕ)) → message_code message ≢ command.coefficients
+    → message_text message answer ≡ plain_text message answer
+other_code (ReadCoefficients code side) answer other = absurd (other refl)
+other_code (SendByte code) answer other = refl
+other_code (WriteByte code byte) answer other = refl
+other_code (WriteWord code word) answer other = refl
+other_code (PagePlusWrite page code payload) answer other = refl
+other_code (ReadCommand code) answer other = refl
+other_code (PagePlusRead page code) answer other = refl

@@ -2,7 +2,7 @@
 -- VOUT_MODE for each output, until the mode may have changed; for each address, each code that has a voltage and each side the last
 -- good answer to COEFFICIENTS; and the addresses that answered a read of VOUT_MODE with ULINEAR16, since the readings of such a part
 -- are LINEAR11. That these decide is this project's own choice.
-use Rattle.std.specs.Prelude.{ℕ, ◌/◌, Bool, true, not, is_some, ◌&&◌, ◌||◌, ◌==◌, nat_eq, nat_lt, if◌then◌else◌, List, [], ◌∷◌, slice_index, option_map, Option, Some, None, Result, Ok, Err}
+use Rattle.std.specs.Prelude.{ℕ, ◌/◌, Bool, true, not, is_some, ◌&&◌, ◌||◌, ◌==◌, nat_eq, nat_lt, if◌then◌else◌, List, [], ◌∷◌, slice_index, Option, Some, None, Result, Ok, Err}
 use Rattle.std.specs.Map.{lookup}
 use Rattle.std.specs.Option.{option_or}
 use Rattle.std.specs.Result.{result_ok}

@@ -205,7 +205,8 @@ impl Model for Pages {
 }
 
 impl Pages {
-    ghost use Rattle.std.specs.Prelude.{OnOk};
+    ghost use Rattle.indexmap.specs.IndexMap.{insert_entry};
+    ghost use Rattle.std.specs.Prelude.{OnOk, nat_eq};
     ghost use Rattle.pm_trace.specs.Pages.{lost_in, no_pages, pages_by, pages_shown, place_in, place_of};
 
     /// Nothing is known yet. Takes no memory.
@@ -230,18 +231,18 @@ impl Pages {
     pub fn learn_shown(&mut self, line: u64, addr: u8, used: PageUse) -> Result<(), AllocError>
         ensures { OnOk result (self.new ≡ pages_shown line addr used self.old) }
     {
-        let place = self.kept(addr);
-        self.learn(line, Some(addr), place, used)
+        let place = *self.kept(addr);
+        self.learn(line, Some(addr), &place, used)
     }
 
     // What is kept of an address.
     #[inline(always)]
-    fn kept(&self, addr: u8) -> Place
-        ensures { result ≡ place_of self.now addr }
+    fn kept(&self, addr: u8) -> &Place
+        ensures { result.now ≡ place_of self.now addr }
     {
-        match self.places.get(&addr).copied() {
+        match self.places.get(&addr) {
             Some(place) => place,
-            None => NOWHERE,
+            None => &NOWHERE,
         }
     }
 
@@ -275,18 +276,33 @@ impl Pages {
         &mut self,
         line: u64,
         addr: Option<u8>,
-        place: Place,
+        place: &Place,
         used: PageUse,
     ) -> Result<(), AllocError>
-        ensures { OnOk result (self.new ≡ pages_by line addr place used self.old) }
+        ensures { OnOk result (self.new ≡ pages_by line addr place.now used self.old) }
     {
         let Some(addr) = addr else {
             return Ok(());
         };
-        if used.is_silent() && place.time.is_none() {
+        if !used.is_silent() {
+            return self.set(addr, &place.behind(line, used));
+        }
+        if place.time.is_some() {
+            return self.set(addr, place);
+        }
+        Ok(())
+    }
+
+    // Takes what is known of an address: of one that isn't new in its place, which is quicker.
+    #[tactic(auto, using(crate::proofs::ModeLemmas::set_known))]
+    fn set(&mut self, addr: u8, place: &Place) -> Result<(), AllocError>
+        ensures { OnOk result (self.new ≡ record self.old { places = insert_entry nat_eq self.old.places addr place.now }) }
+    {
+        if let Some(kept) = self.places.get_mut(&addr) {
+            *kept = *place;
             return Ok(());
         }
-        self.places.insert(addr, place.behind(line, used))?;
+        self.places.insert(addr, *place)?;
         Ok(())
     }
 }

@@ -17,6 +17,8 @@ returns-clause-told c = on_good c.hear_line-heard.result
 
 pub invariant_of-self : goal.invariant_of-self
 invariant_of-self c =
-    let P : Kept → Type 0 = λ k. k.ended + 1 ≤ k.taken in
-    bounded_ended (kept_in c.self.inside) c.hear_line-heard.new.heard c.clear.new.self c.self.inside.line.times c.self.invariant
-    c.clear.ensures c.hear_line-heard.ensures.few (subst P (sym c.self.view_is) c.requires)
+    let P : Kept → Type 0 = λ k. k.ended + 1 ≤ k.taken in (
+      bounded_ended (kept_in c.self.inside) c.hear_line-heard.new.heard c.clear.new.self c.self.inside.line.times c.self.invariant.0
+          c.clear.ensures c.hear_line-heard.ensures.few (subst P (sym c.self.view_is) c.requires),
+      c.self.invariant.1,
+    )
