@@ -1,11 +1,11 @@
--- What is shown and counted of a packet, usual or not.
+-- What is shown of a packet and of what stands beside it.
+use Rattle.std.specs.Option.{option_or}
 use Rattle.std.specs.List.{filter_map, enumerate_from}
-use Rattle.std.specs.{Option.option_or}
-use Rattle.std.specs.Prelude.{decimal, flat_map, is_some, nat_lt}
+use Rattle.std.specs.Prelude.{is_some, decimal, flat_map, nat_lt}
 use Rattle.std.proofs.{Math.ListN.set, lemmas.Bool.Decides.nat_tests, lemmas.Result.IfOk-equal}
-use Rattle.std.proofs.Common.{◌≡◌, ◌∙◌, ℕ, ◌+◌, Bool, false, List, [], ◌∷◌, ◌++◌, map, filter, codes, Some, None, Result, Ok, Err, refl}
-use Rattle.std.proofs.Common.{sym, ap, arith, append_assoc, append-nil, inl, inr, subst, ◌≢◌, true, not, ◌||◌, ◌&&◌, cond, eqb, Option}
-use Rattle.std.proofs.Common.{OnOk, true≢false, ◌*◌, ◌/◌, ◌%◌, length, take, get_or, add-one, ◌-◌, ◌<◌, ◌≤◌, ◌^◌, length-append, ltb}
+use Rattle.std.proofs.Common.{◌≡◌, ℕ, Bool, true, false, List, Option, refl, sym, true≢false, ◌∙◌, ◌+◌, [], ◌∷◌, ◌++◌, map, filter, codes}
+use Rattle.std.proofs.Common.{Some, None, Result, Ok, Err, ap, arith, append_assoc, append-nil, inl, inr, subst, ◌≢◌, not, ◌||◌, ◌&&◌, cond}
+use Rattle.std.proofs.Common.{eqb, OnOk, ◌*◌, ◌/◌, ◌%◌, length, take, get_or, add-one, ◌-◌, ◌<◌, ◌≤◌, ◌^◌, length-append, ltb}
 use Rattle.std.proofs.Math.Seq.{take-append_seam, take-length}
 use Rattle.std.proofs.lemmas.Fmt.{decimal_digit, decimal_step}
 use Rattle.pm_table.specs.Codes as command
@@ -21,35 +21,50 @@ use Rattle.pm_lines.specs.{Numbers.hex_byte, declared.fault.TextFault.TextFault}
 use Rattle.pm_lines.specs.Engine.{Engine, EngineEnds, Run}
 use Rattle.pm_lines.specs.Lines.{is_line_feed, is_unskipped, without_return, Numbered, unskipped_from}
 use Rattle.pm_lines.specs.declared.fault.TextFault.TheVariants.{Syntax, BadHex, TooLong, Read, Write, Memory, Setup}
-use Rattle.pm_trace.specs.{Decoding.said as trace_said, Marks.ended, Outcome.decoding, declared.decode_end.DecodeEnd.DecodeEnd}
-use Rattle.pm_trace.specs.{declared.line_fault.LineFault.LineFault, declared.trace_line.TraceLine.TraceLine}
+use Rattle.pm_trace.specs.{Decoding.said as trace_said, Marks.ended, Outcome.decoding, Pages.is_restore, declared.answers.Ones.Ones}
+use Rattle.pm_trace.specs.{declared.answers.Ones.TheVariants.Answer, declared.decode_end.DecodeEnd.DecodeEnd}
+use Rattle.pm_trace.specs.{declared.formats.GivenFormats.GivenFormats, declared.line_fault.LineFault.LineFault}
+use Rattle.pm_trace.specs.{declared.mode_changes.ModeChange.TheVariants.OfNone, declared.packet.Packet.Packet}
+use Rattle.pm_trace.specs.{declared.pages.PageUse.TheVariants.Beside, declared.trace_line.TraceLine.TraceLine}
 use Rattle.pm_trace.specs.Counts.{counted, counts_of, lines_in, one_counted}
-use Rattle.pm_trace.specs.Trace.{line_read, parts_judged, reading_judged, told_of, trace_of, Judged, Accepted, address_of, answer_judged}
+use Rattle.pm_trace.specs.Otherwise.{is_refused, is_accepted, lacks_pec, IsCompleted, address_otherwise, completed_judged, is_nobody}
+use Rattle.pm_trace.specs.Otherwise.{is_short, judged_with, last_part}
+use Rattle.pm_trace.specs.Taught.{Taught, changed_by, taught_by}
+use Rattle.pm_trace.specs.Trace.{Accepted, line_read, parts_judged, reading_judged, told_of, trace_of, Judged, address_of, answer_judged}
 use Rattle.pm_trace.specs.Trace.{judged_at, read_judged, write_judged, Faulty, BadSyntax, BadHex as TraceBadHex}
 use Rattle.pm_trace.specs.TraceText.{end_of, count_line, counts_text as trace_counts, judged_text, told_line as trace_line, told_lines}
 use Rattle.pm_trace.specs.TraceText.{told_text, totals_line as trace_totals, trace_text, page_text, payload_text}
 use Rattle.pm_trace.specs.TraceText.{plain_text as trace_text_plain_text}
-use Rattle.pm_trace.specs.declared.formats.GivenFormats.{GivenFormats}
-use Rattle.pm_trace.specs.Taught.{Taught, changed_by, taught_by}
-use Rattle.pm_trace.specs.declared.mode_changes.ModeChange.TheVariants.{OfNone}
-use Rattle.pm_trace.specs.{declared.answers.Ones.Ones, declared.answers.Ones.TheVariants.Answer, declared.packet.Packet.Packet}
-use Rattle.pm_trace.specs.Otherwise.{is_refused, is_accepted, lacks_pec, IsCompleted, address_otherwise, completed_judged, is_nobody}
-use Rattle.pm_trace.specs.Otherwise.{is_short, judged_with, last_part}
-use Rattle.pm_decode.specs.{declared.options.TellOptions.TellOptions, declared.timed_line.LineReading.LineReading}
-use Rattle.pm_decode.specs.Options.{plain_options, is_plain}
-use Rattle.pm_decode.specs.Readings.{Told, entries_of, entry_of, is_without_pec, judged_by, other_address}
-use Rattle.pm_decode.specs.ShownReadings.{packet_in, parts_in, reading_in}
-use Rattle.pm_decode.specs.{Outcome.telling, declared.telling.TellEnd.TellEnd, declared.usual_line.Usual.Usual}
+use Rattle.pm_decode.specs.{Outcome.telling, declared.options.TellOptions.TellOptions, declared.page_steps.Marks.Marks}
+use Rattle.pm_decode.specs.{declared.telling.TellEnd.TellEnd, declared.timed_line.LineReading.LineReading, declared.usual_line.Usual.Usual}
 use Rattle.pm_decode.specs.CaptureText.{capture_end, capture_text, counts_text, line_text, lines_text, plain_counts, plain_line, told_line}
 use Rattle.pm_decode.specs.CaptureText.{totals_line, other_line, other_lines}
 use Rattle.pm_decode.specs.Capturing.{said, said_text}
-use Rattle.pm_decode.specs.Hearing.{Heard, HeardLines, Known, asides, heard_all, heard_as, heard_of, is_aside, known_by, ones_in, other_code, refusals}
-use Rattle.pm_decode.specs.Hearing.{told_in, unknown, heard_with, marks_with}
-use Rattle.pm_decode.specs.Words.{Words, changed_since, word_read}
-use Rattle.pm_decode.specs.declared.page_steps.Marks.{Marks}
+use Rattle.pm_decode.specs.Hearing.{Heard, HeardLines, Known, asides, heard_all, heard_as, heard_of, is_aside, known_by, ones_in}
+use Rattle.pm_decode.specs.Hearing.{other_code, refusals, told_in, unknown, heard_with, marks_with}
 use Rattle.pm_decode.specs.Hints.{first_if, is_timed}
 use Rattle.pm_decode.specs.JsonCounts.{other_json, other_jsons}
+use Rattle.pm_decode.specs.Options.{plain_options, is_plain}
+use Rattle.pm_decode.specs.PageSteps.{is_received, used_by}
+use Rattle.pm_decode.specs.Readings.{Told, entries_of, entry_of, is_without_pec, judged_by, other_address}
+use Rattle.pm_decode.specs.ShownReadings.{packet_in, parts_in, reading_in}
 use Rattle.pm_decode.specs.UsualLines.{IsUsual, code_counted, usual_text}
+use Rattle.pm_decode.specs.Words.{Words, changed_since, word_read}
+
+-- A clear packet that carries its own page says nothing of PAGE, but for RESTORE.
+
+pub named_beside : (ones : Ones) (parts : TraceLine) (addr : ℕ) (message : Message) (answer : Option (List ℕ)) (other : Option ℕ) (lost : Bool)
+    → is_some (message_page message) ≡ true → is_restore (message_code message) ≡ false → is_received ones parts ≡ true
+    → used_by lost ones parts (Accepted addr message answer) other ≡ Beside
+named_beside ones parts addr (PagePlusWrite page code payload) answer other lost is plain clear = rw (clear, plain) refl
+named_beside ones parts addr (PagePlusRead page code) answer other lost is plain clear = rw clear refl
+named_beside ones parts addr (SendByte code) answer other lost is plain clear = absurd (true≢false (sym is))
+named_beside ones parts addr (WriteByte code byte) answer other lost is plain clear = absurd (true≢false (sym is))
+named_beside ones parts addr (WriteWord code word) answer other lost is plain clear = absurd (true≢false (sym is))
+named_beside ones parts addr (ReadCommand code) answer other lost is plain clear = absurd (true≢false (sym is))
+named_beside ones parts addr (ReadCoefficients code side) answer other lost is plain clear = absurd (true≢false (sym is))
+
+-- What is shown and counted of a packet, usual or not.
 
 -- What is shown without options is what is shown of a trace.
 

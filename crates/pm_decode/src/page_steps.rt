@@ -66,7 +66,7 @@ pub fn page_step(pages: &Pages, gap: u64, lost: bool, line: &PacketLine<'_>) -> 
 
 /// Whether a packet has no time and says nothing of PAGE, since it is clear and carries its own page: then it doesn't matter what is
 /// known of its page.
-#[tactic(auto, using(crate::proofs::BesideLemmas::named_beside))]
+#[tactic(auto, using(crate::proofs::Shown::named_beside))]
 pub fn is_beside(line: &PacketLine<'_>) -> bool
     ensures time { result ≡ true → line.now.time ≡ None }
     ensures used { result ≡ true → (lost : Bool)

@@ -209,7 +209,7 @@ impl Answers {
     }
 
     // Whether these bytes were written last to the first code that was written so, which needs no look-up then.
-    #[tactic(auto, using(crate::proofs::ModeLemmas::kept_first))]
+    #[tactic(auto, using(crate::proofs::ValueLemmas::kept_first))]
     fn is_first_written(&self, key: u16, written: WrittenOnes) -> bool
         ensures { result ≡ true → insert_entry nat_eq self.now.written key written ≡ self.now.written }
     {

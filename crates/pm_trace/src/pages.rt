@@ -294,7 +294,7 @@ impl Pages {
     }
 
     // Takes what is known of an address: of one that isn't new in its place, which is quicker.
-    #[tactic(auto, using(crate::proofs::ModeLemmas::set_known))]
+    #[tactic(auto, using(crate::proofs::ValueLemmas::set_known))]
     fn set(&mut self, addr: u8, place: &Place) -> Result<(), AllocError>
         ensures { OnOk result (self.new ≡ record self.old { places = insert_entry nat_eq self.old.places addr place.now }) }
     {

@@ -1,5 +1,5 @@
 use Rattle.std.proofs.Common.{rules}
-use Rattle.pm_trace.proofs.ModeLemmas.{kept_first}
+use Rattle.pm_trace.proofs.ValueLemmas.{kept_first}
 use Rattle.pm_trace.proofs.answers.Answers.is_first_written.Goals as goal
 
 pub returns-in-Some : goal.returns-in-Some
