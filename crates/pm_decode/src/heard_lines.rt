@@ -178,13 +178,12 @@ impl HeardLines {
             ≡ heard_told options.now line.now.number (record { time = line.now.time; parts = Ok (packet_in line.now.packet) }) self.old) }
         ensures few { heard_lines self.new ≤ heard_lines self.old + 1 }
     {
-        if line.ones.is_refused() || !is_plain(options.all, line.shown) {
-            return self.hear_closely(options, line, text);
-        }
         if options.pages
-            || (is_to_all(line.packet.write, line.packet.is_read()) && options.notes_comments())
+            || line.ones.is_refused()
+            || !is_plain(options.all, line.shown)
+            || (options.notes_comments() && is_to_all(line.packet.write, line.packet.is_read()))
         {
-            return self.hear_told(options, line, false, text);
+            return self.hear_closely(options, line, text);
         }
         let marks = Marks::without_page(line.ones, false);
         self.known.tell_packet(options, &marks, line, text)?;
@@ -289,7 +288,7 @@ impl HeardLines {
             let marks = Marks::without_page(line.ones, lacks);
             self.known.tell_packet(options, &marks, line, text)?;
         }
-        if is_to_all(line.packet.write, line.packet.is_read()) && options.notes_comments() {
+        if options.notes_comments() && is_to_all(line.packet.write, line.packet.is_read()) {
             self.known.lose(line.number);
         }
         self.count(line)
