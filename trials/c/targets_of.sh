@@ -109,6 +109,7 @@ link_wasm() {
     [ "$name" = wasm32 ] && steps="-Dpm_host_write_ended=step_of_write -Dpm_host_read_ended=step_of_read"
     [ "$name" = wasm32 ] && steps="$steps -Dpm_course_write_ended=step_of_course_write -Dpm_course_read_ended=step_of_course_read"
     [ "$name" = wasm32 ] && steps="$steps -Dpm_course_after_write=step_after_course_write -Dpm_course_after_read=step_after_course_read"
+    [ "$name" = wasm32 ] && steps="$steps -Dpm_sequence_write_ended=step_of_sequence_write -Dpm_sequence_read_ended=step_of_sequence_read"
     for each in "$@" $bare/bare.c $bare/wasm.c; do
         objects+=("$program.$(basename "$each").o")
         case $each in */wasm.c) steps= ;; esac

@@ -1,6 +1,6 @@
 /* Console for WebAssembly, and the three functions on 128 bits that the library wants there. C's convention returns a
  * struct of two numbers in memory, and the library rewritten to 32 bits in one number, as on the processor that it was
- * made for: a caller in C goes by the six functions here, one in JavaScript takes the number apart. */
+ * made for: a caller in C goes by the eight functions here, one in JavaScript takes the number apart. */
 #include "console.h"
 #include "pmhost.h"
 
@@ -23,6 +23,8 @@ uint32_t told_course_read(pm_course *course, pm_host *host, const uint8_t *bytes
 uint32_t told_course_on(pm_course *course, pm_host *host, uint32_t acked, uint32_t stops, pm_sending *sending) __asm__("pm_course_after_write");
 uint32_t told_course_by(pm_course *course, pm_host *host, const uint8_t *bytes, uint64_t count, uint32_t stops, pm_sending *sending)
     __asm__("pm_course_after_read");
+uint32_t told_list_write(pm_sequence *sequence, pm_host *host, uint32_t acked) __asm__("pm_sequence_write_ended");
+uint32_t told_list_read(pm_sequence *sequence, pm_host *host, const uint8_t *bytes, uint64_t count) __asm__("pm_sequence_read_ended");
 
 static pm_step step_of(uint32_t number) {
     pm_step step = {(uint16_t)number, (uint16_t)(number >> 16)};
@@ -51,6 +53,14 @@ pm_step step_after_course_write(pm_course *course, pm_host *host, uint8_t acked,
 
 pm_step step_after_course_read(pm_course *course, pm_host *host, const uint8_t *bytes, uint64_t count, uint8_t stops, pm_sending *sending) {
     return step_of(told_course_by(course, host, bytes, count, stops, sending));
+}
+
+pm_step step_of_sequence_write(pm_sequence *sequence, pm_host *host, uint8_t acked) {
+    return step_of(told_list_write(sequence, host, acked));
+}
+
+pm_step step_of_sequence_read(pm_sequence *sequence, pm_host *host, const uint8_t *bytes, uint64_t count) {
+    return step_of(told_list_read(sequence, host, bytes, count));
 }
 #endif
 
