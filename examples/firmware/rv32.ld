@@ -9,5 +9,5 @@ SECTIONS {
     .data : ALIGN(4096) { *(.data*) __global_pointer$ = . + 0x800; *(.sdata*) } > ram
     .bss (NOLOAD) : ALIGN(4096) { bss_start = .; *(.sbss*) *(.bss*) *(COMMON) . = ALIGN(16); bss_end = .; } > ram
     stack_top = ORIGIN(ram) + LENGTH(ram);
-    ASSERT(stack_top - bss_end >= 12288, "no room for the stack")
+    ASSERT(stack_top - bss_end >= 8192, "no room for the stack")
 }

@@ -75,7 +75,7 @@ hosted() {
 }
 
 # board NAME PROGRAM SOURCES ..: the linker script of a Cortex-M. same.c keeps three hosts, all cells and a list, 10.4 of the board's 16 KB,
-# and leaves less for the stack than firmware asks: 5.5 KB, where its deepest call takes 4.9 KB on M0. The M33's board starts in its
+# and leaves less for the stack than firmware asks: 5.5 KB, where its deepest call takes 4.2 KB on M0. The M33's board starts in its
 # secure memory, which stands elsewhere.
 board() {
     local name=$1 program=$2 words=(); shift 2

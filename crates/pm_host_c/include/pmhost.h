@@ -65,7 +65,7 @@ extern "C" {
 #define PM_SEQUENCE_STEP_SIZE 64
 #define PM_SEQUENCE_RECORD_SIZE 132
 #define PM_STACK 4096
-#define PM_SEQUENCE_STACK 12288
+#define PM_SEQUENCE_STACK 8192
 #define PM_NAME_STACK 4096
 
 /* What a call answers: 0, or why it is refused. A refused call changes nothing, but for these. pm_host_frame, pm_course_frame,
