@@ -1,8 +1,9 @@
-"""What is said of a rail that isn't as its file has it though its registers are, and of an order that is refused: a row each."""
+"""What is said of a rail that isn't as its file has it though its registers are, and of an order that is refused, and which verdicts are good."""
 import unittest
 from types import SimpleNamespace
 
-from pmhost import Format
+from pmhost import Format, Looks, Verdict
+from pmhost.delivered import Delivered
 from pmhost.errors import refusal
 from pmhost.settings import Setting, Settings
 from pmhost.values import DEVICE
@@ -64,3 +65,9 @@ class Said(unittest.TestCase):
                 board = Board(it, {"VOUT_MIN": 0x0E00})
                 self.assertEqual(board.why_refused(it, fault), wanted)
                 self.assertEqual(str(board.refused(it, fault)), f"{wanted}: {fault.letter} {fault.name}")
+
+    def test_what_is_known_to_deliver(self):
+        for kind in ("commanded off", "not known to be on", "not known"):
+            self.assertFalse(Delivered(0, Verdict(kind), False, Looks()).is_delivered, kind)
+        for kind in ("delivers", "delivers by READ_VOUT", "went off", "power good alone"):
+            self.assertEqual([Delivered(0, Verdict(kind), is_bad, Looks()).is_delivered for is_bad in (False, True)], [True, False], kind)

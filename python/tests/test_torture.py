@@ -173,6 +173,8 @@ class Programs(unittest.TestCase):
         status, out, _ = tortured(CACHED, "--strike", "damaged,false,restart,restarted")
         lines = out.splitlines()
         self.assertEqual((status, lines[1]), (1, f"8 runs, 8 WRONG, 8 FALSE: {STALE}"))
+        faults = [fault for each in lines[2:7] for fault in each.partition(": ")[2].split(", ")]
+        self.assertEqual([bool(re.fullmatch(r"\d+:[a-z]+(:\d+)*", each)) for each in faults], [True] * 8)
         self.assertEqual([each.split(":")[0] for each in lines[2:7]],
                          [f"  PAGE write {page} {how}" for page, how in (("01", "refused"), ("01", "not heard"), ("01", "undone by a restart"),
                                                                         ("00", "refused"), ("00", "not heard"))])

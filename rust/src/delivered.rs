@@ -397,3 +397,25 @@ impl<E> From<Refusal> for NotDelivered<E> {
         NotDelivered::Refused(refusal)
     }
 }
+
+#[cfg(test)]
+mod tests {
+    extern crate std;
+
+    use super::*;
+    use std::string::ToString;
+
+    struct Unknown(Option<AnswerFault>);
+
+    impl fmt::Display for Unknown {
+        fn fmt(&self, to: &mut fmt::Formatter<'_>) -> fmt::Result {
+            tell_unknown(0x8B, self.0, to)
+        }
+    }
+
+    #[test]
+    fn what_is_not_known_says_why() {
+        assert_eq!(Unknown(None).to_string(), "what the output commands isn't known");
+        assert_eq!(Unknown(Some(AnswerFault::NoAnswer)).to_string(), "READ_VOUT gave no good answer: no answer");
+    }
+}

@@ -36,7 +36,7 @@ from pmhost.bus.linux import ENDING, F_OFD_SETLK, I2C_SLAVE  # noqa: E402
 from pmhost.torture.below import VARIABLE, Preload  # noqa: E402
 from pmhost.torture.server import Server  # noqa: E402
 from tally import Tally  # noqa: E402
-from tests import busy, kernel, runs  # noqa: E402
+from tests import busy, kernel, running, runs  # noqa: E402
 
 ROWS = os.path.join(paths.ROOT, "trials", "c", "rows", "bus.txt")
 ADDRESS, DRIVEN, LOW, LOCKED = 0x58, 2, 6, (5, (0x56, 0x58, 0x5A))
@@ -116,7 +116,7 @@ def ran(preload, words, mishaps, more=None):
     with Preload(preload).opened(Bus(buses)) as (serving, around), tempfile.TemporaryFile() as out, tempfile.TemporaryFile() as err, \
             locked(f"{around[VARIABLE]}.{LOCKED[0]}", LOCKED[1]):
         around = os.environ | around | (more or {}) | ({"WAITED": ""} if counts else {})
-        buses.process = subprocess.Popen(words, stdin=subprocess.DEVNULL, stdout=out, stderr=err, env=around)
+        buses.process = subprocess.Popen(words, stdin=subprocess.DEVNULL, stdout=out, stderr=err, env=around, preexec_fn=running.with_signals)
         end = time.monotonic() + SECONDS
         while buses.process.poll() is None:
             serving.serve(0.002)
