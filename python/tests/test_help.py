@@ -1,5 +1,5 @@
-"""What the help of each command says: each option once, then what stands above them. data/help.txt is the whole of it; after a change
-`python3 -m tests.test_help` prints it anew, to be read before it is kept."""
+"""What the help of each command says: each option once, then what stands above them, without empty lines. data/help.txt is the whole of it;
+after a change `python3 -m tests.test_help` prints it anew, to be read before it is kept."""
 import argparse
 import unittest
 
@@ -20,7 +20,7 @@ def helped() -> str:
     whole, commands = cli.parser()
     options = dict.fromkeys(option(each) for parser in (whole, *commands.values()) for each in parser._actions)
     texts = [f"== {name or 'pmhost'}\n{parser.description or ''}" for name, parser in {"": whole, **commands}.items()]
-    return "\n".join([*options, *texts, ""])
+    return "".join(f"{line}\n" for text in [*options, *texts] for line in text.splitlines() if line)
 
 
 class Help(unittest.TestCase):
