@@ -237,6 +237,21 @@ class Whys(unittest.TestCase):
             with self.subTest(bits=bits, config=config):
                 self.assertEqual(why.why_off(seen, config)[:len(said)], said)
 
+    def test_what_is_wrong_by_the_limits(self):
+        known = {"missing": {}, "unended": "", "selected": "VOUT_COMMAND", "limits": (1, 2), "limits_state": "within"}
+        for state, said in (({}, ""), ({"selected": None}, "what the output commands isn't known: `survey` says why"),
+                            ({"limits_state": "outside"}, "the output commands a voltage outside its limits: `off 0`, then order one within them"),
+                            ({"limits_state": "unknown"}, "the output may command a voltage outside its limits: `off 0`, then order one within them")):
+            seen = why.Findings(why.Place("0"), SimpleNamespace(**{**known, **state}), {})
+            with self.subTest(state=state):
+                self.assertEqual(why.unlike_limits(seen), said)
+
+    def test_no_word_is_that_of_a_voltage_that_the_format_has_not(self):
+        part = SimpleNamespace(host=SimpleNamespace(format=lambda _: Format("ULINEAR16", -12)))
+        for micro, is_its in ((1_000_000, True), (1_100_000, False), (20_000_000, False)):
+            rail = SimpleNamespace(output=0, settings={"volts": micro}, limits=(0, 30_000_000), accept=None)
+            self.assertIs(why.is_of_file(part, rail, 0x1000), is_its, micro)
+
 
 class NewFaults(unittest.TestCase):
     def test_each_is_named_by_its_bit(self):

@@ -479,4 +479,6 @@ fn a_step_says_what_it_does() {
     let text = format!("{:?}", turns.with_looks(None));
     assert_eq!(text, "SequenceStep { host: 4, output: 1, act: Turns(128), looks: None, wait: 0 }");
     assert_eq!(format!("{:?}", Sequence::new(1, Rules::DOWN).unwrap()), "Sequence { begun: 0, left: 0, host: 0, .. }");
+    let record = format!("{:?}", SequenceRecord::default());
+    assert_eq!(record, "SequenceRecord { back: None, status_before: None, status: None, .. }");
 }
