@@ -7,14 +7,14 @@ use Rattle.pm_frame.specs.Fault.{address_fault, answer_fault}
 use Rattle.pm_host.specs.{Answers.good_payload, Image.held, Messages.cell_read, Refusals.is_busy, Transcript.Got}
 use Rattle.pm_host.specs.{declared.question.Question.TheVariants.Word, declared.stage.Stage.Stage, declared.stage.Stage.TheVariants.Asks}
 use Rattle.pm_host.specs.{declared.state.State.State}
-use Rattle.pm_host.specs.Summary.{Summary, another, asked, idle, step_of}
+use Rattle.pm_host.specs.Summary.{Summary, another, question_answered, idle, step_of}
 use Rattle.pm_limits.specs.{Guard.Guarded, declared.output_limits.OutputLimits.OutputLimits}
 use Rattle.pm_limits.specs.{declared.part_registers.PartRegisters.PartRegisters}
 use Rattle.pm_rail.specs.{Course.is_order, Survey.wanted_in, declared.wanted.Wanted.Wanted}
 use Rattle.pm_course.specs.{Ends.busy_end, Heard.bytes_fault, Hosted.IsSentAt, Wishes.AreFormed, declared.course_end.CourseEnd.CourseEnd}
 use Rattle.pm_course.specs.{declared.course_end.CourseNext.CourseNext, declared.course_end.Refusal.Refusal}
 use Rattle.pm_course.specs.{declared.frame_course.FrameCourse.FrameCourse, declared.frames.Sending.Sending}
-use Rattle.pm_course.specs.FrameCourse.{Says, SaysNext, ends, format_now, last_end, missing_of, saying, saying_planned, source_of}
+use Rattle.pm_course.specs.FrameCourse.{Says, SaysNext, course_ends, format_now, last_end, missing_of, saying, saying_planned, source_of}
 use Rattle.pm_course.specs.Frames.{GoesOn, HandsOut, IsSent, hands, waits}
 use Rattle.pm_course.specs.Surprise.{is_done, looks_new, surprises}
 use Rattle.pm_course.specs.declared.course_end.CourseEnd.TheVariants.{Refused, OtherSource}
@@ -22,7 +22,7 @@ use Rattle.pm_course.specs.declared.course_end.CourseEnd.TheVariants.{Refused, O
 -- A check is done if its answer is good, and only then.
 
 asked-done : (s : Summary) (cell : Cell) (tries : ℕ) (payload : Option (List ℕ))
-    → is_done (asked s (Word cell) tries payload).step ≡ is_some payload
+    → is_done (question_answered s (Word cell) tries payload).step ≡ is_some payload
 asked-done s cell tries (Some payload) = refl
 asked-done s cell tries None = last (tries + 1 == s.setup.passes) refl where
   last : (b : Bool) → (tries + 1 == s.setup.passes) ≡ b → is_done (another s (Word cell) tries).step ≡ false
@@ -88,21 +88,21 @@ abbrev pub said : Asked → Says
 said a = saying a.part a.limits a.s a.c a.words
 
 -- it has ended before
-pub ended : (a : Asked) (over : CourseEnd) → last_end a.c.end ≡ Some over → said a ≡ ends a.c over
+pub ended : (a : Asked) (over : CourseEnd) → last_end a.c.end ≡ Some over → said a ≡ course_ends a.c over
 ended a over is = rw is refl
 
 -- it goes on: a job is open
-pub busy : (a : Asked) → last_end a.c.end ≡ None → is_busy a.s ≡ true → said a ≡ ends a.c busy_end
+pub busy : (a : Asked) → last_end a.c.end ≡ None → is_busy a.s ≡ true → said a ≡ course_ends a.c busy_end
 busy a on is = rw (on, is) refl
 
 -- none is, and something is wanted of a register that the part doesn't have
 pub missing : (a : Asked) (refusal : Refusal) → last_end a.c.end ≡ None → is_busy a.s ≡ false
-    → missing_of a.part a.c ≡ Some refusal → said a ≡ ends a.c (Refused refusal)
+    → missing_of a.part a.c ≡ Some refusal → said a ≡ course_ends a.c (Refused refusal)
 missing a refusal on idle is = rw (on, idle, is) refl
 
 -- nothing is, and OPERATION holds a byte that its cell doesn't take
 pub sourced : (a : Asked) (byte : ℕ) → last_end a.c.end ≡ None → is_busy a.s ≡ false → missing_of a.part a.c ≡ None
-    → source_of a.s a.c.course a.c.course.byte ≡ Some byte → said a ≡ ends a.c (OtherSource byte)
+    → source_of a.s a.c.course a.c.course.byte ≡ Some byte → said a ≡ course_ends a.c (OtherSource byte)
 sourced a byte on idle there is = rw (on, idle, there, is) refl
 
 -- it goes by its words

@@ -65,7 +65,7 @@ impl Known {
     ghost use Rattle.pm_trace.specs.Taught.{changed_by, paged_if};
     ghost use Rattle.pm_decode.specs.Readings.{other_address};
     ghost use Rattle.pm_decode.specs.Words.{word_read as spec_word_read, words_heard};
-    ghost use Rattle.pm_decode.specs.Hearing.{answered_as, answers_read, known_aside, known_lost, known_noted, known_remarked, known_shown, known_told, marks_with, ones_in, part_seen, since, special_in, taught_read, unknown, words_told};
+    ghost use Rattle.pm_decode.specs.Hearing.{answered_as, answers_read, known_aside, known_lost, known_noted, known_remarked, known_shown, known_told, marks_with, ones_in, part_seen, time_since, special_in, taught_read, unknown, words_told};
     ghost use Rattle.pm_decode.specs.Hints.{beyond_by, lacking_by, paging_by, timed_by};
 
     /// Before the first line. Takes no memory.
@@ -195,7 +195,7 @@ impl Known {
         requires other { line.now.other ≡ other_address options.now.all marks.now.ones (packet_in line.now.packet) }
         requires lacks { marks.now.lacks ≡ is_without_pec options.now.all marks.now.ones (packet_in line.now.packet) }
         ensures text { OnOk result (string_bytes text.new ++ codes "\n" ≡ string_bytes text.old
-            ++ told_line options.now self.old.taught (marks_with options.now self.old.words marks.now (packet_in line.now.packet)) line.now.number (since self.old.first line.now.time) (Ok (packet_in line.now.packet))) }
+            ++ told_line options.now self.old.taught (marks_with options.now self.old.words marks.now (packet_in line.now.packet)) line.now.number (time_since self.old.first line.now.time) (Ok (packet_in line.now.packet))) }
         ensures known { OnOk result (self.new ≡ record self.old {
           taught = taught_read options.now line.now.number marks.now (Ok (packet_in line.now.packet)) self.old.taught;
           beyond = beyond_by options.now self.old.taught marks.now.reached line.now.number (judged_in line.now.shown.now) self.old.beyond;
@@ -226,7 +226,7 @@ impl Known {
         requires shown { judged_in line.now.shown.now ≡ judged_by options.now.all marks.now.ones (packet_in line.now.packet) }
         requires other { line.now.other ≡ other_address options.now.all marks.now.ones (packet_in line.now.packet) }
         ensures text { OnOk result (string_bytes text.new ++ codes "\n" ≡ string_bytes text.old
-            ++ told_line options.now self.old.taught (marks_with options.now self.old.words marks.now (packet_in line.now.packet)) line.now.number (since self.old.first line.now.time) (Ok (packet_in line.now.packet))) }
+            ++ told_line options.now self.old.taught (marks_with options.now self.old.words marks.now (packet_in line.now.packet)) line.now.number (time_since self.old.first line.now.time) (Ok (packet_in line.now.packet))) }
         ensures words { OnOk result (self.new ≡ record self.old {
           words = words_told options.now line.now.number marks.now (packet_in line.now.packet) self.old.words;
         }) }
@@ -250,7 +250,7 @@ impl Known {
         requires shown { judged_in line.now.shown.now ≡ judged_by options.now.all marks.now.ones (packet_in line.now.packet) }
         requires other { line.now.other ≡ other_address options.now.all marks.now.ones (packet_in line.now.packet) }
         ensures text { OnOk result (string_bytes text.new ++ codes "\n" ≡ string_bytes text.old
-            ++ told_line options.now self.old.taught (marks_with options.now self.old.words marks.now (packet_in line.now.packet)) line.now.number (since self.old.first line.now.time) (Ok (packet_in line.now.packet))) }
+            ++ told_line options.now self.old.taught (marks_with options.now self.old.words marks.now (packet_in line.now.packet)) line.now.number (time_since self.old.first line.now.time) (Ok (packet_in line.now.packet))) }
         ensures words { OnOk result (self.new ≡ record self.old {
           words = words_told options.now line.now.number marks.now (packet_in line.now.packet) self.old.words;
         }) }
@@ -360,7 +360,7 @@ impl Known {
 
     /// A time, counted from the first one.
     pub(crate) fn since(&self, time: Option<u64>) -> Option<i128>
-        ensures { result ≡ since self.now.first time }
+        ensures { result ≡ time_since self.now.first time }
     {
         since_first(self.first, time)
     }

@@ -4,9 +4,9 @@ ghost use Rattle.pm_trace.specs.ShownLines.{judged_in};
 ghost use Rattle.pm_trace.specs.Trace.{reading_judged};
 ghost use Rattle.pm_trace.specs.TraceText.{judged_text};
 ghost use Rattle.pm_trace.specs.Taught.{Taught};
-ghost use Rattle.pm_decode.specs.CaptureText.{assumed_text, bytes_text, changed_text, extra_text, failed_line, forbidden_text, json_failed, plain_failed, json_line, lack_text, marks_text, phase_text, plain_line, meaning_text, otherwise_by as spec_otherwise_by, packet_fields_by, packet_text_by, reached_text, read_bytes_text, received_text, refused_words as spec_refused_words, time_text, told_line, two_lines, wrong_text};
+ghost use Rattle.pm_decode.specs.CaptureText.{assumed_text, bytes_text, changed_text, extra_text, failed_line, forbidden_text, json_failed, plain_failed, json_line, lack_text, marks_text, phase_text, plain_capture_line, meaning_text, otherwise_by as spec_otherwise_by, packet_fields_by, packet_text_by, reached_text, read_bytes_text, received_text, refused_words as spec_refused_words, time_text, told_line, two_lines, wrong_text};
 ghost use Rattle.pm_decode.specs.Readings.{judged_by, other_address};
-ghost use Rattle.pm_decode.specs.Hearing.{since};
+ghost use Rattle.pm_decode.specs.Hearing.{time_since};
 ghost use Rattle.pm_decode.specs.ShownReadings.{packet_in};
 ghost use Rattle.pm_decode.specs.declared.page_steps.Marks.{Marks};
 
@@ -57,7 +57,7 @@ fn push_bad_json(
 }
 
 // A bad line as it is shown to a person.
-#[tactic(auto, using(pm_lines::specs::Lemmas::Joins::joins), unfolding(crate::specs::CaptureText::plain_line))]
+#[tactic(auto, using(pm_lines::specs::Lemmas::Joins::joins), unfolding(crate::specs::CaptureText::plain_capture_line))]
 fn push_bad_plain(
     text: &mut String,
     options: &TellOptions,
@@ -65,7 +65,7 @@ fn push_bad_plain(
     fault: LineFault,
 ) -> Result<(), AllocError>
     ensures { OnOk result ((taught : Taught) (marks : Marks) (time : Option ℤ) → string_bytes text.new ++ codes "\n"
-        ≡ string_bytes text.old ++ plain_line options.now taught marks number time (Err fault)) }
+        ≡ string_bytes text.old ++ plain_capture_line options.now taught marks number time (Err fault)) }
 {
     push_decimal(text, number)?;
     text.push_str(" ")?;
@@ -147,7 +147,7 @@ pub(crate) fn push_packet_line(
     requires shown { judged_in line.now.shown.now ≡ judged_by options.now.all marks.now.ones (packet_in line.now.packet) }
     requires other { line.now.other ≡ other_address options.now.all marks.now.ones (packet_in line.now.packet) }
     ensures { OnOk result (string_bytes text.new ++ codes "\n" ≡ string_bytes text.old
-        ++ told_line options.now lessons.now marks.now line.now.number (since first line.now.time) (Ok (packet_in line.now.packet))) }
+        ++ told_line options.now lessons.now marks.now line.now.number (time_since first line.now.time) (Ok (packet_in line.now.packet))) }
 {
     if options.json {
         push_packet_json(text, options, lessons, marks, first, line)
@@ -169,7 +169,7 @@ fn push_packet_json(
     requires shown { judged_in line.now.shown.now ≡ judged_by options.now.all marks.now.ones (packet_in line.now.packet) }
     requires other { line.now.other ≡ other_address options.now.all marks.now.ones (packet_in line.now.packet) }
     ensures { OnOk result (string_bytes text.new ++ codes "\n" ≡ string_bytes text.old
-        ++ json_line options.now lessons.now marks.now line.now.number (since first line.now.time) (Ok (packet_in line.now.packet))) }
+        ++ json_line options.now lessons.now marks.now line.now.number (time_since first line.now.time) (Ok (packet_in line.now.packet))) }
 {
     text.push_str("{\"line\":")?;
     push_decimal(text, line.number)?;
@@ -205,7 +205,7 @@ fn push_packet_fields(
 }
 
 // The packet as it is shown to a person.
-#[tactic(auto, using(pm_lines::specs::Lemmas::Joins::joins), unfolding(crate::specs::CaptureText::plain_line))]
+#[tactic(auto, using(pm_lines::specs::Lemmas::Joins::joins), unfolding(crate::specs::CaptureText::plain_capture_line))]
 fn push_packet_plain(
     text: &mut String,
     options: &TellOptions,
@@ -217,7 +217,8 @@ fn push_packet_plain(
     requires shown { judged_in line.now.shown.now ≡ judged_by options.now.all marks.now.ones (packet_in line.now.packet) }
     requires other { line.now.other ≡ other_address options.now.all marks.now.ones (packet_in line.now.packet) }
     ensures { OnOk result (string_bytes text.new ++ codes "\n" ≡ string_bytes text.old
-        ++ plain_line options.now lessons.now marks.now line.now.number (since first line.now.time) (Ok (packet_in line.now.packet))) }
+        ++ plain_capture_line options.now lessons.now marks.now line.now.number (time_since first line.now.time)
+        (Ok (packet_in line.now.packet))) }
 {
     push_decimal(text, line.number)?;
     if line.time.is_some() {
@@ -413,7 +414,7 @@ fn push_two_lines(text: &mut String, line: u64, number: u64) -> Result<(), Alloc
 
 /// A time, counted from the first one.
 pub(crate) fn since_first(first: Option<u64>, time: Option<u64>) -> Option<i128>
-    ensures { result ≡ since first time }
+    ensures { result ≡ time_since first time }
 {
     let time = time?;
     Some(i128::from(time) - i128::from(first.unwrap_or(time)))

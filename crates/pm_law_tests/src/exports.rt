@@ -16,7 +16,7 @@ ghost use Rattle.pm_world.specs.declared.event.Event.{Event};
 ghost use Rattle.pm_world.specs.Ended.{begins_other};
 ghost use Rattle.pm_world.specs.State.{share_of};
 ghost use Rattle.pm_part_laws.specs.Happenings.{beside};
-ghost use Rattle.pm_sequence_laws.specs.CourseCalls.{StepsOn, StepsTold, StepsToldOn, is_answered};
+ghost use Rattle.pm_sequence_laws.specs.CourseCalls.{StepsOn, StepsTold, StepsToldOn, call_is_answered};
 ghost use Rattle.pm_law_tests.specs.Exports.{CourseLife, IsOf};
 
 use pm_host::Told;
@@ -50,7 +50,7 @@ pub fn a_frame_that_ended(
     requires own { life.own ≡ true }
     ensures { (event : Event) → begins_other event ≡ false →
         (share_of (beside life.held life.passes (life.later ++ life.before)) event).told ≡ Some (entry_told told.entry) →
-        is_answered result ≡ true → StepsTold life.held life.passes life.part life.begun life.before event life.later
+        call_is_answered result ≡ true → StepsTold life.held life.passes life.part life.begun life.before event life.later
         (entry_told told.entry) life.guard host.new course.new }
 {
     exports_are_steps_beside();
@@ -70,7 +70,7 @@ pub fn a_frame_that_ended_and_the_next(
     requires own { life.own ≡ true }
     ensures { (event : Event) → begins_other event ≡ false →
         (share_of (beside life.held life.passes (life.later ++ life.before)) event).told ≡ Some (entry_told told.entry) →
-        is_answered result ≡ true → StepsToldOn life.held life.passes life.part life.begun life.before event life.later
+        call_is_answered result ≡ true → StepsToldOn life.held life.passes life.part life.begun life.before event life.later
         (entry_told told.entry) life.guard host.new course.new }
 {
     exports_are_steps_beside();

@@ -8,7 +8,7 @@ use Rattle.pm_host.specs.{Refusals.may_come, Transcript.Entry, declared.fault.Un
 use Rattle.pm_host.specs.{declared.host.Step.Step, declared.host.Told.Told as HostTold, declared.job.Job.Job, declared.job.JobEnd.JobEnd}
 use Rattle.pm_host.specs.{declared.stage.Stage.Stage, declared.state.State.State}
 use Rattle.pm_host.specs.Image.{held, host_of}
-use Rattle.pm_host.specs.Summary.{Summary, next, step_of, stage_message}
+use Rattle.pm_host.specs.Summary.{Summary, host_next, step_of, stage_message}
 use Rattle.pm_host.specs.Told.{entry_told, is_awaited}
 use Rattle.pm_host.specs.declared.host.Step.TheVariants.{Next, Ended}
 use Rattle.pm_host.specs.declared.host.Told.TheVariants.{Finished, Got}
@@ -46,7 +46,7 @@ awaited stage state (Got bytes) is = is
 
 -- the host takes it, and answers how the job stands
 pub tells : (old new : GuardImage) (s : Summary) (e : Entry) (result : HostStep) → host_of old.host ≡ Some s
-    → may_come s e ≡ true → host_of new.host ≡ Some (next s e) → result ≡ host_step (fault_in s e) (step_of s e)
+    → may_come s e ≡ true → host_of new.host ≡ Some (host_next s e) → result ≡ host_step (fault_in s e) (step_of s e)
     → new.limits ≡ old.limits → new.registers ≡ old.registers → (IsMemory old → IsMemory new) → TellsHost old e result new
 tells old new s e result found may became answered limits registers written = record {
   answer = rw (found, may) answered;

@@ -32,8 +32,9 @@ use Rattle.pm_memory.specs.Guard.{guard_of, limits_kept}
 use Rattle.pm_memory.specs.Heard.{course_heard, heard_image, stairs_heard, HearingsAreKept}
 use Rattle.pm_memory.specs.Hosted.{IsThere, guard_in}
 use Rattle.pm_memory.specs.ListImage.{list_image, list_in, held_with, list_meant, under_words, with_its_course}
-use Rattle.pm_memory.specs.SequenceImage.{answer_number, fresh_number, fresh_read, look_image, look_read, phase_read, phase_written}
-use Rattle.pm_memory.specs.SequenceImage.{sequence_image, sequence_in, told_by, told_written, IsKeptList, IsKeptSequence, SequencesAreKept}
+use Rattle.pm_memory.specs.SequenceImage.{probe_answer_number, fresh_number, fresh_read, look_image, look_read, phase_read, phase_written}
+use Rattle.pm_memory.specs.SequenceImage.{sequence_image, sequence_in, told_image_of, told_written, IsKeptList, IsKeptSequence}
+use Rattle.pm_memory.specs.SequenceImage.{SequencesAreKept}
 use Rattle.pm_memory.specs.SequenceImage.{sequence_mark, sequence_meant, sequence_read, sequence_version}
 use Rattle.pm_memory.specs.Wanted.{wanted_image, wanted_meant, wish_image, wish_meant}
 
@@ -215,13 +216,13 @@ courses = record {
 
 -- How the memory of a sequence is kept.
 
-there-kept : (there off : Bool) → (answer_number there off == 1 || answer_number there off == 3) ≡ there
+there-kept : (there off : Bool) → (probe_answer_number there off == 1 || probe_answer_number there off == 3) ≡ there
 there-kept true true = refl
 there-kept true false = refl
 there-kept false true = refl
 there-kept false false = refl
 
-off-kept : (there off : Bool) → nat_lt 1 (answer_number there off) ≡ off
+off-kept : (there off : Bool) → nat_lt 1 (probe_answer_number there off) ≡ off
 off-kept true true = refl
 off-kept true false = refl
 off-kept false true = refl
@@ -257,7 +258,7 @@ fresh-kept fresh.Nothing = refl
 fresh-kept fresh.Under = refl
 fresh-kept fresh.Ahead = refl
 
-fresh-by : (told : Option Job) (n : ℕ) → (told_by told n).fresh ≡ n
+fresh-by : (told : Option Job) (n : ℕ) → (told_image_of told n).fresh ≡ n
 fresh-by None n = refl
 fresh-by (Some (asked.Order cell word)) n = refl
 fresh-by (Some (asked.OrderMicro cell x)) n = refl

@@ -14,9 +14,11 @@ use Rattle.pm_table.specs.Laws.{CellsHavePlaces, CellsAreToldApart}
 use Rattle.pm_table.specs.Lemmas.{IsCell-eight, is_cell-there}
 use Rattle.pm_table.specs.declared.cell.Cell.TheVariants.{Out, Protect}
 use Rattle.pm_model.specs.{Laws.SettingsAreAMap, declared.order_machine.PendingJob.PendingJob}
-use Rattle.pm_model.specs.OrderMachine.{Step, Accept, Take, End, Back, words_taken, store_taken, machine_of, CanTake, IsRun, IsOwnWord}
+use Rattle.pm_model.specs.OrderMachine.{Step, Accept, Take, End, Back, words_taken, store_taken, machine_of, CanTake, IsRun}
+use Rattle.pm_model.specs.OrderMachine.{IsOwnWordOfMachine}
 use Rattle.pm_model.specs.OrderMachine.{IsAccepted}
-use Rattle.pm_model.specs.Settings.{Settings, Words, AreSettings, AreWords, are_accepted, is_accepted_at, settings_in, word_at, words_of}
+use Rattle.pm_model.specs.Settings.{Settings, Words, AreSettings, AreWords, are_accepted, is_accepted_at, settings_in, word_at}
+use Rattle.pm_model.specs.Settings.{words_given_by}
 use Rattle.pm_model.specs.Settings.{with_word, with_outputs}
 use Rattle.pm_model.specs.declared.order_machine.PendingJob.TheVariants.{Order, Store, Restore}
 
@@ -153,21 +155,21 @@ with_word-unchanged stand words cell full here =
 
 -- each cell has the word that a function gives it
 pub word_at-words_of : CellsHavePlaces → (word : Cell → ℕ) (cell : Cell) → IsCell 8 cell →
-    word_at (words_of word) cell ≡ word cell
-unfolding word_at words_of
+    word_at (words_given_by word) cell ≡ word cell
+unfolding word_at words_given_by
 word_at-words_of stand word cell here =
     get_or-map-range_with_len (λ k. word (cell_in k)) 0 places (place_of cell) (place_of cell) 0 (stand.below cell here) (omega arith)
     ∙ ap word (stand.back cell here)
 
 -- a function gives a word to each cell
-pub AreWords-words_of : (word : Cell → ℕ) → AreWords (words_of word)
-unfolding AreWords words_of
+pub AreWords-words_of : (word : Cell → ℕ) → AreWords (words_given_by word)
+unfolding AreWords words_given_by
 AreWords-words_of word = length-map-range_with_len (λ k. word (cell_in k)) 0 places
 
 -- no other words give each cell the word that the function gives it
 pub words_of-all : CellsHavePlaces → (words : Words) (word : Cell → ℕ) → AreWords words →
-    ((cell : Cell) → IsCell 8 cell → word_at words cell ≡ word cell) → words ≡ words_of word
-unfolding word_at words_of AreWords
+    ((cell : Cell) → IsCell 8 cell → word_at words cell ≡ word cell) → words ≡ words_given_by word
+unfolding word_at words_given_by AreWords
 words_of-all stand words word full each =
     fill_by_all (λ k. word (cell_in k)) words places 0 full
     (λ k below. ap (λ n. get_or words n 0) (sym (stand.again k below)) ∙ each (cell_in k) (stand.there k below))
@@ -215,11 +217,11 @@ machine-pending start (Back ∷ steps) (may, run) =
 -- there is a word for each cell, and each cell that there is has one of its own
 record AreOwn (start : Settings) (steps : List Step) (words : Words) : Type 0 where
   full : AreWords words
-  each : (cell : Cell) → IsCell start.count cell → IsOwnWord start steps cell (word_at words cell)
+  each : (cell : Cell) → IsCell start.count cell → IsOwnWordOfMachine start steps cell (word_at words cell)
 
 -- a word that is a cell's own is so after one more step
 own-later : (start : Settings) (step : Step) (steps : List Step) (cell : Cell) (word : ℕ) →
-    IsOwnWord start steps cell word → IsOwnWord start (step ∷ steps) cell word
+    IsOwnWordOfMachine start steps cell word → IsOwnWordOfMachine start (step ∷ steps) cell word
 own-later start step steps cell word (inl e) = inl e
 own-later start step steps cell word (inr h) = inr (older step (Accept (Order cell word)) steps h)
 
@@ -242,11 +244,11 @@ module _ (told : CellsAreToldApart) (map : SettingsAreAMap) (start : Settings) (
     each = λ cell here.
         let one = IsCell-eight start.count ordered few accepted.0.0 in
         let two = IsCell-eight start.count cell few here in
-        subst (IsOwnWord start steps cell) (sym (map.read words ordered cell word are.full one two))
+        subst (IsOwnWordOfMachine start steps cell) (sym (map.read words ordered cell word are.full one two))
         (go cell here (same_cell ordered cell) refl);
   } where
     go : (cell : Cell) → IsCell start.count cell → (b : Bool) → same_cell ordered cell ≡ b →
-        IsOwnWord start steps cell (cond b word (word_at words cell))
+        IsOwnWordOfMachine start steps cell (cond b word (word_at words cell))
     go cell here true e = inr (subst (λ (d : Cell). Contains steps (Accept (Order d word))) ((told ordered cell).0 e) accepted.1)
     go cell here false e = are.each cell here
 
@@ -254,12 +256,12 @@ module _ (told : CellsAreToldApart) (map : SettingsAreAMap) (start : Settings) (
   outputs-own : (steps : List Step) (words others : Words) → AreOwn start steps words → AreOwn start steps others →
       AreOwn start steps (with_outputs words others)
   outputs-own steps words others are from = record { full = map.whole words others from.full; each = each } where
-    each : (cell : Cell) → IsCell start.count cell → IsOwnWord start steps cell (word_at (with_outputs words others) cell)
+    each : (cell : Cell) → IsCell start.count cell → IsOwnWordOfMachine start steps cell (word_at (with_outputs words others) cell)
     each (Out output register) here =
-        subst (IsOwnWord start steps (Out output register))
+        subst (IsOwnWordOfMachine start steps (Out output register))
         (sym (map.outputs words others output register from.full (IsCell-eight start.count (Out output register) few here)))
         (from.each (Out output register) here)
-    each Protect here = subst (IsOwnWord start steps Protect) (sym (map.protect words others from.full)) (are.each Protect here)
+    each Protect here = subst (IsOwnWordOfMachine start steps Protect) (sym (map.protect words others from.full)) (are.each Protect here)
 
   -- the words after a job took, and the store
   words-own : (steps : List Step) (words store : Words) (pending : Option PendingJob) →
@@ -306,11 +308,11 @@ module _ (told : CellsAreToldApart) (map : SettingsAreAMap) (start : Settings) (
       (later start Back steps before.store both.1, later start Back steps before.store both.1)
 
   pub machine-own : (steps : List Step) (cell : Cell) → IsRun start steps → IsCell start.count cell →
-      IsOwnWord start steps cell (word_at (machine_of start steps).words cell)
+      IsOwnWordOfMachine start steps cell (word_at (machine_of start steps).words cell)
   machine-own steps cell run here = (machine-are steps run).0.each cell here
 
   pub machine-stored : (steps : List Step) (cell : Cell) → IsRun start steps → IsCell start.count cell →
-      IsOwnWord start steps cell (word_at (machine_of start steps).store cell)
+      IsOwnWordOfMachine start steps cell (word_at (machine_of start steps).store cell)
   machine-stored steps cell run here = (machine-are steps run).1.each cell here
 
   -- WRITE_PROTECT has its start word in the store: no job that takes gives it another

@@ -16,7 +16,7 @@ use Rattle.pm_sequence.specs.declared.sequence.Sequence.{Sequence}
 use Rattle.pm_sequence.specs.Frames as it
 use Rattle.pm_sequence.specs.Frames.{Hears, HearsAt, list_heard, shows_restart, shows_restart_at}
 use Rattle.pm_sequence.specs.Lowers.{lowers, lowers_at}
-use Rattle.pm_sequence.specs.Sequence.{due_by, due_in, verdict_by, verdict_in}
+use Rattle.pm_sequence.specs.Sequence.{delivery_due_by, due_in, delivery_verdict_by, verdict_in}
 
 -- What a sequence hands out and hears, by the stage at which a host's job stands.
 
@@ -54,11 +54,11 @@ hears-told old new was _ stage t result named opens opened comes (it.alone none 
 
 module _ (g : Guarded) (part : PartRegisters) (limits : OutputLimits) (s : Summary) (d : Delivery) where
   pub due-seen : part ≡ g.registers → limits ≡ limits_at g d.output → s ≡ g.host → nat_lt d.output 8 ≡ true
-      → due_by part limits s d ≡ due_in g d
+      → delivery_due_by part limits s d ≡ due_in g d
   due-seen part_is limits_is s_is small = rw (part_is, limits_is, s_is, small) refl
 
   pub verdict-seen : part ≡ g.registers → limits ≡ limits_at g d.output → s ≡ g.host → nat_lt d.output 8 ≡ true
-      → verdict_by part limits s d ≡ verdict_in g d
+      → delivery_verdict_by part limits s d ≡ verdict_in g d
   verdict-seen part_is limits_is s_is small = rw (part_is, limits_is, s_is, small) refl
 
 pub lowers-seen : (g : Guarded) (part : PartRegisters) (s : Summary) (under : Under) → part ≡ g.registers → s ≡ g.host

@@ -7,7 +7,7 @@ use Rattle.std.proofs.Common.{suc, cond, [], length, Err, arith}
 use Rattle.std.proofs.lemmas.Bool.{true≢false, lt-ltb, ltb-true, ltb-false}
 use Rattle.pm_device.specs.Held.{Held}
 use Rattle.pm_host.specs.{Jobs.accepted_job, declared.fault.Untold.Untold, declared.stage.Stage.Stage}
-use Rattle.pm_host.specs.Summary.{Summary, next as host_next, step_of, finished, idle}
+use Rattle.pm_host.specs.Summary.{Summary, host_next, step_of, finished, idle}
 use Rattle.pm_host.specs.Transcript as host
 use Rattle.pm_host.specs.Transcript.{Entry, Finished, Accepted}
 use Rattle.pm_host.specs.declared.stage.Stage.TheVariants.{Writes, Reads, Asks, Sends}
@@ -19,7 +19,8 @@ use Rattle.pm_stairs.specs.declared.step.Act.TheVariants as stairs
 use Rattle.pm_sequence.specs.{Look.look_act, declared.look.LookAct.LookAct, declared.sequence.Act.Act, declared.sequence.Phase.Phase}
 use Rattle.pm_sequence.specs.{declared.sequence.Rules.Rules, declared.sequence.Sequence.Sequence, declared.step.Step.Step}
 use Rattle.pm_sequence.specs.Frames as does
-use Rattle.pm_sequence.specs.Frames.{HandsOut as FramesHandsOut, Hears as FramesHears, HearsAt, heard_at, heard_by, is_unsent, heard_in}
+use Rattle.pm_sequence.specs.Frames.{HandsOut as FramesHandsOut, Hears as FramesHears, HearsAt, heard_at, sequence_heard_by, is_unsent}
+use Rattle.pm_sequence.specs.Frames.{heard_in}
 use Rattle.pm_sequence.specs.Sequence.{due_in, new_sequence}
 use Rattle.pm_sequence.specs.declared.look.LookAct.TheVariants as look
 use Rattle.pm_sequence.specs.declared.sequence.End.TheVariants as end
@@ -29,7 +30,7 @@ use Rattle.pm_world.specs.State.{next as world_next, share_of}
 use Rattle.pm_part_laws.specs.Happenings.{Happening, Happens, beside}
 use Rattle.pm_course_laws.specs.FrameLives.{goes_on}
 use Rattle.pm_course_laws.specs.FramesBeside.{FrameCoursesHoldBeside, HandedBeside, IsFrameCourseBeside, stays as frames_beside_stays}
-use Rattle.pm_sequence_laws.specs.CourseCalls.{AreOf, ExportsAreStepsBeside, StepsOn, StepsTold, StepsToldOn, is_answered}
+use Rattle.pm_sequence_laws.specs.CourseCalls.{AreOf, ExportsAreStepsBeside, StepsOn, StepsTold, StepsToldOn, call_is_answered}
 use Rattle.pm_sequence_laws.specs.Handed.{CallsAreRuns, OrdersGoOnce}
 use Rattle.pm_sequence_laws.specs.Runs as run
 use Rattle.pm_sequence_laws.specs.Runs.{Mark, Places, Runs, marks_of, under_at, Hears as HearsInRun, NoneLeft, ReachedSequencesDeliver}
@@ -115,7 +116,7 @@ module _ (law : FrameCoursesHoldBeside) (held : Held) (passes : ℕ) (part : Par
   told-step : (old new : GuardImage) (was is : CourseImage) (event : Event) (entry : Entry) (step : HostStep) →
       IsFrameCourseBeside held passes part begun before c true later → AreOf held passes part (later ++ before) old was g c →
       begins_other event ≡ false → (share_of (beside held passes (later ++ before)) event).told ≡ Some entry →
-      is_answered step ≡ true → HearsIn old was entry step new is →
+      call_is_answered step ≡ true → HearsIn old was entry step new is →
       StepsTold held passes part begun before event later entry g new is
   told-step old _ was _ event entry _ life of own told answered (course_refused_told number fault) =
       let never = unrefused old was g c of.both ∙ fault in cc
@@ -151,7 +152,7 @@ module _ (law : FrameCoursesHoldBeside) (held : Held) (passes : ℕ) (part : Par
       IsFrameCourseBeside held passes part begun before c true later → AreOf held passes part (later ++ before) old was g c →
       begins_other event ≡ false →
       (share_of (beside held passes (later ++ before)) event).told ≡ Some entry →
-      is_answered step ≡ true → HearsOnIn stops old was entry step new is sending →
+      call_is_answered step ≡ true → HearsOnIn stops old was entry step new is sending →
       StepsToldOn held passes part begun before event later entry g new is
   told-on-step stops old _ was _ event entry _ _ life of own told answered (refused_both number sending fault nothing) =
       let never = unrefused old was g c of.both ∙ fault in cc
@@ -227,7 +228,7 @@ module _ (steps : Places) (tries : ℕ) (rules : Rules) (marks : List Mark) (g :
   handed after new sent said (does.says said' is none says) = run.acts g said marks old new runs says
 
 module _ (g : Guarded) (old : Sequence) (bytes : List ℕ) where
-  by-act : (x : LookAct) → HearsInRun old (heard_by g old bytes x)
+  by-act : (x : LookAct) → HearsInRun old (sequence_heard_by g old bytes x)
   by-act (look.Ask question) = record { begun = refl; shown = refl; looked = refl; left = refl; ended = refl }
   by-act look.Probe = record { begun = refl; shown = refl; looked = refl; left = refl; ended = refl }
   by-act look.Pause = stays old
@@ -361,7 +362,7 @@ module _ (kept : SequencesAreKept) (law : CallsAreRuns) (places : Places) (steps
       (hands_next g next q is under ahead sent said new told sending asked out frame tells after) read =
       let does : FramesHandsOut g (under_at places q.list.begun) (places q.list.begun) q sent said next is =
       subst (λ (u : Option Step). FramesHandsOut g u (places q.list.begun) q sent said next is)
-          (sym (under-is q.list.begun under asked.under_at))
+      (sym (under-is q.list.begun under asked.under_at))
       (subst (λ (a : Option Step). FramesHandsOut g under a q sent said next is) (sym (says q.list.begun ahead asked.ahead_at)) out) in
       record {
         q = is;

@@ -17,7 +17,7 @@ use Rattle.pm_num.specs.Lemmas.OneWord.{IsOneWord, one_from_nearest}
 use Rattle.pm_num.specs.Ratio.{AtMost, IsBetween, LessThan, Ratio, micros}
 use Rattle.pm_num.specs.declared.fault.NumFault.TheVariants.{ZeroSlope, ExponentRange, BelowLeast, AboveGreatest, TooLarge}
 use Rattle.pm_device.specs.{Effect.Event, Held.Held as DeviceHeld}
-use Rattle.pm_device.specs.History.{next, start_of}
+use Rattle.pm_device.specs.History.{device_next, start_of}
 use Rattle.pm_limits.specs.declared.part_registers.PartRegisters.{PartRegisters}
 use Rattle.pm_setup.specs.declared.setup_fault.SetupFault.{SetupFault}
 use Rattle.pm_lines.specs.{Faults.fault_words, Lemmas.Engines.read_so_far, declared.fault.TextFault.TextFault}
@@ -36,23 +36,24 @@ use Rattle.pm_text.specs.declared.replays.ReplayEnd.TheVariants.{Ran as AllTaken
 use Rattle.pm_log.specs.{declared.checking.LogEnd.LogEnd, declared.lacks.Lacks.Lacks}
 use Rattle.pm_log.specs.Texts.{LogEnds, log_text}
 use Rattle.pm_log.specs.declared.checking.LogEnd.TheVariants.{Accepted as LogAccepted, Refused as LogRefused}
-use Rattle.pm_tool.specs.{Outcome.hearing, Telling.tell_fault_status, declared.commandline.choice.Chosen.Chosen}
+use Rattle.pm_tool.specs.{Outcome.hear_engine, Telling.tell_fault_status, declared.commandline.choice.Chosen.Chosen}
 use Rattle.pm_tool.specs.{declared.commandline.tell_fault.TellFault.TellFault, declared.numbers.answer.Answer.Answer}
 use Rattle.pm_tool.specs.{declared.numbers.fault.NumberFault.NumberFault, declared.numbers.question.Asked.Asked}
 use Rattle.pm_tool.specs.{declared.numbers.question.FormatText.FormatText, declared.numbers.question.Question.Question}
 use Rattle.pm_tool.specs.{declared.text_commands.TextCommand.TextCommand, declared.text_commands.Unwritten.TheVariants.TooLong as OverLong}
 use Rattle.pm_tool.specs.{declared.text_commands.Unwritten.Unwritten, declared.text_commands.Written.Written}
 use Rattle.pm_tool.specs.Execution.{End, EngineRuns, Printed, Prints, Hinted, CutShort, Refused, Broken, Misused, NumberEnds, NumberRefuses}
-use Rattle.pm_tool.specs.Execution.{Runs, UsageEnds, said_by, status_of, IsDone, IsEnd, ParserEnds, WordsEnd, refusal_line, wants_memory}
-use Rattle.pm_tool.specs.Execution.{CheckRuns, log_status, IsToldDone, SaysAny, TellRuns, TellsWhole, decode_status, reading, told_as}
+use Rattle.pm_tool.specs.Execution.{Runs, UsageEnds, said_to_errors, status_of, IsDone, IsEnd, ParserEnds, WordsEnd, refusal_line}
+use Rattle.pm_tool.specs.Execution.{wants_memory}
+use Rattle.pm_tool.specs.Execution.{CheckRuns, log_status, IsToldDone, SaysAny, TellRuns, TellsWhole, decode_status, reader_run, run_end_as}
 use Rattle.pm_tool.specs.Execution.{untold, unwritten_words, CheckEnds, CommandRuns, AskedEnds, ChoiceEnds, RunEnds, replay_status}
-use Rattle.pm_tool.specs.NumberFaults.{refusal_status, refusal_words}
+use Rattle.pm_tool.specs.NumberFaults.{refusal_status, number_refusal_words}
 use Rattle.pm_tool.specs.NumberText.{IsCommandLineFault, IsNumberText, IsOfNumber, RefusesNumber, RefusesValue, IsAnswer, IsFloorMicro}
-use Rattle.pm_tool.specs.NumberText.{IsFormat, IsWordFor, line_of, rank_in, value_in, Refuses as NumberTextRefuses, RefusesFormat}
+use Rattle.pm_tool.specs.NumberText.{IsFormat, IsAskedWord, number_line_of, rank_in, value_in, Refuses as NumberTextRefuses, RefusesFormat}
 use Rattle.pm_tool.specs.NumberText.{greatest_in, least_in}
 use Rattle.pm_tool.specs.Refusals.{Says, text_refusal, program_line, no_words_status}
-use Rattle.pm_tool.specs.Script.{as_line, event_lines, event_words, events_in, heard_text, held_after, joined_events, line_event}
-use Rattle.pm_tool.specs.Script.{output_lines, printed_text, text_by}
+use Rattle.pm_tool.specs.Script.{as_line, event_lines, event_words, events_of_lines, heard_text, converter_after, joined_events, line_event}
+use Rattle.pm_tool.specs.Script.{output_word_lines, printed_text, text_by}
 use Rattle.pm_tool.specs.declared.commandline.choice.Chosen.TheVariants.{Hear, Replay, Decode, Tell, Check, Number as NumberChosen}
 use Rattle.pm_tool.specs.declared.commandline.tell_fault.TellFault.TheVariants.{VoutAlone, Vout, ReadingsAlone, Readings, GapAlone, Gap}
 use Rattle.pm_tool.specs.declared.commandline.tell_fault.TellFault.TheVariants.{Part, Mux}
@@ -141,13 +142,13 @@ module _ {W E : Type 0} (w : Writers W E) where
       pub memory : fault ≡ OfText Memory → (text : List ℕ) × IsNumberText asked text
       pub of : IsOfNumber fault
       pub unwritten : fault ≢ OfText Write → w.output' ≡ w.output
-      pub said : Says w.err w.errors w.errors' (refusal_line (refusal_words fault))
+      pub said : Says w.err w.errors w.errors' (refusal_line (number_refusal_words fault))
 
     -- any refusal of `number` but its writer's is said, and nothing printed
     refused_as : (fault : NumberFault) → NumberRefusal fault → fault ≢ OfText Write → NumberRefuses asked fault
         → (end : End) × NumberEnds asked end × Ends w (refusal_status fault) end
     refused_as fault is other why =
-        (Refused (refusal_status fault) (refusal_words fault), (fault, refl, refl, why), refused _ _ (is.unwritten other) is.said)
+        (Refused (refusal_status fault) (number_refusal_words fault), (fault, refl, refl, why), refused _ _ (is.unwritten other) is.said)
 
     -- each refusal of `number` is said; the line was cut short if the writer failed
     pub number_refused : (fault : NumberFault) → NumberRefusal fault
@@ -172,7 +173,7 @@ module _ {W E : Type 0} (w : Writers W E) where
 -- a refusal that is said so ends like this, of which standard error doesn't know yet
 abbrev pub Refuses-as : {W : Type 0} → (End → Type 0) → (W → Option (List ℕ)) → Held W → Held W → List ℕ → Type 0
 Refuses-as ends contents old new words = (end : End) × ends end × (status_of end ≡ 1) × Prints contents old new end
-    × (said_by end ≡ Some (refusal_line words))
+    × (said_to_errors end ≡ Some (refusal_line words))
 
 module _ {R W T : Type 0} (engine : Engine T) (status_in : T → ℕ) (remaining : R → Option (List ℕ)) (old new : Held R)
     (contents : W → Option (List ℕ)) (output output' : Held W) where
@@ -353,26 +354,27 @@ prepended-joined done event (Err fault) = refl
 module _ (done : List Event) (line : Numbered) (lines : List Numbered) where
   -- a line that asks for an event adds it
   pub events-more : (event : Event) → line_event line ≡ Ok event
-      → prepended done (events_in (line ∷ lines)) ≡ prepended (done ++ event ∷ []) (events_in lines)
-  events-more event is = ap (λ e. prepended done (joined_events e (events_in lines))) is ∙ prepended-joined done event (events_in lines)
+      → prepended done (events_of_lines (line ∷ lines)) ≡ prepended (done ++ event ∷ []) (events_of_lines lines)
+  events-more event is = ap (λ e. prepended done (joined_events e (events_of_lines lines))) is
+      ∙ prepended-joined done event (events_of_lines lines)
 
   -- a faulty line's fault is that of all lines
-  pub events-fault : (fault : TextFault) → line_event line ≡ Err fault → prepended done (events_in (line ∷ lines)) ≡ Err fault
-  events-fault fault is = ap (λ e. prepended done (joined_events e (events_in lines))) is
+  pub events-fault : (fault : TextFault) → line_event line ≡ Err fault → prepended done (events_of_lines (line ∷ lines)) ≡ Err fault
+  events-fault fault is = ap (λ e. prepended done (joined_events e (events_of_lines lines))) is
 
 -- what a converter holds after one event more
 pub held_after-push : (held : DeviceHeld) (done : List Event) (event : Event)
-    → held_after held (done ++ event ∷ []) ≡ next (held_after held done) event
+    → converter_after held (done ++ event ∷ []) ≡ device_next (converter_after held done) event
 held_after-push held [] event = refl
-held_after-push held (first ∷ done) event = held_after-push (next held first) done event
+held_after-push held (first ∷ done) event = held_after-push (device_next held first) done event
 
 -- what is written of one event more
 pub event_lines-push : (held : DeviceHeld) (done : List Event) (event : Event)
-    → event_lines held (done ++ event ∷ []) ≡ event_lines held done ++ as_line (event_words (held_after held done) event)
+    → event_lines held (done ++ event ∷ []) ≡ event_lines held done ++ as_line (event_words (converter_after held done) event)
 event_lines-push held [] event = append-nil _
 event_lines-push held (first ∷ done) event =
-    ap (λ l. as_line (event_words held first) ++ l) (event_lines-push (next held first) done event)
-    ∙ sym (append_assoc (as_line (event_words held first)) (event_lines (next held first) done) _)
+    ap (λ l. as_line (event_words held first) ++ l) (event_lines-push (device_next held first) done event)
+    ∙ sym (append_assoc (as_line (event_words held first)) (event_lines (device_next held first) done) _)
 
 -- an empty text has no lines
 unskipped-nil : unskipped_from 1 [] ≡ []
@@ -385,38 +387,42 @@ unskipped-some [] some = let none : length (unskipped_from 1 []) ≡ 0 = ap leng
 unskipped-some (x ∷ xs) some = omega arith
 
 -- the text that is written of an input's events
-pub printed-text : (input : List ℕ) (events : List Event) → events_in (unskipped_from 1 input) ≡ Ok events
+pub printed-text : (input : List ℕ) (events : List Event) → events_of_lines (unskipped_from 1 input) ≡ Ok events
     → printed_text input ≡ Ok (heard_text events)
 unfolding printed_text
 printed-text input events are = ap text_by are
 
 -- an input with a faulty line has that line's fault in the place of a text
-pub printed-fault : (input : List ℕ) (fault : TextFault) → events_in (unskipped_from 1 input) ≡ Err fault → printed_text input ≡ Err fault
+pub printed-fault : (input : List ℕ) (fault : TextFault) → events_of_lines (unskipped_from 1 input) ≡ Err fault → printed_text input
+    ≡ Err fault
 unfolding printed_text
 printed-fault input fault is = ap text_by is
 
 -- one event more was heard, and its line written
 pub lines-more : {other : Event} {text more : List ℕ} (start held : DeviceHeld) (done : List Event) (event : Event)
-    → text ≡ event_lines start done → held ≡ held_after start done → other ≡ event
+    → text ≡ event_lines start done → held ≡ converter_after start done → other ≡ event
     → more ≡ text ++ as_line (event_words held other) → more ≡ event_lines start (done ++ event ∷ [])
 lines-more {other = other} start held done event written is same added =
     added ∙ ap (λ t. t ++ as_line (event_words held other)) written ∙ ap (λ h. event_lines start done ++ as_line (event_words h other)) is
-    ∙ ap (λ e. event_lines start done ++ as_line (event_words (held_after start done) e)) same ∙ sym (event_lines-push start done event)
+    ∙ ap (λ e. event_lines start done ++ as_line (event_words (converter_after start done) e)) same
+    ∙ sym (event_lines-push start done event)
 
 -- the converter holds what one event more leaves
 pub held-more : {held after : DeviceHeld} {other : Event} (start : DeviceHeld) (done : List Event) (event : Event)
-    → held ≡ held_after start done → other ≡ event → after ≡ next held other → after ≡ held_after start (done ++ event ∷ [])
+    → held ≡ converter_after start done → other ≡ event → after ≡ device_next held other → after
+    ≡ converter_after start (done ++ event ∷ [])
 held-more {other = other} start done event is same one =
-    one ∙ ap (λ h. next h other) is ∙ ap (λ e. next (held_after start done) e) same ∙ sym (held_after-push start done event)
+    one ∙ ap (λ h. device_next h other) is ∙ ap (λ e. device_next (converter_after start done) e) same
+    ∙ sym (held_after-push start done event)
 
 -- the text of a converter that heard all events
 pub answered-text : {lines : List ℕ} {start after : DeviceHeld} (input : List ℕ) (events : List Event)
-    → events_in (unskipped_from 1 input) ≡ Ok events → start ≡ start_of base
-    → lines ≡ event_lines start events → after ≡ held_after start events → printed_text input ≡ Ok (lines ++ output_lines after)
+    → events_of_lines (unskipped_from 1 input) ≡ Ok events → start ≡ start_of base
+    → lines ≡ event_lines start events → after ≡ converter_after start events → printed_text input ≡ Ok (lines ++ output_word_lines after)
 answered-text {lines = lines} {after = after} input events are from written is =
     printed-text input events are
-    ∙ sym (ap (λ l. Ok (l ++ output_lines after)) (written ∙ ap (λ h. event_lines h events) from)
-    ∙ ap (λ h. Ok (event_lines (start_of base) events ++ output_lines h)) (is ∙ ap (λ h. held_after h events) from))
+    ∙ sym (ap (λ l. Ok (l ++ output_word_lines after)) (written ∙ ap (λ h. event_lines h events) from)
+    ∙ ap (λ h. Ok (event_lines (start_of base) events ++ output_word_lines h)) (is ∙ ap (λ h. converter_after h events) from))
 
 -- How a telling ends, by what its calls did.
 
@@ -440,7 +446,7 @@ module _ {W E : Type 0} (w : Writers W E) (mid : Held W) (wanted status : ℕ) (
     (written : Appends (w.out w.output.inner) (w.out mid.inner) text) (kept : Keeps (w.out mid.inner) (w.out w.output'.inner)) where
   -- a text that was written is printed and what may be wrong is said, or it was cut short if it wasn't handed on
   told_whole : (hint : Option Hint) → IsToldDone w.err w.output' w.errors w.errors' wanted hint status
-      → Ends w status (told_as wanted text hint) ⊎ Ends w status (CutShort text)
+      → Ends w status (run_end_as wanted text hint) ⊎ Ends w status (CutShort text)
   told_whole None done = ended w wanted status text (record { mid = mid; written = written; kept = kept; done = done })
   told_whole (Some hint) (inl (sound, is, said)) =
       inl (record { status_is = is; printed = (sound, Appends-kept _ _ _ text written kept); said = said })
@@ -458,7 +464,7 @@ module _ {W E : Type 0} (w : Writers W E) (ends : End → Type 0) where
       → (e : End) × ends e × Ends w status e
   command_wrote mid written status (sound, text, appended, whole, cut_short) kept done =
       elim (told_whole w mid written.status status text appended kept written.hint done) [
-        | inl e ↦ (told_as written.status text written.hint, whole, e)
+        | inl e ↦ (run_end_as written.status text written.hint, whole, e)
         | inr e ↦ (CutShort text, cut_short, e)
       ]
 
@@ -475,8 +481,8 @@ module _ {W E : Type 0} (w : Writers W E) (ends : End → Type 0) where
 module _ {R W : Type 0} (options : TellOptions) (remaining : R → Option (List ℕ)) (old new : Held R) (contents : W → Option (List ℕ))
     (output output' : Held W) where
   -- a text that was written whole is one way to end, with what may be wrong or without
-  runs_whole : (status : ℕ) (text : List ℕ) (hint : Option Hint) → TellsWhole options remaining old new (told_as status text hint)
-      → TellRuns options remaining old new (told_as status text hint)
+  runs_whole : (status : ℕ) (text : List ℕ) (hint : Option Hint) → TellsWhole options remaining old new (run_end_as status text hint)
+      → TellRuns options remaining old new (run_end_as status text hint)
   runs_whole status text None is = is
   runs_whole status text (Some hint) is = is
 
@@ -491,14 +497,14 @@ module _ {R W : Type 0} (options : TellOptions) (remaining : R → Option (List 
         sound,
         text,
         written,
-        runs_whole status text told.hint (read, input, gave, λ i. told_as (status_is i) text (is i).hint),
+        runs_whole status text told.hint (read, input, gave, λ i. run_end_as (status_is i) text (is i).hint),
         inr (read, input, gave, refl),
       )
 
   -- it was shown up to a refusal
   told_until : (fault : TextFault) → IsFalse output'.failed → IsTrue new.failed ↔ (fault ≡ Read) → (front : List ℕ)
       → Breaks (most_bytes options.long) (capture_text options) (said_text options) (capture_end options)
-      (reading remaining old new) fault front
+      (reader_run remaining old new) fault front
       → (text : List ℕ) → IsTold (said_text options) fault front text
       → Appends (contents output.inner) (contents output'.inner) text
       → Runs (TellRuns options remaining old new) contents output output' (Err (untold options.long fault))
@@ -543,8 +549,8 @@ one_word (Ulinear16 n) can_be = ulinear16-one_word n
 one_word (Direct m b r) can_be = direct-one_word m b r can_be.0
 
 -- a question asks for one word at most
-same_word : (value : ℕ → Ratio) (rank : ℕ → ℕ) → IsOneWord value rank → (asked : Asked) (u w : ℕ) → IsWordFor value rank asked u
-    → IsWordFor value rank asked w → u ≡ w
+same_word : (value : ℕ → Ratio) (rank : ℕ → ℕ) → IsOneWord value rank → (asked : Asked) (u w : ℕ) → IsAskedWord value rank asked u
+    → IsAskedWord value rank asked w → u ≡ w
 same_word value rank one (AskedWord given) u w h k = h ∙ sym k
 same_word value rank one (Nearest x) u w h k = one_from_nearest value rank one (micros x) u w h k
 
@@ -567,7 +573,7 @@ same_answer value rank one asked x y h k =
 -- a question has one text at most
 pub one_text : (asked : Question) → IsFormat asked.format → (a b : List ℕ) → IsNumberText (Ok asked) a → IsNumberText (Ok asked) b → a ≡ b
 one_text asked can_be a b h k =
-    h.2 ∙ ap line_of (same_answer (value_in asked.format) (rank_in asked.format)
+    h.2 ∙ ap number_line_of (same_answer (value_in asked.format) (rank_in asked.format)
     (one_word asked.format can_be) asked.asked h.0 k.0 h.1 k.1) ∙ sym k.2
 
 -- The lines and the status of what is refused.
@@ -710,7 +716,7 @@ of_telling Gap = omega arith
 of_telling Part = omega arith
 of_telling Mux = omega arith
 
-of_told : (status : ℕ) (text : List ℕ) (hint : Option Hint) → status_of (told_as status text hint) ≡ status
+of_told : (status : ℕ) (text : List ℕ) (hint : Option Hint) → status_of (run_end_as status text hint) ≡ status
 of_told status text None = refl
 of_told status text (Some hint) = refl
 
@@ -728,7 +734,7 @@ engine_ends e status_in most remaining old new (Refused status words) (is, late,
 engine_ends e status_in most remaining old new (Broken text words) runs = omega arith
 engine_ends e status_in most remaining old new (Misused text) runs = absurd runs
 
-whole_ends : (end : End) (read : DecodeEnd) (text : List ℕ) (hint : Option Hint) → end ≡ told_as (decode_status read) text hint
+whole_ends : (end : End) (read : DecodeEnd) (text : List ℕ) (hint : Option Hint) → end ≡ run_end_as (decode_status read) text hint
     → status_of end ≤ 2
 whole_ends end read text hint is = kept (status_of end) (decode_status read) (ap status_of is ∙ of_told (decode_status read) text hint)
     (of_decode read)
@@ -753,7 +759,7 @@ check_ends allowed remaining old new (Misused text) runs = absurd runs
 
 command_ends : {R : Type 0} (asked : TextCommand) (remaining : R → Option (List ℕ)) (old new : Held R) (end : End)
     → CommandRuns asked remaining old new end → status_of end ≤ 2
-command_ends command.Hear remaining old new end runs = engine_ends hearing (λ _. 0) (λ e. omega arith) remaining old new end runs
+command_ends command.Hear remaining old new end runs = engine_ends hear_engine (λ _. 0) (λ e. omega arith) remaining old new end runs
 command_ends command.Replay remaining old new end runs = engine_ends replaying replay_status of_replay remaining old new end runs
 command_ends command.Decode remaining old new end runs = engine_ends decoding decode_status of_decode remaining old new end runs
 command_ends (command.Tell options) remaining old new end runs = telling_ends options remaining old new end runs

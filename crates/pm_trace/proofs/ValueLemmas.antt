@@ -16,9 +16,9 @@ use Rattle.pm_frame.specs.{View.message_code, declared.message.Message.Message}
 use Rattle.pm_frame.specs.declared.message.Message.TheVariants.{SendByte, WriteByte, WriteWord, PagePlusWrite, ReadCommand, PagePlusRead}
 use Rattle.pm_frame.specs.declared.message.Message.TheVariants.{ReadCoefficients}
 use Rattle.pm_trace.specs.{Otherwise.is_told_letter, Values.millionths, declared.answers.WrittenOnes.WrittenOnes}
-use Rattle.pm_trace.specs.Lemmas.Floor.{passed, reached}
+use Rattle.pm_trace.specs.Lemmas.Floor.{passed, quotient_is_reached}
 use Rattle.pm_trace.specs.TraceText.{message_text, plain_text}
-use Rattle.pm_trace.specs.ValueText.{decimal_of, minus, size_text}
+use Rattle.pm_trace.specs.ValueText.{millionths_text, minus, size_text}
 
 -- Letters that may stand in a text are ASCII.
 
@@ -76,17 +76,17 @@ floor_of value some =
     let a = value.num *ℤ pos 1000000 in
     let next = passed a value.den some in
     record {
-      reached = reached a value.den some;
+      reached = quotient_is_reached a value.den some;
       greatest = λ k le. by_lt_z (millionths value) k
           (λ less. let over = lt-times (millionths value) k value.den less in absurd (omega (arith, ints))) (λ down. down);
     }
 
 -- the text of a number below 0, and of another
-pub negative_text : (size : ℤ) → size <ℤ pos 0 → decimal_of size ≡ minus ++ size_text (unsigned_abs (neg_ℤ size))
+pub negative_text : (size : ℤ) → size <ℤ pos 0 → millionths_text size ≡ minus ++ size_text (unsigned_abs (neg_ℤ size))
 negative_text (pos n) less = absurd (omega (arith, ints))
 negative_text (negsuc below) less = ap (λ n. minus ++ size_text n) (add-one below)
 
-pub positive_text : (size : ℤ) → pos 0 ≤ℤ size → decimal_of size ≡ size_text (unsigned_abs size)
+pub positive_text : (size : ℤ) → pos 0 ≤ℤ size → millionths_text size ≡ size_text (unsigned_abs size)
 positive_text (pos n) above = refl
 positive_text (negsuc below) above = absurd (omega (arith, ints))
 

@@ -2,8 +2,8 @@
 ghost use Rattle.std.specs.Prelude.{◌≡◌, ◌≤◌, length, option_map};
 ghost use Rattle.pm_trace.specs.ShownLines.{judged_in};
 ghost use Rattle.pm_trace.specs.Trace.{parts_judged};
-ghost use Rattle.pm_trace.specs.Answers.{is_answer as spec_is_answer, leading_ones as spec_leading_ones, written_part as spec_written_part};
-ghost use Rattle.pm_trace.specs.Otherwise.{are_strange, is_answer as was_answered, is_heeded, is_refused};
+ghost use Rattle.pm_trace.specs.Answers.{is_written_back as spec_is_answer, leading_ones as spec_leading_ones, written_part as spec_written_part};
+ghost use Rattle.pm_trace.specs.Otherwise.{are_strange, ones_are_answer as was_answered, is_heeded, is_refused};
 ghost use Rattle.pm_trace.specs.Modes.{key_of as spec_key_of};
 
 use crate::otherwise::completed_part;

@@ -1,7 +1,7 @@
 //! PAGE as a trace shows it, address by address.
 ghost use Rattle.std.specs.Prelude.{◌≡◌};
-ghost use Rattle.pm_trace.specs.Pages.{behind, contradicted, is_forbidden, on_page, output_of, phase_of, restarted, unsure, use_of};
-ghost use Rattle.pm_trace.specs.Pages.{accepted_use as spec_accepted_use, is_of_device as spec_is_of_device, is_silent as spec_is_silent, other_use as spec_other_use, plain_use as spec_plain_use, told_use as spec_told_use, unclear_use as spec_unclear_use};
+ghost use Rattle.pm_trace.specs.Pages.{behind, contradicted, is_forbidden, on_page, output_by_use, phase_of, place_restarted, unsure, use_of};
+ghost use Rattle.pm_trace.specs.Pages.{accepted_use as spec_accepted_use, is_of_device as spec_is_of_device, says_no_page as spec_is_silent, other_use as spec_other_use, plain_use as spec_plain_use, told_use as spec_told_use, unclear_use as spec_unclear_use};
 ghost use Rattle.pm_trace.specs.Pages.{is_apart as spec_is_apart, kept_since as spec_kept_since, line_since as spec_line_since, written_else as spec_written_else};
 ghost use Rattle.pm_trace.specs.ShownLines.{judged_in};
 
@@ -77,7 +77,7 @@ pub struct Place {
 impl Place {
     /// The output that a packet reaches which acts on an output and names none, if it is known.
     pub fn output(&self, used: PageUse) -> Option<u8>
-        ensures { result ≡ output_of self.now used }
+        ensures { result ≡ output_by_use self.now used }
     {
         match (used, self.page) {
             (PageUse::OfOutput | PageUse::SetsPhase(_), Some(said)) => Some(said.page),
@@ -176,7 +176,7 @@ impl Place {
 
     // What is known after a sign of a restart, or RESTORE.
     fn restarted(self) -> Place
-        ensures { result ≡ restarted self }
+        ensures { result ≡ place_restarted self }
     {
         Place {
             page: None,
@@ -207,7 +207,7 @@ impl Model for Pages {
 impl Pages {
     ghost use Rattle.indexmap.specs.IndexMap.{insert_entry};
     ghost use Rattle.std.specs.Prelude.{OnOk, nat_eq};
-    ghost use Rattle.pm_trace.specs.Pages.{lost_in, no_pages, pages_by, pages_shown, place_in, place_of};
+    ghost use Rattle.pm_trace.specs.Pages.{lost_in, no_pages, pages_by, pages_shown, place_in, page_place_of};
 
     /// Nothing is known yet. Takes no memory.
     pub fn new(alloc: Global) -> Pages
@@ -238,7 +238,7 @@ impl Pages {
     // What is kept of an address.
     #[inline(always)]
     fn kept(&self, addr: u8) -> &Place
-        ensures { result.now ≡ place_of self.now addr }
+        ensures { result.now ≡ page_place_of self.now addr }
     {
         match self.places.get(&addr) {
             Some(place) => place,

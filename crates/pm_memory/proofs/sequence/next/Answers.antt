@@ -60,7 +60,7 @@ returns c =
     subst (λ (x : Sequence). HandsOut g under ahead x put.sent act next is) c.hold.ensures
     (c.hand_out-at.ensures.hands put.sent put.of_stage) in
     let number : c.number_next.result ≡ number_sent put.sent act =
-        c.number_next.ensures ∙ calls_numbered next at put.sent act put.of_stage in
+    c.number_next.ensures ∙ calls_numbered next at put.sent act put.of_stage in
     subst (λ (n : ℕ). NextIn host image steps records n new c.write.new.self c.keep.new.records c.put.new.sending) (sym number)
     (subst (λ (i : SequenceImage). NextIn host image steps records (number_sent put.sent act) new i c.keep.new.records c.put.new.sending)
     (sym c.write.ensures)
