@@ -18,9 +18,11 @@ use std::process::Abort;
 use std::test::Fail;
 use values::VALUES;
 
-/// What a row has read, how many packets these are, what it has shown, and what it has said on standard error.
+/// What a row has read, how many packets these are, what it has shown, what it has said on standard error, and the line like which
+/// further packets are.
 #[derive(Drop)]
 struct Texts {
+    like: String,
     read: String,
     packets: usize,
     told: String,
@@ -30,6 +32,7 @@ struct Texts {
 impl Texts {
     fn none(alloc: Global) -> Texts {
         Texts {
+            like: String::new(alloc),
             read: String::new(alloc),
             packets: 0,
             told: String::new(alloc),
@@ -37,10 +40,17 @@ impl Texts {
         }
     }
 
-    // One more line of packets that are like this one: `like` has an `@` for what differs in them, and one for what differs in
-    // what is shown.
-    fn add_like(&mut self, alloc: Global, like: &str, line: &str) -> Result<(), AllocError> {
-        let mut parts = like.split('@');
+    // Further packets are like this line.
+    fn set_like(&mut self, like: &str) -> Result<(), AllocError> {
+        self.like.clear();
+        self.like.push_str(like)
+    }
+
+    // One more line of packets that are like the line that was set: it has an `@` for what differs in them, and one for what
+    // differs in what is shown.
+    fn add_like(&mut self, alloc: Global, line: &str) -> Result<(), AllocError> {
+        let like = joined(alloc, &[self.like.as_str()])?;
+        let mut parts = like.as_str().split('@');
         let (Some(packet), Some(said), Some(end)) = (parts.next(), parts.next(), parts.next())
         else {
             return Ok(());
@@ -98,7 +108,6 @@ fn are_told(rt: &(impl Abort + AllocGlobal), text: &str) -> Result<(), Fail> {
         let mut words = Vec::new(rt.alloc());
         let mut texts = Texts::none(rt.alloc());
         let mut status = 0;
-        let mut like = "";
         for (number, line) in row.split('\n').enumerate() {
             if number == 0 {
                 status = u8::from(line.starts_with("1 "));
@@ -106,9 +115,9 @@ fn are_told(rt: &(impl Abort + AllocGlobal), text: &str) -> Result<(), Fail> {
                     words.push(word)?;
                 }
             } else if let Some(other) = line.strip_prefix("* ") {
-                like = other;
+                texts.set_like(other)?;
             } else if line.contains(" = ") {
-                texts.add_like(rt.alloc(), like, line)?;
+                texts.add_like(rt.alloc(), line)?;
             } else if !line.is_empty() && !line.starts_with("// ") {
                 texts.add(rt.alloc(), line)?;
             }
